@@ -24,7 +24,7 @@ use Rattle.client_spec.proofs.Values.{length_set}
 use Rattle.client_spec.proofs.Changes.{agrees_put_others}
 use Rattle.client_spec.proofs.Puts.{put_types, put_register, put_at_is, leads_here}
 use Rattle.client_sim.specs.Writes.{Took}
-use Rattle.client_sim.specs.Shows.{World, place_in, Shown, Shows}
+use Rattle.client_sim.specs.Shows.{World, place_in, Shown, FrozenStay, Shows}
 use Rattle.client_sim.proofs.Placed.{PlacePut}
 use Rattle.client_sim.proofs.Led.{Led}
 use Rattle.client_sim.proofs.LeafPuts.{with_image, origin_streams}
@@ -106,6 +106,10 @@ module _ {others : List Root} {types : Table} {constants : List Constant} (one :
         took = subst (λ out. Took first w.taken out) (sym (ap (λ (z : State). z.output) then_is ∙ streams.1)) h.took;
         allocator_is = word-same w.image new allocator_word (IsSame-part w.image new 0 free_word allocator_word 4 (omega arith) (omega arith) front_kept) ∙ h.allocator_is;
       }
+
+  pub frozen_changed : FrozenStay h.pictured.picture.frozen shows_changed.pictured.picture.frozen
+  unfolding shows_changed
+  frozen_changed = put.stays
 
   -- the path leads where it led, and the new value stands there
   pub leads_changed : LeadsInImage shows_changed.pictured l.path (place_in w b)

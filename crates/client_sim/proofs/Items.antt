@@ -38,7 +38,7 @@ use Rattle.client_spec.proofs.Classes.{OneEach, known_others, agrees_others}
 use Rattle.client_spec.proofs.FirstRows.{bind_ok, answer_is, form_found, opens_ok, nth_below}
 use Rattle.client_spec.proofs.Cases.{reference_is, text_value, items_value, text_fits, popped, list_is_item, item_part, last_item}
 use Rattle.client_spec.proofs.Spelled.{one_each}
-use Rattle.client_sim.specs.Shows.{World, place_in, Shown, Shows, Acts}
+use Rattle.client_sim.specs.Shows.{World, place_in, Shown, FrozenStay, all_stay, Shows, Acts}
 use Rattle.client_sim.specs.Acting.{ActsAs, IsRefusedAs}
 use Rattle.seg_spec.proofs.Lowering.{named_positions}
 use Rattle.seg_spec.proofs.CountedParts.{SameNames, names_same, names_then, names_cons, default_names}
@@ -48,8 +48,8 @@ use Rattle.client_sim.proofs.Lengths.{items_held}
 use Rattle.client_sim.proofs.Led.{Led, led, led_put, led_shared, led_cleared}
 use Rattle.client_sim.proofs.LeafPuts.{with_image}
 use Rattle.client_sim.proofs.Numbers.{with_number}
-use Rattle.client_sim.proofs.Answering.{with_place, leads_part, acts_so, shows_number, shows_reference, refuses_with}
-use Rattle.client_sim.proofs.Changing.{shows_changed, leads_changed, there_changed, table_changed}
+use Rattle.client_sim.proofs.Answering.{with_place, leads_part, acts_so, shows_number, shows_reference, refuses_with, frozen_number, frozen_reference}
+use Rattle.client_sim.proofs.Changing.{shows_changed, leads_changed, there_changed, table_changed, frozen_changed}
 use Rattle.client_sim.proofs.Granting.{grants_asks, given_back, gives_back, denies}
 
 module _ {others : List Root} {types : Table} {constants : List Constant} (one : OneEach constants) {first : Option (List ℕ)} {allocator : ℕ} {ks : RegisterTypes} {s : State} {w : World}
@@ -143,11 +143,13 @@ module _ {others : List Root} {types : Table} {constants : List Constant} (one :
     -- a number or a reference to a part, where nothing changed
     pub kept_number : (n : ℤ) (new : List ℕ) → new ≡ w.image → i.a < 16 → is_owner (known known_then i.a) ≡ false → outcome constants i true s ≡ give i.a (Register.Int n) s → ChangesBlocks constants i h.pictured success w.image
         → Acts others types constants first allocator i success (slice_set known_then i.a RegisterType.Int) s w (with_number (with_image w new) i.a n)
+    unfolding shows_ended
     kept_number n new same within free row blocks =
         let after = shows_ended r.class i.b in
         subst (λ m. Acts others types constants first allocator i success (slice_set known_then i.a RegisterType.Int) s w (with_number (with_image w m) i.a n)) (sym same)
         (acts_so others types constants first allocator ks s w h i success true (slice_set known_then i.a RegisterType.Int) (set_register s i.a (Register.Int n)) (with_number w i.a n)
-        (row ∙ answer_is types constants known_then s after.as_known success i.a (Register.Int n) free) blocks refl refl refl (shows_number others types constants first allocator known_then s w after i.a n within free))
+        (row ∙ answer_is types constants known_then s after.as_known success i.a (Register.Int n) free) blocks refl refl refl (shows_number others types constants first allocator known_then s w after i.a n within free)
+        (frozen_number others types constants first allocator known_then s w after i.a _ _ _ (all_stay refl)))
 
     pub kept_reference : (x : Selector) (T : ℕ) (part : Value) (target : Place) (new : List ℕ) → new ≡ w.image → i.a < 16 → is_owner (known known_then i.a) ≡ false
         → part_type x r.form ≡ Some T → selected r.its.value x ≡ Some part → target.type ≡ T → Leads w.image w.table (place_in w i.b) (x ∷ []) target
@@ -163,7 +165,8 @@ module _ {others : List Root} {types : Table} {constants : List Constant} (one :
         subst (λ m. Acts others types constants first allocator i success (slice_set known_then i.a (RegisterType.Reference r.class T)) s w (with_place (with_image w m) i.a target)) (sym same)
         (acts_so others types constants first allocator ks s w h i success true (slice_set known_then i.a (RegisterType.Reference r.class T)) (set_register s i.a (Register.Reference x_path)) (with_place w i.a target)
         (row ∙ answer_is types constants known_then s after.as_known success i.a (Register.Reference x_path) free) blocks refl refl refl
-        (shows_reference others types constants first allocator known_then s w after i.a r.class T x_path target within free r.its.within to typed in_image))
+        (shows_reference others types constants first allocator known_then s w after i.a r.class T x_path target within free r.its.within to typed in_image)
+        (frozen_reference others types constants first allocator known_then s w after i.a _ _ _ _ _ _ _ _ _ _ (all_stay refl)))
 
     -- another value was put there
     module _ (v : Value) (fits : IsOf s.types r.form v) (new : List ℕ) (put : PlacePut h.pictured r.its.in_image r.its.value (put_at s r.its.path v) new) (long : length new ≡ length w.image) (front : KeepsFront w.image new) where
@@ -176,6 +179,10 @@ module _ {others : List Root} {types : Table} {constants : List Constant} (one :
       after : Shows others types constants first allocator known_then state_then (with_image w new)
       after = shows_changed one h i.b r.class r.type r.known_as r.its v shape new put front
 
+      frozen_after : FrozenStay h.pictured.picture.frozen after.pictured.picture.frozen
+      unfolding after
+      frozen_after = frozen_changed one h i.b r.class r.type r.known_as r.its v shape new put front
+
       -- and a number given
       pub number_acts : (n : ℤ) → i.a < 16 → is_owner (known known_then i.a) ≡ false → outcome constants i true s ≡ give i.a (Register.Int n) state_then → ChangesBlocks constants i h.pictured success new
           → Acts others types constants first allocator i success (slice_set known_then i.a RegisterType.Int) s w (with_number (with_image w new) i.a n)
@@ -183,6 +190,7 @@ module _ {others : List Root} {types : Table} {constants : List Constant} (one :
           acts_so others types constants first allocator ks s w h i success true (slice_set known_then i.a RegisterType.Int) (set_register state_then i.a (Register.Int n)) (with_number (with_image w new) i.a n)
           (row ∙ answer_is types constants known_then state_then after.as_known success i.a (Register.Int n) free) changes long front refl
           (shows_number others types constants first allocator known_then state_then (with_image w new) after i.a n within free)
+          (frozen_number others types constants first allocator known_then state_then (with_image w new) after i.a _ _ _ frozen_after)
 
       -- and a reference to a part of it
       pub reference_acts : (x : Selector) (T : ℕ) (part : Value) (target : Place) → i.a < 16 → is_owner (known known_then i.a) ≡ false → part_type x r.form ≡ Some T → selected v x ≡ Some part → target.type ≡ T
@@ -203,6 +211,7 @@ module _ {others : List Root} {types : Table} {constants : List Constant} (one :
           (with_place (with_image w new) i.a target)
           (row ∙ answer_is types constants known_then state_then after.as_known success i.a (Register.Reference x_path) free) changes long front refl
           (shows_reference others types constants first allocator known_then state_then (with_image w new) after i.a r.class T x_path target within free r.its.within to typed in_image)
+          (frozen_reference others types constants first allocator known_then state_then (with_image w new) after i.a _ _ _ _ _ _ _ _ _ _ frozen_after)
 
     -- a part went, and the place holds what is left
     pub record PartLost (v : Value) (j : ℕ) (new : List ℕ) : Type 0 where

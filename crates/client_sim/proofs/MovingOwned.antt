@@ -33,6 +33,7 @@ use Rattle.client_spec.specs.Pictures.{root_of_register, Pictures, LeadsInImage,
 use Rattle.client_spec.proofs.Puts.{put_at_is, put_length}
 use Rattle.client_spec.proofs.States.{register_set}
 use Rattle.client_sim.proofs.FirstRoots.{each_among}
+use Rattle.client_sim.specs.Shows.{FrozenStay, all_stay, some_go}
 use Rattle.client_sim.proofs.Looks.{Looks, root_in, looks_of, looks_left, held_by, begins_in, begins_at, begins_left}
 use Rattle.client_sim.proofs.RootPuts.{RootFound, root_for, all_others, frozen_same}
 use Rattle.client_sim.proofs.Placed.{PlaceFound, owners_split, item_within}
@@ -116,19 +117,21 @@ module _ {others : List Root} {s : State} {bytes : List ℕ} (pictured : Picture
   pub record Moved (s' : State) (Ends : Origin → Type 0) : Type 0 where
     pub later : Pictures others s' new
     pub table_is : later.picture.table ≡ table
+    pub stays : FrozenStay pictured.picture.frozen later.picture.frozen
     pub leads : (other : Path) (target : Place) (x : Value) → path_value s other ≡ Some x → LeadsInImage pictured other target
         → Ends other.origin ⊎ (((other.origin ≡ path.origin) × GoesOnAfter path.selectors other.selectors) ⊎ LeadsInImage later other target)
 
   -- where the roots are found again
   paths_then : {s' : State} (looks : Looks others s') (held : IsHeld new looks.picture) (counted : AreCounted (word new next_word) looks.picture) (Ends : Origin → Type 0) (rest : List Root) → looks.picture.table ≡ table
-      → KeepsPathsBeside bytes new table led.root led.item path.selectors → AllByRecursion (KeepsPaths bytes new table) rest
+      → FrozenStay pictured.picture.frozen looks.picture.frozen → KeepsPathsBeside bytes new table led.root led.item path.selectors → AllByRecursion (KeepsPaths bytes new table) rest
       → ((o : Origin) (r : Root) (i : ℕ) → root_in (looks_of pictured) o ≡ Some (r, i)
       → Ends o ⊎ (((r ≡ led.root) × (i ≡ led.item → o ≡ path.origin) × (root_in looks o ≡ Some (changed, i))) ⊎ (KeepsPaths bytes new table r × (root_in looks o ≡ Some (r, i)))))
       → (m : Moved s' Ends) × ((o : Origin) (r : Root) (i : ℕ) → root_in looks o ≡ Some (r, i) → root_at m.later o ≡ Some (r, i))
-  paths_then looks held counted Ends rest same beside kept begins = (
+  paths_then looks held counted Ends rest same stays beside kept begins = (
     record {
       later = held_by looks held counted;
       table_is = same;
+      stays = stays;
       leads = λ other target x there l. elim (begins other.origin l.root l.item (sym (begins_in pictured other.origin) ∙ l.begins)) [
         | inl e ↦ inl e
         | inr (inl p) ↦ elim (beside l.item other.selectors target (subst (λ (r : Root). l.item < count r.values) p.0 (item_within pictured other target x there l))
@@ -199,7 +202,7 @@ module _ {others : List Root} {s : State} {bytes : List ℕ} (pictured : Picture
       let state : put_origin (set_register s c Register.Undefined) path.origin whole_then ≡ set_register (put_at s path w) c Register.Undefined =
       put_order s c Register.Undefined path.origin whole_then apart ∙ ap (λ z. set_register z c Register.Undefined) (sym (put_at_is s path f.whole w f.type f.at)) in
       subst (λ z. Moved z (λ o. o ≡ Origin.Owned c)) state
-      (paths_then looks there counted (λ o. o ≡ Origin.Owned c) rest same beside paths (λ o r i e. elim (l.begins o r i e) [
+      (paths_then looks there counted (λ o. o ≡ Origin.Owned c) rest same (some_go gone (ap (left gone) same_frozen)) beside paths (λ o r i e. elim (l.begins o r i e) [
         | inl g ↦ inl g
         | inr g ↦ elim (put.begins o r i g) [
           | inl p ↦ inr (inl (p.0, p.1, sym (begins_left gone put.later o) ∙ p.2))
@@ -249,7 +252,7 @@ module _ {others : List Root} {s : State} {bytes : List ℕ} (pictured : Picture
       let counted = counted_on bytes new other changes.back_kept
       (counted_moved led.root led.item f.whole f.root.item_is path.selectors old_value f.value_is (word bytes next_word) picture other [] (root ∷ []) rest w order owners [] cells
       (same_frozen ∙ sym (none_gone picture.frozen pictured.counted.counted.some)) pictured.counted) in
-      let moved = paths_then l.later there counted (λ o. ⊥) rest same beside paths (λ o r i e. elim (put.begins o r i e) [
+      let moved = paths_then l.later there counted (λ o. ⊥) rest same (all_stay same_frozen) beside paths (λ o r i e. elim (put.begins o r i e) [
         | inl p ↦ inr (inl (p.0, p.1, l.begins o changed i p.2))
         | inr p ↦ inr (inr (each_among (KeepsPaths bytes new table) rest r p.0 paths, l.begins o r i p.1))
       ]) in

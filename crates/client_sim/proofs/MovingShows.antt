@@ -23,7 +23,7 @@ use Rattle.client_spec.proofs.Values.{length_set}
 use Rattle.client_spec.proofs.Changes.{agrees_put_others}
 use Rattle.client_spec.proofs.Puts.{put_types, put_length, put_register, put_at_is}
 use Rattle.client_sim.specs.Writes.{Took}
-use Rattle.client_sim.specs.Shows.{World, number_in, place_in, owns_in, Shown, Shows}
+use Rattle.client_sim.specs.Shows.{World, number_in, place_in, owns_in, Shown, FrozenStay, Shows}
 use Rattle.client_sim.proofs.Led.{Led}
 use Rattle.client_sim.proofs.LeafPuts.{origin_streams}
 use Rattle.client_sim.proofs.Giving.{set_there, set_beside, same_or_not}
@@ -166,6 +166,13 @@ module _ {others : List Root} {types : Table} {constants : List Constant} (one :
           let n = put_length s l.path.origin l.found.whole (values.with_value_at l.path.selectors v l.found.whole) l.found.type l.found.at in
           let long : length put_then.registers ≡ length s.registers = ap (λ (z : State). length z.registers) (put_at_is s l.path l.found.whole v l.found.type l.found.at) ∙ n in
           set_there put_then.registers a y Register.Undefined (omega (arith, long, h.as_known.count, h.sixteen, within))
+
+  pub frozen_moved : (k : RegisterType) (ks' : RegisterTypes) (owns : Bool) (positions type_ids : List ℕ) (within : a < 16) (sixteen : length ks' ≡ 16) (at_length : length positions ≡ 256) (id_length : length type_ids ≡ 256)
+      (places : (r : ℕ) → a ≢ r → place_in (with_owning w new a owns positions type_ids) r ≡ place_in w r) (front : KeepsFront w.image new) (as_known : IsAsKnown types constants (slice_set ks' a k) moved_then)
+      (rest : (r : ℕ) → a ≢ r → Stays r (known ks r) (known ks' r)) (here : Shown m.later (with_owning w new a owns positions type_ids) a k y)
+      → FrozenStay h.pictured.picture.frozen (shows_moved k ks' owns positions type_ids within sixteen at_length id_length places front as_known rest here).pictured.picture.frozen
+  unfolding shows_moved
+  frozen_moved k ks' owns positions type_ids within sixteen at_length id_length places front as_known rest here = m.stays
 
   -- ---- what is known of the others
 

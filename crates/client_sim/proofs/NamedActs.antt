@@ -42,16 +42,16 @@ use Rattle.client_spec.proofs.FirstRows.{bind_ok, opens_ok, answer_is, item_belo
 use Rattle.client_spec.proofs.Shapes.{all_copies}
 use Rattle.client_spec.proofs.Spelled.{one_each}
 use Rattle.client_spec.proofs.States.{name_there}
-use Rattle.client_sim.specs.Shows.{World, number_in, HasRegisters, Shown, Shows, Acts}
+use Rattle.client_sim.specs.Shows.{World, number_in, HasRegisters, Shown, FrozenStay, all_stay, Shows, Acts}
 use Rattle.client_sim.specs.Acting.{AreRight, ActsAs, IsRefusedAs}
-use Rattle.client_sim.proofs.Answering.{with_place, acts_so, shows_reference, shows_number, refuses_with}
+use Rattle.client_sim.proofs.Answering.{with_place, acts_so, shows_reference, shows_number, refuses_with, frozen_number, frozen_reference}
 use Rattle.client_sim.proofs.Finding.{IsNameFor, name_at, first_place}
 use Rattle.client_sim.proofs.Granting.{grants_spent}
 use Rattle.client_sim.proofs.LeafPuts.{with_image}
 use Rattle.client_sim.proofs.NameBytes.{name_right}
 use Rattle.client_sim.proofs.Naming.{Comes, Goes, Stays, named_comes, named_goes, picture_stays}
 use Rattle.client_sim.proofs.Numbers.{with_number, quiet, gives_both, number_shown, unowned}
-use Rattle.client_sim.proofs.Rooted.{BeginsFrom, KeepsRoots, Remains, SameBesides, all_paths, other_paths, shows_rooted, pictured_rooted}
+use Rattle.client_sim.proofs.Rooted.{BeginsFrom, KeepsRoots, Remains, SameBesides, all_paths, other_paths, shows_rooted, pictured_rooted, frozen_rooted}
 
 -- ---- what calls say
 
@@ -219,6 +219,14 @@ module _ {others : List Root} {types : Table} {constants : List Constant} {first
       shows_rooted h (ended (sharing class) ks) s' (with_image w new) later Ends keeps front as_known (length-map ks (without_class (sharing class)) ∙ h.sixteen) (registers_then new) besides
       (class_ends one class Ends ending none s' (with_image w new) registers refl refl refl refl later)
 
+  pub frozen_but_class : (one : OneEach constants) (class : Class) (Ends : Origin → Type 0) (ending : (o : Origin) → Ends o → InClass constants class o) (none : (r : ℕ) → InClass constants class (Origin.Owned r) → ⊥)
+      (s' : State) (new : List ℕ) (later : Pictures others s' new) (keeps : KeepsRoots h.pictured later Ends) (front : KeepsFront w.image new) (as_known : IsAsKnown types constants (ended (sharing class) ks) s')
+      (registers : s'.registers ≡ s.registers) (besides : SameBesides w (with_image w new) s s') → FrozenStay h.pictured.picture.frozen later.picture.frozen
+      → FrozenStay h.pictured.picture.frozen (all_but_class one class Ends ending none s' new later keeps front as_known registers besides).pictured.picture.frozen
+  unfolding all_but_class
+  frozen_but_class one class Ends ending none s' new later keeps front as_known registers besides stays =
+      frozen_rooted h (ended (sharing class) ks) s' (with_image w new) later Ends keeps front _ _ _ _ _ stays
+
 -- ---- a new object, or none
 
 module _ {others : List Root} {types : Table} {constants : List Constant} {first : Option (List ℕ)} {allocator : ℕ} {ks : RegisterTypes} {s : State} {w : World} (right : AreRight types constants)
@@ -272,6 +280,7 @@ module _ {others : List Root} {types : Table} {constants : List Constant} {first
       (with_place (with_image w new) a place) (row ∙ answer_is types constants ks (state_then n) known_now success a (Register.Reference path) free) blocks m.long m.front refl
       (shows_reference others types constants first allocator ks (state_then n) (with_image w new) shows.0 a (Class.Name k) T path place within free by typed_so refl
       (subst (λ p. LeadsInImage p path place) (sym shows.1) led))
+      (frozen_reference others types constants first allocator ks (state_then n) (with_image w new) shows.0 a _ _ _ _ _ _ _ _ _ _ (subst (λ p. FrozenStay h.pictured.picture.frozen p.picture.frozen) (sym shows.1) comes.stays))
 
   pub not_made : (n code : ℕ) → code ≡ answer_number bad_alloc → IsDenied allocator w.image s.types bytes T h.pictured.picture h.pictured.held.index_blocks new n
       → outcome constants i false s ≡ fail a bad_alloc s → ChangesBlocks constants i h.pictured bad_alloc new
@@ -284,7 +293,8 @@ module _ {others : List Root} {types : Table} {constants : List Constant} {first
       subst (λ m. Acts others types constants first allocator i bad_alloc (slice_set ks a RegisterType.Int) s w (with_number (with_image w new) a (pos m))) (sym code_is)
       (acts_so others types constants first allocator ks s w h i bad_alloc false (slice_set ks a RegisterType.Int) (set_register s a x) (with_number (with_image w new) a (pos 2))
       (row ∙ answer_is types constants ks s h.as_known bad_alloc a x free) blocks d.long d.front refl
-      (shows_number others types constants first allocator ks s (with_image w new) shows.0 a (pos 2) within free))
+      (shows_number others types constants first allocator ks s (with_image w new) shows.0 a (pos 2) within free)
+      (frozen_number others types constants first allocator ks s (with_image w new) shows.0 a _ _ _ (subst (λ p. FrozenStay h.pictured.picture.frozen p.picture.frozen) (sym shows.1) stays.stays)))
 
   -- a code for which nothing changed
   pub refused : (answer : Answer) (code : ℕ) → code ≡ answer_number answer → new ≡ w.image → outcome constants i true s ≡ fail a answer s → ChangesBlocks constants i h.pictured answer w.image
@@ -330,6 +340,7 @@ module _ {others : List Root} {types : Table} {constants : List Constant} {first
       acts_so others types constants first allocator ks s w h i success true (slice_set (ended (sharing class) ks) a RegisterType.Int) (set_register state_after a (Register.Int (pos 1))) (with_number (with_image w new) a (pos 1))
       (row ∙ answer_is types constants (ended (sharing class) ks) state_after known_now success a (Register.Int (pos 1)) free) blocks m.long m.front refl
       (shows_number others types constants first allocator (ended (sharing class) ks) state_after (with_image w new) shows a (pos 1) within free)
+      (frozen_number others types constants first allocator _ state_after (with_image w new) shows a _ _ _ (frozen_but_class h one class paths_end _ _ state_after new goes.later goes.keeps m.front known_now _ _ goes.stays))
 
   -- there was none: references end all the same
   pub not_lost : outcome constants i true s ≡ give_count a 0 s → ChangesBlocks constants i h.pictured success w.image
@@ -343,6 +354,7 @@ module _ {others : List Root} {types : Table} {constants : List Constant} {first
       acts_so others types constants first allocator ks s w h i success true (slice_set (ended (sharing class) ks) a RegisterType.Int) (set_register s a (Register.Int (pos 0))) (with_number w a (pos 0))
       (row ∙ answer_is types constants (ended (sharing class) ks) s known_now success a (Register.Int (pos 0)) free) blocks refl refl refl
       (shows_number others types constants first allocator (ended (sharing class) ks) s w shows a (pos 0) within free)
+      (frozen_number others types constants first allocator _ s w shows a _ _ _ (frozen_but_class h one class paths_end _ _ s w.image h.pictured keeps refl known_now _ _ (all_stay refl)))
 
 -- ---- the instructions
 
@@ -533,7 +545,8 @@ module _ (allocator : ℕ) (constants : List Constant) (role : Role) (a b c : �
             (subst (λ z. Acts others types constants first allocator i success (slice_set ks a (RegisterType.Reference (Class.Name k) T)) s w (with_place (with_image w z) a place)) (sym f.4)
             (acts_so others types constants first allocator ks s w h i success true (slice_set ks a (RegisterType.Reference (Class.Name k) T)) (set_register s a (Register.Reference path)) (with_place w a place) here_row
             (quiet constants i h.pictured (asks_none Operation.FindOrMake s 1 (object_of root) n.name_is refl object) refl) refl refl refl
-            (shows_reference others types constants first allocator ks s w h a (Class.Name k) T path place valid.a g.0 n.by typed_so refl led)))
+            (shows_reference others types constants first allocator ks s w h a (Class.Name k) T path place valid.a g.0 n.by typed_so refl led)
+            (frozen_reference others types constants first allocator ks s w h a _ _ _ _ _ _ _ _ _ _ (all_stay refl))))
         | inr f ↦
             let its = subst (λ (t : Table). IsMade allocator w.image t bytes T h.pictured.picture h.pictured.held.index_blocks new 1 at) h.table_is f.1 in
             let none : s.names bytes ≡ None = n.object ∙ ap (option_map object_of) f.0 in

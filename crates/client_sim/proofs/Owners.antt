@@ -40,13 +40,13 @@ use Rattle.client_spec.proofs.Defaults.{default_has}
 use Rattle.client_spec.proofs.FirstRows.{bind_ok, Ok_inj, opens_ok, answer_is}
 use Rattle.client_spec.proofs.RowSteps.{owner_found}
 use Rattle.client_spec.proofs.Spelled.{one_each}
-use Rattle.client_sim.specs.Shows.{World, place_in, owns_in, Shown, Shows, Acts}
+use Rattle.client_sim.specs.Shows.{World, place_in, owns_in, Shown, FrozenStay, Shows, Acts}
 use Rattle.client_sim.specs.Acting.{ActsAs, IsRefusedAs}
 use Rattle.client_sim.proofs.Numbers.{with_number, unowned}
 use Rattle.client_sim.proofs.Answering.{acts_so, refuses_with, place_one, place_there}
 use Rattle.client_sim.proofs.Granting.{grants_spent, denies}
 use Rattle.client_sim.proofs.RootPuts.{root_of_pair}
-use Rattle.client_sim.proofs.Rooted.{shows_rooted, all_paths, other_paths}
+use Rattle.client_sim.proofs.Rooted.{shows_rooted, all_paths, other_paths, frozen_rooted}
 use Rattle.client_sim.proofs.Finding.{OfPicture, of_picture, first_place}
 use Rattle.client_sim.proofs.Owning.{OwnedComes, owned_comes, OwnedGoes, owned_goes}
 use Rattle.client_sim.proofs.Ended.{LeavesPicture, type_known, ended_shown}
@@ -115,6 +115,10 @@ module _ {others : List Root} {types : Table} {constants : List Constant} (one :
           })
         ])
 
+    pub frozen_owning : FrozenStay h.pictured.picture.frozen shows_owning.pictured.picture.frozen
+    unfolding shows_owning
+    frozen_owning = frozen_rooted h ks_owning s_owning owning c.later (λ o. ⊥) c.keeps front _ _ _ _ _ c.stays
+
   -- ---- it owns it no more
 
   module _ (b : ℕ) (within : b < 16) (new : List ℕ) (c : OwnedGoes h.pictured b new) (front : KeepsFront w.image new) where
@@ -144,6 +148,10 @@ module _ {others : List Root} {types : Table} {constants : List Constant} (one :
               (get_or-set_other (ended (Class.Register b) ks) b r RegisterType.Undefined RegisterType.Undefined far ∙ known_ended (Class.Register b) ks r)
               (get_or-set_other s.registers b r Register.Undefined Register.Undefined far) refl refl (get_or-set_other w.owns b r false false far) (λ e. far (let f : Origin.Owned r ≡ Origin.Owned b = e in cc))
         ])
+
+    pub frozen_released : FrozenStay h.pictured.picture.frozen shows_released.pictured.picture.frozen
+    unfolding shows_released
+    frozen_released = frozen_rooted h ks_released (set_register s b Register.Undefined) released c.later (λ o. o ≡ Origin.Owned b) c.keeps front _ _ _ _ _ c.stays
 
   -- where the object of a register stands, as a path into it leads there
   pub owned_root : (b : ℕ) (place : Place) → LeadsInImage h.pictured (path_from (Origin.Owned b)) place → (root : Root) × (root_of_register s.registers h.pictured.owned b ≡ Some root) × (root.at ≡ place.at)
@@ -244,7 +252,7 @@ module _ (allocator : ℕ) (constants : List Constant) (role : Role) (a b c : �
       let blocks : GrantsAsks constants i h.pictured new = grants_spent constants i h.pictured allocator h.allocator_is (block_for (size w.table T) ∷ []) asked new [] refl (live new) call.spends refl in
       subst (λ k. Acts others types constants first allocator i success k s w (with_owner w new a place)) (sym good_is)
       (acts_so others types constants first allocator ks s w h i success true (slice_set ks a (RegisterType.Owner T)) (set_register s a (Register.Owner d T)) (with_owner w new a place) row blocks
-      alone.length_kept alone.front_kept refl shows)
+      alone.length_kept alone.front_kept refl shows (frozen_owning one h a within g.0 d place fits root refl refl new come alone.front_kept))
 
   -- there is no room for one
   pub new_refused : (T code : ℕ) → ((n : ℕ) → number ≡ pos n → T ≡ n % 256) → OfPicture allocator w (λ p. T < length w.table → (code ≡ answer_number bad_alloc) × Refuses allocator w.image new (block_for (size w.table T) ∷ []))
@@ -292,4 +300,5 @@ module _ (allocator : ℕ) (constants : List Constant) (role : Role) (a b c : �
       (call.blocks, subst (λ (t : Table). HoldsRoot w.image t r.0 call.blocks) h.table_is call.holds_it, (shared, gone_with h new r.0 refl call, refl)) in
       let blocks : GrantsAsks constants i h.pictured new = record { asks = []; asked = refl; gives = call.blocks ++ shared; returned = returned; blocks = live w.image; granted = refl; left = call.live_is } in
       subst (λ k. Acts others types constants first allocator i success k s w (without_owner w new b)) (ap (λ (r : RegisterTypes × RegisterTypes). r.0) pair)
-      (acts_so others types constants first allocator ks s w h i success true after (set_register s b Register.Undefined) (without_owner w new b) row blocks call.becomes.length_kept call.becomes.front_kept refl shows)
+      (acts_so others types constants first allocator ks s w h i success true after (set_register s b Register.Undefined) (without_owner w new b) row blocks call.becomes.length_kept call.becomes.front_kept refl shows
+      (frozen_released one h b valid.b new goes call.becomes.front_kept))

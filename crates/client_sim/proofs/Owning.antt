@@ -15,6 +15,7 @@ use Rattle.seg_spec.specs.Roots.{Listed, with_roots, roots_before, KeepsPaths}
 use Rattle.seg_spec.proofs.CountedParts.{owners_after, owners_with}
 use Rattle.client_spec.specs.Machine.{Origin, Register, State, register, set_register, owned_by}
 use Rattle.client_spec.specs.Pictures.{root_of_register, AreOwned, Pictures, root_at}
+use Rattle.client_sim.specs.Shows.{FrozenStay, all_stay, some_go}
 use Rattle.client_sim.proofs.FirstRoots.{Among, each_among, among_left, among_right, first_among, is_named, is_of_type, named_first, typed_first}
 use Rattle.client_sim.proofs.OwnedRoots.{owned_split}
 use Rattle.client_sim.proofs.Giving.{first_none, later_none}
@@ -213,6 +214,7 @@ module _ {others : List Root} {s : State} {old : List ℕ} (pictured : Pictures 
   pub record OwnedComes (a : ℕ) (v : Value) (t : ℕ) (root : Root) (new : List ℕ) : Type 0 where
     pub later : Pictures others (set_register s a (Register.Owner v t)) new
     pub keeps : KeepsRoots pictured later (λ o. ⊥)
+    pub stays : FrozenStay pictured.picture.frozen later.picture.frozen
     pub here : root_at later (Origin.Owned a) ≡ Some (root, 0)
 
   pub owned_comes : (a : ℕ) → a < length s.registers → owned_by (register s a) ≡ None → (v : Value) (t : ℕ) (root : Root) → root.type ≡ t → root.values ≡ cons v nil → (new : List ℕ)
@@ -237,6 +239,7 @@ module _ {others : List Root} {s : State} {old : List ℕ} (pictured : Pictures 
       ∙ ap (λ rs. root_of_register rs (m.before ++ m.after) q) (set-get_or s.registers a Register.Undefined) ∙ ap (λ xs. root_of_register s.registers xs q) (sym m.among) ∙ e) in
       record {
         later = later;
+        stays = all_stay refl;
         keeps = keeps_all pictured later (λ o. ⊥) refl (found_again pictured later (λ o. ⊥) (λ name i r e. inr e) (λ T r e. inr e) there) paths;
         here = ap (option_map {T = Root} {U = Root × ℕ} (λ root. (root, 0))) (m.seat.here v t root);
       }
@@ -249,6 +252,7 @@ module _ {others : List Root} {s : State} {old : List ℕ} (pictured : Pictures 
   pub record OwnedGoes (b : ℕ) (new : List ℕ) : Type 0 where
     pub later : Pictures others (set_register s b Register.Undefined) new
     pub keeps : KeepsRoots pictured later (λ o. o ≡ Origin.Owned b)
+    pub stays : FrozenStay pictured.picture.frozen later.picture.frozen
 
   -- where the object stands among the loose ones, and how it goes
   pub record OwnedAmong (b : ℕ) (root : Root) : Type 0 where
@@ -287,6 +291,7 @@ module _ {others : List Root} {s : State} {old : List ℕ} (pictured : Pictures 
             ] in
             record {
               later = later;
+              stays = some_go (names_each root.values) refl;
               keeps = keeps_others pictured later (λ o. o ≡ Origin.Owned b) refl (found_again pictured later (λ o. o ≡ Origin.Owned b) (λ name i r f. inr f) (λ T r f. inr f) there)
                   (subst (AllByRecursion (KeepsPaths old new picture.table)) among paths);
             };

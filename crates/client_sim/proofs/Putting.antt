@@ -41,7 +41,7 @@ use Rattle.client_sim.proofs.Granting.{given_back, gives_back}
 use Rattle.client_sim.proofs.Answering.{acts_so}
 use Rattle.client_sim.proofs.Items.{reaches, led_to}
 use Rattle.client_sim.proofs.MovingOwned.{put_moves}
-use Rattle.client_sim.proofs.MovingShows.{with_owning, shows_moved, put_known, stays_released}
+use Rattle.client_sim.proofs.MovingShows.{with_owning, shows_moved, put_known, stays_released, frozen_moved}
 use Rattle.client_sim.proofs.OwnedObjects.{owns_here, owns_apart}
 
 -- a path from elsewhere doesn't begin at the register
@@ -147,4 +147,5 @@ module _ (allocator : ℕ) (constants : List Constant) (role : Role) (a b c : �
       let blocks = gives_back constants put h.pictured new refl (l.found.blocks ++ given) (place_in w b, r.form, led_to one h put r, goes) (given_back gone picture.frozen l.found.blocks (λ n. refl) clears) in
       subst (λ k. Acts others types constants first allocator put success k s w (with_owning w new c false w.positions w.type_ids)) (ap (λ (k : RegisterTypes × RegisterTypes). k.0) pair)
       (acts_so others types constants first allocator ks s w h put success true (slice_set ks' c RegisterType.Undefined) (set_register (put_at s l.path (Full o.value)) c Register.Undefined)
-      (with_owning w new c false w.positions w.type_ids) row blocks changes.length_kept changes.front_kept refl shows)
+      (with_owning w new c false w.positions w.type_ids) row blocks changes.length_kept changes.front_kept refl shows
+      (frozen_moved one h b r.class r.type r.known_as l (Full o.value) fits new c Register.Undefined (λ o. o ≡ Origin.Owned c) moved _ _ _ _ _ _ _ _ _ _ _ _ _ _))

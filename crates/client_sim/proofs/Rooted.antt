@@ -11,7 +11,7 @@ use Rattle.seg_spec.specs.Block.{block_of, KeepsBlock}
 use Rattle.seg_spec.specs.Index.{Root}
 use Rattle.seg_spec.specs.Reads.{Place, Leads}
 use Rattle.seg_spec.specs.Sound.{payload_of, Picture, frozen_roots, HoldsRoot, HoldsRoots, IsHeld, times, positions}
-use Rattle.seg_spec.specs.Frozen.{blocks_by}
+use Rattle.seg_spec.specs.Frozen.{Frozen, blocks_by}
 use Rattle.seg_spec.specs.Destroying.{HoldFrozen}
 use Rattle.seg_spec.specs.Counting.{owners_in}
 use Rattle.seg_spec.specs.Roots.{Listed, roots_in, roots_before, item_of, KeepsPaths}
@@ -33,7 +33,7 @@ use Rattle.client_spec.specs.Meaning.{InClass, IsAsKnown, Meets}
 use Rattle.client_spec.specs.Pictures.{Pictures, LeadsInImage, root_at}
 use Rattle.client_spec.specs.Typed.{RegisterType, RegisterTypes, known}
 use Rattle.client_sim.specs.Writes.{Took}
-use Rattle.client_sim.specs.Shows.{World, number_in, place_in, owns_in, HasRegisters, Shown, Shows}
+use Rattle.client_sim.specs.Shows.{World, number_in, place_in, owns_in, HasRegisters, Shown, FrozenStay, Shows}
 use Rattle.client_sim.proofs.RootPuts.{after_split}
 use Rattle.client_sim.proofs.MovedPlaces.{roots_split}
 use Rattle.client_sim.proofs.Placed.{item_within}
@@ -162,3 +162,9 @@ module _ {others : List Root} {types : Table} {constants : List Constant} {first
       (each : (r : ℕ) → Remains constants Ends ks ks' s s' w w' r ⊎ Shown later w' r (known ks' r) (register s' r)) → (shows_rooted front as_known sixteen registers besides each).pictured ≡ later
   unfolding shows_rooted
   pictured_rooted front as_known sixteen registers besides each = refl
+
+  pub frozen_rooted : {before : List Frozen} (front : KeepsFront w.image w'.image) (as_known : IsAsKnown types constants ks' s') (sixteen : length ks' ≡ 16) (registers : HasRegisters w') (besides : SameBesides w w' s s')
+      (each : (r : ℕ) → Remains constants Ends ks ks' s s' w w' r ⊎ Shown later w' r (known ks' r) (register s' r))
+      → FrozenStay before later.picture.frozen → FrozenStay before (shows_rooted front as_known sixteen registers besides each).pictured.picture.frozen
+  unfolding shows_rooted
+  frozen_rooted front as_known sixteen registers besides each stays = stays

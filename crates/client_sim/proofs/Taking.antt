@@ -42,7 +42,7 @@ use Rattle.seg_spec.specs.Shared.{names_in, names_each}
 use Rattle.seg_spec.proofs.CountedParts.{names_same}
 use Rattle.client_sim.proofs.ItemNames.{names_empty, names_full, names_one}
 use Rattle.client_sim.proofs.MovingOwned.{take_moves}
-use Rattle.client_sim.proofs.MovingShows.{with_owning, shows_moved, stays_put}
+use Rattle.client_sim.proofs.MovingShows.{with_owning, shows_moved, stays_put, frozen_moved}
 use Rattle.client_sim.proofs.OwnedObjects.{root_of, root_of_loose}
 use Rattle.client_sim.proofs.Putting.{own_is}
 
@@ -160,7 +160,8 @@ module _ (allocator : ℕ) (constants : List Constant) (role : Role) (a b c : �
             take_row s l.path r.form U l.value (Some v) r.path_is r.path_form_is r.is l.there (ap content_in some.1) ∙ answer_is types constants after after_put known_then success a owner o.0 in
             let blocks : GrantsAsks constants take h.pictured new = record { asks = []; asked = refl; gives = []; returned = refl; blocks = live w.image; granted = refl; left = changes.live_is } in
             subst (λ n. Acts others types constants first allocator take success (slice_set after a (RegisterType.Owner U)) s w (owner_then at n)) (sym t.0)
-            (acts_so others types constants first allocator ks s w h take success true (slice_set after a (RegisterType.Owner U)) state w' row blocks changes.length_kept changes.front_kept refl shows)
+            (acts_so others types constants first allocator ks s w h take success true (slice_set after a (RegisterType.Owner U)) state w' row blocks changes.length_kept changes.front_kept refl shows
+            (frozen_moved one h b r.class r.type r.known_as l Empty fits new a owner (λ o. ⊥) moved.0 _ _ _ _ _ _ _ _ _ _ _ _ _ _))
       ])
 
   pub take_refused : (code : ℕ) → FindsEmpty code w.table → IsRefusedAs allocator constants role take w (with_code w new a code)

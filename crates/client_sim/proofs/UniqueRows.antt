@@ -33,13 +33,13 @@ use Rattle.client_spec.proofs.Changes.{agrees_umake, agrees_ukill}
 use Rattle.client_spec.proofs.Defaults.{default_has}
 use Rattle.client_spec.proofs.FirstRows.{opens_ok, answer_is}
 use Rattle.client_spec.proofs.Spelled.{one_each}
-use Rattle.client_sim.specs.Shows.{World, Shows, Acts}
+use Rattle.client_sim.specs.Shows.{World, FrozenStay, all_stay, Shows, Acts}
 use Rattle.client_sim.specs.Acting.{AreRight, ActsAs, IsRefusedAs}
 use Rattle.client_sim.proofs.LeafPuts.{with_image}
 use Rattle.client_sim.proofs.Numbers.{with_number, quiet, gives_both}
-use Rattle.client_sim.proofs.Answering.{acts_so, refuses_with, with_place, shows_number, shows_reference}
+use Rattle.client_sim.proofs.Answering.{acts_so, refuses_with, with_place, shows_number, shows_reference, frozen_number, frozen_reference}
 use Rattle.client_sim.proofs.Granting.{grants_spent, denies}
-use Rattle.client_sim.proofs.Rooted.{shows_rooted, pictured_rooted}
+use Rattle.client_sim.proofs.Rooted.{shows_rooted, pictured_rooted, frozen_rooted}
 use Rattle.client_sim.proofs.Finding.{OfPicture, of_picture, begins_unique, type_number, unique_found, none_unique, leads_unique, unique_typed}
 use Rattle.client_sim.proofs.Ended.{LeavesPicture, type_known, ended_shown}
 use Rattle.client_sim.proofs.Owners.{new_object, LeavesWithout, paths_with, paths_without, gone_with}
@@ -96,6 +96,10 @@ module _ {others : List Root} {types : Table} {constants : List Constant} (one :
         (record { table = refl; input = refl; read = refl; taken = refl; types = refl; state_input = refl; state_output = refl })
         (λ r. inl (record { known_is = refl; register_is = refl; number_is = refl; place_is = refl; owns_is = refl; goes_on = λ o f g. g }))
 
+    pub frozen_more : FrozenStay h.pictured.picture.frozen shows_more.pictured.picture.frozen
+    unfolding shows_more
+    frozen_more = frozen_rooted h ks s_more (with_image w new) c.later (λ o. ⊥) c.keeps front _ _ _ _ _ c.stays
+
     pub more_there : begins_unique shows_more.pictured.picture T ≡ Some root.at
     unfolding shows_more
     more_there =
@@ -119,6 +123,10 @@ module _ {others : List Root} {types : Table} {constants : List Constant} (one :
         (λ r. ended_shown one h (Class.Unique T) ks_less s_less (with_image w new) c.later (λ o. o ≡ Origin.Unique T) (λ o e. subst (λ x. InClass constants (Class.Unique T) x) (sym e) refl) r
         (known_ended (Class.Unique T) ks r) refl refl refl refl (λ e. cc))
 
+    pub frozen_less : FrozenStay h.pictured.picture.frozen shows_less.pictured.picture.frozen
+    unfolding shows_less
+    frozen_less = frozen_rooted h ks_less s_less (with_image w new) c.later (λ o. o ≡ Origin.Unique T) c.keeps front _ _ _ _ _ c.stays
+
   -- ---- references of a class end, and nothing else changes
 
   pub shows_ended : (class : Class) → Shows others types constants first allocator (ended (sharing class) ks) s w
@@ -126,6 +134,10 @@ module _ {others : List Root} {types : Table} {constants : List Constant} (one :
       shows_rooted h (ended (sharing class) ks) s w h.pictured (λ o. ⊥) (record { table = refl; begins = λ o root item e. inr (e, (λ i path target less leads. leads)) }) refl (agrees_ended types constants one (sharing class) ks s h.as_known)
       (length-map ks (without_class (sharing class)) ∙ h.sixteen) h.registers (record { table = refl; input = refl; read = refl; taken = refl; types = refl; state_input = refl; state_output = refl })
       (λ r. ended_shown one h class (ended (sharing class) ks) s w h.pictured (λ o. ⊥) (λ o f. absurd f) r (known_ended (sharing class) ks r) refl refl refl refl (λ f. f))
+
+  pub frozen_ended : (class : Class) → FrozenStay h.pictured.picture.frozen (shows_ended class).pictured.picture.frozen
+  unfolding shows_ended
+  frozen_ended class = frozen_rooted h (ended (sharing class) ks) s w h.pictured (λ o. ⊥) _ refl _ _ _ _ _ (all_stay refl)
 
 none_begins : (o : Option Root) → option_map {T = Root} {U = ℕ} (λ r. r.at) o ≡ None → o ≡ None
 none_begins None e = refl
@@ -181,7 +193,8 @@ module _ (allocator : ℕ) (constants : List Constant) (role : Role) (a b c : �
         let blocks : GrantsAsks constants i h.pictured new = grants_spent constants i h.pictured allocator h.allocator_is (asks_one w.table) asked new [] returned (live new) call.spends refl in
         subst (λ k. Acts others types constants first allocator i success k s w (with_place (with_image w new) a place)) (sym good_is)
         (acts_so others types constants first allocator ks s w h i success true (ks_then ks) (set_register s' a (Register.Reference path_is)) (with_place (with_image w new) a place)
-        (row ∙ answer_is types constants ks s' more.as_known success a (Register.Reference path_is) its.0) (changes blocks) call.becomes.length_kept call.becomes.front_kept refl shows)
+        (row ∙ answer_is types constants ks s' more.as_known success a (Register.Reference path_is) its.0) (changes blocks) call.becomes.length_kept call.becomes.front_kept refl shows
+        (frozen_reference others types constants first allocator ks s' (with_image w new) more a _ _ _ _ _ _ _ _ _ _ (frozen_more one h T d fits none root new come call.becomes.front_kept)))
 
     -- the one that is there, for a row that finds it
     found : (operation : Operation) (at : ℕ) → begins_unique h.pictured.picture T ≡ Some at → new ≡ w.image → ((v : Value) → s.uniques T ≡ Some v → GrantsAsks constants (of operation) h.pictured w.image)
@@ -196,7 +209,7 @@ module _ (allocator : ℕ) (constants : List Constant) (role : Role) (a b c : �
         subst (λ k. Acts others types constants first allocator i success k s w (with_place (with_image w new) a place)) (sym good_is)
         (subst (λ (image : List ℕ). Acts others types constants first allocator i success (ks_then ks) s w (with_place (with_image w image) a place)) (sym same)
         (acts_so others types constants first allocator ks s w h i success true (ks_then ks) (set_register s a (Register.Reference path_is)) (with_place w a place)
-        (row u.plain.value u.there ∙ answer_is types constants ks s h.as_known success a (Register.Reference path_is) its.0) (changes (granted u.plain.value u.there)) refl refl refl shows))
+        (row u.plain.value u.there ∙ answer_is types constants ks s h.as_known success a (Register.Reference path_is) its.0) (changes (granted u.plain.value u.there)) refl refl refl shows (frozen_reference others types constants first allocator ks s w h a _ _ _ _ _ _ _ _ _ _ (all_stay refl))))
 
     -- none, with a code
     refused : (operation : Operation) (answer : Answer) (room : Bool) (code : ℕ) → code ≡ answer_number answer → new ≡ w.image → ChangesBlocks constants (of operation) h.pictured answer w.image
@@ -340,7 +353,7 @@ module _ (allocator : ℕ) (constants : List Constant) (role : Role) (a b c : �
           let blocks : GrantsAsks constants i h.pictured new = record { asks = []; asked = refl; gives = c.blocks ++ shared; returned = returned; blocks = live w.image; granted = refl; left = c.live_is } in
           acts_so others types constants first allocator ks s w h i success true (slice_set (ended (Class.Unique T) ks) a RegisterType.Int) (set_register s' a (Register.Int (pos 1))) (with_number (with_image w new) a (pos 1))
           (row (Some u.plain.value) u.there ∙ answer_is types constants (ended (Class.Unique T) ks) s' less.as_known success a (Register.Int (pos 1)) free) blocks c.becomes.length_kept c.becomes.front_kept refl
-          (shows_number others types constants first allocator (ended (Class.Unique T) ks) s' (with_image w new) less a (pos 1) within free)
+          (shows_number others types constants first allocator (ended (Class.Unique T) ks) s' (with_image w new) less a (pos 1) within free) (frozen_number others types constants first allocator _ s' (with_image w new) less a _ _ _ (frozen_less one h T new goes c.becomes.front_kept))
       by types others first ks s right within h one operand free row false call =
           let i = of Operation.KillUnique in
           let picture = h.pictured.picture in
@@ -350,4 +363,4 @@ module _ (allocator : ℕ) (constants : List Constant) (role : Role) (a b c : �
           subst (λ (image : List ℕ). Acts others types constants first allocator i success (slice_set (ended (Class.Unique T) ks) a RegisterType.Int) s w (with_number (with_image w image) a (pos 0))) (sym call.1)
           (acts_so others types constants first allocator ks s w h i success true (slice_set (ended (Class.Unique T) ks) a RegisterType.Int) (set_register s a (Register.Int (pos 0))) (with_number w a (pos 0))
           (row None (none_unique h T call.0) ∙ answer_is types constants (ended (Class.Unique T) ks) s still.as_known success a (Register.Int (pos 0)) free) (quiet constants i h.pictured refl returned) refl refl refl
-          (shows_number others types constants first allocator (ended (Class.Unique T) ks) s w still a (pos 0) within free))
+          (shows_number others types constants first allocator (ended (Class.Unique T) ks) s w still a (pos 0) within free) (frozen_number others types constants first allocator _ s w still a _ _ _ (frozen_ended one h (Class.Unique T))))

@@ -13,6 +13,7 @@ use Rattle.seg_spec.proofs.CountedParts.{owners_after, owners_with}
 use Rattle.seg_spec.proofs.UniqueLaws.{none_below, none_root}
 use Rattle.client_spec.specs.Machine.{Origin, State, with_unique}
 use Rattle.client_spec.specs.Pictures.{Pictures}
+use Rattle.client_sim.specs.Shows.{FrozenStay, all_stay, some_go}
 use Rattle.client_sim.proofs.FirstRoots.{first_of, first_split, first_here, first_beside, is_of_type, typed_first}
 use Rattle.client_sim.proofs.Rooted.{KeepsRoots}
 use Rattle.client_sim.proofs.Owning.{IsHeldCounted, found_again, keeps_all, keeps_others}
@@ -73,6 +74,7 @@ module _ {others : List Root} {s : State} {old : List ℕ} (pictured : Pictures 
   pub record UniqueComes (T : ℕ) (v : Value) (root : Root) (new : List ℕ) : Type 0 where
     pub later : Pictures others (record s { uniques = with_unique s.uniques T (Some v) }) new
     pub keeps : KeepsRoots pictured later (λ o. ⊥)
+    pub stays : FrozenStay pictured.picture.frozen later.picture.frozen
     pub here : root_of_type later.picture.uniques T ≡ Some root
 
   pub unique_comes : (T : ℕ) (v : Value) (root : Root) → T ≡ root.type → root.values ≡ cons v nil → root_of_type pictured.picture.uniques T ≡ None → (before after : List Root) → pictured.picture.uniques ≡ before ++ after → (new : List ℕ)
@@ -94,6 +96,7 @@ module _ {others : List Root} {s : State} {old : List ℕ} (pictured : Pictures 
       } in
       record {
         later = later;
+        stays = all_stay refl;
         keeps = keeps_all pictured later (λ o. ⊥) refl (found_again pictured later (λ o. ⊥) (λ name i r e. inr e) (λ U r e. inr (again U r e (U == T) refl)) (λ q r e. inr e)) paths;
         here = there;
       }
@@ -107,6 +110,7 @@ module _ {others : List Root} {s : State} {old : List ℕ} (pictured : Pictures 
   pub record UniqueGoes (T : ℕ) (new : List ℕ) : Type 0 where
     pub later : Pictures others (record s { uniques = with_unique s.uniques T None }) new
     pub keeps : KeepsRoots pictured later (λ o. o ≡ Origin.Unique T)
+    pub stays : FrozenStay pictured.picture.frozen later.picture.frozen
 
   pub unique_goes : (T : ℕ) (root : Root) → root_of_type pictured.picture.uniques T ≡ Some root → (before after : List Root) → pictured.picture.uniques ≡ before ++ root ∷ after → (new : List ℕ)
       → IsHeldCounted new (without_cells (names_each root.values) (with_roots pictured.picture Listed.by_type (before ++ after)))
@@ -132,6 +136,7 @@ module _ {others : List Root} {s : State} {old : List ℕ} (pictured : Pictures 
       let among : roots_before picture Listed.by_type before ++ owners_after picture Listed.by_type after ≡ owners_in later.picture = sym (owners_with picture Listed.by_type before [] after) in
       record {
         later = later;
+        stays = some_go (names_each root.values) refl;
         keeps = keeps_others pictured later (λ o. o ≡ Origin.Unique T) refl
             (found_again pictured later (λ o. o ≡ Origin.Unique T) (λ name i r e. inr e) (λ U r e. again U r e (beside U) (U == T) refl) (λ q r e. inr e)) (subst (AllByRecursion (KeepsPaths old new picture.table)) among paths);
       }
