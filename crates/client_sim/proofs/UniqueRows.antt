@@ -209,7 +209,8 @@ module _ (allocator : ℕ) (constants : List Constant) (role : Role) (a b c : �
         subst (λ k. Acts others types constants first allocator i success k s w (with_place (with_image w new) a place)) (sym good_is)
         (subst (λ (image : List ℕ). Acts others types constants first allocator i success (ks_then ks) s w (with_place (with_image w image) a place)) (sym same)
         (acts_so others types constants first allocator ks s w h i success true (ks_then ks) (set_register s a (Register.Reference path_is)) (with_place w a place)
-        (row u.plain.value u.there ∙ answer_is types constants ks s h.as_known success a (Register.Reference path_is) its.0) (changes (granted u.plain.value u.there)) refl refl refl shows (frozen_reference others types constants first allocator ks s w h a _ _ _ _ _ _ _ _ _ _ (all_stay refl))))
+        (row u.plain.value u.there ∙ answer_is types constants ks s h.as_known success a (Register.Reference path_is) its.0) (changes (granted u.plain.value u.there)) refl refl refl shows
+        (frozen_reference others types constants first allocator ks s w h a _ _ _ _ _ _ _ _ _ _ (all_stay refl))))
 
     -- none, with a code
     refused : (operation : Operation) (answer : Answer) (room : Bool) (code : ℕ) → code ≡ answer_number answer → new ≡ w.image → ChangesBlocks constants (of operation) h.pictured answer w.image
@@ -353,7 +354,8 @@ module _ (allocator : ℕ) (constants : List Constant) (role : Role) (a b c : �
           let blocks : GrantsAsks constants i h.pictured new = record { asks = []; asked = refl; gives = c.blocks ++ shared; returned = returned; blocks = live w.image; granted = refl; left = c.live_is } in
           acts_so others types constants first allocator ks s w h i success true (slice_set (ended (Class.Unique T) ks) a RegisterType.Int) (set_register s' a (Register.Int (pos 1))) (with_number (with_image w new) a (pos 1))
           (row (Some u.plain.value) u.there ∙ answer_is types constants (ended (Class.Unique T) ks) s' less.as_known success a (Register.Int (pos 1)) free) blocks c.becomes.length_kept c.becomes.front_kept refl
-          (shows_number others types constants first allocator (ended (Class.Unique T) ks) s' (with_image w new) less a (pos 1) within free) (frozen_number others types constants first allocator _ s' (with_image w new) less a _ _ _ (frozen_less one h T new goes c.becomes.front_kept))
+          (shows_number others types constants first allocator (ended (Class.Unique T) ks) s' (with_image w new) less a (pos 1) within free)
+          (frozen_number others types constants first allocator _ s' (with_image w new) less a _ _ _ (frozen_less one h T new goes c.becomes.front_kept))
       by types others first ks s right within h one operand free row false call =
           let i = of Operation.KillUnique in
           let picture = h.pictured.picture in
@@ -363,4 +365,5 @@ module _ (allocator : ℕ) (constants : List Constant) (role : Role) (a b c : �
           subst (λ (image : List ℕ). Acts others types constants first allocator i success (slice_set (ended (Class.Unique T) ks) a RegisterType.Int) s w (with_number (with_image w image) a (pos 0))) (sym call.1)
           (acts_so others types constants first allocator ks s w h i success true (slice_set (ended (Class.Unique T) ks) a RegisterType.Int) (set_register s a (Register.Int (pos 0))) (with_number w a (pos 0))
           (row None (none_unique h T call.0) ∙ answer_is types constants (ended (Class.Unique T) ks) s still.as_known success a (Register.Int (pos 0)) free) (quiet constants i h.pictured refl returned) refl refl refl
-          (shows_number others types constants first allocator (ended (Class.Unique T) ks) s w still a (pos 0) within free) (frozen_number others types constants first allocator _ s w still a _ _ _ (frozen_ended one h (Class.Unique T))))
+          (shows_number others types constants first allocator (ended (Class.Unique T) ks) s w still a (pos 0) within free)
+          (frozen_number others types constants first allocator _ s w still a _ _ _ (frozen_ended one h (Class.Unique T))))
