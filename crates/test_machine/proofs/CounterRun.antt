@@ -1,16 +1,16 @@
 -- The increment runs on the image of the number 41 named x, as it is opened.
-use Rattle.std.proofs.Common.{◌≡◌, ℕ, ◌+◌, true, false, List, [], ◌∷◌, length, replicate, codes, pos, Bool, Some, None, inl, refl, sym, ◌∙◌, lit<, lit≤}
-use Rattle.std.specs.Prelude.{option_map, if◌then◌else◌}
+use Rattle.std.proofs.Common.{◌≡◌, ℕ, ◌+◌, true, false, List, [], ◌∷◌, length, replicate, codes, pos, Bool, Some, None, inl, refl, sym, ◌∙◌, ap, lit<, lit≤}
+use Rattle.std.specs.Prelude.{ℤ, option_map, slice_index_or, if◌then◌else◌}
 use Rattle.std.specs.Fmt.{digits}
 use Rattle.seg_spec.specs.Bytes.{slice, put, number, number_of, word, set_number, set_long, signed, IsSame}
 use Rattle.seg_spec.specs.Types.{size}
 use Rattle.seg_spec.specs.Window.{IsPlace}
-use Rattle.seg_spec.specs.Value.{Int, nil, cons}
+use Rattle.seg_spec.specs.Value.{Value, Int, nil, cons}
 use Rattle.seg_spec.specs.Heap.{live}
 use Rattle.seg_spec.specs.Reads.{here}
 use Rattle.seg_spec.specs.Index.{Root, plain_root, same_name}
 use Rattle.seg_spec.specs.Header.{next_word}
-use Rattle.seg_spec.specs.Shared.{names_in, names_each}
+use Rattle.seg_spec.specs.Shared.{names_in, names_each, replaced}
 use Rattle.seg_spec.specs.Counting.{AreCounted}
 use Rattle.seg_spec.specs.Images.{upgraded}
 use Rattle.seg_spec.specs.Sound.{Picture, IsHeld, holds_no_root}
@@ -24,12 +24,16 @@ use Rattle.seg_spec.proofs.Writing.{stored}
 use Rattle.client_spec.specs.declared.table.Operation.{Operation}
 use Rattle.client_spec.specs.Syntax.{Instruction}
 use Rattle.client_spec.specs.Grammar.{client_bytes}
-use Rattle.client_spec.specs.Machine.{Register, State, with_name}
+use Rattle.client_spec.specs.Machine.{Register, Object, State, with_name}
 use Rattle.client_spec.specs.Answer.{success}
 use Rattle.client_spec.specs.Effect.{outcome, effect}
 use Rattle.client_spec.specs.Typed.{RegisterType, rule, sharing_rule, types_by}
 use Rattle.client_spec.specs.Run.{Run, Nothing, finished}
-use Rattle.client_spec.specs.Pictures.{Pictures, AreOwned, names_in as names_of_picture, object_of}
+use Rattle.client_spec.specs.Trees.{unfolded_object, AreTrees}
+use Rattle.client_spec.specs.Pictures.{Pictures, AreOwned, names_in as names_of_picture, object_of, meaning_in, PicturesTrees}
+use Rattle.client_spec.proofs.Values.{Some_inj}
+use Rattle.client_spec.proofs.PictureLaws.{owned_one}
+use Rattle.client_spec.proofs.PicturedTrees.{own_trees}
 use Rattle.client_spec.specs.Asks.{ChangesBlocks}
 use Rattle.client_spec.specs.OnImages.{Situation, image_machine, RowOn, Given, Left, IsFirst, IsLeftAfter, RunsClient}
 use Rattle.client_spec.specs.Clients.{AreAccepted}
@@ -91,8 +95,30 @@ same_live = live_evaluated image counter_tiles (refl, lit≤ tt, (refl, lit≤ t
     (record { units_is = refl; live_is = refl; before_is = refl; tag_is = λ e. cc }, (record { units_is = refl; live_is = refl; before_is = refl; tag_is = λ e. cc }, tt))
     ∙ sym (live_evaluated counter counter_tiles counter_fill counter_headers) ∙ sym (upgraded_live counter counter_picture counter_held)
 
-pictured : (rs : List Register) → AreOwned rs [] → Pictures [] (with_registers rs) start
-pictured rs a = record { picture = counter_picture; held = start_held; counted = start_counted; types = refl; names = same_x; uniques = λ T. refl; owned = []; are_owned = a; loose = refl }
+plain_pictured : (rs : List Register) → AreOwned rs [] → Pictures [] (with_registers rs) start
+plain_pictured rs a = record { picture = counter_picture; held = start_held; counted = start_counted; types = refl; names = same_x; uniques = λ T. refl; owned = []; are_owned = a; loose = refl }
+
+-- a state whose one object is a number, and whose registers own nothing, is of trees
+number_trees : (k : ℤ) (name : List ℕ) (o : Object) → (if same_name name (codes "x") then Some (record { type = 0; values = cons (Int k) nil }) else None) ≡ Some o → names_each o.values ≡ []
+unfolding names_in
+number_trees k name o = choose (same_name name (codes "x"))
+  where
+    choose : (b : Bool) → (if b then Some (record { type = 0; values = cons (Int k) nil }) else None) ≡ Some o → names_each o.values ≡ []
+    choose true e = ap (λ (y : Object). names_each y.values) (sym (Some_inj e))
+    choose false e = cc
+
+none_owned : (rs : List Register) (r : ℕ) (v : Value) (t : ℕ) → AreOwned rs [] → slice_index_or rs r Register.Undefined ≡ Register.Owner v t → ⊥
+none_owned rs r v t a e = (owned_one (λ (root : Root). ⊥) rs [] r v t a tt e).1
+
+trees_before : (rs : List Register) → AreOwned rs [] → AreTrees (with_registers rs)
+trees_before rs a = record {
+  names = λ name o e. number_trees (pos 41) name o e;
+  uniques = λ T v e. absurd (let f : None ≡ Some v = e in cc);
+  owned = λ r v t e. absurd (none_owned rs r v t a e);
+}
+
+pictured : (rs : List Register) → AreOwned rs [] → PicturesTrees [] (with_registers rs) start
+pictured rs a = own_trees (trees_before rs a) (plain_pictured rs a)
 
 same_names : (output name : List ℕ) → (more output).names name ≡ names_of_picture picture name
 same_names output name = choose (same_name name (codes "x"))
@@ -102,8 +128,26 @@ same_names output name = choose (same_name name (codes "x"))
     choose true = refl
     choose false = refl
 
-pictured_then : (output : List ℕ) → Pictures [] (more output) image
-pictured_then output = record { picture = picture; held = held; counted = image_counted; types = refl; names = same_names output; uniques = λ T. refl; owned = []; are_owned = tt; loose = refl }
+plain_pictured_then : (output : List ℕ) → Pictures [] (more output) image
+plain_pictured_then output = record { picture = picture; held = held; counted = image_counted; types = refl; names = same_names output; uniques = λ T. refl; owned = []; are_owned = tt; loose = refl }
+
+number_after : (output name : List ℕ) (o : Object) → (more output).names name ≡ Some o → names_each o.values ≡ []
+unfolding names_in
+number_after output name o = choose (same_name name (codes "x"))
+  where
+    choose : (b : Bool) → (if b then Some (record { type = 0; values = cons (Int (pos 42)) nil }) else (if b then Some (record { type = 0; values = cons (Int (pos 41)) nil }) else None)) ≡ Some o → names_each o.values ≡ []
+    choose true e = ap (λ (y : Object). names_each y.values) (sym (Some_inj e))
+    choose false e = cc
+
+trees_then : (output : List ℕ) → AreTrees (more output)
+trees_then output = record {
+  names = number_after output;
+  uniques = λ T v e. absurd (let f : None ≡ Some v = e in cc);
+  owned = λ r v t e. absurd (none_owned added.registers r v t tt e);
+}
+
+pictured_then : (output : List ℕ) → PicturesTrees [] (more output) image
+pictured_then output = own_trees (trees_then output) (plain_pictured_then output)
 
 -- ---- the places in the run
 
@@ -117,8 +161,8 @@ situation s bytes host n = record { state = s; image = bytes; host = host; base 
 abbrev Row : Instruction → Situation → Situation → Type 0
 Row i a b = RowOn increment.constants [] [] i a success b
 
-kept_row : (i : Instruction) (s t : State) (host : List ℕ) (n : ℕ) → outcome increment.constants i true s ≡ Some (success, t) → (before : Pictures [] s start) → Pictures [] t start
-    → ChangesBlocks increment.constants i before success start
+kept_row : (i : Instruction) (s t : State) (host : List ℕ) (n : ℕ) → outcome increment.constants i true s ≡ Some (success, t) → (before : PicturesTrees [] s start) → PicturesTrees [] t start
+    → ChangesBlocks increment.constants i before.pictured success start
     → Row i (situation s start host n) (situation t start (again host start) (n + 1))
 kept_row i s t host n row before after blocks = record {
   room = true;
@@ -230,6 +274,25 @@ given = given_first start (replicate 2048 0) [] 0 []
 abbrev pub left : Left
 left = record { steps = 6; read = 0; ending = finished; output = codes "42\n"; image = image; host = again (h6 first_host) image; base = 0 }
 
+-- the trees of x, before and after
+trees_x : (name : List ℕ) → counted.names name ≡ option_map (unfolded_object (meaning_in (word start next_word) counter_picture)) (names_of_picture counter_picture name)
+unfolding replaced
+trees_x name = choose (same_name name (codes "x"))
+  where
+    choose : (b : Bool) → (if b then Some (record { type = 0; values = cons (Int (pos 41)) nil }) else None)
+        ≡ option_map (unfolded_object (meaning_in (word start next_word) counter_picture)) (option_map object_of (if b then Some (plain_root (codes "x") 720 0 (cons (Int (pos 41)) nil)) else None))
+    choose true = refl
+    choose false = refl
+
+trees_left : (name : List ℕ) → (more (codes "42\n")).names name ≡ option_map (unfolded_object (meaning_in (word image next_word) picture)) (names_of_picture picture name)
+unfolding replaced
+trees_left name = choose (same_name name (codes "x"))
+  where
+    choose : (b : Bool) → (if b then Some (record { type = 0; values = cons (Int (pos 42)) nil }) else (if b then Some (record { type = 0; values = cons (Int (pos 41)) nil }) else None))
+        ≡ option_map (unfolded_object (meaning_in (word image next_word) picture)) (option_map object_of (if b then Some (plain_root (codes "x") 720 0 (cons (Int (pos 42)) nil)) else None))
+    choose true = refl
+    choose false = refl
+
 is_first : IsFirst increment given (situation counted start first_host 0)
 is_first = record {
   picture = counter_picture;
@@ -237,8 +300,7 @@ is_first = record {
   counted = start_counted;
   loose = refl;
   types = refl;
-  names = same_x;
-  uniques = λ T. refl;
+  objects = record { names = trees_x; uniques = λ T. refl };
   registers = refl;
   input = refl;
   output = refl;
@@ -250,9 +312,9 @@ is_first = record {
 }
 
 is_left : IsLeftAfter given (situation (more (codes "42\n")) image (h6 first_host) 6) left
-unfolding pictured_then
+unfolding pictured_then own_trees plain_pictured_then
 is_left = record {
-  pictured = pictured_then (codes "42\n");
+  trees = pictured_then (codes "42\n");
   owned_blocks = [];
   owned = holds_no_root;
   shared_blocks = [];
@@ -264,8 +326,7 @@ is_left = record {
   held = held;
   counted = image_counted;
   types = refl;
-  names = λ name. sym (same_names (codes "42\n") name);
-  uniques = λ T. refl;
+  objects = record { names = trees_left; uniques = λ T. refl };
   loose = refl;
   read_there = lit≤ tt;
   input = refl;

@@ -12,7 +12,7 @@ use Rattle.client_spec.specs.Plain.{plain_machine}
 use Rattle.client_spec.specs.Safe.{IsUnshared}
 use Rattle.client_spec.specs.OnImages.{Move, Situation, TickOn, image_machine, Given, Left, RunsClient}
 use Rattle.client_spec.proofs.Keeping.{never_wrong_beside}
-use Rattle.client_spec.proofs.PictureLaws.{begins_first}
+use Rattle.client_spec.proofs.PicturedTrees.{begins_first}
 
 pub record Maps (way : Way Situation) (plain : Way State) : Type 0 where
   pub each : (x y : Situation) (n : ℕ) (end : Ending) → way x y n end → plain x.state y.state n end

@@ -1,4 +1,4 @@
-use Rattle.client_spec.proofs.PictureLaws.{begins_first}
+use Rattle.client_spec.proofs.PicturedTrees.{begins_first}
 use Rattle.test_machine.proofs.pictures.first_situation.Goals as goal
 
 pub returns : goal.returns
