@@ -69,7 +69,7 @@ impl AbstractRun<'_> {
             return Err(Fail::from("no cell"));
         };
         *held = shared;
-        self.sharing.shared |= shared.is_some() && i.b != i.c;
+        self.sharing.shared |= shared.is_some() && self.value(i.b) != self.value(i.c);
         Ok(())
     }
 

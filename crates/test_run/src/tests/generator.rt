@@ -38,6 +38,10 @@ type vec t9
 /// How many they are.
 const SHARED_TYPE_COUNT: u32 = 5;
 
+/// The type of the shared cell that has a name of its own, and its name.
+const CELL_TYPE: usize = 9;
+const CELL: u32 = 7;
+
 /// The types that are vectors, and not lists.
 const VECTORS: [usize; 2] = [2, 13];
 
@@ -50,6 +54,7 @@ text +\\0a
 text text
 text a text of forty bytes, which is 3 units.
 text \\0a
+name cell
 CONST r0 -1
 CONST r1 0
 CONST r2 1
@@ -151,20 +156,27 @@ impl Generator {
     }
 
     fn statement(&mut self) -> Result<(), AllocError> {
-        if self.parts.len() >= DEPTH {
+        let Some(part) = self.parts.last().copied() else {
+            return self.outside();
+        };
+        if self.parts.len() >= DEPTH || self.random.below(6) == 0 {
             return self.close();
         }
-        let part = self.parts.last().copied();
-        match part.and_then(|part| part.t.map(|t| (part, t))) {
-            Some((part, t)) if self.random.below(5) > 0 => match part.access {
+        match part.t {
+            Some(t) if self.random.below(5) > 0 => match part.access {
                 Access::Change => self.on_value(part, t),
                 Access::Read => self.read(part, t),
             },
-            _ => match self.random.below(3) {
-                0 if part.is_some() => self.close(),
-                1 => self.plain(),
-                _ => self.object(),
-            },
+            Some(_) | None => self.outside(),
+        }
+    }
+
+    /// A statement that isn't about the value of a part.
+    fn outside(&mut self) -> Result<(), AllocError> {
+        match self.random.below(4) {
+            0 => self.plain(),
+            1 if self.version == Version::Two => self.cell(),
+            _ => self.object(),
         }
     }
 
@@ -322,6 +334,21 @@ impl Generator {
             unique => return self.unique(unique, t),
         }
         self.open(Close::Opener(a), Some(t), k)
+    }
+
+    /// A shared cell: one that is unique, or the one with a name of its own.
+    fn cell(&mut self) -> Result<(), AllocError> {
+        let a = self.next_register();
+        match self.random.below(8) {
+            0 => self.kill(CELL_TYPE, CELL, "-"),
+            1..=3 => {
+                write!(self.text, "FINDOR r{a} - t{CELL_TYPE} k{CELL}\n")?;
+                self.open(Close::Opener(a), Some(CELL_TYPE), CELL)
+            }
+            4 => self.find_or_make_unique(11),
+            5 => self.find_or_make_unique(12),
+            _ => self.find_or_make_unique(CELL_TYPE),
+        }
     }
 
     fn count(&mut self, t: usize, k: u32, n: &str) -> Result<(), AllocError> {
@@ -553,10 +580,10 @@ impl Generator {
 
     /// A new object is frozen into the cell where its part ends.
     fn on_shared(&mut self, part: Part, t: usize, held: usize) -> Result<(), AllocError> {
-        match self.random.below(6) {
-            0 | 1 => self.content(part, held, Access::Read),
-            2 => self.share(part, t),
-            3 => self.find_or_make_unique(t),
+        match self.random.below(8) {
+            0..=2 => self.content(part, held, Access::Read),
+            3 => self.share(part, t),
+            4 => self.cell(),
             _ => self.new_object(held),
         }
     }
