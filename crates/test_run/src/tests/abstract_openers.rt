@@ -215,6 +215,7 @@ impl AbstractRun<'_> {
             return Ok(Err(NO_NUMBER));
         }
         if !self.found_room() {
+            self.sharing.had_no_room = true;
             return Ok(Err(NO_ROOM));
         }
         objects.next_number = objects.next_number.wrapping_add(1);

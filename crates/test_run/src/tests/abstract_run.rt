@@ -24,7 +24,9 @@ pub(crate) enum Register {
 #[derive(Debug, Clone, Copy, PartialEq, Eq, Default)]
 pub(crate) struct Sharing {
     pub(crate) froze: bool,
-    /// It had no number for one more.
+    /// An object wasn't frozen for want of room.
+    pub(crate) had_no_room: bool,
+    /// Or for want of a number.
     pub(crate) had_no_number: bool,
     /// A cell got what another one names.
     pub(crate) shared: bool,

@@ -159,7 +159,7 @@ impl Generator {
         let Some(part) = self.parts.last().copied() else {
             return self.outside();
         };
-        if self.parts.len() >= DEPTH || self.random.below(6) == 0 {
+        if self.parts.len() >= DEPTH || self.random.below(3) == 0 {
             return self.close();
         }
         match part.t {
@@ -175,7 +175,7 @@ impl Generator {
     fn outside(&mut self) -> Result<(), AllocError> {
         match self.random.below(4) {
             0 => self.plain(),
-            1 if self.version == Version::Two => self.cell(),
+            1 | 2 if self.version == Version::Two => self.cell(),
             _ => self.object(),
         }
     }
@@ -338,17 +338,19 @@ impl Generator {
 
     /// A shared cell: one that is unique, or the one with a name of its own.
     fn cell(&mut self) -> Result<(), AllocError> {
-        let a = self.next_register();
         match self.random.below(8) {
             0 => self.kill(CELL_TYPE, CELL, "-"),
-            1..=3 => {
-                write!(self.text, "FINDOR r{a} - t{CELL_TYPE} k{CELL}\n")?;
-                self.open(Close::Opener(a), Some(CELL_TYPE), CELL)
-            }
+            1..=3 => self.named_cell(),
             4 => self.find_or_make_unique(11),
             5 => self.find_or_make_unique(12),
             _ => self.find_or_make_unique(CELL_TYPE),
         }
+    }
+
+    fn named_cell(&mut self) -> Result<(), AllocError> {
+        let a = self.next_register();
+        write!(self.text, "FINDOR r{a} - t{CELL_TYPE} k{CELL}\n")?;
+        self.open(Close::Opener(a), Some(CELL_TYPE), CELL)
     }
 
     fn count(&mut self, t: usize, k: u32, n: &str) -> Result<(), AllocError> {
@@ -582,15 +584,17 @@ impl Generator {
     fn on_shared(&mut self, part: Part, t: usize, held: usize) -> Result<(), AllocError> {
         match self.random.below(8) {
             0..=2 => self.content(part, held, Access::Read),
-            3 => self.share(part, t),
-            4 => self.cell(),
+            3 | 4 => self.share(part, t),
             _ => self.new_object(held),
         }
     }
 
-    /// Shares what one of two cells names: that of the part, and the one around it of its type, or else the same.
+    /// Shares what one of two cells names: that of the part, and one around it of its type, or else a cell that is found.
     fn share(&mut self, part: Part, t: usize) -> Result<(), AllocError> {
-        let other = self.cell_around(t).unwrap_or(part);
+        let other = match self.cell_around(t) {
+            Some(other) => other,
+            None => self.other_cell(part, t)?,
+        };
         let (to, from) = match (part.access, other.access) {
             (Access::Change, Access::Change) if self.random.below(2) == 0 => (other, part),
             (Access::Change, Access::Change | Access::Read) => (part, other),
@@ -599,6 +603,16 @@ impl Generator {
         };
         self.end_others(to.class, to.register);
         write!(self.text, "SHARE r{} r{}\n", to.register, from.register)
+    }
+
+    /// Opens the part of another cell of a type: of the named one, where the cell at hand is the unique one.
+    fn other_cell(&mut self, part: Part, t: usize) -> Result<Part, AllocError> {
+        if part.class == unique_class(CELL_TYPE) {
+            self.named_cell()?;
+        } else {
+            self.find_or_make_unique(t)?;
+        }
+        Ok(self.parts.last().copied().unwrap_or(part))
     }
 
     /// The value of a type in the closest part around the innermost one.

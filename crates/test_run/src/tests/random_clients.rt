@@ -26,6 +26,7 @@ struct Retraced {
 struct Counts {
     accepted: u32,
     froze: u32,
+    had_no_room: u32,
     had_no_number: u32,
     shared: u32,
     read: u32,
@@ -33,21 +34,24 @@ struct Counts {
 
 impl Counts {
     fn add(&mut self, sharing: Sharing) {
-        self.accepted = self.accepted.wrapping_add(1);
-        self.froze = self.froze.wrapping_add(u32::from(sharing.froze));
-        self.had_no_number = self
-            .had_no_number
-            .wrapping_add(u32::from(sharing.had_no_number));
-        self.shared = self.shared.wrapping_add(u32::from(sharing.shared));
-        self.read = self.read.wrapping_add(u32::from(sharing.read));
+        count(&mut self.accepted, true);
+        count(&mut self.froze, sharing.froze);
+        count(&mut self.had_no_room, sharing.had_no_room);
+        count(&mut self.had_no_number, sharing.had_no_number);
+        count(&mut self.shared, sharing.shared);
+        count(&mut self.read, sharing.read);
     }
+}
+
+fn count(clients: &mut u32, is_one: bool) {
+    *clients = clients.wrapping_add(u32::from(is_one));
 }
 
 /// Where an image has the number of the next object that is frozen.
 const NEXT_NUMBER: usize = 28;
 
 /// The sizes of the segments, and the numbers of their next frozen objects. One has few numbers left.
-const SEGMENTS: [(u32, u32); 3] = [(800, 0), (1200, u32::MAX - 8), (4096, 0)];
+const SEGMENTS: [(u32, u32); 3] = [(800, 0), (1600, u32::MAX - 8), (4096, 0)];
 
 /// Runs a client on the objects, where a run on bytes printed this.
 fn retrace(
@@ -136,7 +140,7 @@ fn follow_clients(
             Version::Two
         };
         let seed = u64::from(size).wrapping_add(seed);
-        let text = Generator::new(alloc, version, seed).client(40)?;
+        let text = Generator::new(alloc, version, seed).client(60)?;
         let file = client(alloc, text.as_str())?;
         if let Some(followed) = follow(rt, &mut objects, image.as_slice(), file.as_slice())? {
             image = followed.image;
