@@ -40,6 +40,7 @@ const SHARED_TYPE_COUNT: u32 = 5;
 
 /// The type of the shared cell that has a name of its own, and its name.
 const CELL_TYPE: usize = 9;
+
 const CELL: u32 = 7;
 
 /// The types that are vectors, and not lists.
@@ -583,8 +584,8 @@ impl Generator {
     /// A new object is frozen into the cell where its part ends.
     fn on_shared(&mut self, part: Part, t: usize, held: usize) -> Result<(), AllocError> {
         match self.random.below(8) {
-            0..=2 => self.content(part, held, Access::Read),
-            3 | 4 => self.share(part, t),
+            0 | 1 => self.content(part, held, Access::Read),
+            2 | 3 => self.share(part, t),
             _ => self.new_object(held),
         }
     }
