@@ -58,12 +58,12 @@ impl AbstractRun<'_> {
 
     /// Register b's cell gets a copy of what register c's holds.
     fn share(&mut self, objects: &mut Objects, i: Instruction) -> Result<(), Fail> {
-        let shared = match objects.content(self.value(i.c)) {
-            Some(Content::Held(Some(object))) => {
-                let object = *object;
-                Some(objects.copy(object)?)
-            }
-            _ => None,
+        let Some(Content::Held(named)) = objects.content(self.value(i.c)) else {
+            return Err(Fail::from("no cell"));
+        };
+        let shared = match *named {
+            Some(object) => Some(objects.copy(object)?),
+            None => None,
         };
         let Some(Content::Held(held)) = objects.content(self.value(i.b)) else {
             return Err(Fail::from("no cell"));

@@ -38,10 +38,17 @@ type vec t9
 /// How many they are.
 const SHARED_TYPE_COUNT: u32 = 5;
 
-/// The type of the shared cell that has a name of its own, and its name.
+/// The type of the shared cell that has a name of its own.
 const CELL_TYPE: usize = 9;
 
+/// This name.
 const CELL: u32 = 7;
+
+/// The shared type of lists.
+const LIST_CELL_TYPE: usize = 11;
+
+/// The shared type of texts.
+const TEXT_CELL_TYPE: usize = 12;
 
 /// The types that are vectors, and not lists.
 const VECTORS: [usize; 2] = [2, 13];
@@ -342,8 +349,8 @@ impl Generator {
         match self.random.below(8) {
             0 => self.kill(CELL_TYPE, CELL, "-"),
             1..=3 => self.named_cell(),
-            4 => self.find_or_make_unique(11),
-            5 => self.find_or_make_unique(12),
+            4 => self.find_or_make_unique(LIST_CELL_TYPE),
+            5 => self.find_or_make_unique(TEXT_CELL_TYPE),
             _ => self.find_or_make_unique(CELL_TYPE),
         }
     }
