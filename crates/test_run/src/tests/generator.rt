@@ -396,7 +396,42 @@ impl Generator {
     fn new_object(&mut self, t: usize) -> Result<(), AllocError> {
         let a = self.next_register();
         write!(self.text, "NEW r{a} t{t}\n")?;
-        self.own(a, t)
+        self.own(a, t)?;
+        self.fill(t)
+    }
+
+    /// Gives the innermost part's value, which is new, a text or a first number.
+    fn fill(&mut self, t: usize) -> Result<(), AllocError> {
+        let (b, n) = (self.next_register().saturating_sub(1), self.number());
+        match shape_of(t) {
+            Shape::Text => {
+                write!(self.text, "SETS r15 r{b} k4\n")?;
+                self.print_given()
+            }
+            Shape::Struct(_) => write!(
+                self.text,
+                "FIELD r15 r{b} 0\nSTORE r15 r{n}\nLOAD r15 r15\n"
+            ),
+            Shape::Number
+            | Shape::Sequence(_)
+            | Shape::Keyed(_)
+            | Shape::Own(_)
+            | Shape::Shared(_) => Ok(()),
+        }
+    }
+
+    /// Prints the text or the first number of the innermost part's value.
+    fn print_value(&mut self, t: usize) -> Result<(), AllocError> {
+        let b = self.next_register().saturating_sub(1);
+        match shape_of(t) {
+            Shape::Text => write!(self.text, "OUTS r{b}\nOUTC k6\n"),
+            Shape::Struct(_) => { write!(self.text, "FIELD r15 r{b} 0\nLOAD r15 r15\nOUTI r15\n") }
+            Shape::Number
+            | Shape::Sequence(_)
+            | Shape::Keyed(_)
+            | Shape::Own(_)
+            | Shape::Shared(_) => Ok(()),
+        }
     }
 
     /// The part of an opener that lets register a own an object.
@@ -585,7 +620,8 @@ impl Generator {
     fn content(&mut self, part: Part, held: usize, access: Access) -> Result<(), AllocError> {
         let (a, b) = (self.next_register(), part.register);
         write!(self.text, "CONTENT r{a} r{b}\n")?;
-        self.open_inside(Part { access, ..part }, held)
+        self.open_inside(Part { access, ..part }, held)?;
+        self.print_value(held)
     }
 
     /// A new object is frozen into the cell where its part ends.

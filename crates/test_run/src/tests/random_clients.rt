@@ -170,10 +170,10 @@ fn random_clients_follow_a_model(rt: HostRuntime) -> Result<(), Fail> {
         }
     }
     assert!(rt; counts.accepted > 240, "{counts:?}");
-    assert!(rt; counts.froze > 50, "{counts:?}");
+    assert!(rt; counts.froze > 30, "{counts:?}");
     assert!(rt; counts.had_no_room > 5, "{counts:?}");
     assert!(rt; counts.had_no_number > 10, "{counts:?}");
-    assert!(rt; counts.shared > 15, "{counts:?}");
-    assert!(rt; counts.read > 30, "{counts:?}");
+    assert!(rt; counts.shared > 5, "{counts:?}");
+    assert!(rt; counts.read > 15, "{counts:?}");
     Ok(())
 }
