@@ -18,6 +18,8 @@ const OUT_OF_RANGE: i64 = 5;
 
 const NONE: i64 = 6;
 
+const NO_NUMBER: i64 = 7;
+
 /// What an opener gives, or its code.
 type Answer = Result<Register, i64>;
 
@@ -52,6 +54,8 @@ impl AbstractRun<'_> {
             Operation::New => self.with_room(objects, usize::from(i.type_id())),
             Operation::PushBack | Operation::PushFront => self.push(objects, i),
             Operation::PutKey => self.put_key(objects, i),
+            Operation::Freeze => self.freeze(objects, i),
+            Operation::Content => self.content(objects, i),
             _ => Ok(self.on_content(objects, i)?),
         }
     }
@@ -204,12 +208,43 @@ impl AbstractRun<'_> {
         Ok(answer)
     }
 
+    /// Register b's cell gets the object of register c, where a number is left and the real run found room.
+    fn freeze(&mut self, objects: &mut Objects, i: Instruction) -> Result<Answer, Fail> {
+        if objects.next_number == u32::MAX {
+            self.sharing.had_no_number = true;
+            return Ok(Err(NO_NUMBER));
+        }
+        if !self.found_room() {
+            self.sharing.had_no_room = true;
+            return Ok(Err(NO_ROOM));
+        }
+        objects.next_number = objects.next_number.wrapping_add(1);
+        let Some(Content::Held(held)) = objects.content(self.value(i.b)) else {
+            return Err(Fail::from("no cell"));
+        };
+        *held = Some(self.value(i.c));
+        self.set(i.c, Register::Undefined);
+        self.sharing.froze = true;
+        Ok(Ok(Register::Number(1)))
+    }
+
+    /// What an own or a shared cell holds.
+    fn content(&mut self, objects: &mut Objects, i: Instruction) -> Result<Answer, Fail> {
+        let cell = self.value(i.b);
+        let is_shared = matches!(objects.shape(cell), Shape::Shared(_));
+        let Some(Content::Held(held)) = objects.content(cell) else {
+            return Err(Fail::from("no cell"));
+        };
+        self.sharing.read |= is_shared && held.is_some();
+        Ok(held.map(Register::Value).ok_or(NONE))
+    }
+
     /// An opener on what the value of register b holds.
     fn on_content(&self, objects: &mut Objects, i: Instruction) -> Result<Answer, Fail> {
         match objects.content(self.value(i.b)) {
             Some(Content::Text(text)) => self.on_text(text, i),
             Some(Content::Items(items)) => Ok(self.on_items(items, i)),
-            Some(Content::Held(held)) => Ok(on_held(held, i)),
+            Some(Content::Held(held)) => Ok(take(held)),
             Some(Content::Keyed(entries)) => {
                 let key = self.number(i.c);
                 Ok(match i.operation {
@@ -287,10 +322,6 @@ fn place(values: &[usize], index: i64) -> Answer {
         .ok_or(OUT_OF_RANGE)
 }
 
-fn on_held(held: &mut Option<usize>, i: Instruction) -> Answer {
-    let value = held.ok_or(NONE)?;
-    if i.operation == Operation::Take {
-        *held = None;
-    }
-    Ok(Register::Value(value))
+fn take(held: &mut Option<usize>) -> Answer {
+    held.take().map(Register::Value).ok_or(NONE)
 }

@@ -28,6 +28,7 @@ impl AbstractRun<'_> {
             Operation::Drop | Operation::Forget => self.set(i.b, Register::Undefined),
             Operation::Ref => self.set(i.a, self.register(i.b)),
             Operation::Shrink => {}
+            Operation::Share => return self.share(objects, i),
             _ => return self.act_on_value(objects, i),
         }
         Ok(())
@@ -52,6 +53,23 @@ impl AbstractRun<'_> {
             let _ = objects.named.remove(&name);
         }
         self.give(i, i64::from(is_there));
+        Ok(())
+    }
+
+    /// Register b's cell gets a copy of what register c's holds.
+    fn share(&mut self, objects: &mut Objects, i: Instruction) -> Result<(), Fail> {
+        let Some(Content::Held(named)) = objects.content(self.value(i.c)) else {
+            return Err(Fail::from("no cell"));
+        };
+        let shared = match *named {
+            Some(object) => Some(objects.copy(object)?),
+            None => None,
+        };
+        let Some(Content::Held(held)) = objects.content(self.value(i.b)) else {
+            return Err(Fail::from("no cell"));
+        };
+        *held = shared;
+        self.sharing.shared |= shared.is_some() && self.value(i.b) != self.value(i.c);
         Ok(())
     }
 

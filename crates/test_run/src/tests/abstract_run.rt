@@ -20,6 +20,19 @@ pub(crate) enum Register {
     Value(usize),
 }
 
+/// What a run did with frozen objects.
+#[derive(Debug, Clone, Copy, PartialEq, Eq, Default)]
+pub(crate) struct Sharing {
+    pub(crate) froze: bool,
+    /// An object wasn't frozen for want of room.
+    pub(crate) had_no_room: bool,
+    /// Or for want of a number.
+    pub(crate) had_no_number: bool,
+    /// A cell got what another one names.
+    pub(crate) shared: bool,
+    pub(crate) read: bool,
+}
+
 /// A part that the run is in.
 #[derive(Debug, Clone, Copy)]
 enum Part {
@@ -36,6 +49,7 @@ pub(crate) struct AbstractRun<'a> {
     parts: Vec<Part>,
     at: u32,
     pub(crate) steps: u64,
+    pub(crate) sharing: Sharing,
     pub(crate) input: &'a [u8],
     /// What the real run printed from here on.
     pub(crate) printed: &'a [u8],
@@ -55,6 +69,7 @@ impl<'a> AbstractRun<'a> {
             parts: Vec::new(alloc),
             at: 0,
             steps: 0,
+            sharing: Sharing::default(),
             input,
             printed,
         }

@@ -5,9 +5,15 @@ use std::alloc::{AllocError, Global};
 use std::fmt::Write;
 use support_data::Random;
 
-/// The types, names and texts of the random clients, and their first numbers. Register 15 is the code or the number of
-/// an instruction that succeeds or is refused; values stand in registers from 5 on.
-pub(crate) const HEADER: &str = "type i64
+/// The version of a client's file. Only version 2 has frozen objects.
+#[derive(Debug, Clone, Copy, PartialEq, Eq)]
+pub(crate) enum Version {
+    One,
+    Two,
+}
+
+/// The types of all random clients.
+const TYPES: &str = "type i64
 type str
 type vec t1
 type list t0
@@ -16,21 +22,53 @@ type map t2
 type own t7
 type struct t0 t6 t1
 type list t7
-name a
+";
+
+/// How many they are.
+const TYPE_COUNT: u32 = 9;
+
+/// The further types of clients of version 2.
+const SHARED_TYPES: &str = "type shared t10
+type struct t0 t9 t5 t1
+type shared t8
+type shared t1
+type vec t9
+";
+
+/// How many they are.
+const SHARED_TYPE_COUNT: u32 = 5;
+
+/// The type of the shared cell that has a name of its own.
+const CELL_TYPE: usize = 9;
+
+/// This name.
+const CELL: u32 = 7;
+
+/// The shared type of lists.
+const LIST_CELL_TYPE: usize = 11;
+
+/// The shared type of texts.
+const TEXT_CELL_TYPE: usize = 12;
+
+/// The types that are vectors, and not lists.
+const VECTORS: [usize; 2] = [2, 13];
+
+/// The names and texts of the random clients, and their first numbers. Register 15 is the code or the number of an
+/// instruction that succeeds or is refused; values stand in registers from 5 on.
+const START: &str = "name a
 name b
 family f
 text +\\0a
 text text
 text a text of forty bytes, which is 3 units.
 text \\0a
+name cell
 CONST r0 -1
 CONST r1 0
 CONST r2 1
 CONST r3 3
 CONST r4 300
 ";
-
-const TYPES: u32 = 9;
 
 /// The deepest part that a client opens, below the most that the language has.
 const DEPTH: usize = 7;
@@ -42,10 +80,18 @@ enum Close {
     Nothing,
     /// The success part of an opener, whose code is in a register.
     Opener(usize),
-    /// The same, where a register owns an object.
-    Owner(usize),
+    /// The same, where a register owns an object of a type.
+    Owner { register: usize, t: usize },
     If,
     Loop,
+}
+
+/// What a client may do with a value.
+#[derive(Debug, Clone, Copy, PartialEq, Eq)]
+enum Access {
+    Change,
+    /// It lies in a frozen object.
+    Read,
 }
 
 /// An open part, and the value that it works on: its register and type, and the object that it is a part of.
@@ -55,11 +101,13 @@ struct Part {
     register: usize,
     t: Option<usize>,
     class: u32,
+    access: Access,
 }
 
 /// A client that is being written.
 #[derive(Drop)]
 pub(crate) struct Generator {
+    version: Version,
     text: String,
     parts: Vec<Part>,
     random: Random,
@@ -67,8 +115,9 @@ pub(crate) struct Generator {
 }
 
 impl Generator {
-    pub(crate) fn new(alloc: Global, seed: u64) -> Generator {
+    pub(crate) fn new(alloc: Global, version: Version, seed: u64) -> Generator {
         Generator {
+            version,
             text: String::new(alloc),
             parts: Vec::new(alloc),
             random: Random::new(seed),
@@ -78,7 +127,12 @@ impl Generator {
 
     /// The text of a client of so many statements and those that end its parts.
     pub(crate) fn client(mut self, statements: u32) -> Result<String, AllocError> {
-        self.text.push_str(HEADER)?;
+        self.text.push_str(TYPES)?;
+        match self.version {
+            Version::One => {}
+            Version::Two => self.text.push_str(SHARED_TYPES)?,
+        }
+        self.text.push_str(START)?;
         for _ in 0..statements {
             self.statement()?;
         }
@@ -93,23 +147,44 @@ impl Generator {
         self.random.below(5)
     }
 
+    /// A type of the client. Half of them have frozen objects, where the client may have those.
+    fn some_type(&mut self) -> usize {
+        let has_frozen = self.version == Version::Two && self.random.below(2) == 0;
+        let t = if has_frozen {
+            TYPE_COUNT.wrapping_add(self.random.below(SHARED_TYPE_COUNT))
+        } else {
+            self.random.below(TYPE_COUNT)
+        };
+        t as usize
+    }
+
     /// The register for the value of the next part.
     fn next_register(&self) -> usize {
         self.parts.len().saturating_add(5)
     }
 
     fn statement(&mut self) -> Result<(), AllocError> {
-        if self.parts.len() >= DEPTH {
+        let Some(part) = self.parts.last().copied() else {
+            return self.outside();
+        };
+        if self.parts.len() >= DEPTH || self.random.below(3) == 0 {
             return self.close();
         }
-        let part = self.parts.last().copied();
-        match part.and_then(|part| part.t.map(|t| (part, t))) {
-            Some((part, t)) if self.random.below(5) > 0 => self.on_value(part, t),
-            _ => match self.random.below(3) {
-                0 if part.is_some() => self.close(),
-                1 => self.plain(),
-                _ => self.object(),
+        match part.t {
+            Some(t) if self.random.below(5) > 0 => match part.access {
+                Access::Change => self.on_value(part, t),
+                Access::Read => self.read(part, t),
             },
+            Some(_) | None => self.outside(),
+        }
+    }
+
+    /// A statement that isn't about the value of a part.
+    fn outside(&mut self) -> Result<(), AllocError> {
+        match self.random.below(4) {
+            0 => self.plain(),
+            1 | 2 if self.version == Version::Two => self.cell(),
+            _ => self.object(),
         }
     }
 
@@ -121,24 +196,67 @@ impl Generator {
                 let n = self.number();
                 write!(self.text, "ELSE\nOUTI r{code}\nADD r{n} r{n} r2\nEND\n")
             }
-            Some(Close::Owner(register)) => {
-                write!(self.text, "DROP r{register}\nELSE\nOUTI r{register}\nEND\n")
+            Some(Close::Owner { register, t }) => {
+                self.give_away(register, t)?;
+                write!(self.text, "ELSE\nOUTI r{register}\nEND\n")
             }
             Some(Close::If) => self.text.push_str("ELSE\nOUTI r4\nEND\n"),
             Some(Close::Loop) => self.text.push_str("END\n"),
         }
     }
 
-    /// Opens the success part of an opener that makes or finds a value. It prints a mark first.
+    /// Freezes the object that a register owns into a cell that is at hand, or else drops it.
+    fn give_away(&mut self, register: usize, t: usize) -> Result<(), AllocError> {
+        let Some(cell) = self.cell_for(t) else {
+            return write!(self.text, "DROP r{register}\n");
+        };
+        let b = cell.register;
+        self.end_others(cell.class, b);
+        write!(
+            self.text,
+            "FREEZE r15 r{b} r{register}\nOUTC k3\nOUTI r15\n"
+        )?;
+        write!(self.text, "ELSE\nOUTI r15\nDROP r{register}\nEND\n")
+    }
+
+    /// The innermost shared cell for objects of a type that may be changed.
+    fn cell_for(&self, t: usize) -> Option<Part> {
+        let mut cell = None;
+        for part in &self.parts {
+            let is_cell = part.t.is_some_and(|of| shape_of(of) == Shape::Shared(t));
+            if is_cell && part.access == Access::Change {
+                cell = Some(*part);
+            }
+        }
+        cell
+    }
+
+    /// Opens the success part of an opener that makes or finds an object.
     fn open(&mut self, close: Close, t: Option<usize>, class: u32) -> Result<(), AllocError> {
-        let register = self.next_register();
-        self.text.push_str("OUTC k3\n")?;
-        self.parts.push(Part {
+        self.enter(Part {
             close,
-            register,
+            register: self.next_register(),
             t,
             class,
-        })?;
+            access: Access::Change,
+        })
+    }
+
+    /// The same for an opener that makes or finds something in the value of a part.
+    fn open_inside(&mut self, part: Part, t: usize) -> Result<(), AllocError> {
+        let register = self.next_register();
+        self.enter(Part {
+            close: Close::Opener(register),
+            register,
+            t: Some(t),
+            ..part
+        })
+    }
+
+    /// Enters a success part. It prints a mark first.
+    fn enter(&mut self, part: Part) -> Result<(), AllocError> {
+        self.text.push_str("OUTC k3\n")?;
+        self.parts.push(part)?;
         Ok(())
     }
 
@@ -151,9 +269,10 @@ impl Generator {
         }
     }
 
-    /// An opener whose register a then holds a number.
-    fn gives_number(&mut self, row: &str) -> Result<(), AllocError> {
-        write!(self.text, "{row}\nOUTC k3\nOUTI r15\nELSE\nOUTI r15\nEND\n")
+    /// The parts of an opener that gives register 15 a number.
+    fn print_given(&mut self) -> Result<(), AllocError> {
+        self.text
+            .push_str("OUTC k3\nOUTI r15\nELSE\nOUTI r15\nEND\n")
     }
 
     /// Numbers, input, and parts without a value.
@@ -166,10 +285,13 @@ impl Generator {
             3 => write!(self.text, "LT r{a} r{b} r{c}\n"),
             4 => write!(self.text, "EQ r{a} r{b} r{c}\n"),
             5 => write!(self.text, "MOV r{a} r{b}\n"),
-            6 => self.gives_number("GETB r15"),
+            6 => {
+                self.text.push_str("GETB r15\n")?;
+                self.print_given()
+            }
             7 => {
                 write!(self.text, "IF r{b}\n")?;
-                self.enter(Close::If)
+                self.enter_plain(Close::If)
             }
             _ => {
                 write!(
@@ -177,17 +299,18 @@ impl Generator {
                     "WHILE r{b} {}\n",
                     self.random.below(3).wrapping_add(1)
                 )?;
-                self.enter(Close::Loop)
+                self.enter_plain(Close::Loop)
             }
         }
     }
 
-    fn enter(&mut self, close: Close) -> Result<(), AllocError> {
+    fn enter_plain(&mut self, close: Close) -> Result<(), AllocError> {
         self.parts.push(Part {
             close,
             register: 0,
             t: None,
             class: 0,
+            access: Access::Change,
         })?;
         Ok(())
     }
@@ -205,7 +328,7 @@ impl Generator {
     /// Named, unique and anonymous objects.
     fn object(&mut self) -> Result<(), AllocError> {
         let a = self.next_register();
-        let t = self.random.below(TYPES) as usize;
+        let t = self.some_type();
         let c = self.number();
         let (k, n) = self.some_name();
         match self.random.below(13) {
@@ -221,11 +344,26 @@ impl Generator {
         self.open(Close::Opener(a), Some(t), k)
     }
 
+    /// A shared cell: one that is unique, or the one with a name of its own.
+    fn cell(&mut self) -> Result<(), AllocError> {
+        match self.random.below(8) {
+            0 => self.kill(CELL_TYPE, CELL, "-"),
+            1..=3 => self.named_cell(),
+            4 => self.find_or_make_unique(LIST_CELL_TYPE),
+            5 => self.find_or_make_unique(TEXT_CELL_TYPE),
+            _ => self.find_or_make_unique(CELL_TYPE),
+        }
+    }
+
+    fn named_cell(&mut self) -> Result<(), AllocError> {
+        let a = self.next_register();
+        write!(self.text, "FINDOR r{a} - t{CELL_TYPE} k{CELL}\n")?;
+        self.open(Close::Opener(a), Some(CELL_TYPE), CELL)
+    }
+
     fn count(&mut self, t: usize, k: u32, n: &str) -> Result<(), AllocError> {
-        write!(
-            self.text,
-            "COUNT r15 {n} t{t} k{k}\nOUTC k3\nOUTI r15\nELSE\nOUTI r15\nEND\n"
-        )
+        write!(self.text, "COUNT r15 {n} t{t} k{k}\n")?;
+        self.print_given()
     }
 
     fn kill(&mut self, t: usize, k: u32, n: &str) -> Result<(), AllocError> {
@@ -235,11 +373,11 @@ impl Generator {
 
     fn unique(&mut self, choice: u32, t: usize) -> Result<(), AllocError> {
         let a = self.next_register();
-        let class = u32::try_from(t).unwrap_or(0).wrapping_add(10);
+        let class = unique_class(t);
         match choice {
             9 => write!(self.text, "UMAKE r{a} t{t}\n")?,
             10 => write!(self.text, "UFIND r{a} t{t}\n")?,
-            11 => write!(self.text, "UFINDOR r{a} t{t}\n")?,
+            11 => return self.find_or_make_unique(t),
             _ => {
                 self.end_others(class, 99);
                 return write!(self.text, "UKILL r15 t{t}\nOUTI r15\n");
@@ -248,18 +386,59 @@ impl Generator {
         self.open(Close::Opener(a), Some(t), class)
     }
 
+    fn find_or_make_unique(&mut self, t: usize) -> Result<(), AllocError> {
+        let a = self.next_register();
+        write!(self.text, "UFINDOR r{a} t{t}\n")?;
+        self.open(Close::Opener(a), Some(t), unique_class(t))
+    }
+
     /// An object that a register owns, and a reference to it in the part inside.
     fn new_object(&mut self, t: usize) -> Result<(), AllocError> {
         let a = self.next_register();
         write!(self.text, "NEW r{a} t{t}\n")?;
-        self.own(a, t)
+        self.own(a, t)?;
+        self.fill(t)
+    }
+
+    /// Gives the innermost part's value, which is new, a text or a first number.
+    fn fill(&mut self, t: usize) -> Result<(), AllocError> {
+        let (b, n) = (self.next_register().saturating_sub(1), self.number());
+        match shape_of(t) {
+            Shape::Text => {
+                write!(self.text, "SETS r15 r{b} k4\n")?;
+                self.print_given()
+            }
+            Shape::Struct(_) => write!(
+                self.text,
+                "FIELD r15 r{b} 0\nSTORE r15 r{n}\nLOAD r15 r15\n"
+            ),
+            Shape::Number
+            | Shape::Sequence(_)
+            | Shape::Keyed(_)
+            | Shape::Own(_)
+            | Shape::Shared(_) => Ok(()),
+        }
+    }
+
+    /// Prints the text or the first number of the innermost part's value.
+    fn print_value(&mut self, t: usize) -> Result<(), AllocError> {
+        let b = self.next_register().saturating_sub(1);
+        match shape_of(t) {
+            Shape::Text => write!(self.text, "OUTS r{b}\nOUTC k6\n"),
+            Shape::Struct(_) => { write!(self.text, "FIELD r15 r{b} 0\nLOAD r15 r15\nOUTI r15\n") }
+            Shape::Number
+            | Shape::Sequence(_)
+            | Shape::Keyed(_)
+            | Shape::Own(_)
+            | Shape::Shared(_) => Ok(()),
+        }
     }
 
     /// The part of an opener that lets register a own an object.
     fn own(&mut self, a: usize, t: usize) -> Result<(), AllocError> {
         self.classes = self.classes.wrapping_add(1);
         let class = self.classes;
-        self.open(Close::Owner(a), None, class)?;
+        self.open(Close::Owner { register: a, t }, None, class)?;
         let register = self.next_register();
         write!(self.text, "REF r{register} r{a}\n")?;
         self.parts.push(Part {
@@ -267,6 +446,7 @@ impl Generator {
             register,
             t: Some(t),
             class,
+            access: Access::Change,
         })?;
         Ok(())
     }
@@ -284,7 +464,24 @@ impl Generator {
             Shape::Sequence(item) => self.on_sequence(part, t, item),
             Shape::Keyed(item) => self.on_map(part, t, item),
             Shape::Own(held) => self.on_own(part, held),
-            Shape::Struct(fields) => self.on_struct(part, fields),
+            Shape::Shared(held) => self.on_shared(part, t, held),
+            Shape::Struct(fields) => self.field(part, fields),
+        }
+    }
+
+    /// A call on the value of a part that changes nothing there.
+    fn read(&mut self, part: Part, t: usize) -> Result<(), AllocError> {
+        match shape_of(t) {
+            Shape::Number => self.load(part.register),
+            Shape::Text => self.read_text(part.register),
+            Shape::Sequence(item) => self.read_sequence(part, item),
+            Shape::Keyed(item) => self.read_map(part, item),
+            Shape::Own(held) => self.content(part, held, Access::Read),
+            Shape::Shared(held) => match self.random.below(2) {
+                0 => self.share(part, t),
+                _ => self.content(part, held, Access::Read),
+            },
+            Shape::Struct(fields) => self.field(part, fields),
         }
     }
 
@@ -292,8 +489,12 @@ impl Generator {
         let n = self.number();
         match self.random.below(2) {
             0 => write!(self.text, "STORE r{b} r{n}\n"),
-            _ => write!(self.text, "LOAD r15 r{b}\nOUTI r15\n"),
+            _ => self.load(b),
         }
+    }
+
+    fn load(&mut self, b: usize) -> Result<(), AllocError> {
+        write!(self.text, "LOAD r15 r{b}\nOUTI r15\n")
     }
 
     fn on_text(&mut self, b: usize) -> Result<(), AllocError> {
@@ -304,41 +505,59 @@ impl Generator {
             1 => write!(self.text, "ADDS r15 r{b} k{k}\n")?,
             2 => write!(self.text, "ADDB r15 r{b} r{n}\n")?,
             3 => write!(self.text, "POP r15 r{b}\n")?,
-            4 => write!(self.text, "AT r15 r{b} r{n}\n")?,
-            5 => return write!(self.text, "SHRINK r{b}\n"),
-            6 => return write!(self.text, "LEN r15 r{b}\nOUTI r15\n"),
-            _ => return write!(self.text, "OUTS r{b}\nOUTC k6\n"),
+            4 => return write!(self.text, "SHRINK r{b}\n"),
+            _ => return self.read_text(b),
         }
-        self.text
-            .push_str("OUTC k3\nOUTI r15\nELSE\nOUTI r15\nEND\n")
+        self.print_given()
+    }
+
+    fn read_text(&mut self, b: usize) -> Result<(), AllocError> {
+        let n = self.number();
+        match self.random.below(4) {
+            0 => {
+                write!(self.text, "AT r15 r{b} r{n}\n")?;
+                self.print_given()
+            }
+            1 => self.len(b),
+            _ => write!(self.text, "OUTS r{b}\nOUTC k6\n"),
+        }
+    }
+
+    fn len(&mut self, b: usize) -> Result<(), AllocError> {
+        write!(self.text, "LEN r15 r{b}\nOUTI r15\n")
     }
 
     fn on_sequence(&mut self, part: Part, t: usize, item: usize) -> Result<(), AllocError> {
-        let (a, b, n) = (self.next_register(), part.register, self.number());
-        let is_list = t != 2;
+        let (a, b) = (self.next_register(), part.register);
+        let is_list = !VECTORS.contains(&t);
         match self.random.below(9) {
             0..=2 => write!(self.text, "PUSH r{a} r{b}\n")?,
             3 if is_list => write!(self.text, "PUSHF r{a} r{b}\n")?,
             4 => return self.shorter(part, "POP"),
             5 if is_list => return self.shorter(part, "POPF"),
             5 => return write!(self.text, "SHRINK r{b}\n"),
-            6 => return write!(self.text, "LEN r15 r{b}\nOUTI r15\n"),
-            _ => {
-                write!(self.text, "AT r{a} r{b} r{n}\n")?;
-                return self.open(Close::Opener(a), Some(item), part.class);
-            }
+            _ => return self.read_sequence(part, item),
         }
         self.end_others(part.class, b);
-        self.open(Close::Opener(a), Some(item), part.class)
+        self.open_inside(part, item)
+    }
+
+    fn read_sequence(&mut self, part: Part, item: usize) -> Result<(), AllocError> {
+        let (a, b, n) = (self.next_register(), part.register, self.number());
+        match self.random.below(3) {
+            0 => self.len(b),
+            _ => {
+                write!(self.text, "AT r{a} r{b} r{n}\n")?;
+                self.open_inside(part, item)
+            }
+        }
     }
 
     fn shorter(&mut self, part: Part, operation: &str) -> Result<(), AllocError> {
         let b = part.register;
         self.end_others(part.class, b);
-        write!(
-            self.text,
-            "{operation} r15 r{b}\nOUTC k3\nOUTI r15\nELSE\nOUTI r15\nEND\n"
-        )
+        write!(self.text, "{operation} r15 r{b}\n")?;
+        self.print_given()
     }
 
     fn on_map(&mut self, part: Part, t: usize, item: usize) -> Result<(), AllocError> {
@@ -347,17 +566,27 @@ impl Generator {
             0..=2 => {
                 write!(self.text, "PUTK r{a} r{b} r{n}\n")?;
                 self.end_others(part.class, b);
+                self.open_inside(part, item)
             }
-            3 | 4 => write!(self.text, "GETK r{a} r{b} r{n}\n")?,
-            5 => {
+            3 => {
                 self.end_others(part.class, b);
-                return write!(self.text, "DELK r15 r{b} r{n}\nOUTI r15\n");
+                write!(self.text, "DELK r15 r{b} r{n}\nOUTI r15\n")
             }
-            6 => return self.next_key(b, n),
-            7 if t == 4 => return write!(self.text, "SHRINK r{b}\n"),
-            _ => return write!(self.text, "LEN r15 r{b}\nOUTI r15\n"),
+            4 if t == 4 => write!(self.text, "SHRINK r{b}\n"),
+            _ => self.read_map(part, item),
         }
-        self.open(Close::Opener(a), Some(item), part.class)
+    }
+
+    fn read_map(&mut self, part: Part, item: usize) -> Result<(), AllocError> {
+        let (a, b, n) = (self.next_register(), part.register, self.number());
+        match self.random.below(4) {
+            0 => self.len(b),
+            1 => self.next_key(b, n),
+            _ => {
+                write!(self.text, "GETK r{a} r{b} r{n}\n")?;
+                self.open_inside(part, item)
+            }
+        }
     }
 
     fn next_key(&mut self, b: usize, n: u32) -> Result<(), AllocError> {
@@ -365,17 +594,13 @@ impl Generator {
             0 => write!(self.text, "FIRSTK r15 r{b}\n")?,
             _ => write!(self.text, "NEXTK r15 r{b} r{n}\n")?,
         }
-        self.text
-            .push_str("OUTC k3\nOUTI r15\nELSE\nOUTI r15\nEND\n")
+        self.print_given()
     }
 
     fn on_own(&mut self, part: Part, held: usize) -> Result<(), AllocError> {
         let (a, b) = (self.next_register(), part.register);
         match self.random.below(4) {
-            0 => {
-                write!(self.text, "CONTENT r{a} r{b}\n")?;
-                self.open(Close::Opener(a), Some(held), part.class)
-            }
+            0 => self.content(part, held, Access::Change),
             1 => {
                 self.end_others(part.class, b);
                 write!(self.text, "TAKE r{a} r{b}\n")?;
@@ -391,7 +616,62 @@ impl Generator {
         }
     }
 
-    fn on_struct(&mut self, part: Part, fields: &[usize]) -> Result<(), AllocError> {
+    /// The object that an own or a shared cell holds, and what may be done with it.
+    fn content(&mut self, part: Part, held: usize, access: Access) -> Result<(), AllocError> {
+        let (a, b) = (self.next_register(), part.register);
+        write!(self.text, "CONTENT r{a} r{b}\n")?;
+        self.open_inside(Part { access, ..part }, held)?;
+        self.print_value(held)
+    }
+
+    /// A new object is frozen into the cell where its part ends.
+    fn on_shared(&mut self, part: Part, t: usize, held: usize) -> Result<(), AllocError> {
+        match self.random.below(8) {
+            0 | 1 => self.content(part, held, Access::Read),
+            2 | 3 => self.share(part, t),
+            _ => self.new_object(held),
+        }
+    }
+
+    /// Shares what one of two cells names: that of the part, and one around it of its type, or else a cell that is found.
+    fn share(&mut self, part: Part, t: usize) -> Result<(), AllocError> {
+        let other = match self.cell_around(t) {
+            Some(other) => other,
+            None => self.other_cell(part, t)?,
+        };
+        let (to, from) = match (part.access, other.access) {
+            (Access::Change, Access::Change) if self.random.below(2) == 0 => (other, part),
+            (Access::Change, Access::Change | Access::Read) => (part, other),
+            (Access::Read, Access::Change) => (other, part),
+            (Access::Read, Access::Read) => return Ok(()),
+        };
+        self.end_others(to.class, to.register);
+        write!(self.text, "SHARE r{} r{}\n", to.register, from.register)
+    }
+
+    /// Opens the part of another cell of a type: of the named one, where the cell at hand is the unique one.
+    fn other_cell(&mut self, part: Part, t: usize) -> Result<Part, AllocError> {
+        if part.class == unique_class(CELL_TYPE) {
+            self.named_cell()?;
+        } else {
+            self.find_or_make_unique(t)?;
+        }
+        Ok(self.parts.last().copied().unwrap_or(part))
+    }
+
+    /// The value of a type in the closest part around the innermost one.
+    fn cell_around(&self, t: usize) -> Option<Part> {
+        let mut cell = None;
+        let (_innermost, around) = self.parts.as_slice().split_last()?;
+        for part in around {
+            if part.t == Some(t) {
+                cell = Some(*part);
+            }
+        }
+        cell
+    }
+
+    fn field(&mut self, part: Part, fields: &[usize]) -> Result<(), AllocError> {
         let index = self.random.below(u32::try_from(fields.len()).unwrap_or(1)) as usize;
         let (a, b) = (self.next_register(), part.register);
         write!(self.text, "FIELD r{a} r{b} {index}\n")?;
@@ -399,8 +679,13 @@ impl Generator {
             close: Close::Nothing,
             register: a,
             t: fields.get(index).copied(),
-            class: part.class,
+            ..part
         })?;
         Ok(())
     }
+}
+
+/// The class of the unique object of a type.
+fn unique_class(t: usize) -> u32 {
+    u32::try_from(t).unwrap_or(0).wrapping_add(10)
 }

@@ -3,6 +3,7 @@
 
 use std::alloc::{AllocError, Global};
 use std::collections::BTreeMap;
+use std::mem;
 
 /// What a type is, with what it is of.
 #[derive(Debug, Clone, Copy, PartialEq, Eq)]
@@ -14,11 +15,12 @@ pub(crate) enum Shape {
     /// A map of either kind.
     Keyed(usize),
     Own(usize),
+    Shared(usize),
     Struct(&'static [usize]),
 }
 
-/// The types of the random clients, in order. [`HEADER`](crate::tests::generator::HEADER) spells them.
-pub(crate) const SHAPES: [Shape; 9] = [
+/// The types of the random clients, in order. The generator spells them.
+pub(crate) const SHAPES: [Shape; 14] = [
     Shape::Number,
     Shape::Text,
     Shape::Sequence(1),
@@ -28,6 +30,11 @@ pub(crate) const SHAPES: [Shape; 9] = [
     Shape::Own(7),
     Shape::Struct(&[0, 6, 1]),
     Shape::Sequence(7),
+    Shape::Shared(10),
+    Shape::Struct(&[0, 9, 5, 1]),
+    Shape::Shared(8),
+    Shape::Shared(1),
+    Shape::Sequence(9),
 ];
 
 /// The shape of a type.
@@ -36,18 +43,19 @@ pub(crate) fn shape_of(t: usize) -> Shape {
 }
 
 /// What a value holds.
-#[derive(Debug, Drop)]
+#[derive(Debug, Clone, Drop)]
 pub(crate) enum Content {
     Number(i64),
     Text(Vec<u8>),
     Items(Vec<usize>),
     Keyed(BTreeMap<i64, usize>),
+    /// What an own holds, or a copy of the frozen object that a shared cell names.
     Held(Option<usize>),
     Fields(Vec<usize>),
 }
 
 /// A value: its type, and what it holds.
-#[derive(Debug, Drop)]
+#[derive(Debug, Clone, Drop)]
 pub(crate) struct Value {
     pub(crate) t: usize,
     pub(crate) content: Content,
@@ -67,15 +75,18 @@ pub(crate) struct Objects {
     values: Vec<Value>,
     pub(crate) named: BTreeMap<Vec<u8>, Object>,
     pub(crate) uniques: BTreeMap<usize, usize>,
+    /// The number of the next object that is frozen.
+    pub(crate) next_number: u32,
 }
 
 impl Objects {
-    pub(crate) fn new(alloc: Global) -> Objects {
+    pub(crate) fn new(alloc: Global, next_number: u32) -> Objects {
         Objects {
             alloc,
             values: Vec::new(alloc),
             named: BTreeMap::new(alloc),
             uniques: BTreeMap::new(alloc),
+            next_number,
         }
     }
 
@@ -127,6 +138,56 @@ impl Objects {
         }
     }
 
+    /// A copy of a value, with copies of all that it leads to.
+    pub(crate) fn copy(&mut self, value: usize) -> Result<usize, AllocError> {
+        let first = self.copy_alone(value)?;
+        // the copy of a part stands behind that of the whole, so the loop comes to each
+        for copy in first..usize::MAX {
+            let Some(slot) = self.content(copy) else {
+                break;
+            };
+            let mut content = mem::replace(slot, Content::Held(None));
+            self.copy_parts(&mut content)?;
+            if let Some(slot) = self.content(copy) {
+                *slot = content;
+            }
+        }
+        Ok(first)
+    }
+
+    /// A copy of a value that leads to the same parts.
+    fn copy_alone(&mut self, value: usize) -> Result<usize, AllocError> {
+        let copy = self.values.len();
+        if let Some(original) = self.values.get(value) {
+            let original = original.clone()?;
+            self.values.push(original)?;
+        }
+        Ok(copy)
+    }
+
+    /// Lets a content lead to copies of its parts.
+    fn copy_parts(&mut self, content: &mut Content) -> Result<(), AllocError> {
+        match content {
+            Content::Number(_) | Content::Text(_) | Content::Held(None) => Ok(()),
+            Content::Items(parts) | Content::Fields(parts) => self.copy_each(parts.iter_mut()),
+            Content::Keyed(entries) => self.copy_each(entries.values_mut()),
+            Content::Held(Some(part)) => {
+                *part = self.copy_alone(*part)?;
+                Ok(())
+            }
+        }
+    }
+
+    fn copy_each<'p>(
+        &mut self,
+        parts: impl Iterator<Item = &'p mut usize>,
+    ) -> Result<(), AllocError> {
+        for part in parts {
+            *part = self.copy_alone(*part)?;
+        }
+        Ok(())
+    }
+
     /// An object of so many new values.
     pub(crate) fn make_object(&mut self, t: usize, count: i64) -> Result<Object, AllocError> {
         let mut values = Vec::new(self.alloc);
@@ -144,6 +205,6 @@ fn simple_default(alloc: Global, t: usize) -> Content {
         Shape::Text => Content::Text(Vec::new(alloc)),
         Shape::Sequence(_) => Content::Items(Vec::new(alloc)),
         Shape::Keyed(_) => Content::Keyed(BTreeMap::new(alloc)),
-        Shape::Own(_) => Content::Held(None),
+        Shape::Own(_) | Shape::Shared(_) => Content::Held(None),
     }
 }

@@ -1,5 +1,5 @@
-use crate::tests::abstract_run::AbstractRun;
-use crate::tests::generator::Generator;
+use crate::tests::abstract_run::{AbstractRun, Sharing};
+use crate::tests::generator::{Generator, Version};
 use crate::tests::model::Objects;
 use crate::tests::runs::{
     KINDS, Kind, PLAIN, Setting, client, empty, run_files, statistics_of, verified,
@@ -9,15 +9,58 @@ use seg_layout::TypeTable;
 use std::alloc::Global;
 use std::process::Abort;
 use std::test::Fail;
+use support_data::write_words;
 
 const INPUT: &[u8] = b"the input of a client";
 
-/// What a client took.
+/// What a client took, and what it did with frozen objects.
 #[derive(Debug, Clone, Copy, PartialEq, Eq)]
 struct Retraced {
     steps: u64,
     read: usize,
+    sharing: Sharing,
 }
+
+/// How many clients were accepted, and how many of them did what with frozen objects.
+#[derive(Debug, Clone, Copy, PartialEq, Eq, Default)]
+struct Counts {
+    accepted: u32,
+    froze: u32,
+    had_no_room: u32,
+    had_no_number: u32,
+    shared: u32,
+    read: u32,
+}
+
+impl Counts {
+    fn add(&mut self, sharing: Sharing) {
+        count(&mut self.accepted, true);
+        count(&mut self.froze, sharing.froze);
+        count(&mut self.had_no_room, sharing.had_no_room);
+        count(&mut self.had_no_number, sharing.had_no_number);
+        count(&mut self.shared, sharing.shared);
+        count(&mut self.read, sharing.read);
+    }
+}
+
+fn count(clients: &mut u32, is_one: bool) {
+    *clients = clients.wrapping_add(u32::from(is_one));
+}
+
+/// Where an image has the number of the next object that is frozen.
+const NEXT_NUMBER: usize = 28;
+
+/// The sizes of the segments, and the numbers of their next frozen objects, which are used up in some.
+const SEGMENTS: [(u32, u32); 8] = [
+    (800, 0),
+    (880, 0),
+    (960, 0),
+    (1040, 0),
+    (1200, 0),
+    (1600, u32::MAX - 3),
+    (2400, u32::MAX - 8),
+    (4096, 0),
+];
 
 /// Runs a client on the objects, where a run on bytes printed this.
 fn retrace(
@@ -34,16 +77,24 @@ fn retrace(
     Ok(Retraced {
         steps: model.steps,
         read: INPUT.len().wrapping_sub(model.input.len()),
+        sharing: model.sharing,
     })
 }
 
-/// Runs a client on an image and on the objects beside it, if it is accepted. Answers the saved image.
+/// The image that a client left, and what it did with frozen objects.
+#[derive(Drop)]
+struct Followed {
+    image: Vec<u8>,
+    sharing: Sharing,
+}
+
+/// Runs a client on an image and on the objects beside it, if it is accepted.
 fn follow(
     rt: &(impl Abort + AllocGlobal),
     objects: &mut Objects,
     image: &[u8],
     file: &[u8],
-) -> Result<Option<Vec<u8>>, Fail> {
+) -> Result<Option<Followed>, Fail> {
     let parsed = parse(file)?;
     let Ok(accepted) = verified(file, &TypeTable::new()) else {
         return Ok(None);
@@ -59,38 +110,70 @@ fn follow(
     assert_eq!(rt; report.steps, retraced.steps);
     assert_eq!(rt; report.read, retraced.read);
     assert!(rt; report.steps <= accepted.bound());
-    Ok(Some(ran.image))
+    Ok(Some(Followed {
+        image: ran.image,
+        sharing: retraced.sharing,
+    }))
 }
 
-/// Clients one after the other on one segment. Answers how many were accepted.
-fn follow_clients(rt: &(impl Abort + AllocGlobal), kind: Kind, size: u32) -> Result<u32, Fail> {
+/// As many names, unique objects and numbers of frozen ones are in the image as in the model.
+fn agree(rt: &(impl Abort + AllocGlobal), objects: &Objects, image: &[u8]) -> Result<(), Fail> {
+    let left = statistics_of(rt.alloc(), image)?;
+    assert_eq!(rt; left.named as usize, objects.named.len());
+    assert_eq!(rt; left.unique, objects.uniques.len());
+    let next_number = objects.next_number.to_le_bytes();
+    assert_eq!(rt;
+        image
+            .get(NEXT_NUMBER..)
+            .map(|rest| rest.starts_with(&next_number)),
+        Some(true)
+    );
+    Ok(())
+}
+
+/// Clients one after the other on one segment, whose next frozen object has a number. Every fourth is of version 1.
+fn follow_clients(
+    rt: &(impl Abort + AllocGlobal),
+    counts: &mut Counts,
+    kind: Kind,
+    (size, next_number): (u32, u32),
+) -> Result<(), Fail> {
     let alloc = rt.alloc();
     let mut image = empty(alloc, size, kind)?;
-    let mut objects = Objects::new(alloc);
-    let mut accepted = 0u32;
-    for seed in 0..25 {
-        let text = Generator::new(alloc, u64::from(size).wrapping_add(seed)).client(40)?;
+    write_words(image.as_mut_slice(), NEXT_NUMBER, &[next_number]);
+    let mut objects = Objects::new(alloc, next_number);
+    for seed in 0..10 {
+        let version = if seed % 4 == 0 {
+            Version::One
+        } else {
+            Version::Two
+        };
+        let seed = u64::from(size).wrapping_add(seed);
+        let text = Generator::new(alloc, version, seed).client(60)?;
         let file = client(alloc, text.as_str())?;
-        if let Some(saved) = follow(rt, &mut objects, image.as_slice(), file.as_slice())? {
-            image = saved;
-            accepted = accepted.wrapping_add(1);
+        if let Some(followed) = follow(rt, &mut objects, image.as_slice(), file.as_slice())? {
+            image = followed.image;
+            counts.add(followed.sharing);
         }
-        let left = statistics_of(alloc, image.as_slice())?;
-        assert_eq!(rt; left.named as usize, objects.named.len());
-        assert_eq!(rt; left.unique, objects.uniques.len());
+        agree(rt, &objects, image.as_slice())?;
     }
-    Ok(accepted)
+    Ok(())
 }
 
 /// Random clients of all operations: output, steps and codes are those of objects without bytes.
 #[test]
 fn random_clients_follow_a_model(rt: HostRuntime) -> Result<(), Fail> {
-    let mut accepted = 0u32;
+    let mut counts = Counts::default();
     for kind in KINDS {
-        for size in [800, 1200, 4096] {
-            accepted = accepted.wrapping_add(follow_clients(&rt, kind, size)?);
+        for segment in SEGMENTS {
+            follow_clients(&rt, &mut counts, kind, segment)?;
         }
     }
-    assert!(rt; accepted > 150, "{accepted} clients were accepted");
+    assert!(rt; counts.accepted > 240, "{counts:?}");
+    assert!(rt; counts.froze > 30, "{counts:?}");
+    assert!(rt; counts.had_no_room > 5, "{counts:?}");
+    assert!(rt; counts.had_no_number > 10, "{counts:?}");
+    assert!(rt; counts.shared > 5, "{counts:?}");
+    assert!(rt; counts.read > 15, "{counts:?}");
     Ok(())
 }
