@@ -59,7 +59,8 @@ module _ {others : List Root} {types : Table} {constants : List Constant} (one :
   not_after_none x (z ∷ xs) ys e = cc
 
   -- what is still known of a register is shown
-  shown_by : (r : ℕ) (k : RegisterType) → ((b ≡ r) ⊎ ((class' : Class) (U : ℕ) → k ≡ RegisterType.Reference class' U → same_class (sharing class) (sharing class') ≡ false)) → Meets constants s k (register s r) → Shown h.pictured w r k (register s r)
+  shown_by : (r : ℕ) (k : RegisterType) → ((b ≡ r) ⊎ ((class' : Class) (U : ℕ) → k ≡ RegisterType.Reference class' U → same_class (sharing class) (sharing class') ≡ false)) → Meets constants s k (register s r)
+      → Shown h.pictured w r k (register s r)
       → Shown put.later (with_image w new) r k (register state_then r)
   shown_by r RegisterType.Undefined still m n = n
   shown_by r RegisterType.Int still m n = (n.0, stays r _ n.1 refl)

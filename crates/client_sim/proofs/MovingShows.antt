@@ -186,7 +186,8 @@ module _ {others : List Root} {types : Table} {constants : List Constant} (one :
   ]
     where
       choose : (t : Bool) (c : Class) (U : ℕ) → same_class (sharing class) (sharing c) ≡ t → (((if t then RegisterType.Undefined else RegisterType.Reference c U) ≡ RegisterType.Undefined) × (false ≡ false))
-          ⊎ (((if t then RegisterType.Undefined else RegisterType.Reference c U) ≡ RegisterType.Reference c U) × ((d : Class) (V : ℕ) → RegisterType.Reference c U ≡ RegisterType.Reference d V → same_class (sharing class) (sharing d) ≡ false))
+          ⊎ (((if t then RegisterType.Undefined else RegisterType.Reference c U) ≡ RegisterType.Reference c U)
+          × ((d : Class) (V : ℕ) → RegisterType.Reference c U ≡ RegisterType.Reference d V → same_class (sharing class) (sharing d) ≡ false))
       choose true c U e = inl (refl, refl)
       choose false c U e = inr (refl, (λ d V f. let g : c ≡ d = cc in ap (λ x. same_class (sharing class) (sharing x)) (sym g) ∙ e))
 

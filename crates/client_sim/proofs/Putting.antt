@@ -91,7 +91,8 @@ module _ (allocator : ℕ) (constants : List Constant) (role : Role) (a b c : �
   unfolding rule
   put_acts call types others first ks good bad s right valid e h =
       let one = one_each constants right.each right.different in
-      let last = λ (x : Class × ℕ). typed.◌>>=◌ (required (not (same_class (sharing x.0) (Class.Register c))) Reason.PutIntoItself) (λ _. known_after (slice_set (ended (Class.Register c) (others_ended x.0 b ks)) c RegisterType.Undefined)) in
+      let last = λ (x : Class × ℕ). typed.◌>>=◌ (required (not (same_class (sharing x.0) (Class.Register c))) Reason.PutIntoItself)
+      (λ _. known_after (slice_set (ended (Class.Register c) (others_ended x.0 b ks)) c RegisterType.Undefined)) in
       let g = λ (x : Class × ℕ) (t : ℕ). typed.◌>>=◌ (owner_needed (known ks c)) (λ u. typed.◌>>=◌ (required (t == u) Reason.WrongOperand) (λ _. last x)) in
       let r = reaches one h owned_type g b good bad e in
       let p = bind_ok (owner_needed (known ks c)) (λ u. typed.◌>>=◌ (required (r.what == u) Reason.WrongOperand) (λ _. last (r.class, r.type))) (good, bad) r.rest in

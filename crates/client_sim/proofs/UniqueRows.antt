@@ -131,7 +131,8 @@ module _ {others : List Root} {types : Table} {constants : List Constant} (one :
 
   pub shows_ended : (class : Class) → Shows others types constants first allocator (ended (sharing class) ks) s w
   shows_ended class =
-      shows_rooted h (ended (sharing class) ks) s w h.pictured (λ o. ⊥) (record { table = refl; begins = λ o root item e. inr (e, (λ i path target less leads. leads)) }) refl (agrees_ended types constants one (sharing class) ks s h.as_known)
+      shows_rooted h (ended (sharing class) ks) s w h.pictured (λ o. ⊥) (record { table = refl; begins = λ o root item e. inr (e, (λ i path target less leads. leads)) }) refl
+      (agrees_ended types constants one (sharing class) ks s h.as_known)
       (length-map ks (without_class (sharing class)) ∙ h.sixteen) h.registers (record { table = refl; input = refl; read = refl; taken = refl; types = refl; state_input = refl; state_output = refl })
       (λ r. ended_shown one h class (ended (sharing class) ks) s w h.pictured (λ o. ⊥) (λ o f. absurd f) r (known_ended (sharing class) ks r) refl refl refl refl (λ f. f))
 
