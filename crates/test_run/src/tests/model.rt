@@ -169,8 +169,8 @@ impl Objects {
     fn copy_parts(&mut self, content: &mut Content) -> Result<(), AllocError> {
         match content {
             Content::Number(_) | Content::Text(_) | Content::Held(None) => Ok(()),
-            Content::Items(parts) | Content::Fields(parts) => self.copy_each(parts.iter_mut()),
-            Content::Keyed(entries) => self.copy_each(entries.values_mut()),
+            Content::Items(parts) | Content::Fields(parts) => self.copy_each(parts),
+            Content::Keyed(entries) => self.copy_entries(entries),
             Content::Held(Some(part)) => {
                 *part = self.copy_alone(*part)?;
                 Ok(())
@@ -178,11 +178,15 @@ impl Objects {
         }
     }
 
-    fn copy_each<'p>(
-        &mut self,
-        parts: impl Iterator<Item = &'p mut usize>,
-    ) -> Result<(), AllocError> {
+    fn copy_each(&mut self, parts: &mut [usize]) -> Result<(), AllocError> {
         for part in parts {
+            *part = self.copy_alone(*part)?;
+        }
+        Ok(())
+    }
+
+    fn copy_entries(&mut self, entries: &mut BTreeMap<i64, usize>) -> Result<(), AllocError> {
+        for part in entries.values_mut() {
             *part = self.copy_alone(*part)?;
         }
         Ok(())
