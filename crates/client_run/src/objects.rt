@@ -1,6 +1,6 @@
 //! Named, unique and anonymous objects.
 
-ghost use Rattle.std.specs.Prelude.{◌≡◌, FitsSigned, None};
+ghost use Rattle.std.specs.Prelude.{◌≡◌, FitsSigned};
 ghost use Rattle.std.specs.Int.{w64};
 ghost use Rattle.seg_spec.specs.Pointer.{target};
 ghost use Rattle.seg_spec.specs.Types.{form_at};
@@ -9,7 +9,7 @@ ghost use Rattle.client_spec.specs.declared.table.Operation.{Operation};
 ghost use Rattle.client_program.specs.Paths.{number_at};
 ghost use Rattle.client_run.specs.Machines.{KeepsLoops};
 ghost use Rattle.client_run.specs.Named.{NamedIn, optional_in, IsOptional, FindsItem};
-ghost use Rattle.client_run.specs.Worlds.{Acts, Opens, shared_in};
+ghost use Rattle.client_run.specs.Worlds.{Acts, Opens, content_at};
 
 use crate::machine::Machine;
 use crate::name::{Name, name_of};
@@ -306,8 +306,8 @@ impl Machine<'_> {
 
 /// The value of the object that an own or a shared cell names, by its position.
 fn held_object<F: Fit, A: Allocator>(segment: &Segment<F, A>, holder: Place) -> Option<u32>
-    ensures { shared_in (form_at segment.now.types holder.type_id) ≡ None →
-        result ≡ target segment.now.window.bytes holder.at }
+    ensures { result ≡ content_at (form_at segment.now.types holder.type_id)
+        (target segment.now.window.bytes holder.at) }
 {
     match segment.types().kind(holder.type_id) {
         Some(Type::Shared(_)) => segment.heap().frozen(holder),

@@ -24,7 +24,8 @@ use Rattle.client_spec.proofs.Values.{length_set}
 use Rattle.client_spec.proofs.Changes.{agrees_put_others}
 use Rattle.client_spec.proofs.Puts.{put_types, put_register, put_at_is, leads_here}
 use Rattle.client_sim.specs.Writes.{Took}
-use Rattle.client_sim.specs.Shows.{World, place_in, Shown, FrozenStay, Shows}
+use Rattle.client_sim.specs.Shows.{World, place_in, Shown, Shows}
+use Rattle.client_sim.proofs.Framing.{Frame, owner_changed}
 use Rattle.client_sim.proofs.Placed.{PlacePut}
 use Rattle.client_sim.proofs.Led.{Led}
 use Rattle.client_sim.proofs.LeafPuts.{with_image, origin_streams}
@@ -46,13 +47,12 @@ module _ {others : List Root} {types : Table} {constants : List Constant} (one :
       → LeadsInImage put.later other target
   elsewhere other target x apart there led = elim (put.leads other target x there led) [ inl g ↦ absurd (apart g.0 g.1) | inr k ↦ k ]
 
+  registers_are : (r : ℕ) → (register state_then r ≡ register s r) ⊎ (register state_then r ≡ with_owned root_then (register s r))
+  registers_are r = subst (λ z. (register z r ≡ register s r) ⊎ (register z r ≡ with_owned root_then (register s r))) (sym then_is) (put_register s l.path.origin l.found.whole root_then l.found.type l.found.at r)
+
   -- what owns nothing stays
   stays : (r : ℕ) (x : Register) → register s r ≡ x → with_owned root_then x ≡ x → register state_then r ≡ x
-  stays r x e same =
-      elim (subst (λ z. (register z r ≡ register s r) ⊎ (register z r ≡ with_owned root_then (register s r))) (sym then_is) (put_register s l.path.origin l.found.whole root_then l.found.type l.found.at r)) [
-        | inl f ↦ f ∙ e
-        | inr f ↦ f ∙ ap (with_owned root_then) e ∙ same
-      ]
+  stays r x is same = elim (registers_are r) [ inl e ↦ e ∙ is | inr e ↦ e ∙ ap (with_owned root_then) is ∙ same ]
 
   not_after_none : (x : Selector) (xs ys : List Selector) → xs ++ x ∷ ys ≡ [] → ⊥
   not_after_none x [] ys e = cc
@@ -108,9 +108,9 @@ module _ {others : List Root} {types : Table} {constants : List Constant} (one :
         allocator_is = word-same w.image new allocator_word (IsSame-part w.image new 0 free_word allocator_word 4 (omega arith) (omega arith) front_kept) ∙ h.allocator_is;
       }
 
-  pub frozen_changed : FrozenStay h.pictured.picture.frozen shows_changed.pictured.picture.frozen
+  pub frame_changed : Frame (others_ended class b ks) w (with_image w new) h.pictured shows_changed.pictured
   unfolding shows_changed
-  frozen_changed = put.stays
+  frame_changed = record { frozen = put.stays; unknown = λ r e o. record { register_is = owner_changed h r state_then root_then o (registers_are r); place_is = refl; owns_is = refl } }
 
   -- the path leads where it led, and the new value stands there
   pub leads_changed : LeadsInImage shows_changed.pictured l.path (place_in w b)

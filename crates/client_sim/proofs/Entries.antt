@@ -34,6 +34,7 @@ use Rattle.client_spec.proofs.Cases.{entries_value, place_below, map_has_value, 
 use Rattle.client_spec.proofs.Spelled.{one_each}
 use Rattle.client_sim.specs.Shows.{World, number_in, place_in, Shows, Acts}
 use Rattle.client_sim.specs.Acting.{ActsAs, IsRefusedAs}
+use Rattle.client_sim.proofs.Lifted.{lifted_acts, lifted_refused}
 use Rattle.client_sim.proofs.LeafPuts.{with_image}
 use Rattle.client_sim.proofs.Numbers.{with_number, quiet, gives_both, number_shown}
 use Rattle.client_sim.proofs.Answering.{with_place}
@@ -131,7 +132,7 @@ module _ (allocator : ℕ) (constants : List Constant) (role : Role) (a b c : �
       → (stands : Stands allocator w.image w.table place (Map keys vs) blocks) → length keys ≡ count vs → Deletes new gone keys vs stands.home blocks (key_place keys key))
       → ActsAs allocator constants role (of Operation.DeleteKey) w (with_number (with_image w new) a (truth gone))
   unfolding rule
-  delete_key_acts new gone maps = λ types others first ks good bad s right valid e h.
+  delete_key_acts new gone maps = lifted_acts refl (λ types others first ks good bad s right valid e h.
       let one = one_each constants right.each right.different in
       let i = of Operation.DeleteKey in
       let g = λ (x : Class × ℕ) (u : ⊤). typed.◌>>=◌ (integer_needed (known ks c)) (λ _. gives a RegisterType.Int (others_ended x.0 b ks)) in
@@ -143,7 +144,7 @@ module _ (allocator : ℕ) (constants : List Constant) (role : Role) (a b c : �
       let stands = subst (λ u. Stands allocator w.image w.table place u r.its.found.blocks) v.2 r.its.stands in
       let d = maps r.form t.0 v.0 v.1 r.its.found.blocks r.form_is t.1 stands v.4 in
       subst (λ k. Acts others types constants first allocator i success k s w (with_number (with_image w new) a (truth gone))) (sym o.1)
-      (deleted one h r t.0 v.0 v.1 v.2 v.3 v.4 v.5 (number_shown others types constants first allocator ks s w h c q.0 q.1) valid.a o.0 new gone (key_place v.0 key) refl stands d)
+      (deleted one h r t.0 v.0 v.1 v.2 v.3 v.4 v.5 (number_shown others types constants first allocator ks s w h c q.0 q.1) valid.a o.0 new gone (key_place v.0 key) refl stands d))
 
   -- ---- a key comes
 
@@ -230,7 +231,7 @@ module _ (allocator : ℕ) (constants : List Constant) (role : Role) (a b c : �
   pub put_key_acts : (new : List ℕ) (p T : ℕ) → EachMap (λ form U keys vs blocks. (U ≡ T) × Puts new form U keys vs blocks p (key_place keys key))
       → ActsAs allocator constants role (of Operation.PutKey) w (with_place (with_image w new) a (record { at = p; type = T }))
   unfolding rule
-  put_key_acts new p T maps = λ types others first ks good bad s right valid e h.
+  put_key_acts new p T maps = lifted_acts refl (λ types others first ks good bad s right valid e h.
       let one = one_each constants right.each right.different in
       let i = of Operation.PutKey in
       let g = λ (x : Class × ℕ) (t : ℕ). typed.◌>>=◌ (integer_needed (known ks c)) (λ _. opens a (RegisterType.Reference x.0 t) (others_ended x.0 b ks)) in
@@ -241,12 +242,12 @@ module _ (allocator : ℕ) (constants : List Constant) (role : Role) (a b c : �
       let d = maps r.form r.what v.0 v.1 r.its.found.blocks r.form_is r.is (subst (λ u. Stands allocator w.image w.table place u r.its.found.blocks) v.2 r.its.stands) in
       subst (λ k. Acts others types constants first allocator i success k s w (with_place (with_image w new) a (record { at = p; type = T }))) (sym o.1)
       (subst (λ n. Acts others types constants first allocator i success (slice_set (others_ended r.class b ks) a (RegisterType.Reference r.class r.what)) s w (with_place (with_image w new) a (record { at = p; type = n }))) d.0
-      (put_by one h r v.0 v.1 v.2 v.3 v.4 v.5 (number_shown others types constants first allocator ks s w h c q.0 q.1) valid.a o.0 new p (key_place v.0 key) refl d.1))
+      (put_by one h r v.0 v.1 v.2 v.3 v.4 v.5 (number_shown others types constants first allocator ks s w h c q.0 q.1) valid.a o.0 new p (key_place v.0 key) refl d.1)))
 
   pub put_key_refused : (new : List ℕ) (n : ℕ) → EachMap (λ form U keys vs blocks. (n ≡ 2) × (key_place keys key ≡ None) × Refuses allocator w.image new (entry_asks form U))
       → IsRefusedAs allocator constants role (of Operation.PutKey) w (with_number (with_image w new) a (pos n))
   unfolding rule
-  put_key_refused new n maps = λ types others first ks good bad s right valid e h.
+  put_key_refused new n maps = lifted_refused refl (λ types others first ks good bad s right valid e h.
       let one = one_each constants right.each right.different in
       let i = of Operation.PutKey in
       let g = λ (x : Class × ℕ) (t : ℕ). typed.◌>>=◌ (integer_needed (known ks c)) (λ _. opens a (RegisterType.Reference x.0 t) (others_ended x.0 b ks)) in
@@ -260,4 +261,4 @@ module _ (allocator : ℕ) (constants : List Constant) (role : Role) (a b c : �
         (λ q. cc),
         subst (λ k. Acts others types constants first allocator i bad_alloc k s w (with_number (with_image w new) a (pos n))) (sym o.2)
             (put_denied one h r v.0 v.1 v.2 v.3 v.4 v.5 number valid.a o.0 new n d.0 d.1 d.2),
-      )
+      ))

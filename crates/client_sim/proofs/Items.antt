@@ -38,8 +38,9 @@ use Rattle.client_spec.proofs.Classes.{OneEach, known_others, agrees_others}
 use Rattle.client_spec.proofs.FirstRows.{bind_ok, answer_is, form_found, opens_ok, nth_below}
 use Rattle.client_spec.proofs.Cases.{reference_is, text_value, items_value, text_fits, popped, list_is_item, item_part, last_item}
 use Rattle.client_spec.proofs.Spelled.{one_each}
-use Rattle.client_sim.specs.Shows.{World, place_in, Shown, FrozenStay, all_stay, Shows, Acts}
-use Rattle.client_sim.specs.Acting.{ActsAs, IsRefusedAs}
+use Rattle.client_sim.specs.Shows.{World, place_in, Shown, Shows, Acts}
+use Rattle.client_sim.specs.Acting.{ActsAs, IsRefusedAs, ActsPlainly}
+use Rattle.client_sim.proofs.Lifted.{lifted_acts, lifted_refused}
 use Rattle.seg_spec.proofs.Lowering.{named_positions}
 use Rattle.seg_spec.proofs.CountedParts.{SameNames, names_same, names_then, names_cons, default_names}
 use Rattle.client_sim.proofs.Placed.{PlacePut}
@@ -48,8 +49,9 @@ use Rattle.client_sim.proofs.Lengths.{items_held}
 use Rattle.client_sim.proofs.Led.{Led, led, led_put, led_shared, led_cleared}
 use Rattle.client_sim.proofs.LeafPuts.{with_image}
 use Rattle.client_sim.proofs.Numbers.{with_number}
-use Rattle.client_sim.proofs.Answering.{with_place, leads_part, acts_so, shows_number, shows_reference, refuses_with, frozen_number, frozen_reference}
-use Rattle.client_sim.proofs.Changing.{shows_changed, leads_changed, there_changed, table_changed, frozen_changed}
+use Rattle.client_sim.proofs.Answering.{with_place, leads_part, acts_so, shows_number, shows_reference, refuses_with, frame_number, frame_reference}
+use Rattle.client_sim.proofs.Framing.{Frame, frame_same}
+use Rattle.client_sim.proofs.Changing.{shows_changed, leads_changed, there_changed, table_changed, frame_changed}
 use Rattle.client_sim.proofs.Granting.{grants_asks, given_back, gives_back, denies}
 
 module _ {others : List Root} {types : Table} {constants : List Constant} (one : OneEach constants) {first : Option (List ℕ)} {allocator : ℕ} {ks : RegisterTypes} {s : State} {w : World}
@@ -149,7 +151,7 @@ module _ {others : List Root} {types : Table} {constants : List Constant} (one :
         subst (λ m. Acts others types constants first allocator i success (slice_set known_then i.a RegisterType.Int) s w (with_number (with_image w m) i.a n)) (sym same)
         (acts_so others types constants first allocator ks s w h i success true (slice_set known_then i.a RegisterType.Int) (set_register s i.a (Register.Int n)) (with_number w i.a n)
         (row ∙ answer_is types constants known_then s after.as_known success i.a (Register.Int n) free) blocks refl refl refl (shows_number others types constants first allocator known_then s w after i.a n within free)
-        (frozen_number others types constants first allocator known_then s w after i.a _ _ _ (all_stay refl)))
+        (frame_number others types constants first allocator known_then s w after i.a _ _ _ (frame_same _ _ _)))
 
     pub kept_reference : (x : Selector) (T : ℕ) (part : Value) (target : Place) (new : List ℕ) → new ≡ w.image → i.a < 16 → is_owner (known known_then i.a) ≡ false
         → part_type x r.form ≡ Some T → selected r.its.value x ≡ Some part → target.type ≡ T → Leads w.image w.table (place_in w i.b) (x ∷ []) target
@@ -166,7 +168,7 @@ module _ {others : List Root} {types : Table} {constants : List Constant} (one :
         (acts_so others types constants first allocator ks s w h i success true (slice_set known_then i.a (RegisterType.Reference r.class T)) (set_register s i.a (Register.Reference x_path)) (with_place w i.a target)
         (row ∙ answer_is types constants known_then s after.as_known success i.a (Register.Reference x_path) free) blocks refl refl refl
         (shows_reference others types constants first allocator known_then s w after i.a r.class T x_path target within free r.its.within to typed in_image)
-        (frozen_reference others types constants first allocator known_then s w after i.a _ _ _ _ _ _ _ _ _ _ (all_stay refl)))
+        (frame_reference others types constants first allocator known_then s w after i.a _ _ _ _ _ _ _ _ _ _ (frame_same _ _ _)))
 
     -- another value was put there
     module _ (v : Value) (fits : IsOf s.types r.form v) (new : List ℕ) (put : PlacePut h.pictured r.its.in_image r.its.value (put_at s r.its.path v) new) (long : length new ≡ length w.image) (front : KeepsFront w.image new) where
@@ -179,9 +181,9 @@ module _ {others : List Root} {types : Table} {constants : List Constant} (one :
       after : Shows others types constants first allocator known_then state_then (with_image w new)
       after = shows_changed one h i.b r.class r.type r.known_as r.its v shape new put front
 
-      frozen_after : FrozenStay h.pictured.picture.frozen after.pictured.picture.frozen
+      frame_after : Frame known_then w (with_image w new) h.pictured after.pictured
       unfolding after
-      frozen_after = frozen_changed one h i.b r.class r.type r.known_as r.its v shape new put front
+      frame_after = frame_changed one h i.b r.class r.type r.known_as r.its v shape new put front
 
       -- and a number given
       pub number_acts : (n : ℤ) → i.a < 16 → is_owner (known known_then i.a) ≡ false → outcome constants i true s ≡ give i.a (Register.Int n) state_then → ChangesBlocks constants i h.pictured success new
@@ -190,7 +192,7 @@ module _ {others : List Root} {types : Table} {constants : List Constant} (one :
           acts_so others types constants first allocator ks s w h i success true (slice_set known_then i.a RegisterType.Int) (set_register state_then i.a (Register.Int n)) (with_number (with_image w new) i.a n)
           (row ∙ answer_is types constants known_then state_then after.as_known success i.a (Register.Int n) free) changes long front refl
           (shows_number others types constants first allocator known_then state_then (with_image w new) after i.a n within free)
-          (frozen_number others types constants first allocator known_then state_then (with_image w new) after i.a _ _ _ frozen_after)
+          (frame_number others types constants first allocator known_then state_then (with_image w new) after i.a _ _ _ frame_after)
 
       -- and a reference to a part of it
       pub reference_acts : (x : Selector) (T : ℕ) (part : Value) (target : Place) → i.a < 16 → is_owner (known known_then i.a) ≡ false → part_type x r.form ≡ Some T → selected v x ≡ Some part → target.type ≡ T
@@ -211,7 +213,7 @@ module _ {others : List Root} {types : Table} {constants : List Constant} (one :
           (with_place (with_image w new) i.a target)
           (row ∙ answer_is types constants known_then state_then after.as_known success i.a (Register.Reference x_path) free) changes long front refl
           (shows_reference others types constants first allocator known_then state_then (with_image w new) after i.a r.class T x_path target within free r.its.within to typed in_image)
-          (frozen_reference others types constants first allocator known_then state_then (with_image w new) after i.a _ _ _ _ _ _ _ _ _ _ frozen_after)
+          (frame_reference others types constants first allocator known_then state_then (with_image w new) after i.a _ _ _ _ _ _ _ _ _ _ frame_after)
 
     -- a part went, and the place holds what is left
     pub record PartLost (v : Value) (j : ℕ) (new : List ℕ) : Type 0 where
@@ -370,12 +372,12 @@ module _ (allocator : ℕ) (constants : List Constant) (role : Role) (a b c : �
   abbrev pub EachList : (ℕ → Values → List ℕ → Type 0) → Type 0
   EachList claim = (U : ℕ) (vs : Values) (blocks : List ℕ) → form_at w.table place.type ≡ Some (Form.list U) → Stands allocator w.image w.table place (Seq vs) blocks → claim U vs blocks
 
-  pub pop_back_acts : (new : List ℕ) (n : ℕ) → EachText (λ xs blocks. PopsByte allocator w.image new w.table place xs blocks n)
+  pop_back_plainly : (new : List ℕ) (n : ℕ) → EachText (λ xs blocks. PopsByte allocator w.image new w.table place xs blocks n)
       → ((U : ℕ) (vs : Values) (blocks : List ℕ) → HoldsItems w.table place.type U → (stands : Stands allocator w.image w.table place (Seq vs) blocks)
       → PopsItem w.image new w.table place vs (without_last vs) stands.home blocks (count vs - 1) n)
-      → ActsAs allocator constants role (of Operation.PopBack) w (with_number (with_image w new) a (pos n))
+      → ActsPlainly allocator constants role (of Operation.PopBack) w (with_number (with_image w new) a (pos n))
   unfolding rule effect
-  pop_back_acts new n text items = λ types others first ks good bad s right valid e h.
+  pop_back_plainly new n text items = λ types others first ks good bad s right valid e h.
       let one = one_each constants right.each right.different in
       let i = of Operation.PopBack in
       let g = λ (x : Class × ℕ) (u : ⊤). opens a RegisterType.Int (others_ended x.0 b ks) in
@@ -413,11 +415,17 @@ module _ (allocator : ℕ) (constants : List Constant) (role : Role) (a b c : �
             (place, r.form, led_to one h i r, part_goes one h i r.form is.0 place (count_at w.image place.at - 1) t.gives is.1 (subst (λ k. PartGoes constants i h.pictured place k t.gives) at t.goes)) t.left_is)
       ])
 
+  pub pop_back_acts : (new : List ℕ) (n : ℕ) → EachText (λ xs blocks. PopsByte allocator w.image new w.table place xs blocks n)
+      → ((U : ℕ) (vs : Values) (blocks : List ℕ) → HoldsItems w.table place.type U → (stands : Stands allocator w.image w.table place (Seq vs) blocks)
+      → PopsItem w.image new w.table place vs (without_last vs) stands.home blocks (count vs - 1) n)
+      → ActsAs allocator constants role (of Operation.PopBack) w (with_number (with_image w new) a (pos n))
+  pop_back_acts new n text items = lifted_acts refl (pop_back_plainly new n text items)
+
   -- there was none to take
   pub pop_back_refused : (new : List ℕ) (n : ℕ) → EachText (λ xs blocks. (length xs ≡ 0) × (new ≡ w.image) × (n ≡ 6)) → EachItems (λ U vs blocks. (count vs ≡ 0) × (new ≡ w.image) × (n ≡ 6))
       → IsRefusedAs allocator constants role (of Operation.PopBack) w (with_number (with_image w new) a (pos n))
   unfolding rule effect
-  pop_back_refused new n text items = λ types others first ks good bad s right valid e h.
+  pop_back_refused new n text items = lifted_refused refl (λ types others first ks good bad s right valid e h.
       let one = one_each constants right.each right.different in
       let i = of Operation.PopBack in
       let g = λ (x : Class × ℕ) (u : ⊤). opens a RegisterType.Int (others_ended x.0 b ks) in
@@ -440,14 +448,14 @@ module _ (allocator : ℕ) (constants : List Constant) (role : Role) (a b c : �
         (λ q. cc),
         subst (λ k. Acts others types constants first allocator i null_or_none k s w (with_number (with_image w new) a (pos n))) (sym o.2)
             (code_acts one h i r null_or_none true new n fails.1 fails.2 valid.a o.0 (row ∙ fails.0) refl),
-      )
+      ))
 
   -- the first item went
   pub pop_front_acts : (new : List ℕ) (n : ℕ) → ((U : ℕ) (vs : Values) (blocks : List ℕ) → form_at w.table place.type ≡ Some (Form.list U) → (stands : Stands allocator w.image w.table place (Seq vs) blocks)
       → (v : Value) × (ws : Values) × (vs ≡ cons v ws) × PopsItem w.image new w.table place vs ws stands.home blocks 0 n)
       → ActsAs allocator constants role (of Operation.PopFront) w (with_number (with_image w new) a (pos n))
   unfolding rule effect
-  pop_front_acts new n items = λ types others first ks good bad s right valid e h.
+  pop_front_acts new n items = lifted_acts refl (λ types others first ks good bad s right valid e h.
       let one = one_each constants right.each right.different in
       let i = of Operation.PopFront in
       let g = λ (x : Class × ℕ) (t : ℕ). opens a RegisterType.Int (others_ended x.0 b ks) in
@@ -469,11 +477,11 @@ module _ (allocator : ℕ) (constants : List Constant) (role : Role) (a b c : �
       ∙ ap (λ vs. pop_first a r.its.path vs s) q.2 ∙ ap (λ m. give_count a m (put_at s r.its.path (Seq left))) n_is in
       subst (λ k. Acts others types constants first allocator i success k s w (with_number (with_image w new) a (pos n))) (sym o.1)
       (number_acts one h i r (Seq left) fits new t.put t.long t.front (pos n) valid.a o.0 row
-      (gives_back constants i h.pictured new refl t.gives (place, r.form, led_to one h i r, part_goes one h i r.form r.what place 0 t.gives is t.goes) t.left_is))
+      (gives_back constants i h.pictured new refl t.gives (place, r.form, led_to one h i r, part_goes one h i r.form r.what place 0 t.gives is t.goes) t.left_is)))
 
   pub pop_front_refused : (new : List ℕ) (n : ℕ) → EachList (λ U vs blocks. (count vs ≡ 0) × (new ≡ w.image) × (n ≡ 6)) → IsRefusedAs allocator constants role (of Operation.PopFront) w (with_number (with_image w new) a (pos n))
   unfolding rule effect
-  pop_front_refused new n items = λ types others first ks good bad s right valid e h.
+  pop_front_refused new n items = lifted_refused refl (λ types others first ks good bad s right valid e h.
       let one = one_each constants right.each right.different in
       let i = of Operation.PopFront in
       let g = λ (x : Class × ℕ) (t : ℕ). opens a RegisterType.Int (others_ended x.0 b ks) in
@@ -487,7 +495,7 @@ module _ (allocator : ℕ) (constants : List Constant) (role : Role) (a b c : �
         (λ q. cc),
         subst (λ k. Acts others types constants first allocator i null_or_none k s w (with_number (with_image w new) a (pos n))) (sym o.2)
             (code_acts one h i r null_or_none true new n none.1 none.2 valid.a o.0 row refl),
-      )
+      ))
 
   -- the requests for one item more
   abbrev pub item_asks : Form → ℕ → List Ask
@@ -518,7 +526,7 @@ module _ (allocator : ℕ) (constants : List Constant) (role : Role) (a b c : �
   pub push_back_acts : (new : List ℕ) (p T : ℕ) → EachForm (λ form U vs blocks. (U ≡ T) × PushesItem allocator w.image new w.table place U (append vs (cons (default_of w.table U) nil)) blocks (item_asks form U) (count vs) p)
       → ActsAs allocator constants role (of Operation.PushBack) w (with_place (with_image w new) a (record { at = p; type = T }))
   unfolding rule effect
-  push_back_acts new p T items = λ types others first ks good bad s right valid e h.
+  push_back_acts new p T items = lifted_acts refl (λ types others first ks good bad s right valid e h.
       let one = one_each constants right.each right.different in
       let i = of Operation.PushBack in
       let g = λ (x : Class × ℕ) (t : ℕ). opens a (RegisterType.Reference x.0 t) (others_ended x.0 b ks) in
@@ -539,13 +547,13 @@ module _ (allocator : ℕ) (constants : List Constant) (role : Role) (a b c : �
       (names_same (ap names_in v.1 ∙ names_seq v.0 ∙ sym (back_named v.0 d (default_names s.types r.what)) ∙ sym (names_seq more))) pushed.succeeds.changes)
       pushed.succeeds.changes.length_kept pushed.succeeds.changes.front_kept x r.what d target valid.a o.0 (item_part r.form r.what (count v.0) r.is) (last_item v.0 d) refl pushed.leads row
       (grants_asks constants i h.pictured allocator h.allocator_is (item_asks r.form r.what) (place, r.form, led_to one h i r, back_asks h r.form r.what r.is) new w.table place (Seq more) [] r.its.found.blocks pushed.others
-      refl pushed.succeeds)))
+      refl pushed.succeeds))))
 
   -- it had no room
   pub push_back_refused : (new : List ℕ) (n : ℕ) → EachForm (λ form U vs blocks. (n ≡ 2) × Refuses allocator w.image new (item_asks form U))
       → IsRefusedAs allocator constants role (of Operation.PushBack) w (with_number (with_image w new) a (pos n))
   unfolding rule effect
-  push_back_refused new n items = λ types others first ks good bad s right valid e h.
+  push_back_refused new n items = lifted_refused refl (λ types others first ks good bad s right valid e h.
       let one = one_each constants right.each right.different in
       let i = of Operation.PushBack in
       let g = λ (x : Class × ℕ) (t : ℕ). opens a (RegisterType.Reference x.0 t) (others_ended x.0 b ks) in
@@ -560,13 +568,13 @@ module _ (allocator : ℕ) (constants : List Constant) (role : Role) (a b c : �
         subst (λ k. Acts others types constants first allocator i bad_alloc k s w (with_number (with_image w new) a (pos n))) (sym o.2)
             (code_acts one h i r bad_alloc false new n q.1.same q.0 valid.a o.0 row
             (denies constants i h.pictured allocator h.allocator_is (item_asks r.form r.what) (place, r.form, led_to one h i r, back_asks h r.form r.what r.is) w.image here)),
-      )
+      ))
 
   -- a default item joined the others at the front
   pub push_front_acts : (new : List ℕ) (p T : ℕ) → EachList (λ U vs blocks. (U ≡ T) × PushesItem allocator w.image new w.table place U (cons (default_of w.table U) vs) blocks (block_for (8 + size w.table U) ∷ []) 0 p)
       → ActsAs allocator constants role (of Operation.PushFront) w (with_place (with_image w new) a (record { at = p; type = T }))
   unfolding rule effect
-  push_front_acts new p T items = λ types others first ks good bad s right valid e h.
+  push_front_acts new p T items = lifted_acts refl (λ types others first ks good bad s right valid e h.
       let one = one_each constants right.each right.different in
       let i = of Operation.PushFront in
       let g = λ (x : Class × ℕ) (t : ℕ). opens a (RegisterType.Reference x.0 t) (others_ended x.0 b ks) in
@@ -589,12 +597,12 @@ module _ (allocator : ℕ) (constants : List Constant) (role : Role) (a b c : �
       (names_same (ap names_in v.1 ∙ names_seq v.0 ∙ sym (front_named d v.0 (default_names s.types r.what)) ∙ sym (names_seq more))) pushed.succeeds.changes)
       pushed.succeeds.changes.length_kept pushed.succeeds.changes.front_kept (Selector.item 0) r.what d target valid.a o.0 part refl refl pushed.leads row
       (grants_asks constants i h.pictured allocator h.allocator_is asks (place, r.form, led_to one h i r, front_asks h r.form r.what r.is) new w.table place (Seq more) [] r.its.found.blocks pushed.others
-      refl pushed.succeeds)))
+      refl pushed.succeeds))))
 
   pub push_front_refused : (new : List ℕ) (n : ℕ) → EachList (λ U vs blocks. (n ≡ 2) × Refuses allocator w.image new (block_for (8 + size w.table U) ∷ []))
       → IsRefusedAs allocator constants role (of Operation.PushFront) w (with_number (with_image w new) a (pos n))
   unfolding rule effect
-  push_front_refused new n items = λ types others first ks good bad s right valid e h.
+  push_front_refused new n items = lifted_refused refl (λ types others first ks good bad s right valid e h.
       let one = one_each constants right.each right.different in
       let i = of Operation.PushFront in
       let g = λ (x : Class × ℕ) (t : ℕ). opens a (RegisterType.Reference x.0 t) (others_ended x.0 b ks) in
@@ -610,4 +618,4 @@ module _ (allocator : ℕ) (constants : List Constant) (role : Role) (a b c : �
         subst (λ k. Acts others types constants first allocator i bad_alloc k s w (with_number (with_image w new) a (pos n))) (sym o.2)
             (code_acts one h i r bad_alloc false new n q.1.same q.0 valid.a o.0 row
             (denies constants i h.pictured allocator h.allocator_is asks (place, r.form, led_to one h i r, front_asks h r.form r.what r.is) w.image here)),
-      )
+      ))

@@ -20,7 +20,7 @@ use Rattle.seg_spec.specs.Demand.{after_gives}
 use Rattle.seg_spec.specs.Clearing.{ClearsPlace}
 use Rattle.seg_spec.specs.Counting.{cells_in, owners_in, AreCounted}
 use Rattle.seg_spec.specs.Roots.{roots_before, item_of, with_item, KeepsPaths, KeepsPathsBeside, ChangesPlace}
-use Rattle.seg_spec.proofs.Frame.{each_left}
+use Rattle.seg_spec.proofs.Frame.{each_left, each_right}
 use Rattle.seg_spec.proofs.Releasing.{none_gone}
 use Rattle.seg_spec.proofs.CountedPictures.{roots_held}
 use Rattle.seg_spec.proofs.CountedParts.{owners_after, owners_are, owners_with, SameNames, names_same, names_then}
@@ -33,7 +33,7 @@ use Rattle.client_spec.specs.Pictures.{root_of_register, Pictures, LeadsInImage,
 use Rattle.client_spec.proofs.Puts.{put_at_is, put_length}
 use Rattle.client_spec.proofs.States.{register_set}
 use Rattle.client_sim.proofs.FirstRoots.{each_among}
-use Rattle.client_sim.specs.Shows.{FrozenStay, all_stay, some_go}
+use Rattle.client_sim.proofs.FrozenPaths.{KeepsFrozen, frozen_stay, frozen_go, frozen_of_roots, frozen_left}
 use Rattle.client_sim.proofs.Looks.{Looks, root_in, looks_of, looks_left, held_by, begins_in, begins_at, begins_left}
 use Rattle.client_sim.proofs.RootPuts.{RootFound, root_for, all_others, frozen_same}
 use Rattle.client_sim.proofs.Placed.{PlaceFound, owners_split, item_within}
@@ -117,13 +117,13 @@ module _ {others : List Root} {s : State} {bytes : List ℕ} (pictured : Picture
   pub record Moved (s' : State) (Ends : Origin → Type 0) : Type 0 where
     pub later : Pictures others s' new
     pub table_is : later.picture.table ≡ table
-    pub stays : FrozenStay pictured.picture.frozen later.picture.frozen
+    pub stays : KeepsFrozen bytes new table pictured.picture.frozen later.picture.frozen
     pub leads : (other : Path) (target : Place) (x : Value) → path_value s other ≡ Some x → LeadsInImage pictured other target
         → Ends other.origin ⊎ (((other.origin ≡ path.origin) × GoesOnAfter path.selectors other.selectors) ⊎ LeadsInImage later other target)
 
   -- where the roots are found again
   paths_then : {s' : State} (looks : Looks others s') (held : IsHeld new looks.picture) (counted : AreCounted (word new next_word) looks.picture) (Ends : Origin → Type 0) (rest : List Root) → looks.picture.table ≡ table
-      → FrozenStay pictured.picture.frozen looks.picture.frozen → KeepsPathsBeside bytes new table led.root led.item path.selectors → AllByRecursion (KeepsPaths bytes new table) rest
+      → KeepsFrozen bytes new table pictured.picture.frozen looks.picture.frozen → KeepsPathsBeside bytes new table led.root led.item path.selectors → AllByRecursion (KeepsPaths bytes new table) rest
       → ((o : Origin) (r : Root) (i : ℕ) → root_in (looks_of pictured) o ≡ Some (r, i)
       → Ends o ⊎ (((r ≡ led.root) × (i ≡ led.item → o ≡ path.origin) × (root_in looks o ≡ Some (changed, i))) ⊎ (KeepsPaths bytes new table r × (root_in looks o ≡ Some (r, i)))))
       → (m : Moved s' Ends) × ((o : Origin) (r : Root) (i : ℕ) → root_in looks o ≡ Some (r, i) → root_at m.later o ≡ Some (r, i))
@@ -202,7 +202,8 @@ module _ {others : List Root} {s : State} {bytes : List ℕ} (pictured : Picture
       let state : put_origin (set_register s c Register.Undefined) path.origin whole_then ≡ set_register (put_at s path w) c Register.Undefined =
       put_order s c Register.Undefined path.origin whole_then apart ∙ ap (λ z. set_register z c Register.Undefined) (sym (put_at_is s path f.whole w f.type f.at)) in
       subst (λ z. Moved z (λ o. o ≡ Origin.Owned c)) state
-      (paths_then looks there counted (λ o. o ≡ Origin.Owned c) rest same (some_go gone (ap (left gone) same_frozen)) beside paths (λ o r i e. elim (l.begins o r i e) [
+      (paths_then looks there counted (λ o. o ≡ Origin.Owned c) rest same (frozen_go gone (ap (left gone) same_frozen) (frozen_left bytes new picture held theirs shared gone clears.shared_kept)) beside paths
+      (λ o r i e. elim (l.begins o r i e) [
         | inl g ↦ inl g
         | inr g ↦ elim (put.begins o r i g) [
           | inl p ↦ inr (inl (p.0, p.1, sym (begins_left gone put.later o) ∙ p.2))
@@ -239,8 +240,9 @@ module _ {others : List Root} {s : State} {bytes : List ℕ} (pictured : Picture
       let c' : ChangesPlace bytes new table place w [] spans (f.blocks ++ []) ([] ++ f.blocks) = subst (λ bs. ChangesPlace bytes new table place w [] spans bs f.blocks) (sym (append-nil f.blocks)) changes in
       let index = index_kept bytes picture held led.root [] (rest ++ frozen) now led.item f.within path.selectors place led.leads old_value f.blocks f.holds_it [] holds_no_root new w [] f.blocks c' in
       let beside = beside_kept bytes picture held led.root [] (rest ++ frozen) now led.item f.within path.selectors place led.leads old_value f.blocks f.holds_it [] holds_no_root new w [] f.blocks c' in
-      let paths = each_left (KeepsPaths bytes new table) rest frozen
-      (paths_kept bytes picture held led.root [] (rest ++ frozen) now led.item f.within path.selectors place led.leads old_value f.blocks f.holds_it [] holds_no_root new w [] f.blocks c') in
+      let all_paths = paths_kept bytes picture held led.root [] (rest ++ frozen) now led.item f.within path.selectors place led.leads old_value f.blocks f.holds_it [] holds_no_root new w [] f.blocks c' in
+      let paths = each_left (KeepsPaths bytes new table) rest frozen all_paths in
+      let frozen_paths = frozen_of_roots bytes new picture (each_right (KeepsPaths bytes new table) rest frozen all_paths) in
       let laid_out : IsLaidOut new other held.index_blocks = l.laid_out plain new held.index_blocks (subst (λ p. IsLaidOut new p held.index_blocks) (sym put.picture_is)
       (IsLaidOut-faced new picture held.index_blocks f.root.which f.root.before led.root changed f.root.after f.root.among (faced led.root led.item change)
       (IsLaidOut-kept bytes new picture held.index_blocks held.laid_out changes.length_kept changes.front_kept changes.back_kept changes.heap changes.ownable index))) in
@@ -252,7 +254,7 @@ module _ {others : List Root} {s : State} {bytes : List ℕ} (pictured : Picture
       let counted = counted_on bytes new other changes.back_kept
       (counted_moved led.root led.item f.whole f.root.item_is path.selectors old_value f.value_is (word bytes next_word) picture other [] (root ∷ []) rest w order owners [] cells
       (same_frozen ∙ sym (none_gone picture.frozen pictured.counted.counted.some)) pictured.counted) in
-      let moved = paths_then l.later there counted (λ o. ⊥) rest same (all_stay same_frozen) beside paths (λ o r i e. elim (put.begins o r i e) [
+      let moved = paths_then l.later there counted (λ o. ⊥) rest same (frozen_stay same_frozen frozen_paths) beside paths (λ o r i e. elim (put.begins o r i e) [
         | inl p ↦ inr (inl (p.0, p.1, l.begins o changed i p.2))
         | inr p ↦ inr (inr (each_among (KeepsPaths bytes new table) rest r p.0 paths, l.begins o r i p.1))
       ]) in

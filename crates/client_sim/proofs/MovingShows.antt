@@ -23,18 +23,13 @@ use Rattle.client_spec.proofs.Values.{length_set}
 use Rattle.client_spec.proofs.Changes.{agrees_put_others}
 use Rattle.client_spec.proofs.Puts.{put_types, put_length, put_register, put_at_is}
 use Rattle.client_sim.specs.Writes.{Took}
-use Rattle.client_sim.specs.Shows.{World, number_in, place_in, owns_in, Shown, FrozenStay, Shows}
+use Rattle.client_sim.specs.Shows.{World, number_in, place_in, owns_in, Shown, Shows}
+use Rattle.client_sim.proofs.Framing.{Frame, with_owned_none, owns_nothing}
 use Rattle.client_sim.proofs.Led.{Led}
 use Rattle.client_sim.proofs.LeafPuts.{origin_streams}
 use Rattle.client_sim.proofs.Giving.{set_there, set_beside, same_or_not}
 use Rattle.client_sim.proofs.Rooted.{BeginsFrom}
 use Rattle.client_sim.proofs.MovingOwned.{Moved, register_beside}
-
-with_owned_none : (v : Value) (x : Register) → owned_by x ≡ None → with_owned v x ≡ x
-with_owned_none v Register.Undefined e = refl
-with_owned_none v (Register.Int k) e = refl
-with_owned_none v (Register.Reference p) e = refl
-with_owned_none v (Register.Owner w t) e = cc
 
 not_after_none : (x : Selector) (xs ys : List Selector) → xs ++ x ∷ ys ≡ [] → ⊥
 not_after_none x [] ys e = cc
@@ -167,12 +162,18 @@ module _ {others : List Root} {types : Table} {constants : List Constant} (one :
           let long : length put_then.registers ≡ length s.registers = ap (λ (z : State). length z.registers) (put_at_is s l.path l.found.whole v l.found.type l.found.at) ∙ n in
           set_there put_then.registers a y Register.Undefined (omega (arith, long, h.as_known.count, h.sixteen, within))
 
-  pub frozen_moved : (k : RegisterType) (ks' : RegisterTypes) (owns : Bool) (positions type_ids : List ℕ) (within : a < 16) (sixteen : length ks' ≡ 16) (at_length : length positions ≡ 256) (id_length : length type_ids ≡ 256)
+  pub frame_moved : (k : RegisterType) (ks' : RegisterTypes) (owns : Bool) (positions type_ids : List ℕ) (within : a < 16) (sixteen : length ks' ≡ 16) (at_length : length positions ≡ 256) (id_length : length type_ids ≡ 256)
       (places : (r : ℕ) → a ≢ r → place_in (with_owning w new a owns positions type_ids) r ≡ place_in w r) (front : KeepsFront w.image new) (as_known : IsAsKnown types constants (slice_set ks' a k) moved_then)
       (rest : (r : ℕ) → a ≢ r → Stays r (known ks r) (known ks' r)) (here : Shown m.later (with_owning w new a owns positions type_ids) a k y)
-      → FrozenStay h.pictured.picture.frozen (shows_moved k ks' owns positions type_ids within sixteen at_length id_length places front as_known rest here).pictured.picture.frozen
+      → ((r : ℕ) → known (slice_set ks' a k) r ≡ RegisterType.Undefined → owns_in w r ≡ false → a ≢ r)
+      → Frame (slice_set ks' a k) w (with_owning w new a owns positions type_ids) h.pictured (shows_moved k ks' owns positions type_ids within sixteen at_length id_length places front as_known rest here).pictured
   unfolding shows_moved
-  frozen_moved k ks' owns positions type_ids within sixteen at_length id_length places front as_known rest here = m.stays
+  frame_moved k ks' owns positions type_ids within sixteen at_length id_length places front as_known rest here apart = record {
+    frozen = m.stays;
+    unknown = λ r e o.
+        let far = apart r e o in
+        record { register_is = stays r far (register s r) refl (owns_nothing h r o); place_is = places r far; owns_is = set_beside w.owns a r owns false far };
+  }
 
   -- ---- what is known of the others
 

@@ -17,8 +17,8 @@ use Rattle.seg_spec.specs.Reads.{Place, Leads, here}
 use Rattle.seg_spec.specs.Sound.{Picture, IsHeld, HoldsRoot, times, positions}
 use Rattle.seg_spec.specs.Roots.{Listed, with_roots, item_of}
 use Rattle.seg_spec.specs.Frozen.{blocks_by}
-use Rattle.seg_spec.specs.Shared.{names_each, freed}
-use Rattle.seg_spec.specs.Destroying.{HoldFrozen}
+use Rattle.seg_spec.specs.Shared.{names_each, left, freed}
+use Rattle.seg_spec.specs.Destroying.{HoldFrozen, KeepFrozen}
 use Rattle.seg_spec.specs.Counting.{AreCounted, without_cells, FrozenGone}
 use Rattle.seg_spec.specs.Demand.{NoRoom, after_gives}
 use Rattle.seg_spec.specs.Spending.{object_asks, spent, EntryBlocks, killed}
@@ -42,16 +42,19 @@ use Rattle.client_spec.proofs.FirstRows.{bind_ok, opens_ok, answer_is, item_belo
 use Rattle.client_spec.proofs.Shapes.{all_copies}
 use Rattle.client_spec.proofs.Spelled.{one_each}
 use Rattle.client_spec.proofs.States.{name_there}
-use Rattle.client_sim.specs.Shows.{World, number_in, HasRegisters, Shown, FrozenStay, all_stay, Shows, Acts}
+use Rattle.client_sim.specs.Shows.{World, number_in, HasRegisters, Shown, Shows, Acts}
 use Rattle.client_sim.specs.Acting.{AreRight, ActsAs, IsRefusedAs}
-use Rattle.client_sim.proofs.Answering.{with_place, acts_so, shows_reference, shows_number, refuses_with, frozen_number, frozen_reference}
+use Rattle.client_sim.proofs.Lifted.{lifted_acts, lifted_refused}
+use Rattle.client_sim.proofs.Answering.{with_place, acts_so, shows_reference, shows_number, refuses_with, frame_number, frame_reference}
+use Rattle.client_sim.proofs.Framing.{Frame, frame_same, unknown_same}
+use Rattle.client_sim.proofs.FrozenPaths.{KeepsFrozen, frozen_same_image, frozen_left}
 use Rattle.client_sim.proofs.Finding.{IsNameFor, name_at, first_place}
 use Rattle.client_sim.proofs.Granting.{grants_spent}
 use Rattle.client_sim.proofs.LeafPuts.{with_image}
 use Rattle.client_sim.proofs.NameBytes.{name_right}
 use Rattle.client_sim.proofs.Naming.{Comes, Goes, Stays, named_comes, named_goes, picture_stays}
 use Rattle.client_sim.proofs.Numbers.{with_number, quiet, gives_both, number_shown, unowned}
-use Rattle.client_sim.proofs.Rooted.{BeginsFrom, KeepsRoots, Remains, SameBesides, all_paths, other_paths, shows_rooted, pictured_rooted, frozen_rooted}
+use Rattle.client_sim.proofs.Rooted.{BeginsFrom, KeepsRoots, Remains, SameBesides, all_paths, all_frozen, other_paths, shows_rooted, pictured_rooted, frame_rooted}
 
 -- ---- what calls say
 
@@ -99,6 +102,7 @@ module _ (allocator : ℕ) (old : List ℕ) (table : Table) (name : List ℕ) (T
     pub entry : EntryBlocks (word old index_kind_word) old index_blocks root entries
     pub theirs : ℕ → List ℕ
     pub holds_shared : HoldFrozen old table theirs picture.frozen
+    pub shared_kept : KeepFrozen old new theirs (left (names_each root.values) picture.frozen)
     pub held : IsHeld new (without_cells (names_each root.values) (with_roots picture Listed.by_name (before ++ after)))
     pub counted : AreCounted (word new next_word) (without_cells (names_each root.values) (with_roots picture Listed.by_name (before ++ after)))
     pub long : length new ≡ length old
@@ -219,13 +223,14 @@ module _ {others : List Root} {types : Table} {constants : List Constant} {first
       shows_rooted h (ended (sharing class) ks) s' (with_image w new) later Ends keeps front as_known (length-map ks (without_class (sharing class)) ∙ h.sixteen) (registers_then new) besides
       (class_ends one class Ends ending none s' (with_image w new) registers refl refl refl refl later)
 
-  pub frozen_but_class : (one : OneEach constants) (class : Class) (Ends : Origin → Type 0) (ending : (o : Origin) → Ends o → InClass constants class o) (none : (r : ℕ) → InClass constants class (Origin.Owned r) → ⊥)
+  pub frame_but_class : (one : OneEach constants) (class : Class) (Ends : Origin → Type 0) (ending : (o : Origin) → Ends o → InClass constants class o) (none : (r : ℕ) → InClass constants class (Origin.Owned r) → ⊥)
       (s' : State) (new : List ℕ) (later : Pictures others s' new) (keeps : KeepsRoots h.pictured later Ends) (front : KeepsFront w.image new) (as_known : IsAsKnown types constants (ended (sharing class) ks) s')
-      (registers : s'.registers ≡ s.registers) (besides : SameBesides w (with_image w new) s s') → FrozenStay h.pictured.picture.frozen later.picture.frozen
-      → FrozenStay h.pictured.picture.frozen (all_but_class one class Ends ending none s' new later keeps front as_known registers besides).pictured.picture.frozen
+      (registers : s'.registers ≡ s.registers) (besides : SameBesides w (with_image w new) s s')
+      → KeepsFrozen w.image new h.pictured.picture.table h.pictured.picture.frozen later.picture.frozen
+      → Frame (ended (sharing class) ks) w (with_image w new) h.pictured (all_but_class one class Ends ending none s' new later keeps front as_known registers besides).pictured
   unfolding all_but_class
-  frozen_but_class one class Ends ending none s' new later keeps front as_known registers besides stays =
-      frozen_rooted h (ended (sharing class) ks) s' (with_image w new) later Ends keeps front _ _ _ _ _ stays
+  frame_but_class one class Ends ending none s' new later keeps front as_known registers besides stays =
+      frame_rooted h (ended (sharing class) ks) s' (with_image w new) later Ends keeps front _ _ _ _ _ stays (unknown_same (ended (sharing class) ks) s s' w new registers)
 
 -- ---- a new object, or none
 
@@ -263,7 +268,8 @@ module _ {others : List Root} {types : Table} {constants : List Constant} {first
       let root = object_root s.types bytes T n at in
       let place : Place = record { at = at; type = T } in
       let paths = all_paths w.image new h.pictured.picture h.pictured.held h.pictured.held.index_blocks m.kept (λ x. omega arith) in
-      let comes : Comes h.pictured new m.before root m.after m.names_are missing = named_comes h.pictured new m.before root m.after m.names_are missing m.held m.counted paths in
+      let comes : Comes h.pictured new m.before root m.after m.names_are missing = named_comes h.pictured new m.before root m.after m.names_are missing m.held m.counted paths
+      (all_frozen w.image new h.pictured.picture h.pictured.held h.pictured.held.index_blocks m.kept (λ x. omega arith)) in
       let known_now = known_then n some missing in
       let shows = all_stays h (state_then n) new comes.later comes.keeps m.front known_now refl (record { table = refl; input = refl; read = refl; taken = refl; types = refl; state_input = refl; state_output = refl }) in
       let some_value = first_of_many n (default_of s.types T) some in
@@ -280,21 +286,24 @@ module _ {others : List Root} {types : Table} {constants : List Constant} {first
       (with_place (with_image w new) a place) (row ∙ answer_is types constants ks (state_then n) known_now success a (Register.Reference path) free) blocks m.long m.front refl
       (shows_reference others types constants first allocator ks (state_then n) (with_image w new) shows.0 a (Class.Name k) T path place within free by typed_so refl
       (subst (λ p. LeadsInImage p path place) (sym shows.1) led))
-      (frozen_reference others types constants first allocator ks (state_then n) (with_image w new) shows.0 a _ _ _ _ _ _ _ _ _ _ (subst (λ p. FrozenStay h.pictured.picture.frozen p.picture.frozen) (sym shows.1) comes.stays))
+      (frame_reference others types constants first allocator ks (state_then n) (with_image w new) shows.0 a _ _ _ _ _ _ _ _ _ _
+      (subst (λ p. Frame ks w (with_image w new) h.pictured p) (sym shows.1) (record { frozen = comes.stays; unknown = unknown_same ks s (state_then n) w new refl })))
 
   pub not_made : (n code : ℕ) → code ≡ answer_number bad_alloc → IsDenied allocator w.image s.types bytes T h.pictured.picture h.pictured.held.index_blocks new n
       → outcome constants i false s ≡ fail a bad_alloc s → ChangesBlocks constants i h.pictured bad_alloc new
       → Acts others types constants first allocator i bad_alloc (slice_set ks a RegisterType.Int) s w (with_number (with_image w new) a (pos code))
   not_made n code code_is d row blocks =
       let paths = all_paths w.image new h.pictured.picture h.pictured.held [] (λ x some gone. d.kept x some) (λ x. omega arith) in
-      let stays : Stays h.pictured new = picture_stays h.pictured new d.held d.counted paths in
+      let stays : Stays h.pictured new = picture_stays h.pictured new d.held d.counted paths
+      (all_frozen w.image new h.pictured.picture h.pictured.held [] (λ x some gone. d.kept x some) (λ x. omega arith)) in
       let shows = all_stays h s new stays.later stays.keeps d.front h.as_known refl (record { table = refl; input = refl; read = refl; taken = refl; types = refl; state_input = refl; state_output = refl }) in
       let x : Register = Register.Int (pos 2) in
       subst (λ m. Acts others types constants first allocator i bad_alloc (slice_set ks a RegisterType.Int) s w (with_number (with_image w new) a (pos m))) (sym code_is)
       (acts_so others types constants first allocator ks s w h i bad_alloc false (slice_set ks a RegisterType.Int) (set_register s a x) (with_number (with_image w new) a (pos 2))
       (row ∙ answer_is types constants ks s h.as_known bad_alloc a x free) blocks d.long d.front refl
       (shows_number others types constants first allocator ks s (with_image w new) shows.0 a (pos 2) within free)
-      (frozen_number others types constants first allocator ks s (with_image w new) shows.0 a _ _ _ (subst (λ p. FrozenStay h.pictured.picture.frozen p.picture.frozen) (sym shows.1) stays.stays)))
+      (frame_number others types constants first allocator ks s (with_image w new) shows.0 a _ _ _
+      (subst (λ p. Frame ks w (with_image w new) h.pictured p) (sym shows.1) (record { frozen = stays.stays; unknown = unknown_same ks s s w new refl }))))
 
   -- a code for which nothing changed
   pub refused : (answer : Answer) (code : ℕ) → code ≡ answer_number answer → new ≡ w.image → outcome constants i true s ≡ fail a answer s → ChangesBlocks constants i h.pictured answer w.image
@@ -333,14 +342,15 @@ module _ {others : List Root} {types : Table} {constants : List Constant} {first
       let shared = subst (λ (t : Table). HoldFrozen w.image t m.theirs picture.frozen) (sym h.pictured.types) m.holds_shared in
       let paths = other_paths w.image new picture held ((m.objects ++ held.index_blocks) ++ blocks_by m.theirs picture.frozen) m.kept Listed.by_name m.before m.root m.after m.names_are m.objects holds m.theirs shared
       (λ x. let e = times-append x m.objects held.index_blocks in let f = times-append x (m.objects ++ held.index_blocks) (blocks_by m.theirs picture.frozen) in omega (arith, e, f)) in
-      let goes : Goes h.pictured new m.before m.root m.after m.names_are bytes root_is = named_goes h.pictured new m.before m.root m.after m.names_are bytes root_is m.held m.counted paths in
+      let goes : Goes h.pictured new m.before m.root m.after m.names_are bytes root_is = named_goes h.pictured new m.before m.root m.after m.names_are bytes root_is m.held m.counted paths
+      (frozen_left w.image new picture held m.theirs shared (names_each m.root.values) m.shared_kept) in
       let known_now = agrees_kill types constants one ks s k bytes by h.as_known in
       let shows = all_but_class h one class paths_end its_class (λ r z. z) state_after new goes.later goes.keeps m.front known_now refl
       (record { table = refl; input = refl; read = refl; taken = refl; types = refl; state_input = refl; state_output = refl }) in
       acts_so others types constants first allocator ks s w h i success true (slice_set (ended (sharing class) ks) a RegisterType.Int) (set_register state_after a (Register.Int (pos 1))) (with_number (with_image w new) a (pos 1))
       (row ∙ answer_is types constants (ended (sharing class) ks) state_after known_now success a (Register.Int (pos 1)) free) blocks m.long m.front refl
       (shows_number others types constants first allocator (ended (sharing class) ks) state_after (with_image w new) shows a (pos 1) within free)
-      (frozen_number others types constants first allocator _ state_after (with_image w new) shows a _ _ _ (frozen_but_class h one class paths_end _ _ state_after new goes.later goes.keeps m.front known_now _ _ goes.stays))
+      (frame_number others types constants first allocator _ state_after (with_image w new) shows a _ _ _ (frame_but_class h one class paths_end _ _ state_after new goes.later goes.keeps m.front known_now _ _ goes.stays))
 
   -- there was none: references end all the same
   pub not_lost : outcome constants i true s ≡ give_count a 0 s → ChangesBlocks constants i h.pictured success w.image
@@ -354,7 +364,8 @@ module _ {others : List Root} {types : Table} {constants : List Constant} {first
       acts_so others types constants first allocator ks s w h i success true (slice_set (ended (sharing class) ks) a RegisterType.Int) (set_register s a (Register.Int (pos 0))) (with_number w a (pos 0))
       (row ∙ answer_is types constants (ended (sharing class) ks) s known_now success a (Register.Int (pos 0)) free) blocks refl refl refl
       (shows_number others types constants first allocator (ended (sharing class) ks) s w shows a (pos 0) within free)
-      (frozen_number others types constants first allocator _ s w shows a _ _ _ (frozen_but_class h one class paths_end _ _ s w.image h.pictured keeps refl known_now _ _ (all_stay refl)))
+      (frame_number others types constants first allocator _ s w shows a _ _ _
+      (frame_but_class h one class paths_end _ _ s w.image h.pictured keeps refl known_now _ _ (frozen_same_image w.image h.pictured.picture.table h.pictured.picture.frozen)))
 
 -- ---- the instructions
 
@@ -417,7 +428,7 @@ module _ (allocator : ℕ) (constants : List Constant) (role : Role) (a b c : �
   pub make_acts : (new : List ℕ) (at : ℕ) → OfHeld allocator w (λ p held. T < length w.table → MakesHere p held.index_blocks new at)
       → ActsAs allocator constants role (on Operation.Make) w (with_place (with_image w new) a (record { at = at; type = T }))
   unfolding rule
-  make_acts new at says = λ types others first ks good bad s right valid e h.
+  make_acts new at says = lifted_acts refl (λ types others first ks good bad s right valid e h.
       let i = on Operation.Make in
       let t = type_operand number in
       let p = bind_ok (name_needed (slice_get constants k) (known ks b)) (λ _. typed.◌>>=◌ (integer_or_none c ks) (λ _. opens a (RegisterType.Reference (Class.Name k) t) ks)) (good, bad) e in
@@ -435,7 +446,7 @@ module _ (allocator : ℕ) (constants : List Constant) (role : Role) (a b c : �
       let asked = asks_are Operation.Make s m.values n.name_is (ap (λ (o : Option ℤ). o >>= object_count) index ∙ count_is) none n.type_is in
       let blocks = grants_spent constants i h.pictured allocator h.allocator_is (object_asks w.image s.types T m.values bytes) asked new [] refl (live new) its.left refl in
       subst (λ z. Acts others types constants first allocator i success z s w (with_place (with_image w new) a (record { at = at; type = T }))) (sym (g.1 ∙ ap (λ n. slice_set ks a (RegisterType.Reference (Class.Name k) n)) n.type_is))
-      (made right h a k T bytes n.by n.below valid.a g.0 i new m.values at m.some m.missing its row blocks)
+      (made right h a k T bytes n.by n.below valid.a g.0 i new m.values at m.some m.missing its row blocks))
 
   -- there was none to be, or there was one, or no room
   abbrev pub RefusesToMake : (code : ℕ) (picture : Picture) (index_blocks new : List ℕ) → Type 0
@@ -448,7 +459,7 @@ module _ (allocator : ℕ) (constants : List Constant) (role : Role) (a b c : �
   pub make_refused : (new : List ℕ) (code : ℕ) → OfHeld allocator w (λ p held. T < length w.table → RefusesToMake code p held.index_blocks new)
       → IsRefusedAs allocator constants role (on Operation.Make) w (with_number (with_image w new) a (pos code))
   unfolding rule
-  make_refused new code says = λ types others first ks good bad s right valid e h.
+  make_refused new code says = lifted_refused refl (λ types others first ks good bad s right valid e h.
       let i = on Operation.Make in
       let t = type_operand number in
       let p = bind_ok (name_needed (slice_get constants k) (known ks b)) (λ _. typed.◌>>=◌ (integer_or_none c ks) (λ _. opens a (RegisterType.Reference (Class.Name k) t) ks)) (good, bad) e in
@@ -490,7 +501,7 @@ module _ (allocator : ℕ) (constants : List Constant) (role : Role) (a b c : �
               bad_is bad_alloc (not_made right h a k T bytes n.by n.below valid.a g.0 i new f.0 code f.4 its
                   (row false ∙ ap (λ o. after o false) count_is ∙ ap (λ (o : Option Object). add_object a bytes T o f.0 false s) none) blocks),
             )
-      ]
+      ])
 
   -- ---- FINDOR
 
@@ -509,7 +520,7 @@ module _ (allocator : ℕ) (constants : List Constant) (role : Role) (a b c : �
   pub find_or_make_acts : (new : List ℕ) (at : ℕ) → OfHeld allocator w (λ p held. T < length w.table → FindsOrMakesHere p held.index_blocks new at)
       → ActsAs allocator constants role (on Operation.FindOrMake) w (with_place (with_image w new) a (record { at = at; type = T }))
   unfolding rule
-  find_or_make_acts new at says = λ types others first ks good bad s right valid e h.
+  find_or_make_acts new at says = lifted_acts refl (λ types others first ks good bad s right valid e h.
       let i = on Operation.FindOrMake in
       let t = type_operand number in
       let place : Place = record { at = at; type = T } in
@@ -546,7 +557,7 @@ module _ (allocator : ℕ) (constants : List Constant) (role : Role) (a b c : �
             (acts_so others types constants first allocator ks s w h i success true (slice_set ks a (RegisterType.Reference (Class.Name k) T)) (set_register s a (Register.Reference path)) (with_place w a place) here_row
             (quiet constants i h.pictured (asks_none Operation.FindOrMake s 1 (object_of root) n.name_is refl object) refl) refl refl refl
             (shows_reference others types constants first allocator ks s w h a (Class.Name k) T path place valid.a g.0 n.by typed_so refl led)
-            (frozen_reference others types constants first allocator ks s w h a _ _ _ _ _ _ _ _ _ _ (all_stay refl))))
+            (frame_reference others types constants first allocator ks s w h a _ _ _ _ _ _ _ _ _ _ (frame_same _ _ _))))
         | inr f ↦
             let its = subst (λ (t : Table). IsMade allocator w.image t bytes T h.pictured.picture h.pictured.held.index_blocks new 1 at) h.table_is f.1 in
             let none : s.names bytes ≡ None = n.object ∙ ap (option_map object_of) f.0 in
@@ -554,7 +565,7 @@ module _ (allocator : ℕ) (constants : List Constant) (role : Role) (a b c : �
             let blocks = grants_spent constants i h.pictured allocator h.allocator_is (object_asks w.image s.types T 1 bytes) asked new [] refl (live new) its.left refl in
             subst (λ z. Acts others types constants first allocator i success z s w (with_place (with_image w new) a place)) (sym good_is)
             (made right h a k T bytes n.by n.below valid.a g.0 i new 1 at (omega arith) f.0 its (row ∙ ap (λ (o : Option Object). find_or_add a bytes T o true s) none) blocks)
-      ]
+      ])
 
   -- it has another type, or there was no room; or the bytes are no name
   abbrev pub RefusesToFind : (code : ℕ) (picture : Picture) (index_blocks new : List ℕ) → Type 0
@@ -566,7 +577,7 @@ module _ (allocator : ℕ) (constants : List Constant) (role : Role) (a b c : �
   pub find_or_make_refused : (new : List ℕ) (code : ℕ) → mag (number_in w b) < 2 ^ 63 → OfHeld allocator w (λ p held. T < length w.table → RefusesToFind code p held.index_blocks new)
       → IsRefusedAs allocator constants role (on Operation.FindOrMake) w (with_number (with_image w new) a (pos code))
   unfolding rule
-  find_or_make_refused new code small says = λ types others first ks good bad s right valid e h.
+  find_or_make_refused new code small says = lifted_refused refl (λ types others first ks good bad s right valid e h.
       let i = on Operation.FindOrMake in
       let t = type_operand number in
       let p = bind_ok (name_needed (slice_get constants k) (known ks b)) (λ _. opens a (RegisterType.Reference (Class.Name k) t) ks) (good, bad) e in
@@ -597,7 +608,7 @@ module _ (allocator : ℕ) (constants : List Constant) (role : Role) (a b c : �
               (λ q. cc),
               bad_is bad_alloc (not_made right h a k T bytes n.by n.below valid.a g.0 i new 1 code f.0 its (row false ∙ ap (λ (o : Option Object). find_or_add a bytes T o false s) none) blocks),
             )
-      ]
+      ])
 
   -- ---- KILL
 
@@ -616,7 +627,7 @@ module _ (allocator : ℕ) (constants : List Constant) (role : Role) (a b c : �
 
   pub kill_acts : (new : List ℕ) → OfHeld allocator w (λ p held. IsLost allocator w.image w.table bytes T p held.index_blocks new) → ActsAs allocator constants role (on Operation.Kill) w (with_number (with_image w new) a (pos 1))
   unfolding rule
-  kill_acts new says = λ types others first ks good bad s right valid e h.
+  kill_acts new says = lifted_acts refl (λ types others first ks good bad s right valid e h.
       let i = on Operation.Kill in
       let p = bind_ok (name_needed (slice_get constants k) (known ks b)) (λ _. gives a RegisterType.Int (ended (Class.Name k) ks)) (good, bad) e in
       let g = gives_both a RegisterType.Int (ended (Class.Name k) ks) good bad p.2 in
@@ -641,12 +652,12 @@ module _ (allocator : ℕ) (constants : List Constant) (role : Role) (a b c : �
         granted = refl;
         left = m.left;
       } in
-      subst (λ z. Acts others types constants first allocator i success z s w (with_number (with_image w new) a (pos 1))) (sym g.1) (lost right h a k T bytes n.by valid.a g.0 i new m row blocks)
+      subst (λ z. Acts others types constants first allocator i success z s w (with_number (with_image w new) a (pos 1))) (sym g.1) (lost right h a k T bytes n.by valid.a g.0 i new m row blocks))
 
   -- no object of the name has the type
   pub kill_none_acts : OfHeld allocator w (λ p held. killed (root_named p.names bytes) T ≡ None) → ActsAs allocator constants role (on Operation.Kill) w (with_number w a (pos 0))
   unfolding rule
-  kill_none_acts says = λ types others first ks good bad s right valid e h.
+  kill_none_acts says = lifted_acts refl (λ types others first ks good bad s right valid e h.
       let i = on Operation.Kill in
       let p = bind_ok (name_needed (slice_get constants k) (known ks b)) (λ _. gives a RegisterType.Int (ended (Class.Name k) ks)) (good, bad) e in
       let g = gives_both a RegisterType.Int (ended (Class.Name k) ks) good bad p.2 in
@@ -668,4 +679,4 @@ module _ (allocator : ℕ) (constants : List Constant) (role : Role) (a b c : �
         granted = refl;
         left = refl;
       } in
-      subst (λ z. Acts others types constants first allocator i success z s w (with_number w a (pos 0))) (sym g.1) (not_lost right h a k T bytes n.by valid.a g.0 i (row ∙ killed_row) blocks)
+      subst (λ z. Acts others types constants first allocator i success z s w (with_number w a (pos 0))) (sym g.1) (not_lost right h a k T bytes n.by valid.a g.0 i (row ∙ killed_row) blocks))

@@ -5,14 +5,15 @@ use Rattle.std.specs.List.{AllByRecursion}
 use Rattle.seg_spec.specs.Bytes.{word}
 use Rattle.seg_spec.specs.Header.{next_word}
 use Rattle.seg_spec.specs.Index.{Root, Precedes, AreAscending, same_name, root_named, root_of_type}
-use Rattle.seg_spec.specs.Shared.{names_each}
+use Rattle.seg_spec.specs.Shared.{names_each, left}
 use Rattle.seg_spec.specs.Sound.{Picture, IsHeld}
 use Rattle.seg_spec.specs.Counting.{owners_in, AreCounted, without_cells}
 use Rattle.seg_spec.specs.Roots.{Listed, with_roots, KeepsPaths}
 use Rattle.client_spec.specs.Machine.{Origin, State, with_name}
 use Rattle.client_spec.specs.Pictures.{Pictures, object_of, root_at, root_of_register}
 use Rattle.client_spec.proofs.States.{same_name_is, same_name_refl}
-use Rattle.client_sim.specs.Shows.{FrozenStay, all_stay, some_go}
+use Rattle.client_sim.specs.Shows.{KeepsFrozenPaths}
+use Rattle.client_sim.proofs.FrozenPaths.{KeepsFrozen, frozen_stay, frozen_go}
 use Rattle.client_sim.proofs.FirstRoots.{Among, among_left, among_right, first_of, first_split, first_among, first_here, first_beside, is_named, is_of_type, named_first, typed_first, each_among}
 use Rattle.client_sim.proofs.Looks.{looks_of}
 use Rattle.client_sim.proofs.RootPuts.{root_of_pair, among_loose}
@@ -117,7 +118,7 @@ named_place k o = option_map {T = Root} {U = Root × ℕ} (λ root. (root, k)) o
 pub record Stays {others : List Root} {s : State} {old : List ℕ} (pictured : Pictures others s old) (new : List ℕ) : Type 0 where
   pub later : Pictures others s new
   pub keeps : KeepsRoots pictured later (λ o. ⊥)
-  pub stays : FrozenStay pictured.picture.frozen later.picture.frozen
+  pub stays : KeepsFrozen old new pictured.picture.table pictured.picture.frozen later.picture.frozen
 
 module _ {others : List Root} {s : State} {old : List ℕ} (pictured : Pictures others s old) (new : List ℕ) (held : IsHeld new pictured.picture) (counted : AreCounted (word new next_word) pictured.picture) where
   abbrev same_then : Pictures others s new
@@ -138,10 +139,10 @@ module _ {others : List Root} {s : State} {old : List ℕ} (pictured : Pictures 
   begins_same (Origin.Unique U) root item e = e
   begins_same (Origin.Owned r) root item e = e
 
-  pub picture_stays : AllByRecursion (KeepsPaths old new pictured.picture.table) (owners_in pictured.picture) → Stays pictured new
-  picture_stays paths = record {
+  pub picture_stays : AllByRecursion (KeepsPaths old new pictured.picture.table) (owners_in pictured.picture) → KeepsFrozenPaths old new pictured.picture.table pictured.picture.frozen → Stays pictured new
+  picture_stays paths frozen = record {
     later = same_then;
-    stays = all_stay refl;
+    stays = frozen_stay refl frozen;
     keeps = record {
       table = refl;
       begins = λ o root item e. inr (begins_same o root item e, each_among (KeepsPaths old new pictured.picture.table) (owners_in pictured.picture) root (origin_among pictured o root item e) paths);
@@ -161,7 +162,7 @@ module _ {others : List Root} {s : State} {old : List ℕ} (pictured : Pictures 
   pub record Comes : Type 0 where
     pub later : Pictures others state_with new
     pub keeps : KeepsRoots pictured later (λ o. ⊥)
-    pub stays : FrozenStay pictured.picture.frozen later.picture.frozen
+    pub stays : KeepsFrozen old new pictured.picture.table pictured.picture.frozen later.picture.frozen
     pub begins : root_at later (Origin.Name root.name 0) ≡ Some (root, 0)
 
   name_there : root_named names_with root.name ≡ Some root
@@ -205,10 +206,10 @@ module _ {others : List Root} {s : State} {old : List ℕ} (pictured : Pictures 
             let none : None ≡ Some r = sym free ∙ ap (root_named pictured.picture.names) (same_name_is m root.name g) ∙ p.0 in cc
         by_name false g = ap (named_place k) (others_with m g) ∙ e
 
-    pub named_comes : AllByRecursion (KeepsPaths old new pictured.picture.table) (owners_in pictured.picture) → Comes
-    named_comes paths = record {
+    pub named_comes : AllByRecursion (KeepsPaths old new pictured.picture.table) (owners_in pictured.picture) → KeepsFrozenPaths old new pictured.picture.table pictured.picture.frozen → Comes
+    named_comes paths frozen = record {
       later = with_then;
-      stays = all_stay refl;
+      stays = frozen_stay refl frozen;
       keeps = record {
         table = refl;
         begins = λ o r i e. inr (begins_with o r i e, each_among (KeepsPaths old new pictured.picture.table) (owners_in pictured.picture) r (origin_among pictured o r i e) paths);
@@ -230,7 +231,7 @@ module _ {others : List Root} {s : State} {old : List ℕ} (pictured : Pictures 
   pub record Goes : Type 0 where
     pub later : Pictures others state_without new
     pub keeps : KeepsRoots pictured later EndsAt
-    pub stays : FrozenStay pictured.picture.frozen later.picture.frozen
+    pub stays : KeepsFrozen old new pictured.picture.table pictured.picture.frozen later.picture.frozen
 
   name_is : root.name ≡ name
   name_is = same_name_is name root.name (first_split (is_named name) pictured.picture.names root (sym (named_first pictured.picture.names name) ∙ root_is)).is
@@ -258,7 +259,8 @@ module _ {others : List Root} {s : State} {old : List ℕ} (pictured : Pictures 
   abbrev picture_left : Picture
   picture_left = without_cells (names_each root.values) (with_roots pictured.picture Listed.by_name (before ++ after))
 
-  module _ (held : IsHeld new picture_left) (counted : AreCounted (word new next_word) picture_left) (paths : AllByRecursion (KeepsPaths old new pictured.picture.table) (before ++ (after ++ rest))) where
+  module _ (held : IsHeld new picture_left) (counted : AreCounted (word new next_word) picture_left) (paths : AllByRecursion (KeepsPaths old new pictured.picture.table) (before ++ (after ++ rest)))
+      (frozen : KeepsFrozenPaths old new pictured.picture.table (left (names_each root.values) pictured.picture.frozen)) where
     abbrev without_then : Pictures others state_without new
     without_then = record {
       picture = picture_left;
@@ -295,4 +297,4 @@ module _ {others : List Root} {s : State} {old : List ℕ} (pictured : Pictures 
             inr (ap (named_place k) (others_without m g) ∙ e, kept r (subst (λ rs. Among rs r) (append_assoc before after rest) (among_left (before ++ after) rest r here)))
 
     pub named_goes : Goes
-    named_goes = record { later = without_then; stays = some_go (names_each root.values) refl; keeps = record { table = refl; begins = begins_without } }
+    named_goes = record { later = without_then; stays = frozen_go (names_each root.values) refl frozen; keeps = record { table = refl; begins = begins_without } }

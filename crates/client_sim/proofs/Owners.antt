@@ -11,8 +11,8 @@ use Rattle.seg_spec.specs.Heap.{live}
 use Rattle.seg_spec.specs.Index.{Root, plain_root}
 use Rattle.seg_spec.specs.Reads.{Place, Leads, here}
 use Rattle.seg_spec.specs.Frozen.{Frozen, blocks_by}
-use Rattle.seg_spec.specs.Shared.{names_each, freed}
-use Rattle.seg_spec.specs.Destroying.{HoldFrozen}
+use Rattle.seg_spec.specs.Shared.{names_each, left, freed}
+use Rattle.seg_spec.specs.Destroying.{HoldFrozen, KeepFrozen}
 use Rattle.seg_spec.specs.Counting.{owners_in, without_cells, FrozenGone}
 use Rattle.seg_spec.specs.Sound.{Picture, HoldsRoot, times}
 use Rattle.seg_spec.proofs.LiveLaws.{times-append}
@@ -40,13 +40,17 @@ use Rattle.client_spec.proofs.Defaults.{default_has}
 use Rattle.client_spec.proofs.FirstRows.{bind_ok, Ok_inj, opens_ok, answer_is}
 use Rattle.client_spec.proofs.RowSteps.{owner_found}
 use Rattle.client_spec.proofs.Spelled.{one_each}
-use Rattle.client_sim.specs.Shows.{World, place_in, owns_in, Shown, FrozenStay, Shows, Acts}
+use Rattle.client_sim.specs.Shows.{World, place_in, owns_in, Shown, KeepsFrozenPaths, Shows, Acts}
+use Rattle.client_sim.proofs.FrozenPaths.{frozen_left}
+use Rattle.client_sim.proofs.Framing.{Frame, owner_apart}
+use Rattle.client_sim.proofs.Giving.{set_beside, not_given}
 use Rattle.client_sim.specs.Acting.{ActsAs, IsRefusedAs}
+use Rattle.client_sim.proofs.Lifted.{lifted_acts, lifted_refused}
 use Rattle.client_sim.proofs.Numbers.{with_number, unowned}
 use Rattle.client_sim.proofs.Answering.{acts_so, refuses_with, place_one, place_there}
 use Rattle.client_sim.proofs.Granting.{grants_spent, denies}
 use Rattle.client_sim.proofs.RootPuts.{root_of_pair}
-use Rattle.client_sim.proofs.Rooted.{shows_rooted, all_paths, other_paths, frozen_rooted}
+use Rattle.client_sim.proofs.Rooted.{shows_rooted, all_paths, all_frozen, other_paths, frame_rooted}
 use Rattle.client_sim.proofs.Finding.{OfPicture, of_picture, first_place}
 use Rattle.client_sim.proofs.Owning.{OwnedComes, owned_comes, OwnedGoes, owned_goes}
 use Rattle.client_sim.proofs.Ended.{LeavesPicture, type_known, ended_shown}
@@ -115,9 +119,16 @@ module _ {others : List Root} {types : Table} {constants : List Constant} (one :
           })
         ])
 
-    pub frozen_owning : FrozenStay h.pictured.picture.frozen shows_owning.pictured.picture.frozen
+    pub frame_owning : Frame ks_owning w owning h.pictured shows_owning.pictured
     unfolding shows_owning
-    frozen_owning = frozen_rooted h ks_owning s_owning owning c.later (λ o. ⊥) c.keeps front _ _ _ _ _ c.stays
+    frame_owning = frame_rooted h ks_owning s_owning owning c.later (λ o. ⊥) c.keeps front _ _ _ _ _ c.stays (λ r e o.
+        let n = h.sixteen in
+        let far = not_given ks a r (RegisterType.Owner place.type) (omega (arith, n, within)) (λ f. cc) e in
+        record {
+          register_is = set_beside s.registers a r (Register.Owner v place.type) Register.Undefined far;
+          place_is = (place_one others types constants first allocator ks s w h a place).places_kept r far;
+          owns_is = set_beside w.owns a r true false far;
+        })
 
   -- ---- it owns it no more
 
@@ -149,9 +160,11 @@ module _ {others : List Root} {types : Table} {constants : List Constant} (one :
               (get_or-set_other s.registers b r Register.Undefined Register.Undefined far) refl refl (get_or-set_other w.owns b r false false far) (λ e. far (let f : Origin.Owned r ≡ Origin.Owned b = e in cc))
         ])
 
-    pub frozen_released : FrozenStay h.pictured.picture.frozen shows_released.pictured.picture.frozen
+    pub frame_released : (T : ℕ) → known ks b ≡ RegisterType.Owner T → Frame ks_released w released h.pictured shows_released.pictured
     unfolding shows_released
-    frozen_released = frozen_rooted h ks_released (set_register s b Register.Undefined) released c.later (λ o. o ≡ Origin.Owned b) c.keeps front _ _ _ _ _ c.stays
+    frame_released T is = frame_rooted h ks_released (set_register s b Register.Undefined) released c.later (λ o. o ≡ Origin.Owned b) c.keeps front _ _ _ _ _ c.stays (λ r e o.
+        let far = owner_apart h b T r is o in
+        record { register_is = set_beside s.registers b r Register.Undefined Register.Undefined far; place_is = refl; owns_is = set_beside w.owns b r false false far })
 
   -- where the object of a register stands, as a path into it leads there
   pub owned_root : (b : ℕ) (place : Place) → LeadsInImage h.pictured (path_from (Origin.Owned b)) place → (root : Root) × (root_of_register s.registers h.pictured.owned b ≡ Some root) × (root.at ≡ place.at)
@@ -177,6 +190,7 @@ pub record LeavesWithout (old new : List ℕ) (table : Table) (root : Root) (oth
   pub holds_it : HoldsRoot old table root blocks
   pub theirs : ℕ → List ℕ
   pub holds_shared : HoldFrozen old table theirs other.frozen
+  pub shared_kept : KeepFrozen old new theirs (left (names_each root.values) other.frozen)
   pub becomes : LeavesPicture old new (without_cells (names_each root.values) other) (blocks ++ blocks_by theirs other.frozen)
   pub live_is : live new ≡ after_gives (live old) (blocks ++ blocks_by theirs (freed (names_each root.values) other.frozen))
 
@@ -197,6 +211,9 @@ module _ {others : List Root} {types : Table} {constants : List Constant} {first
   pub paths_with : {other : Picture} (new : List ℕ) → LeavesPicture w.image new other [] → AllByRecursion (KeepsPaths w.image new h.pictured.picture.table) (owners_in h.pictured.picture)
   paths_with new c = all_paths w.image new h.pictured.picture h.pictured.held [] c.kept (λ n. omega arith)
 
+  pub frozen_with : {other : Picture} (new : List ℕ) → LeavesPicture w.image new other [] → KeepsFrozenPaths w.image new h.pictured.picture.table h.pictured.picture.frozen
+  frozen_with new c = all_frozen w.image new h.pictured.picture h.pictured.held [] c.kept (λ n. omega arith)
+
   -- where one goes
   pub shared_same : (theirs : ℕ → List ℕ) (fs : List Frozen) → fs ≡ h.pictured.picture.frozen → HoldFrozen w.image w.table theirs fs → HoldFrozen w.image h.pictured.picture.table theirs h.pictured.picture.frozen
   shared_same theirs fs same holds = subst (HoldFrozen w.image h.pictured.picture.table theirs) same (subst (λ (t : Table). HoldFrozen w.image t theirs fs) table_same holds)
@@ -208,6 +225,12 @@ module _ {others : List Root} {types : Table} {constants : List Constant} {first
       other_paths w.image new h.pictured.picture h.pictured.held (c.blocks ++ blocks_by c.theirs other.frozen) c.becomes.kept which before root after among c.blocks (holds_same root c.blocks c.holds_it)
       c.theirs (shared_same c.theirs other.frozen same c.holds_shared)
       (λ n. let e = times-append n c.blocks (blocks_by c.theirs other.frozen) in let f = ap (λ fs. times n (blocks_by c.theirs fs)) same in omega (arith, e, f))
+
+  pub frozen_without : {other : Picture} (new : List ℕ) (root : Root) → other.frozen ≡ h.pictured.picture.frozen → LeavesWithout w.image new w.table root other
+      → KeepsFrozenPaths w.image new h.pictured.picture.table (left (names_each root.values) h.pictured.picture.frozen)
+  frozen_without {other = other} new root same c =
+      frozen_left w.image new h.pictured.picture h.pictured.held c.theirs (shared_same c.theirs other.frozen same c.holds_shared) (names_each root.values)
+      (subst (λ fs. KeepFrozen w.image new c.theirs (left (names_each root.values) fs)) same c.shared_kept)
 
   -- what is given back with it
   pub gone_with : {other : Picture} (new : List ℕ) (root : Root) → other.frozen ≡ h.pictured.picture.frozen → (c : LeavesWithout w.image new w.table root other)
@@ -226,7 +249,7 @@ module _ (allocator : ℕ) (constants : List Constant) (role : Role) (a b c : �
   pub new_acts : (T at : ℕ) → ((n : ℕ) → number ≡ pos n → T ≡ n % 256) → OfPicture allocator w (λ p. T < length w.table → JoinsLoose allocator w.image new w.table p T at)
       → ActsAs allocator constants role (of Operation.New) w (with_owner w new a (record { at = at; type = T }))
   unfolding rule effect
-  new_acts T at names says = λ types others first ks good bad s right valid e h.
+  new_acts T at names says = lifted_acts refl (λ types others first ks good bad s right valid e h.
       let one = one_each constants right.each right.different in
       let i = of Operation.New in
       let place : Place = record { at = at; type = T } in
@@ -242,7 +265,7 @@ module _ (allocator : ℕ) (constants : List Constant) (role : Role) (a b c : �
       let within = valid.a in
       let joined = λ (before after : List Root) (same : h.pictured.picture.loose ≡ before ++ after). call.joins before after same in
       let alone = joined [] h.pictured.picture.loose refl in
-      let come = owned_comes h.pictured a (omega (arith, n, m, within)) vacant d T root refl values_are new (λ before after same. let j = joined before after same in (j.held, j.counted)) (paths_with h new alone) in
+      let come = owned_comes h.pictured a (omega (arith, n, m, within)) vacant d T root refl values_are new (λ before after same. let j = joined before after same in (j.held, j.counted)) (paths_with h new alone) (frozen_with h new alone) in
       let fits = default_has s.types h.as_known.typed.forms T t.2.0 t.2.1 in
       let shows = shows_owning one h a within g.0 d place fits root refl refl new come alone.front_kept in
       let good_is : good ≡ slice_set ks a (RegisterType.Owner T) = g.1 ∙ ap (λ u. slice_set ks a (RegisterType.Owner u)) t.0 in
@@ -252,13 +275,13 @@ module _ (allocator : ℕ) (constants : List Constant) (role : Role) (a b c : �
       let blocks : GrantsAsks constants i h.pictured new = grants_spent constants i h.pictured allocator h.allocator_is (block_for (size w.table T) ∷ []) asked new [] refl (live new) call.spends refl in
       subst (λ k. Acts others types constants first allocator i success k s w (with_owner w new a place)) (sym good_is)
       (acts_so others types constants first allocator ks s w h i success true (slice_set ks a (RegisterType.Owner T)) (set_register s a (Register.Owner d T)) (with_owner w new a place) row blocks
-      alone.length_kept alone.front_kept refl shows (frozen_owning one h a within g.0 d place fits root refl refl new come alone.front_kept))
+      alone.length_kept alone.front_kept refl shows (frame_owning one h a within g.0 d place fits root refl refl new come alone.front_kept)))
 
   -- there is no room for one
   pub new_refused : (T code : ℕ) → ((n : ℕ) → number ≡ pos n → T ≡ n % 256) → OfPicture allocator w (λ p. T < length w.table → (code ≡ answer_number bad_alloc) × Refuses allocator w.image new (block_for (size w.table T) ∷ []))
       → IsRefusedAs allocator constants role (of Operation.New) w (with_number (without_owner w new a) a (pos code))
   unfolding rule effect
-  new_refused T code names says = λ types others first ks good bad s right valid e h.
+  new_refused T code names says = lifted_refused refl (λ types others first ks good bad s right valid e h.
       let i = of Operation.New in
       let g = opens_ok types constants ks s h.as_known a (RegisterType.Owner (nat_abs number)) good bad e in
       let t = type_known h.as_known b number T right.table.few names valid.number in
@@ -275,12 +298,12 @@ module _ (allocator : ℕ) (constants : List Constant) (role : Role) (a b c : �
         subst (λ k. Acts others types constants first allocator i bad_alloc k s w (with_number (without_owner w new a) a (pos code))) (sym g.2)
             (subst (λ z. Acts others types constants first allocator i bad_alloc (slice_set ks a RegisterType.Int) s w z) (sym world)
             (refuses_with others types constants first allocator ks s w h i bad_alloc false a valid.a g.0 row blocks)),
-      )
+      ))
 
   -- what register b owns goes
   pub drop_acts : OfPicture allocator w (LeavesLoose w.image new w.table (place_in w b).at) → ActsAs allocator constants role (of Operation.Drop) w (without_owner w new b)
   unfolding rule effect
-  drop_acts says = λ types others first ks good bad s right valid e h.
+  drop_acts says = lifted_acts refl (λ types others first ks good bad s right valid e h.
       let one = one_each constants right.each right.different in
       let i = of Operation.Drop in
       let after = slice_set (ended (Class.Register b) ks) b RegisterType.Undefined in
@@ -291,7 +314,8 @@ module _ (allocator : ℕ) (constants : List Constant) (role : Role) (a b c : �
       let r = owned_root one h b (place_in w b) shown.2 in
       let seat = owned_goes h.pictured b r.0 r.1 in
       let call = of_picture h (LeavesLoose w.image new w.table (place_in w b).at) says seat.before r.0 seat.after seat.among r.2 in
-      let goes = seat.goes new (call.becomes.held, call.becomes.counted) (paths_without h new Listed.loose seat.before r.0 seat.after seat.among refl call) in
+      let goes = seat.goes new (call.becomes.held, call.becomes.counted) (paths_without h new Listed.loose seat.before r.0 seat.after seat.among refl call)
+      (frozen_without h new r.0 refl call) in
       let shows = shows_released one h b valid.b new goes call.becomes.front_kept in
       let row : outcome constants i true s ≡ Some (success, set_register s b Register.Undefined) = ap (λ x. owned_by x >>= λ _. proceed (set_register s b Register.Undefined)) owner.1.1 in
       let shared = blocks_by call.theirs (freed (names_each r.0.values) h.pictured.picture.frozen) in
@@ -301,4 +325,4 @@ module _ (allocator : ℕ) (constants : List Constant) (role : Role) (a b c : �
       let blocks : GrantsAsks constants i h.pictured new = record { asks = []; asked = refl; gives = call.blocks ++ shared; returned = returned; blocks = live w.image; granted = refl; left = call.live_is } in
       subst (λ k. Acts others types constants first allocator i success k s w (without_owner w new b)) (ap (λ (r : RegisterTypes × RegisterTypes). r.0) pair)
       (acts_so others types constants first allocator ks s w h i success true after (set_register s b Register.Undefined) (without_owner w new b) row blocks call.becomes.length_kept call.becomes.front_kept refl shows
-      (frozen_released one h b valid.b new goes call.becomes.front_kept))
+      (frame_released one h b valid.b new goes call.becomes.front_kept p.0 owner.0)))

@@ -8,14 +8,15 @@ use Rattle.seg_spec.specs.Bytes.{word}
 use Rattle.seg_spec.specs.Header.{next_word}
 use Rattle.seg_spec.specs.Value.{Value, nil, cons}
 use Rattle.seg_spec.specs.Index.{Root, root_named, root_of_type}
-use Rattle.seg_spec.specs.Shared.{names_each}
+use Rattle.seg_spec.specs.Shared.{names_each, left}
 use Rattle.seg_spec.specs.Sound.{Picture, IsHeld}
 use Rattle.seg_spec.specs.Counting.{owners_in, AreCounted, without_cells}
 use Rattle.seg_spec.specs.Roots.{Listed, with_roots, roots_before, KeepsPaths}
 use Rattle.seg_spec.proofs.CountedParts.{owners_after, owners_with}
 use Rattle.client_spec.specs.Machine.{Origin, Register, State, register, set_register, owned_by}
 use Rattle.client_spec.specs.Pictures.{root_of_register, AreOwned, Pictures, root_at}
-use Rattle.client_sim.specs.Shows.{FrozenStay, all_stay, some_go}
+use Rattle.client_sim.specs.Shows.{KeepsFrozenPaths}
+use Rattle.client_sim.proofs.FrozenPaths.{KeepsFrozen, frozen_stay, frozen_go}
 use Rattle.client_sim.proofs.FirstRoots.{Among, each_among, among_left, among_right, first_among, is_named, is_of_type, named_first, typed_first}
 use Rattle.client_sim.proofs.OwnedRoots.{owned_split}
 use Rattle.client_sim.proofs.Giving.{first_none, later_none}
@@ -214,13 +215,14 @@ module _ {others : List Root} {s : State} {old : List ℕ} (pictured : Pictures 
   pub record OwnedComes (a : ℕ) (v : Value) (t : ℕ) (root : Root) (new : List ℕ) : Type 0 where
     pub later : Pictures others (set_register s a (Register.Owner v t)) new
     pub keeps : KeepsRoots pictured later (λ o. ⊥)
-    pub stays : FrozenStay pictured.picture.frozen later.picture.frozen
+    pub stays : KeepsFrozen old new pictured.picture.table pictured.picture.frozen later.picture.frozen
     pub here : root_at later (Origin.Owned a) ≡ Some (root, 0)
 
   pub owned_comes : (a : ℕ) → a < length s.registers → owned_by (register s a) ≡ None → (v : Value) (t : ℕ) (root : Root) → root.type ≡ t → root.values ≡ cons v nil → (new : List ℕ)
       → ((before after : List Root) → pictured.picture.loose ≡ before ++ after → IsHeldCounted new (with_roots pictured.picture Listed.loose (before ++ root ∷ after)))
-      → AllByRecursion (KeepsPaths old new pictured.picture.table) (owners_in pictured.picture) → OwnedComes a v t root new
-  owned_comes a within none v t root type_is values_are new joins paths =
+      → AllByRecursion (KeepsPaths old new pictured.picture.table) (owners_in pictured.picture)
+      → KeepsFrozenPaths old new pictured.picture.table pictured.picture.frozen → OwnedComes a v t root new
+  owned_comes a within none v t root type_is values_are new joins paths frozen =
       let m = free_seat s.registers pictured.owned a pictured.are_owned within none in
       let joined = joins (others ++ m.before) m.after (pictured.loose ∙ ap (λ xs. others ++ xs) m.among ∙ sym (append_assoc others m.before m.after)) in
       let later : Pictures others (set_register s a (Register.Owner v t)) new = record {
@@ -239,7 +241,7 @@ module _ {others : List Root} {s : State} {old : List ℕ} (pictured : Pictures 
       ∙ ap (λ rs. root_of_register rs (m.before ++ m.after) q) (set-get_or s.registers a Register.Undefined) ∙ ap (λ xs. root_of_register s.registers xs q) (sym m.among) ∙ e) in
       record {
         later = later;
-        stays = all_stay refl;
+        stays = frozen_stay refl frozen;
         keeps = keeps_all pictured later (λ o. ⊥) refl (found_again pictured later (λ o. ⊥) (λ name i r e. inr e) (λ T r e. inr e) there) paths;
         here = ap (option_map {T = Root} {U = Root × ℕ} (λ root. (root, 0))) (m.seat.here v t root);
       }
@@ -252,7 +254,7 @@ module _ {others : List Root} {s : State} {old : List ℕ} (pictured : Pictures 
   pub record OwnedGoes (b : ℕ) (new : List ℕ) : Type 0 where
     pub later : Pictures others (set_register s b Register.Undefined) new
     pub keeps : KeepsRoots pictured later (λ o. o ≡ Origin.Owned b)
-    pub stays : FrozenStay pictured.picture.frozen later.picture.frozen
+    pub stays : KeepsFrozen old new pictured.picture.table pictured.picture.frozen later.picture.frozen
 
   -- where the object stands among the loose ones, and how it goes
   pub record OwnedAmong (b : ℕ) (root : Root) : Type 0 where
@@ -260,7 +262,8 @@ module _ {others : List Root} {s : State} {old : List ℕ} (pictured : Pictures 
     pub after : List Root
     pub among : pictured.picture.loose ≡ before ++ root ∷ after
     pub goes : (new : List ℕ) → IsHeldCounted new (without_cells (names_each root.values) (with_roots pictured.picture Listed.loose (before ++ after)))
-        → AllByRecursion (KeepsPaths old new pictured.picture.table) (roots_before pictured.picture Listed.loose before ++ owners_after pictured.picture Listed.loose after) → OwnedGoes b new
+        → AllByRecursion (KeepsPaths old new pictured.picture.table) (roots_before pictured.picture Listed.loose before ++ owners_after pictured.picture Listed.loose after)
+        → KeepsFrozenPaths old new pictured.picture.table (left (names_each root.values) pictured.picture.frozen) → OwnedGoes b new
 
   pub owned_goes : (b : ℕ) (root : Root) → root_of_register s.registers pictured.owned b ≡ Some root → OwnedAmong b root
   owned_goes b root e =
@@ -270,7 +273,7 @@ module _ {others : List Root} {s : State} {old : List ℕ} (pictured : Pictures 
         before = others ++ m.before;
         after = m.after;
         among = pictured.loose ∙ ap (λ xs. others ++ xs) m.among ∙ sym (append_assoc others m.before (root ∷ m.after));
-        goes = λ new held paths.
+        goes = λ new held paths frozen.
             let later : Pictures others (set_register s b Register.Undefined) new = record {
               picture = without_cells (names_each root.values) (with_roots picture Listed.loose ((others ++ m.before) ++ m.after));
               held = held.0;
@@ -291,7 +294,7 @@ module _ {others : List Root} {s : State} {old : List ℕ} (pictured : Pictures 
             ] in
             record {
               later = later;
-              stays = some_go (names_each root.values) refl;
+              stays = frozen_go (names_each root.values) refl frozen;
               keeps = keeps_others pictured later (λ o. o ≡ Origin.Owned b) refl (found_again pictured later (λ o. o ≡ Origin.Owned b) (λ name i r f. inr f) (λ T r f. inr f) there)
                   (subst (AllByRecursion (KeepsPaths old new picture.table)) among paths);
             };

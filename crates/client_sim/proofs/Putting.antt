@@ -33,7 +33,9 @@ use Rattle.client_spec.proofs.Shapes.{value_of_form}
 use Rattle.client_spec.proofs.Spelled.{one_each}
 use Rattle.client_spec.proofs.Values.{length_set}
 use Rattle.client_sim.specs.Shows.{World, place_in, owns_in, Acts}
-use Rattle.client_sim.specs.Acting.{ActsAs}
+use Rattle.client_sim.specs.Acting.{ActsAs, ActsPlainly}
+use Rattle.client_sim.proofs.Lifted.{lifted_acts}
+use Rattle.client_sim.proofs.Framing.{owner_apart}
 use Rattle.client_sim.proofs.Giving.{set_there}
 use Rattle.client_sim.proofs.Placed.{shared_here}
 use Rattle.client_sim.proofs.ItemNames.{names_full, names_one}
@@ -41,7 +43,7 @@ use Rattle.client_sim.proofs.Granting.{given_back, gives_back}
 use Rattle.client_sim.proofs.Answering.{acts_so}
 use Rattle.client_sim.proofs.Items.{reaches, led_to}
 use Rattle.client_sim.proofs.MovingOwned.{put_moves}
-use Rattle.client_sim.proofs.MovingShows.{with_owning, shows_moved, put_known, stays_released, frozen_moved}
+use Rattle.client_sim.proofs.MovingShows.{with_owning, shows_moved, put_known, stays_released, frame_moved}
 use Rattle.client_sim.proofs.OwnedObjects.{owns_here, owns_apart}
 
 -- a path from elsewhere doesn't begin at the register
@@ -86,10 +88,10 @@ module _ (allocator : ℕ) (constants : List Constant) (role : Role) (a b c : �
       → BesideShared w.image table (stands.home ∷ (blocks ++ block_of (place_in w c).at ∷ inside)) (named_in v)
       (ClearsPlace w.image new table (place_in w b) (Full x) (blocks ++ block_of (place_in w c).at ∷ inside) (block_of (place_in w c).at ∷ inside))
 
-  pub put_acts : PutsOwn w.table
-      → ActsAs allocator constants role put w (with_owning w new c false w.positions w.type_ids)
+  put_plainly : PutsOwn w.table
+      → ActsPlainly allocator constants role put w (with_owning w new c false w.positions w.type_ids)
   unfolding rule
-  put_acts call types others first ks good bad s right valid e h =
+  put_plainly call = λ types others first ks good bad s right valid e h.
       let one = one_each constants right.each right.different in
       let last = λ (x : Class × ℕ). typed.◌>>=◌ (required (not (same_class (sharing x.0) (Class.Register c))) Reason.PutIntoItself)
       (λ _. known_after (slice_set (ended (Class.Register c) (others_ended x.0 b ks)) c RegisterType.Undefined)) in
@@ -149,4 +151,9 @@ module _ (allocator : ℕ) (constants : List Constant) (role : Role) (a b c : �
       subst (λ k. Acts others types constants first allocator put success k s w (with_owning w new c false w.positions w.type_ids)) (ap (λ (k : RegisterTypes × RegisterTypes). k.0) pair)
       (acts_so others types constants first allocator ks s w h put success true (slice_set ks' c RegisterType.Undefined) (set_register (put_at s l.path (Full o.value)) c Register.Undefined)
       (with_owning w new c false w.positions w.type_ids) row blocks changes.length_kept changes.front_kept refl shows
-      (frozen_moved one h b r.class r.type r.known_as l (Full o.value) fits new c Register.Undefined (λ o. o ≡ Origin.Owned c) moved _ _ _ _ _ _ _ _ _ _ _ _ _ _))
+      (frame_moved one h b r.class r.type r.known_as l (Full o.value) fits new c Register.Undefined (λ o. o ≡ Origin.Owned c) moved _ _ _ _ _ _ _ _ _ _ _ _ _ _
+      (λ n e free. owner_apart h c r.what n (owner ∙ ap RegisterType.Owner (sym same)) free)))
+
+  pub put_acts : PutsOwn w.table
+      → ActsAs allocator constants role put w (with_owning w new c false w.positions w.type_ids)
+  put_acts call = lifted_acts refl (put_plainly call)

@@ -11,7 +11,7 @@ use Rattle.seg_spec.specs.Block.{block_of, KeepsBlock}
 use Rattle.seg_spec.specs.Index.{Root}
 use Rattle.seg_spec.specs.Reads.{Place, Leads}
 use Rattle.seg_spec.specs.Sound.{payload_of, Picture, frozen_roots, HoldsRoot, HoldsRoots, IsHeld, times, positions}
-use Rattle.seg_spec.specs.Frozen.{Frozen, blocks_by}
+use Rattle.seg_spec.specs.Frozen.{blocks_by}
 use Rattle.seg_spec.specs.Destroying.{HoldFrozen}
 use Rattle.seg_spec.specs.Counting.{owners_in}
 use Rattle.seg_spec.specs.Roots.{Listed, roots_in, roots_before, item_of, KeepsPaths}
@@ -24,7 +24,7 @@ use Rattle.seg_spec.proofs.RootLaws.{HoldsRoots-split, root_comes_apart}
 use Rattle.seg_spec.proofs.MoveLaw.{HoldsRoots_blocks-one}
 use Rattle.seg_spec.proofs.CountedPictures.{roots_held}
 use Rattle.seg_spec.proofs.CountedParts.{owners_after}
-use Rattle.seg_spec.proofs.Frame.{each_left}
+use Rattle.seg_spec.proofs.Frame.{each_left, each_right}
 use Rattle.seg_spec.proofs.RootPaths.{roots_paths}
 use Rattle.client_spec.specs.Syntax.{Constant}
 use Rattle.client_spec.specs.Machine.{◌>>=◌, Origin, Path, Register, State, register, owned_by, path_value}
@@ -33,7 +33,9 @@ use Rattle.client_spec.specs.Meaning.{InClass, IsAsKnown, Meets}
 use Rattle.client_spec.specs.Pictures.{Pictures, LeadsInImage, root_at}
 use Rattle.client_spec.specs.Typed.{RegisterType, RegisterTypes, known}
 use Rattle.client_sim.specs.Writes.{Took}
-use Rattle.client_sim.specs.Shows.{World, number_in, place_in, owns_in, HasRegisters, Shown, FrozenStay, Shows}
+use Rattle.client_sim.specs.Shows.{World, number_in, place_in, owns_in, HasRegisters, Shown, KeepsFrozenPaths, Shows}
+use Rattle.client_sim.proofs.FrozenPaths.{KeepsFrozen, frozen_of_roots}
+use Rattle.client_sim.proofs.Framing.{KeepsUnknown, Frame}
 use Rattle.client_sim.proofs.RootPuts.{after_split}
 use Rattle.client_sim.proofs.MovedPlaces.{roots_split}
 use Rattle.client_sim.proofs.Placed.{item_within}
@@ -43,12 +45,18 @@ use Rattle.client_sim.proofs.Placed.{item_within}
 -- each live block but for those that are gone is kept
 module _ (old new : List ℕ) (picture : Picture) (held : IsHeld old picture) (gone : List ℕ) (kept : (h : ℕ) → 1 ≤ times h (positions (live old)) → times h gone ≡ 0 → KeepsBlock old new h) where
   -- of the roots' none is
-  pub all_paths : ((h : ℕ) → times h gone ≤ times h held.index_blocks) → AllByRecursion (KeepsPaths old new picture.table) (owners_in picture)
-  all_paths few = each_left (KeepsPaths old new picture.table) (owners_in picture) (frozen_roots picture) (subst (AllByRecursion (KeepsPaths old new picture.table)) (roots_split picture)
+  all_roots : ((h : ℕ) → times h gone ≤ times h held.index_blocks) → AllByRecursion (KeepsPaths old new picture.table) (owners_in picture ++ frozen_roots picture)
+  all_roots few = subst (AllByRecursion (KeepsPaths old new picture.table)) (roots_split picture)
       (roots_paths old new picture.table held.laid_out.is_table held.roots (each_there (KeepsBlock old new) held.root_blocks (λ h some.
       let e = held.owners h ∙ times-append h held.index_blocks held.root_blocks in
       let once = live-once old (word old allocator_word) held.laid_out.heap h in
-      kept h (omega (arith, e, some)) (omega (arith, e, once, few h, some))))))
+      kept h (omega (arith, e, some)) (omega (arith, e, once, few h, some)))))
+
+  pub all_paths : ((h : ℕ) → times h gone ≤ times h held.index_blocks) → AllByRecursion (KeepsPaths old new picture.table) (owners_in picture)
+  all_paths few = each_left (KeepsPaths old new picture.table) (owners_in picture) (frozen_roots picture) (all_roots few)
+
+  pub all_frozen : ((h : ℕ) → times h gone ≤ times h held.index_blocks) → KeepsFrozenPaths old new picture.table picture.frozen
+  all_frozen few = frozen_of_roots old new picture (each_right (KeepsPaths old new picture.table) (owners_in picture) (frozen_roots picture) (all_roots few))
 
   -- one root's may be, and those of frozen objects
   pub other_paths : (which : Listed) (before : List Root) (root : Root) (after : List Root) → roots_in picture which ≡ before ++ root ∷ after → (objects : List ℕ) → HoldsRoot old picture.table root objects
@@ -163,8 +171,9 @@ module _ {others : List Root} {types : Table} {constants : List Constant} {first
   unfolding shows_rooted
   pictured_rooted front as_known sixteen registers besides each = refl
 
-  pub frozen_rooted : {before : List Frozen} (front : KeepsFront w.image w'.image) (as_known : IsAsKnown types constants ks' s') (sixteen : length ks' ≡ 16) (registers : HasRegisters w') (besides : SameBesides w w' s s')
-      (each : (r : ℕ) → Remains constants Ends ks ks' s s' w w' r ⊎ Shown later w' r (known ks' r) (register s' r))
-      → FrozenStay before later.picture.frozen → FrozenStay before (shows_rooted front as_known sixteen registers besides each).pictured.picture.frozen
+  pub frame_rooted : {s₀ : State} {w₀ : World} {before : Pictures others s₀ w₀.image} (front : KeepsFront w.image w'.image) (as_known : IsAsKnown types constants ks' s') (sixteen : length ks' ≡ 16) (registers : HasRegisters w')
+      (besides : SameBesides w w' s s') (each : (r : ℕ) → Remains constants Ends ks ks' s s' w w' r ⊎ Shown later w' r (known ks' r) (register s' r))
+      → KeepsFrozen w₀.image w'.image before.picture.table before.picture.frozen later.picture.frozen → KeepsUnknown ks' s₀ s' w₀ w'
+      → Frame ks' w₀ w' before (shows_rooted front as_known sixteen registers besides each).pictured
   unfolding shows_rooted
-  frozen_rooted front as_known sixteen registers besides each stays = stays
+  frame_rooted front as_known sixteen registers besides each stays kept = record { frozen = stays; unknown = kept }

@@ -33,8 +33,9 @@ use Rattle.client_spec.proofs.Spelled.{one_each}
 use Rattle.client_spec.proofs.States.{not_owner}
 use Rattle.client_spec.proofs.Values.{length_set}
 use Rattle.client_sim.specs.Shows.{World, place_in, owns_in, Acts}
-use Rattle.client_sim.specs.Acting.{ActsAs, IsRefusedAs}
-use Rattle.client_sim.proofs.Giving.{set_there, set_beside}
+use Rattle.client_sim.specs.Acting.{ActsAs, IsRefusedAs, ActsPlainly}
+use Rattle.client_sim.proofs.Lifted.{lifted_acts, lifted_refused}
+use Rattle.client_sim.proofs.Giving.{set_there, set_beside, not_given}
 use Rattle.client_sim.proofs.Numbers.{unowned}
 use Rattle.client_sim.proofs.Answering.{acts_so}
 use Rattle.client_sim.proofs.Items.{reaches, opens_then, shows_ended, code_acts}
@@ -42,7 +43,7 @@ use Rattle.seg_spec.specs.Shared.{names_in, names_each}
 use Rattle.seg_spec.proofs.CountedParts.{names_same}
 use Rattle.client_sim.proofs.ItemNames.{names_empty, names_full, names_one}
 use Rattle.client_sim.proofs.MovingOwned.{take_moves}
-use Rattle.client_sim.proofs.MovingShows.{with_owning, shows_moved, stays_put, frozen_moved}
+use Rattle.client_sim.proofs.MovingShows.{with_owning, shows_moved, stays_put, frame_moved}
 use Rattle.client_sim.proofs.OwnedObjects.{root_of, root_of_loose}
 use Rattle.client_sim.proofs.Putting.{own_is}
 
@@ -103,9 +104,9 @@ module _ (allocator : ℕ) (constants : List Constant) (role : Role) (a b c : �
   others_placed w at T r far = ap (λ (n : ℕ). record { at = n; type = slice_index_or (slice_set w.type_ids a T) r 0 }) (set_beside w.positions a r at 0 far)
       ∙ ap (λ (n : ℕ). record { at = slice_index_or w.positions r 0; type = n }) (set_beside w.type_ids a r T 0 far)
 
-  pub take_acts : (at T : ℕ) → TakesFrom at T w.table → ActsAs allocator constants role take w (owner_then at T)
+  take_plainly : (at T : ℕ) → TakesFrom at T w.table → ActsPlainly allocator constants role take w (owner_then at T)
   unfolding rule
-  take_acts at T call types others first ks good bad s right valid e h =
+  take_plainly at T call = λ types others first ks good bad s right valid e h.
       let one = one_each constants right.each right.different in
       let g = λ (x : Class × ℕ) (t : ℕ). opens a (RegisterType.Owner t) (others_ended x.0 b ks) in
       let r = reaches one h owned_type g b good bad e in
@@ -161,12 +162,16 @@ module _ (allocator : ℕ) (constants : List Constant) (role : Role) (a b c : �
             let blocks : GrantsAsks constants take h.pictured new = record { asks = []; asked = refl; gives = []; returned = refl; blocks = live w.image; granted = refl; left = changes.live_is } in
             subst (λ n. Acts others types constants first allocator take success (slice_set after a (RegisterType.Owner U)) s w (owner_then at n)) (sym t.0)
             (acts_so others types constants first allocator ks s w h take success true (slice_set after a (RegisterType.Owner U)) state w' row blocks changes.length_kept changes.front_kept refl shows
-            (frozen_moved one h b r.class r.type r.known_as l Empty fits new a owner (λ o. ⊥) moved.0 _ _ _ _ _ _ _ _ _ _ _ _ _ _))
+            (frame_moved one h b r.class r.type r.known_as l Empty fits new a owner (λ o. ⊥) moved.0 _ _ _ _ _ _ _ _ _ _ _ _ _ _
+            (λ n e free. not_given after a n (RegisterType.Owner U) (let m = valid.a in omega (arith, sixteen, m)) (λ f. cc) e)))
       ])
+
+  pub take_acts : (at T : ℕ) → TakesFrom at T w.table → ActsAs allocator constants role take w (owner_then at T)
+  take_acts at T call = lifted_acts refl (take_plainly at T call)
 
   pub take_refused : (code : ℕ) → FindsEmpty code w.table → IsRefusedAs allocator constants role take w (with_code w new a code)
   unfolding rule
-  take_refused code call types others first ks good bad s right valid e h =
+  take_refused code call = lifted_refused refl (λ types others first ks good bad s right valid e h. 
       let one = one_each constants right.each right.different in
       let g = λ (x : Class × ℕ) (t : ℕ). opens a (RegisterType.Owner t) (others_ended x.0 b ks) in
       let r = reaches one h owned_type g b good bad e in
@@ -186,4 +191,4 @@ module _ (allocator : ℕ) (constants : List Constant) (role : Role) (a b c : �
                   (code_acts one h take r null_or_none true new code t.0 t.1 valid.a o.0 row refl)),
             )
         | inr some ↦ absurd (told.1 some.0 (subst (λ x. Stands allocator w.image w.table (place_in w b) x r.its.found.blocks) some.1 r.its.stands))
-      ]
+      ])

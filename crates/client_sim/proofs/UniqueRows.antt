@@ -33,16 +33,19 @@ use Rattle.client_spec.proofs.Changes.{agrees_umake, agrees_ukill}
 use Rattle.client_spec.proofs.Defaults.{default_has}
 use Rattle.client_spec.proofs.FirstRows.{opens_ok, answer_is}
 use Rattle.client_spec.proofs.Spelled.{one_each}
-use Rattle.client_sim.specs.Shows.{World, FrozenStay, all_stay, Shows, Acts}
+use Rattle.client_sim.specs.Shows.{World, Shows, Acts}
 use Rattle.client_sim.specs.Acting.{AreRight, ActsAs, IsRefusedAs}
+use Rattle.client_sim.proofs.Lifted.{lifted_acts, lifted_refused}
 use Rattle.client_sim.proofs.LeafPuts.{with_image}
 use Rattle.client_sim.proofs.Numbers.{with_number, quiet, gives_both}
-use Rattle.client_sim.proofs.Answering.{acts_so, refuses_with, with_place, shows_number, shows_reference, frozen_number, frozen_reference}
+use Rattle.client_sim.proofs.Answering.{acts_so, refuses_with, with_place, shows_number, shows_reference, frame_number, frame_reference}
+use Rattle.client_sim.proofs.Framing.{Frame, frame_same, unknown_same}
+use Rattle.client_sim.proofs.FrozenPaths.{frozen_same_image}
 use Rattle.client_sim.proofs.Granting.{grants_spent, denies}
-use Rattle.client_sim.proofs.Rooted.{shows_rooted, pictured_rooted, frozen_rooted}
+use Rattle.client_sim.proofs.Rooted.{shows_rooted, pictured_rooted, frame_rooted}
 use Rattle.client_sim.proofs.Finding.{OfPicture, of_picture, begins_unique, type_number, unique_found, none_unique, leads_unique, unique_typed}
 use Rattle.client_sim.proofs.Ended.{LeavesPicture, type_known, ended_shown}
-use Rattle.client_sim.proofs.Owners.{new_object, LeavesWithout, paths_with, paths_without, gone_with}
+use Rattle.client_sim.proofs.Owners.{new_object, LeavesWithout, paths_with, frozen_with, paths_without, frozen_without, gone_with}
 use Rattle.client_sim.proofs.Uniques.{UniqueComes, unique_comes, UniqueGoes, unique_goes}
 
 -- there is none of the type, and a new one joins the others
@@ -96,9 +99,9 @@ module _ {others : List Root} {types : Table} {constants : List Constant} (one :
         (record { table = refl; input = refl; read = refl; taken = refl; types = refl; state_input = refl; state_output = refl })
         (λ r. inl (record { known_is = refl; register_is = refl; number_is = refl; place_is = refl; owns_is = refl; goes_on = λ o f g. g }))
 
-    pub frozen_more : FrozenStay h.pictured.picture.frozen shows_more.pictured.picture.frozen
+    pub frame_more : Frame ks w (with_image w new) h.pictured shows_more.pictured
     unfolding shows_more
-    frozen_more = frozen_rooted h ks s_more (with_image w new) c.later (λ o. ⊥) c.keeps front _ _ _ _ _ c.stays
+    frame_more = frame_rooted h ks s_more (with_image w new) c.later (λ o. ⊥) c.keeps front _ _ _ _ _ c.stays (unknown_same ks s s_more w new refl)
 
     pub more_there : begins_unique shows_more.pictured.picture T ≡ Some root.at
     unfolding shows_more
@@ -123,9 +126,9 @@ module _ {others : List Root} {types : Table} {constants : List Constant} (one :
         (λ r. ended_shown one h (Class.Unique T) ks_less s_less (with_image w new) c.later (λ o. o ≡ Origin.Unique T) (λ o e. subst (λ x. InClass constants (Class.Unique T) x) (sym e) refl) r
         (known_ended (Class.Unique T) ks r) refl refl refl refl (λ e. cc))
 
-    pub frozen_less : FrozenStay h.pictured.picture.frozen shows_less.pictured.picture.frozen
+    pub frame_less : Frame ks_less w (with_image w new) h.pictured shows_less.pictured
     unfolding shows_less
-    frozen_less = frozen_rooted h ks_less s_less (with_image w new) c.later (λ o. o ≡ Origin.Unique T) c.keeps front _ _ _ _ _ c.stays
+    frame_less = frame_rooted h ks_less s_less (with_image w new) c.later (λ o. o ≡ Origin.Unique T) c.keeps front _ _ _ _ _ c.stays (unknown_same ks_less s s_less w new refl)
 
   -- ---- references of a class end, and nothing else changes
 
@@ -136,9 +139,10 @@ module _ {others : List Root} {types : Table} {constants : List Constant} (one :
       (length-map ks (without_class (sharing class)) ∙ h.sixteen) h.registers (record { table = refl; input = refl; read = refl; taken = refl; types = refl; state_input = refl; state_output = refl })
       (λ r. ended_shown one h class (ended (sharing class) ks) s w h.pictured (λ o. ⊥) (λ o f. absurd f) r (known_ended (sharing class) ks r) refl refl refl refl (λ f. f))
 
-  pub frozen_ended : (class : Class) → FrozenStay h.pictured.picture.frozen (shows_ended class).pictured.picture.frozen
+  pub frame_ended : (class : Class) → Frame (ended (sharing class) ks) w w h.pictured (shows_ended class).pictured
   unfolding shows_ended
-  frozen_ended class = frozen_rooted h (ended (sharing class) ks) s w h.pictured (λ o. ⊥) _ refl _ _ _ _ _ (all_stay refl)
+  frame_ended class = frame_rooted h (ended (sharing class) ks) s w h.pictured (λ o. ⊥) _ refl _ _ _ _ _ (frozen_same_image w.image h.pictured.picture.table h.pictured.picture.frozen)
+      (unknown_same (ended (sharing class) ks) s s w w.image refl)
 
 none_begins : (o : Option Root) → option_map {T = Root} {U = ℕ} (λ r. r.at) o ≡ None → o ≡ None
 none_begins None e = refl
@@ -185,7 +189,8 @@ module _ (allocator : ℕ) (constants : List Constant) (role : Role) (a b c : �
         let root = new_object w.table T at in
         let values_are : root.values ≡ cons d nil = ap (λ (z : Table). copies 1 (default_of z T)) h.table_is in
         let none : s.uniques T ≡ None = none_unique h T (ap (λ (o : Option Root). option_map {T = Root} {U = ℕ} (λ r. r.at) o) call.none) in
-        let come = unique_comes h.pictured T d root refl values_are call.none call.before call.after call.uniques_are new (call.becomes.held, call.becomes.counted) (paths_with h new call.becomes) in
+        let come = unique_comes h.pictured T d root refl values_are call.none call.before call.after call.uniques_are new (call.becomes.held, call.becomes.counted)
+        (paths_with h new call.becomes) (frozen_with h new call.becomes) in
         let fits = default_has s.types h.as_known.typed.forms T known_type.2.0 known_type.2.1 in
         let more = shows_more one h T d fits none root new come call.becomes.front_kept in
         let u = unique_found more T at (more_there one h T d fits none root new come call.becomes.front_kept) in
@@ -195,7 +200,7 @@ module _ (allocator : ℕ) (constants : List Constant) (role : Role) (a b c : �
         subst (λ k. Acts others types constants first allocator i success k s w (with_place (with_image w new) a place)) (sym good_is)
         (acts_so others types constants first allocator ks s w h i success true (ks_then ks) (set_register s' a (Register.Reference path_is)) (with_place (with_image w new) a place)
         (row ∙ answer_is types constants ks s' more.as_known success a (Register.Reference path_is) its.0) (changes blocks) call.becomes.length_kept call.becomes.front_kept refl shows
-        (frozen_reference others types constants first allocator ks s' (with_image w new) more a _ _ _ _ _ _ _ _ _ _ (frozen_more one h T d fits none root new come call.becomes.front_kept)))
+        (frame_reference others types constants first allocator ks s' (with_image w new) more a _ _ _ _ _ _ _ _ _ _ (frame_more one h T d fits none root new come call.becomes.front_kept)))
 
     -- the one that is there, for a row that finds it
     found : (operation : Operation) (at : ℕ) → begins_unique h.pictured.picture T ≡ Some at → new ≡ w.image → ((v : Value) → s.uniques T ≡ Some v → GrantsAsks constants (of operation) h.pictured w.image)
@@ -211,7 +216,7 @@ module _ (allocator : ℕ) (constants : List Constant) (role : Role) (a b c : �
         (subst (λ (image : List ℕ). Acts others types constants first allocator i success (ks_then ks) s w (with_place (with_image w image) a place)) (sym same)
         (acts_so others types constants first allocator ks s w h i success true (ks_then ks) (set_register s a (Register.Reference path_is)) (with_place w a place)
         (row u.plain.value u.there ∙ answer_is types constants ks s h.as_known success a (Register.Reference path_is) its.0) (changes (granted u.plain.value u.there)) refl refl refl shows
-        (frozen_reference others types constants first allocator ks s w h a _ _ _ _ _ _ _ _ _ _ (all_stay refl))))
+        (frame_reference others types constants first allocator ks s w h a _ _ _ _ _ _ _ _ _ _ (frame_same _ _ _))))
 
     -- none, with a code
     refused : (operation : Operation) (answer : Answer) (room : Bool) (code : ℕ) → code ≡ answer_number answer → new ≡ w.image → ChangesBlocks constants (of operation) h.pictured answer w.image
@@ -252,17 +257,17 @@ module _ (allocator : ℕ) (constants : List Constant) (role : Role) (a b c : �
   pub make_unique_acts : (at : ℕ) → OfPicture allocator w (λ p. T < length w.table → JoinsUniques allocator w.image new w.table p T at)
       → ActsAs allocator constants role (of Operation.MakeUnique) w (with_place (with_image w new) a (record { at = at; type = T }))
   unfolding rule effect
-  make_unique_acts at says = λ types others first ks good bad s right valid e h.
+  make_unique_acts at says = lifted_acts refl (λ types others first ks good bad s right valid e h.
       let call = said right valid.number valid.a e h {P = λ p. JoinsUniques allocator w.image new w.table p T at} says in
       let none = none_at right valid.number valid.a e h call.none in
       made right valid.number valid.a e h Operation.MakeUnique at call (asks_some right valid.number valid.a e h none) refl (λ g. g)
-      (row_none right valid.number valid.a e h (λ n. fail a already_exists s) (λ n. add_unique a n true s) none)
+      (row_none right valid.number valid.a e h (λ n. fail a already_exists s) (λ n. add_unique a n true s) none))
 
   -- there is one, or no room
   pub make_unique_refused : (code : ℕ) → OfPicture allocator w (λ p. T < length w.table → FindsOneOrNoRoom allocator w.image new w.table T code p)
       → IsRefusedAs allocator constants role (of Operation.MakeUnique) w (with_number (with_image w new) a (pos code))
   unfolding rule effect
-  make_unique_refused code says = λ types others first ks good bad s right valid e h.
+  make_unique_refused code says = lifted_refused refl (λ types others first ks good bad s right valid e h.
       elim (said right valid.number valid.a e h {P = FindsOneOrNoRoom allocator w.image new w.table T code} says) [
         | inl r ↦
             let u = unique_found h T r.1.0 r.1.1 in (
@@ -278,13 +283,13 @@ module _ (allocator : ℕ) (constants : List Constant) (role : Role) (a b c : �
               (no_room right valid.number valid.a e h Operation.MakeUnique (asks_some right valid.number valid.a e h r.1) r.2)
               (row_none right valid.number valid.a e h (λ n. fail a already_exists s) (λ n. add_unique a n false s) r.1),
         )
-      ]
+      ])
 
   -- one is found, or made
   pub find_or_make_unique_acts : (at : ℕ) → OfPicture allocator w (λ p. T < length w.table → IsFoundOrJoins allocator w.image new w.table T at p)
       → ActsAs allocator constants role (of Operation.FindOrMakeUnique) w (with_place (with_image w new) a (record { at = at; type = T }))
   unfolding rule effect
-  find_or_make_unique_acts at says = λ types others first ks good bad s right valid e h.
+  find_or_make_unique_acts at says = lifted_acts refl (λ types others first ks good bad s right valid e h.
       let i = of Operation.FindOrMakeUnique in
       elim (said right valid.number valid.a e h {P = IsFoundOrJoins allocator w.image new w.table T at} says) [
         | inl r ↦ found right valid.number valid.a e h Operation.FindOrMakeUnique at r.0 r.1 (λ v there. quiet constants i h.pictured (asks_none right valid.number valid.a e h v there) refl) (λ g. g)
@@ -293,24 +298,24 @@ module _ (allocator : ℕ) (constants : List Constant) (role : Role) (a b c : �
             let none = none_at right valid.number valid.a e h call.none in
             made right valid.number valid.a e h Operation.FindOrMakeUnique at call (asks_some right valid.number valid.a e h none) refl (λ g. g)
             (row_none right valid.number valid.a e h (λ n. refer a (path_from (Origin.Unique n)) s) (λ n. add_unique a n true s) none)
-      ]
+      ])
 
   pub find_or_make_unique_refused : (code : ℕ) → OfPicture allocator w (λ p. T < length w.table → FindsNoRoomFor allocator w.image new w.table T code p)
       → IsRefusedAs allocator constants role (of Operation.FindOrMakeUnique) w (with_number (with_image w new) a (pos code))
   unfolding rule effect
-  find_or_make_unique_refused code says = λ types others first ks good bad s right valid e h.
+  find_or_make_unique_refused code says = lifted_refused refl (λ types others first ks good bad s right valid e h.
       let r = said right valid.number valid.a e h {P = FindsNoRoomFor allocator w.image new w.table T code} says in (
         bad_alloc,
         λ f. cc,
         refused right valid.number valid.a e h Operation.FindOrMakeUnique bad_alloc false code r.0 r.2.same
             (no_room right valid.number valid.a e h Operation.FindOrMakeUnique (asks_some right valid.number valid.a e h r.1) r.2)
             (row_none right valid.number valid.a e h (λ n. refer a (path_from (Origin.Unique n)) s) (λ n. add_unique a n false s) r.1),
-      )
+      ))
 
   -- it goes, or there is none
   pub kill_unique_acts : (gone : Bool) → OfPicture allocator w (λ p. T < 32 → LeavesOrLacks w.image new w.table T gone p) → ActsAs allocator constants role (of Operation.KillUnique) w (with_number (with_image w new) a (truth gone))
   unfolding rule effect
-  kill_unique_acts gone says = λ types others first ks good bad s right valid e h.
+  kill_unique_acts gone says = lifted_acts refl (λ types others first ks good bad s right valid e h.
       let i = of Operation.KillUnique in
       let one = one_each constants right.each right.different in
       let t = type_known h.as_known b number T right.table.few names valid.number in
@@ -323,7 +328,7 @@ module _ (allocator : ℕ) (constants : List Constant) (role : Role) (a b c : �
       ∙ ap (λ (o : Option Value). if is_some o then give_count a 1 (record s { uniques = with_unique s.uniques T None }) else give_count a 0 s) is in
       let call = of_picture h (λ p. T < 32 → LeavesOrLacks w.image new w.table T gone p) says (few right valid) in
       subst (λ k. Acts others types constants first allocator i success k s w (with_number (with_image w new) a (truth gone))) (sym good_is)
-      (by types others first ks s right valid.a h one t.0 free row gone call)
+      (by types others first ks s right valid.a h one t.0 free row gone call))
     where
       few : {types : Table} → AreRight types constants → IsInstruction types constants role (of Operation.KillUnique) → T < 32
       few {types} right valid =
@@ -345,7 +350,7 @@ module _ (allocator : ℕ) (constants : List Constant) (role : Role) (a b c : �
           let c = call.loses in
           let u = unique_found h T call.root.at (ap (λ (o : Option Root). option_map {T = Root} {U = ℕ} (λ r. r.at) o) call.root_is) in
           let goes = unique_goes h.pictured T call.root call.root_is call.before call.after call.uniques_are new (c.becomes.held, c.becomes.counted)
-          (paths_without h new Listed.by_type call.before call.root call.after call.uniques_are refl c) in
+          (paths_without h new Listed.by_type call.before call.root call.after call.uniques_are refl c) (frozen_without h new call.root refl c) in
           let less = shows_less one h T new goes c.becomes.front_kept in
           let s' = s_less one h T new goes c.becomes.front_kept in
           let shared = blocks_by c.theirs (freed (names_each call.root.values) picture.frozen) in
@@ -356,7 +361,7 @@ module _ (allocator : ℕ) (constants : List Constant) (role : Role) (a b c : �
           acts_so others types constants first allocator ks s w h i success true (slice_set (ended (Class.Unique T) ks) a RegisterType.Int) (set_register s' a (Register.Int (pos 1))) (with_number (with_image w new) a (pos 1))
           (row (Some u.plain.value) u.there ∙ answer_is types constants (ended (Class.Unique T) ks) s' less.as_known success a (Register.Int (pos 1)) free) blocks c.becomes.length_kept c.becomes.front_kept refl
           (shows_number others types constants first allocator (ended (Class.Unique T) ks) s' (with_image w new) less a (pos 1) within free)
-          (frozen_number others types constants first allocator _ s' (with_image w new) less a _ _ _ (frozen_less one h T new goes c.becomes.front_kept))
+          (frame_number others types constants first allocator _ s' (with_image w new) less a _ _ _ (frame_less one h T new goes c.becomes.front_kept))
       by types others first ks s right within h one operand free row false call =
           let i = of Operation.KillUnique in
           let picture = h.pictured.picture in
@@ -367,4 +372,4 @@ module _ (allocator : ℕ) (constants : List Constant) (role : Role) (a b c : �
           (acts_so others types constants first allocator ks s w h i success true (slice_set (ended (Class.Unique T) ks) a RegisterType.Int) (set_register s a (Register.Int (pos 0))) (with_number w a (pos 0))
           (row None (none_unique h T call.0) ∙ answer_is types constants (ended (Class.Unique T) ks) s still.as_known success a (Register.Int (pos 0)) free) (quiet constants i h.pictured refl returned) refl refl refl
           (shows_number others types constants first allocator (ended (Class.Unique T) ks) s w still a (pos 0) within free)
-          (frozen_number others types constants first allocator _ s w still a _ _ _ (frozen_ended one h (Class.Unique T))))
+          (frame_number others types constants first allocator _ s w still a _ _ _ (frame_ended one h (Class.Unique T))))

@@ -6,14 +6,15 @@ use Rattle.std.proofs.lemmas.Bool.{eqb-true}
 use Rattle.std.proofs.lemmas.Bool.Decides.{nat_tests}
 use Rattle.seg_spec.specs.Value.{Value, nil, cons, nth}
 use Rattle.seg_spec.specs.Index.{Root, root_of_type, AreRising}
-use Rattle.seg_spec.specs.Shared.{names_each}
+use Rattle.seg_spec.specs.Shared.{names_each, left}
 use Rattle.seg_spec.specs.Counting.{owners_in, without_cells}
 use Rattle.seg_spec.specs.Roots.{Listed, with_roots, roots_before, KeepsPaths}
 use Rattle.seg_spec.proofs.CountedParts.{owners_after, owners_with}
 use Rattle.seg_spec.proofs.UniqueLaws.{none_below, none_root}
 use Rattle.client_spec.specs.Machine.{Origin, State, with_unique}
 use Rattle.client_spec.specs.Pictures.{Pictures}
-use Rattle.client_sim.specs.Shows.{FrozenStay, all_stay, some_go}
+use Rattle.client_sim.specs.Shows.{KeepsFrozenPaths}
+use Rattle.client_sim.proofs.FrozenPaths.{KeepsFrozen, frozen_stay, frozen_go}
 use Rattle.client_sim.proofs.FirstRoots.{first_of, first_split, first_here, first_beside, is_of_type, typed_first}
 use Rattle.client_sim.proofs.Rooted.{KeepsRoots}
 use Rattle.client_sim.proofs.Owning.{IsHeldCounted, found_again, keeps_all, keeps_others}
@@ -74,12 +75,13 @@ module _ {others : List Root} {s : State} {old : List ℕ} (pictured : Pictures 
   pub record UniqueComes (T : ℕ) (v : Value) (root : Root) (new : List ℕ) : Type 0 where
     pub later : Pictures others (record s { uniques = with_unique s.uniques T (Some v) }) new
     pub keeps : KeepsRoots pictured later (λ o. ⊥)
-    pub stays : FrozenStay pictured.picture.frozen later.picture.frozen
+    pub stays : KeepsFrozen old new pictured.picture.table pictured.picture.frozen later.picture.frozen
     pub here : root_of_type later.picture.uniques T ≡ Some root
 
   pub unique_comes : (T : ℕ) (v : Value) (root : Root) → T ≡ root.type → root.values ≡ cons v nil → root_of_type pictured.picture.uniques T ≡ None → (before after : List Root) → pictured.picture.uniques ≡ before ++ after → (new : List ℕ)
-      → IsHeldCounted new (with_roots pictured.picture Listed.by_type (before ++ root ∷ after)) → AllByRecursion (KeepsPaths old new pictured.picture.table) (owners_in pictured.picture) → UniqueComes T v root new
-  unique_comes T v root type_is values_are none before after parts new held paths =
+      → IsHeldCounted new (with_roots pictured.picture Listed.by_type (before ++ root ∷ after)) → AllByRecursion (KeepsPaths old new pictured.picture.table) (owners_in pictured.picture)
+      → KeepsFrozenPaths old new pictured.picture.table pictured.picture.frozen → UniqueComes T v root new
+  unique_comes T v root type_is values_are none before after parts new held paths frozen =
       let roots = before ++ root ∷ after in
       let there : root_of_type roots T ≡ Some root = joined_there before root after T type_is (ap (λ xs. root_of_type xs T) (sym parts) ∙ none) in
       let beside : (U : ℕ) → (U == T) ≡ false → root_of_type roots U ≡ root_of_type pictured.picture.uniques U = λ U g. joined_beside before root after T type_is U g ∙ ap (λ xs. root_of_type xs U) (sym parts) in
@@ -96,7 +98,7 @@ module _ {others : List Root} {s : State} {old : List ℕ} (pictured : Pictures 
       } in
       record {
         later = later;
-        stays = all_stay refl;
+        stays = frozen_stay refl frozen;
         keeps = keeps_all pictured later (λ o. ⊥) refl (found_again pictured later (λ o. ⊥) (λ name i r e. inr e) (λ U r e. inr (again U r e (U == T) refl)) (λ q r e. inr e)) paths;
         here = there;
       }
@@ -110,12 +112,13 @@ module _ {others : List Root} {s : State} {old : List ℕ} (pictured : Pictures 
   pub record UniqueGoes (T : ℕ) (new : List ℕ) : Type 0 where
     pub later : Pictures others (record s { uniques = with_unique s.uniques T None }) new
     pub keeps : KeepsRoots pictured later (λ o. o ≡ Origin.Unique T)
-    pub stays : FrozenStay pictured.picture.frozen later.picture.frozen
+    pub stays : KeepsFrozen old new pictured.picture.table pictured.picture.frozen later.picture.frozen
 
   pub unique_goes : (T : ℕ) (root : Root) → root_of_type pictured.picture.uniques T ≡ Some root → (before after : List Root) → pictured.picture.uniques ≡ before ++ root ∷ after → (new : List ℕ)
       → IsHeldCounted new (without_cells (names_each root.values) (with_roots pictured.picture Listed.by_type (before ++ after)))
-      → AllByRecursion (KeepsPaths old new pictured.picture.table) (roots_before pictured.picture Listed.by_type before ++ owners_after pictured.picture Listed.by_type after) → UniqueGoes T new
-  unique_goes T root is before after parts new held paths =
+      → AllByRecursion (KeepsPaths old new pictured.picture.table) (roots_before pictured.picture Listed.by_type before ++ owners_after pictured.picture Listed.by_type after)
+      → KeepsFrozenPaths old new pictured.picture.table (left (names_each root.values) pictured.picture.frozen) → UniqueGoes T new
+  unique_goes T root is before after parts new held paths frozen =
       let picture = pictured.picture in
       let split = first_split (is_of_type T) picture.uniques root (sym (typed_first picture.uniques T) ∙ is) in
       let type_is : T ≡ root.type = eqb-true T root.type split.is in
@@ -136,7 +139,7 @@ module _ {others : List Root} {s : State} {old : List ℕ} (pictured : Pictures 
       let among : roots_before picture Listed.by_type before ++ owners_after picture Listed.by_type after ≡ owners_in later.picture = sym (owners_with picture Listed.by_type before [] after) in
       record {
         later = later;
-        stays = some_go (names_each root.values) refl;
+        stays = frozen_go (names_each root.values) refl frozen;
         keeps = keeps_others pictured later (λ o. o ≡ Origin.Unique T) refl
             (found_again pictured later (λ o. o ≡ Origin.Unique T) (λ name i r e. inr e) (λ U r e. again U r e (beside U) (U == T) refl) (λ q r e. inr e)) (subst (AllByRecursion (KeepsPaths old new picture.table)) among paths);
       }

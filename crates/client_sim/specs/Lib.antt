@@ -1,3 +1,4 @@
 pub mod Writes
 pub mod Shows
 pub mod Acting
+pub mod Seeing

@@ -1,7 +1,9 @@
 -- Clients on an image, from bytes to bytes: what the caller gets.
 --     AreReports reports lefts    what the reports say of the runs
---     AreLeftByRuns ..            the saved image, the reports, the ending and what the output took are those of runs
---     HasOutcome ..               the clients were accepted, and what they left is so where they leave frozen objects alone
+--     AreLeftByRuns ..            the saved image, the reports, the ending and what the output took
+--                                 are those of runs
+--     HasOutcome ..               the clients were accepted, and what they left is so where they
+--                                 freeze and share nothing
 --     IsRefusedFor .. refused     why no client ran, fault by fault
 use Rattle.std.specs.Prelude.{◌≡◌, ◌⊎◌, ⊤, ℕ, ◌-◌, ◌^◌, min, List, [], ◌∷◌, Option, Some, None}
 use Rattle.seg_spec.specs.Images.{IsSound, upgraded}
@@ -48,8 +50,8 @@ pub record AreLeftByRuns (image : List ℕ) (texts : List (List ℕ)) (input : L
   pub saved_is : saved ≡ image_after (upgraded image) lefts
   pub sound : IsSound saved
 
--- The clients were accepted, one after the other, on a sound image. Where all of them leave frozen objects alone, runs of the
--- abstract machine left the rest.
+-- The clients were accepted, one after the other, on a sound image. Where all of them freeze and
+-- share nothing, runs of the abstract machine left the rest.
 pub record HasOutcome (image : List ℕ) (texts : List (List ℕ)) (input : List ℕ)
     (room base : ℕ) (moves : List Move) (taken taken_then : Option (List ℕ))
     (saved : List ℕ) (reports : List Report) (ended : Ended) : Type 0 where
@@ -76,7 +78,8 @@ pub record IsBadClient (image : List ℕ) (texts : List (List ℕ)) (room base :
   pub fault : IsRefused (table_after turn.sound.picture.table turn.clients) client f
 
 module _ (image : List ℕ) (texts : List (List ℕ)) (room base : ℕ) (moves : List Move) where
-  -- the move with this index is the first that may not be made; one past 32 bits is told as the largest number
+  -- the move with this index is the first that may not be made; one past 32 bits is told as the
+  -- largest number
   abbrev pub IsBadMove : ℕ → Type 0
   IsBadMove told = (i : ℕ) × (told ≡ min i (2 ^ 32 - 1)) ×
       IsRefusalOf image texts room base moves (Refusal.bad_move i)

@@ -3,8 +3,8 @@
 --     IsFaultAs image fault       what is wrong with an image, as it is told
 --     AcceptsClient ..            a sound image, and a client that it accepts, with this bound
 --     IsWrongAs image texts fault     what is wrong with an image or a client, as it is told
---     IsRun ..                    clients were accepted on a sound image, and runs left the rest where they leave frozen
---                                 objects alone
+--     IsRun ..                    clients were accepted on a sound image, and runs left the rest
+--                                 where they freeze and share nothing
 --     HasRunIn ..                 and the caller's memory has what they left
 --     HasRunOn ..                 one client ran, on an image or on any bytes
 --     IsRefusedAs image texts fault   why no client ran, as it is told
@@ -57,8 +57,8 @@ abbrev pub IsRun : List ℕ → List (List ℕ) → List ℕ → List ℕ → Li
 IsRun image texts input printed saved reports ended =
     HasOutcome image texts input (length image) 0 [] (Some []) (Some printed) saved reports ended
 
--- the front of the output has what they printed, that of the room for the saved image holds it, and that of the room for reports
--- has these, as many as it has room for
+-- the front of the output has what they printed, that of the room for the saved image holds it,
+-- and that of the room for reports has these, as many as it has room for
 pub record HasRunIn (image : List ℕ) (texts : List (List ℕ)) (input : List ℕ) (ended : Ended)
     (written : ℕ) (output saved : List ℕ) (told_before told : List Report) : Type 0 where
   pub size : ℕ

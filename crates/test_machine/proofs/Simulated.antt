@@ -12,7 +12,7 @@ use Rattle.client_spec.specs.Plain.{plain_machine}
 use Rattle.client_spec.specs.Safe.{IsUnshared}
 use Rattle.client_spec.specs.OnImages.{Move, Situation, TickOn, image_machine, Given, Left, RunsClient}
 use Rattle.client_spec.proofs.Keeping.{never_wrong_beside}
-use Rattle.client_spec.proofs.PicturedTrees.{begins_first}
+use Rattle.client_spec.proofs.PicturedTrees.{begins_first, pictures_trees}
 
 pub record Maps (way : Way Situation) (plain : Way State) : Type 0 where
   pub each : (x y : Situation) (n : ℕ) (end : Ending) → way x y n end → plain x.state y.state n end
@@ -85,4 +85,5 @@ pub client_within_bound : (client : Client) (given : Given) (left : Left) → Is
     → Agree runs.is_first.picture.table client.types → (left.steps ≤ bound client.code) × (left.ending ≢ stuck)
 client_within_bound client given left valid unshared runs agree =
     never_wrong_beside client valid unshared runs.first.state runs.last.state left.steps left.ending (begins_first client given runs.first valid runs.is_first agree)
+    (pictures_trees runs.is_first.pictured).1
     (run_of_states client.constants given.others given.moves client.code runs.first runs.last left.steps left.ending runs.run)

@@ -1,0 +1,146 @@
+-- Paths through cells that share, over a call: frozen objects that are named then hold what they held, and what leads on inside them still does.
+use Rattle.std.proofs.Common.{◌≡◌, ◌≢◌, ℕ, ◌+◌, ◌*◌, ◌<◌, Bool, true, false, List, [], ◌∷◌, ◌++◌, Some, refl, sym, ◌∙◌, ap, subst, arith}
+use Rattle.std.specs.Prelude.{◌==◌, if◌then◌else◌}
+use Rattle.std.specs.List.{AllByRecursion}
+use Rattle.std.proofs.lemmas.Bool.{eqb-true, eq-eqb}
+use Rattle.seg_spec.specs.Types.{Table, size}
+use Rattle.seg_spec.specs.Value.{Label, Value, node, nil, Selector, value_at}
+use Rattle.seg_spec.specs.Index.{Root}
+use Rattle.seg_spec.specs.Reads.{Place, Leads}
+use Rattle.seg_spec.specs.Frozen.{Frozen, frozen_words, root_of_frozen}
+use Rattle.seg_spec.specs.Shared.{names_in, IsBelow, AreDistinct, value_at_position}
+use Rattle.seg_spec.specs.Roots.{item_of, KeepsPaths}
+use Rattle.seg_spec.proofs.OneReading.{HoldsEach-one}
+use Rattle.seg_spec.proofs.Frame.{each_weaker}
+use Rattle.seg_spec.proofs.SharedLaws.{left_each, wider}
+use Rattle.seg_spec.proofs.Unfolding.{found}
+use Rattle.client_spec.specs.Machine.{State}
+use Rattle.client_spec.specs.Pictures.{Pictures}
+use Rattle.client_spec.proofs.Values.{Some_inj}
+use Rattle.client_spec.proofs.PicturedTrees.{HoldsAt, at_name, frozen_held, cons_first}
+use Rattle.client_sim.specs.Shows.{FrozenStay, all_stay, some_go, KeepsFrozenPaths}
+use Rattle.client_sim.specs.Seeing.{value_place, LeadsFrozen, inside, through}
+use Rattle.client_sim.proofs.FrozenLeads.{of_part, of_cell}
+use Rattle.client_sim.proofs.FrozenPlaces.{frozen_named}
+
+-- each object is found by its position
+each_found : (fs : List Frozen) → AreDistinct fs → AllByRecursion (λ (f : Frozen). value_at_position fs f.at ≡ Some f.value) fs
+each_found [] d = tt
+each_found (f ∷ fs) d = (here, further fs d.0 (each_found fs d.1))
+  where
+    here : value_at_position (f ∷ fs) f.at ≡ Some f.value
+    here = ap (λ (b : Bool). if b then Some f.value else value_at_position fs f.at) (eq-eqb f.at f.at refl)
+
+    other : (p : ℕ) → p ≢ f.at → value_at_position (f ∷ fs) p ≡ value_at_position fs p
+    other p far = choose (f.at == p) refl
+      where
+        choose : (b : Bool) → (f.at == p) ≡ b → (if b then Some f.value else value_at_position fs p) ≡ value_at_position fs p
+        choose true e = absurd (far (sym (eqb-true f.at p e)))
+        choose false e = refl
+
+    further : (gs : List Frozen) → AllByRecursion (λ (g : Frozen). g.at ≢ f.at) gs → AllByRecursion (λ (g : Frozen). value_at_position fs g.at ≡ Some g.value) gs
+        → AllByRecursion (λ (g : Frozen). value_at_position (f ∷ fs) g.at ≡ Some g.value) gs
+    further [] a e = tt
+    further (g ∷ gs) a e = (other g.at a.0 ∙ e.0, further gs a.1 e.1)
+
+-- in two pictures of the same bytes
+module _ {others : List Root} {s : State} {bytes : List ℕ} (p q : Pictures others s bytes) where
+  same_value : (n k : ℕ) (x : Place) (f g : Value) → IsBelow n p.picture.frozen x → value_at_position p.picture.frozen x.at ≡ Some f → IsBelow k q.picture.frozen x → value_at_position q.picture.frozen x.at ≡ Some g → f ≡ g
+  same_value n k x f g b e c d =
+      let tables : q.picture.table ≡ p.picture.table = q.types ∙ sym p.types in
+      let one = at_name (HoldsAt bytes p.picture.table) n p.picture.frozen x f p.counted.counted.distinct (frozen_held p) b e in
+      let two = at_name (HoldsAt bytes p.picture.table) k q.picture.frozen x g q.counted.counted.distinct
+      (subst (λ (ts : Table). AllByRecursion (λ (h : Frozen). HoldsAt bytes ts h.at h.type h.value) q.picture.frozen) tables (frozen_held q)) c d in
+      cons_first (HoldsEach-one bytes p.picture.table one.1 two.1).0
+
+-- ---- over a call
+
+module _ {others : List Root} {s s' : State} {old new : List ℕ} (p before : Pictures others s old) (after p' : Pictures others s' new)
+    (stays : FrozenStay before.picture.frozen after.picture.frozen) (paths : KeepsFrozenPaths old new before.picture.table after.picture.frozen) (types : s'.types ≡ s.types) where
+  -- it is named by cells in all of them
+  pub record NamedStill (x : Place) : Type 0 where
+    pub n : ℕ
+    pub there : IsBelow n p.picture.frozen x
+    pub there_before : IsBelow n before.picture.frozen x
+    pub there_after : IsBelow n after.picture.frozen x
+    pub there_then : IsBelow n p'.picture.frozen x
+
+  -- an object that stays has its value
+  stay_value : (n : ℕ) (x : Place) (f : Value) → IsBelow n after.picture.frozen x → value_at_position after.picture.frozen x.at ≡ Some f → value_at_position before.picture.frozen x.at ≡ Some f
+  stay_value n x f b e = by stays
+    where
+      P : ℕ → ℕ → Value → Type 0
+      P at T v = value_at_position before.picture.frozen at ≡ Some v
+
+      all : AllByRecursion (λ (g : Frozen). P g.at g.type g.value) before.picture.frozen
+      all = each_found before.picture.frozen before.counted.counted.distinct
+
+      by : FrozenStay before.picture.frozen after.picture.frozen → value_at_position before.picture.frozen x.at ≡ Some f
+      by (all_stay same) = ap (λ fs. value_at_position fs x.at) (sym same) ∙ e
+      by (some_go gone same) =
+          at_name P n after.picture.frozen x f after.counted.counted.distinct
+          (subst (AllByRecursion (λ (g : Frozen). P g.at g.type g.value)) (sym same) (left_each (λ (g : Frozen). P g.at g.type g.value) (λ g k h. h) gone before.picture.frozen all)) b e
+
+  value_then : (x : Place) (f : Value) → NamedStill x → value_at_position p.picture.frozen x.at ≡ Some f → value_at_position p'.picture.frozen x.at ≡ Some f
+  value_then x f k e =
+      let c = after.counted.counted in
+      let a = found k.n after.picture.frozen x c.distinct c.falling k.there_after in
+      let d = p'.counted.counted in
+      let z = found k.n p'.picture.frozen x d.distinct d.falling k.there_then in
+      let was = stay_value k.n x a.object.value k.there_after a.value_is in
+      let one : f ≡ a.object.value = same_value p before k.n k.n x f a.object.value k.there e k.there_before was in
+      let two : a.object.value ≡ z.object.value = same_value after p' k.n k.n x a.object.value z.object.value k.there_after a.value_is k.there_then z.value_is in
+      z.value_is ∙ ap Some (sym two ∙ sym one)
+
+  path_then : (x : Place) → NamedStill x → (xs : List Selector) (target : Place) → Leads old p.picture.table (value_place x) xs target → Leads new p'.picture.table (value_place x) xs target
+  path_then x k xs target leads =
+      let c = after.counted.counted in
+      let a = found k.n after.picture.frozen x c.distinct c.falling k.there_after in
+      let o = frozen_named k.n after.picture.frozen x a.object.value c.distinct k.there_after a.value_is in
+      let table : p.picture.table ≡ before.picture.table = p.types ∙ sym before.types in
+      let table_then : before.picture.table ≡ p'.picture.table = before.types ∙ sym types ∙ sym p'.types in
+      let keeps = named_root (before.picture.table) o.before o.object o.after (subst (λ fs. KeepsFrozenPaths old new before.picture.table fs) o.among paths) in
+      let there : item_of before.picture.table (root_of_frozen o.object) 0 ≡ value_place x = place_is before.picture.table o.object x o.at_is o.type_is in
+      subst (λ (ts : Table). Leads new ts (value_place x) xs target) table_then
+      (subst (λ (y : Place). Leads new before.picture.table y xs target) there
+      (keeps 0 xs target (arithmetic) (subst (λ (y : Place). Leads old before.picture.table y xs target) (sym there) (subst (λ (ts : Table). Leads old ts (value_place x) xs target) table leads))))
+    where
+      arithmetic : 0 < 1
+      arithmetic = omega arith
+
+      named_root : (ts : Table) (fs : List Frozen) (f : Frozen) (gs : List Frozen) → KeepsFrozenPaths old new ts (fs ++ f ∷ gs) → KeepsPaths old new ts (root_of_frozen f)
+      named_root ts [] f gs k = k.0
+      named_root ts (g ∷ fs) f gs k = named_root ts fs f gs k.1
+
+      place_is : (ts : Table) (f : Frozen) (x : Place) → f.at ≡ x.at → f.type ≡ x.type → item_of ts (root_of_frozen f) 0 ≡ value_place x
+      place_is ts f x e g = ap (λ (n : ℕ). record { at = n; type = f.type }) (let z : f.at + frozen_words + 0 * size ts f.type ≡ x.at + frozen_words = omega (arith, e) in z) ∙ ap (λ (n : ℕ). record { at = x.at + frozen_words; type = n }) g
+
+  -- what an object names that is named still is named still
+  deeper : (x : Place) (f : Value) → NamedStill x → value_at_position p.picture.frozen x.at ≡ Some f → (xs : List Selector) (U at : ℕ) → value_at f xs ≡ Some (node (Label.shared U at) nil) → NamedStill (record { at = at; type = U })
+  deeper x f k e xs U at names =
+      let a = inner p k.there e in
+      let c = after.counted.counted in
+      let o = found k.n after.picture.frozen x c.distinct c.falling k.there_after in
+      let was = stay_value k.n x o.object.value k.there_after o.value_is in
+      let same : f ≡ o.object.value = same_value p before k.n k.n x f o.object.value k.there e k.there_before was in
+      record {
+        n = k.n;
+        there = inner p k.there e;
+        there_before = inner before k.there_before (was ∙ ap Some (sym same));
+        there_after = inner after k.there_after (o.value_is ∙ ap Some (sym same));
+        there_then = inner p' k.there_then (value_then x f k e);
+      }
+    where
+      inner : {t : State} {bytes : List ℕ} (z : Pictures others t bytes) → IsBelow k.n z.picture.frozen x → value_at_position z.picture.frozen x.at ≡ Some f → IsBelow k.n z.picture.frozen (record { at = at; type = U })
+      inner z b g =
+          let c = z.counted.counted in
+          let o = found k.n z.picture.frozen x c.distinct c.falling b in
+          let same : o.object.value ≡ f = Some_inj (sym o.value_is ∙ g) in
+          let B = IsBelow k.n z.picture.frozen in
+          of_cell B U at (of_part B xs f (node (Label.shared U at) nil)
+          (subst (λ v. AllByRecursion B (names_in v)) same (each_weaker (IsBelow o.object.number z.picture.frozen) B
+              (λ r l. wider o.object.number k.n z.picture.frozen r (let less = o.less in omega arith) l) (names_in o.object.value) o.names)) names)
+
+  pub leads_still : (x : Place) → NamedStill x → {xs : List Selector} {target : Place} → LeadsFrozen old p.picture.table p.picture.frozen x xs target → LeadsFrozen new p'.picture.table p'.picture.frozen x xs target
+  leads_still x k (inside {target = target} {xs = xs} leads) = inside (path_then x k xs target leads)
+  leads_still x k (through f xs ys U at e names leads) = through f xs ys U at (value_then x f k e) names (leads_still (record { at = at; type = U }) (deeper x f k e xs U at names) leads)
