@@ -139,7 +139,7 @@ module _ {others : List Root} {s s' : State} {old new : List ℕ} (p before : Pi
           let B = IsBelow k.n z.picture.frozen in
           of_cell B U at (of_part B xs f (node (Label.shared U at) nil)
           (subst (λ v. AllByRecursion B (names_in v)) same (each_weaker (IsBelow o.object.number z.picture.frozen) B
-              (λ r l. wider o.object.number k.n z.picture.frozen r (let less = o.less in omega arith) l) (names_in o.object.value) o.names)) names)
+          (λ r l. wider o.object.number k.n z.picture.frozen r (let less = o.less in omega arith) l) (names_in o.object.value) o.names)) names)
 
   pub leads_still : (x : Place) → NamedStill x → {xs : List Selector} {target : Place} → LeadsFrozen old p.picture.table p.picture.frozen x xs target → LeadsFrozen new p'.picture.table p'.picture.frozen x xs target
   leads_still x k (inside {target = target} {xs = xs} leads) = inside (path_then x k xs target leads)

@@ -171,7 +171,7 @@ module _ (allocator : ℕ) (constants : List Constant) (role : Role) (a b c : �
 
   pub take_refused : (code : ℕ) → FindsEmpty code w.table → IsRefusedAs allocator constants role take w (with_code w new a code)
   unfolding rule
-  take_refused code call = lifted_refused refl (λ types others first ks good bad s right valid e h. 
+  take_refused code call = lifted_refused refl (λ types others first ks good bad s right valid e h.
       let one = one_each constants right.each right.different in
       let g = λ (x : Class × ℕ) (t : ℕ). opens a (RegisterType.Owner t) (others_ended x.0 b ks) in
       let r = reaches one h owned_type g b good bad e in
