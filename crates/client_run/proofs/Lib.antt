@@ -3,8 +3,8 @@ pub mod MovesLaws
 pub mod NumberLaws
 pub mod WritingLaws
 pub mod PartLaws
-pub mod SharingLaws
 pub mod ObjectLaws
+pub mod SharingLaws
 pub mod MakingLaws
 pub mod OwnerLaws
 pub mod ItemLaws

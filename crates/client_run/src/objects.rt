@@ -330,11 +330,14 @@ impl Machine<'_> {
             segment.old segment.new }
     {
         let cell = self.place(i.b);
-        let frozen = segment.heap_mut().freeze(cell, self.place(i.c).at);
-        if frozen.is_ok() {
-            self.take(i.c);
+        match segment.heap_mut().freeze(cell, self.place(i.c).at) {
+            Ok(()) => {
+                self.take(i.c);
+                self.give(i, 1);
+                Jump::Next
+            }
+            Err(code) => self.fail(i, code),
         }
-        self.try_give(i, frozen.map(|()| 1))
     }
 
     pub(crate) fn share<F: Fit, A: Allocator>(&self, segment: &mut Segment<F, A>, i: &Instruction)

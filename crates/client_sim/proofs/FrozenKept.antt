@@ -1,5 +1,5 @@
 -- Paths through cells that share, over a call: frozen objects that are named then hold what they held, and what leads on inside them still does.
-use Rattle.std.proofs.Common.{◌≡◌, ◌≢◌, ℕ, ◌+◌, ◌*◌, ◌<◌, Bool, true, false, List, [], ◌∷◌, ◌++◌, Some, refl, sym, ◌∙◌, ap, subst, arith}
+use Rattle.std.proofs.Common.{◌≡◌, ◌≢◌, inl, inr, ℕ, suc, ◌+◌, ◌*◌, Bool, true, false, List, [], ◌∷◌, Some, refl, sym, ◌∙◌, ap, subst, arith}
 use Rattle.std.specs.Prelude.{◌==◌, if◌then◌else◌}
 use Rattle.std.specs.List.{AllByRecursion}
 use Rattle.std.proofs.lemmas.Bool.{eqb-true, eq-eqb}
@@ -8,8 +8,8 @@ use Rattle.seg_spec.specs.Value.{Label, Value, node, nil, Selector, value_at}
 use Rattle.seg_spec.specs.Index.{Root}
 use Rattle.seg_spec.specs.Reads.{Place, Leads}
 use Rattle.seg_spec.specs.Frozen.{Frozen, frozen_words, root_of_frozen}
-use Rattle.seg_spec.specs.Shared.{names_in, IsBelow, AreDistinct, value_at_position}
-use Rattle.seg_spec.specs.Roots.{item_of, KeepsPaths}
+use Rattle.seg_spec.specs.Shared.{names_in, IsBelow, AreDistinct, value_at_position, with_count, raised, raised_by, left}
+use Rattle.seg_spec.specs.Roots.{item_of}
 use Rattle.seg_spec.proofs.OneReading.{HoldsEach-one}
 use Rattle.seg_spec.proofs.Frame.{each_weaker}
 use Rattle.seg_spec.proofs.SharedLaws.{left_each, wider}
@@ -18,13 +18,12 @@ use Rattle.client_spec.specs.Machine.{State}
 use Rattle.client_spec.specs.Pictures.{Pictures}
 use Rattle.client_spec.proofs.Values.{Some_inj}
 use Rattle.client_spec.proofs.PicturedTrees.{HoldsAt, at_name, frozen_held, cons_first}
-use Rattle.client_sim.specs.Shows.{FrozenStay, all_stay, some_go, KeepsFrozenPaths}
+use Rattle.client_sim.specs.Shows.{FrozenStay, all_stay, some_go, some_shared, KeepsFrozenPaths}
 use Rattle.client_sim.specs.Seeing.{value_place, LeadsFrozen, inside, through}
 use Rattle.client_sim.proofs.FrozenLeads.{of_part, of_cell}
-use Rattle.client_sim.proofs.FrozenPlaces.{frozen_named}
 
 -- each object is found by its position
-each_found : (fs : List Frozen) → AreDistinct fs → AllByRecursion (λ (f : Frozen). value_at_position fs f.at ≡ Some f.value) fs
+pub each_found : (fs : List Frozen) → AreDistinct fs → AllByRecursion (λ (f : Frozen). value_at_position fs f.at ≡ Some f.value) fs
 each_found [] d = tt
 each_found (f ∷ fs) d = (here, further fs d.0 (each_found fs d.1))
   where
@@ -55,17 +54,37 @@ module _ {others : List Root} {s : State} {bytes : List ℕ} (p q : Pictures oth
 
 -- ---- over a call
 
-module _ {others : List Root} {s s' : State} {old new : List ℕ} (p before : Pictures others s old) (after p' : Pictures others s' new)
-    (stays : FrozenStay before.picture.frozen after.picture.frozen) (paths : KeepsFrozenPaths old new before.picture.table after.picture.frozen) (types : s'.types ≡ s.types) where
-  -- it is named by cells in all of them
-  pub record NamedStill (x : Place) : Type 0 where
-    pub n : ℕ
-    pub there : IsBelow n p.picture.frozen x
-    pub there_before : IsBelow n before.picture.frozen x
-    pub there_after : IsBelow n after.picture.frozen x
-    pub there_then : IsBelow n p'.picture.frozen x
+-- objects that are named before and after have their values, and paths in them lead where they led
+pub record StayNamed (old new : List ℕ) (table : Table) (before after : List Frozen) : Type 0 where
+  pub value : (n : ℕ) (x : Place) (f : Value) → IsBelow n before x → IsBelow n after x → value_at_position after x.at ≡ Some f → value_at_position before x.at ≡ Some f
+  pub paths : (n : ℕ) (x : Place) → IsBelow n before x → IsBelow n after x → (xs : List Selector) (target : Place) → Leads old table (value_place x) xs target → Leads new table (value_place x) xs target
 
-  -- an object that stays has its value
+-- counts don't matter
+each_raised : (P : ℕ → ℕ → Value → Type 0) (p : ℕ) (fs : List Frozen) → AllByRecursion (λ (g : Frozen). P g.at g.type g.value) fs → AllByRecursion (λ (g : Frozen). P g.at g.type g.value) (raised p fs)
+each_raised P p [] a = tt
+each_raised P p (f ∷ fs) a = (one (f.at == p), each_raised P p fs a.1)
+  where
+    one : (b : Bool) → (let g : Frozen = if b then with_count f (suc f.count) else f in P g.at g.type g.value)
+    one true = a.0
+    one false = a.0
+
+each_raised_by : (P : ℕ → ℕ → Value → Type 0) (names : List Place) (fs : List Frozen) → AllByRecursion (λ (g : Frozen). P g.at g.type g.value) fs → AllByRecursion (λ (g : Frozen). P g.at g.type g.value) (raised_by names fs)
+each_raised_by P [] fs a = a
+each_raised_by P (q ∷ names) fs a = each_raised P q.at (raised_by names fs) (each_raised_by P names fs a)
+
+-- paths in one of the objects in which they are kept
+pub paths_at : (old new : List ℕ) (table : Table) (n : ℕ) (x : Place) (fs : List Frozen) → KeepsFrozenPaths old new table fs → IsBelow n fs x
+    → (xs : List Selector) (target : Place) → Leads old table (value_place x) xs target → Leads new table (value_place x) xs target
+paths_at old new table n x [] k b xs target leads = absurd b
+paths_at old new table n x (f ∷ fs) k (inl b) xs target leads =
+    let there : item_of table (root_of_frozen f) 0 ≡ value_place x =
+    ap (λ (m : ℕ). record { at = m; type = f.type }) (let z : f.at + frozen_words + 0 * size table f.type ≡ x.at + frozen_words = omega (arith, b.0) in z) ∙ ap (λ (m : ℕ). record { at = x.at + frozen_words; type = m }) b.1 in
+    subst (λ (y : Place). Leads new table y xs target) there (k.0 0 xs target (omega arith) (subst (λ (y : Place). Leads old table y xs target) (sym there) leads))
+paths_at old new table n x (f ∷ fs) k (inr b) xs target leads = paths_at old new table n x fs k.1 b xs target leads
+
+-- so it is where none become frozen
+module _ {others : List Root} {s s' : State} {old new : List ℕ} (before : Pictures others s old) (after : Pictures others s' new)
+    (stays : FrozenStay before.picture.frozen after.picture.frozen) (paths : KeepsFrozenPaths old new before.picture.table after.picture.frozen) where
   stay_value : (n : ℕ) (x : Place) (f : Value) → IsBelow n after.picture.frozen x → value_at_position after.picture.frozen x.at ≡ Some f → value_at_position before.picture.frozen x.at ≡ Some f
   stay_value n x f b e = by stays
     where
@@ -75,11 +94,28 @@ module _ {others : List Root} {s s' : State} {old new : List ℕ} (p before : Pi
       all : AllByRecursion (λ (g : Frozen). P g.at g.type g.value) before.picture.frozen
       all = each_found before.picture.frozen before.counted.counted.distinct
 
+      some_left : (gone : List Place) (fs : List Frozen) → after.picture.frozen ≡ left gone fs → AllByRecursion (λ (g : Frozen). P g.at g.type g.value) fs → value_at_position before.picture.frozen x.at ≡ Some f
+      some_left gone fs same each =
+          at_name P n after.picture.frozen x f after.counted.counted.distinct
+          (subst (AllByRecursion (λ (g : Frozen). P g.at g.type g.value)) (sym same) (left_each (λ (g : Frozen). P g.at g.type g.value) (λ g k h. h) gone fs each)) b e
+
       by : FrozenStay before.picture.frozen after.picture.frozen → value_at_position before.picture.frozen x.at ≡ Some f
       by (all_stay same) = ap (λ fs. value_at_position fs x.at) (sym same) ∙ e
-      by (some_go gone same) =
-          at_name P n after.picture.frozen x f after.counted.counted.distinct
-          (subst (AllByRecursion (λ (g : Frozen). P g.at g.type g.value)) (sym same) (left_each (λ (g : Frozen). P g.at g.type g.value) (λ g k h. h) gone before.picture.frozen all)) b e
+      by (some_go gone same) = some_left gone before.picture.frozen same all
+      by (some_shared gone names same) = some_left gone (raised_by names before.picture.frozen) same (each_raised_by P names before.picture.frozen all)
+
+  pub stay_named : StayNamed old new before.picture.table before.picture.frozen after.picture.frozen
+  stay_named = record { value = λ n x f there. stay_value n x f; paths = λ n x there b. paths_at old new before.picture.table n x after.picture.frozen paths b }
+
+module _ {others : List Root} {s s' : State} {old new : List ℕ} (p before : Pictures others s old) (after p' : Pictures others s' new)
+    (stays : StayNamed old new before.picture.table before.picture.frozen after.picture.frozen) (types : s'.types ≡ s.types) where
+  -- it is named by cells in all of them
+  pub record NamedStill (x : Place) : Type 0 where
+    pub n : ℕ
+    pub there : IsBelow n p.picture.frozen x
+    pub there_before : IsBelow n before.picture.frozen x
+    pub there_after : IsBelow n after.picture.frozen x
+    pub there_then : IsBelow n p'.picture.frozen x
 
   value_then : (x : Place) (f : Value) → NamedStill x → value_at_position p.picture.frozen x.at ≡ Some f → value_at_position p'.picture.frozen x.at ≡ Some f
   value_then x f k e =
@@ -87,33 +123,17 @@ module _ {others : List Root} {s s' : State} {old new : List ℕ} (p before : Pi
       let a = found k.n after.picture.frozen x c.distinct c.falling k.there_after in
       let d = p'.counted.counted in
       let z = found k.n p'.picture.frozen x d.distinct d.falling k.there_then in
-      let was = stay_value k.n x a.object.value k.there_after a.value_is in
+      let was = stays.value k.n x a.object.value k.there_before k.there_after a.value_is in
       let one : f ≡ a.object.value = same_value p before k.n k.n x f a.object.value k.there e k.there_before was in
       let two : a.object.value ≡ z.object.value = same_value after p' k.n k.n x a.object.value z.object.value k.there_after a.value_is k.there_then z.value_is in
       z.value_is ∙ ap Some (sym two ∙ sym one)
 
   path_then : (x : Place) → NamedStill x → (xs : List Selector) (target : Place) → Leads old p.picture.table (value_place x) xs target → Leads new p'.picture.table (value_place x) xs target
   path_then x k xs target leads =
-      let c = after.counted.counted in
-      let a = found k.n after.picture.frozen x c.distinct c.falling k.there_after in
-      let o = frozen_named k.n after.picture.frozen x a.object.value c.distinct k.there_after a.value_is in
       let table : p.picture.table ≡ before.picture.table = p.types ∙ sym before.types in
       let table_then : before.picture.table ≡ p'.picture.table = before.types ∙ sym types ∙ sym p'.types in
-      let keeps = named_root (before.picture.table) o.before o.object o.after (subst (λ fs. KeepsFrozenPaths old new before.picture.table fs) o.among paths) in
-      let there : item_of before.picture.table (root_of_frozen o.object) 0 ≡ value_place x = place_is before.picture.table o.object x o.at_is o.type_is in
       subst (λ (ts : Table). Leads new ts (value_place x) xs target) table_then
-      (subst (λ (y : Place). Leads new before.picture.table y xs target) there
-      (keeps 0 xs target (arithmetic) (subst (λ (y : Place). Leads old before.picture.table y xs target) (sym there) (subst (λ (ts : Table). Leads old ts (value_place x) xs target) table leads))))
-    where
-      arithmetic : 0 < 1
-      arithmetic = omega arith
-
-      named_root : (ts : Table) (fs : List Frozen) (f : Frozen) (gs : List Frozen) → KeepsFrozenPaths old new ts (fs ++ f ∷ gs) → KeepsPaths old new ts (root_of_frozen f)
-      named_root ts [] f gs k = k.0
-      named_root ts (g ∷ fs) f gs k = named_root ts fs f gs k.1
-
-      place_is : (ts : Table) (f : Frozen) (x : Place) → f.at ≡ x.at → f.type ≡ x.type → item_of ts (root_of_frozen f) 0 ≡ value_place x
-      place_is ts f x e g = ap (λ (n : ℕ). record { at = n; type = f.type }) (let z : f.at + frozen_words + 0 * size ts f.type ≡ x.at + frozen_words = omega (arith, e) in z) ∙ ap (λ (n : ℕ). record { at = x.at + frozen_words; type = n }) g
+      (stays.paths k.n x k.there_before k.there_after xs target (subst (λ (ts : Table). Leads old ts (value_place x) xs target) table leads))
 
   -- what an object names that is named still is named still
   deeper : (x : Place) (f : Value) → NamedStill x → value_at_position p.picture.frozen x.at ≡ Some f → (xs : List Selector) (U at : ℕ) → value_at f xs ≡ Some (node (Label.shared U at) nil) → NamedStill (record { at = at; type = U })
@@ -121,7 +141,7 @@ module _ {others : List Root} {s s' : State} {old new : List ℕ} (p before : Pi
       let a = inner p k.there e in
       let c = after.counted.counted in
       let o = found k.n after.picture.frozen x c.distinct c.falling k.there_after in
-      let was = stay_value k.n x o.object.value k.there_after o.value_is in
+      let was = stays.value k.n x o.object.value k.there_before k.there_after o.value_is in
       let same : f ≡ o.object.value = same_value p before k.n k.n x f o.object.value k.there e k.there_before was in
       record {
         n = k.n;

@@ -13,7 +13,7 @@ use Rattle.seg_spec.specs.Owning.{Stands}
 use Rattle.seg_spec.proofs.Frame.{each_left, each_right}
 use Rattle.seg_spec.proofs.Unfolding.{found}
 use Rattle.client_spec.specs.Machine.{State}
-use Rattle.client_spec.specs.Pictures.{Pictures, meaning_in}
+use Rattle.client_spec.specs.Pictures.{Pictures, meaning_in, part_through, value_through}
 use Rattle.client_spec.proofs.Values.{Some_inj, then_some}
 use Rattle.client_spec.proofs.UnfoldedValues.{value_at_replaced}
 use Rattle.client_sim.specs.Seeing.{LeadsFrozen, inside, through}
@@ -57,6 +57,37 @@ module _ (B : Place → Type 0) where
   unfolding names_in
   of_cell U p a = a.0
 
+-- ---- through cells that share
+
+-- a part that is there is there so too
+part_so : (fs : List Frozen) (v w : Value) (x : Selector) → selected v x ≡ Some w → part_through fs v x ≡ Some w
+part_so fs (node (Label.shared T p) nil) w x e = none x e
+  where
+    none : (y : Selector) → selected (node (Label.shared T p) nil) y ≡ Some w → part_through fs (node (Label.shared T p) nil) y ≡ Some w
+    none (Selector.item i) f = cc
+    none (Selector.field i) f = cc
+    none (Selector.key k) f = cc
+    none Selector.content f = cc
+part_so fs (node (Label.shared T p) (cons u us)) w x e = e
+part_so fs (node (Label.int k) vs) w x e = e
+part_so fs (node (Label.text bytes) vs) w x e = e
+part_so fs (node Label.seq vs) w x e = e
+part_so fs (node (Label.map keys) vs) w x e = e
+part_so fs (node Label.opt vs) w x e = e
+part_so fs (node Label.struct vs) w x e = e
+
+pub through_so : (fs : List Frozen) (xs : List Selector) (v w : Value) → value_at v xs ≡ Some w → value_through fs v xs ≡ Some w
+through_so fs [] v w e = e
+through_so fs (x ∷ xs) v w e =
+    let p = then_some (λ u. value_at u xs) (selected v x) w e in
+    ap (λ o. option_and_then (λ u. value_through fs u xs) o) (part_so fs v p.0 x p.1) ∙ through_so fs xs p.0 w p.2
+
+pub through_on : (fs : List Frozen) (xs ys : List Selector) (v w : Value) → value_at v xs ≡ Some w → value_through fs v (xs ++ ys) ≡ value_through fs w ys
+through_on fs [] ys v w e = ap (λ u. value_through fs u ys) (Some_inj e)
+through_on fs (x ∷ xs) ys v w e =
+    let p = then_some (λ u. value_at u xs) (selected v x) w e in
+    ap (λ o. option_and_then (λ u. value_through fs u (xs ++ ys)) o) (part_so fs v p.0 x p.1) ∙ through_on fs xs ys p.0 w p.2
+
 module _ {others : List Root} {s : State} {bytes : List ℕ} (pictured : Pictures others s bytes) where
   abbrev frozen : List Frozen
   frozen = pictured.picture.frozen
@@ -70,6 +101,10 @@ module _ {others : List Root} {s : State} {bytes : List ℕ} (pictured : Picture
     pub blocks : List ℕ
     pub stands : Stands (word bytes allocator_word) bytes pictured.picture.table target value blocks
     pub tree : value_at (m q.at) (Selector.content ∷ xs) ≡ Some (replaced m value)
+    pub reads : value_through frozen (node (Label.shared q.type q.at) nil) (Selector.content ∷ xs) ≡ Some value
+    -- what it names is there
+    pub n : ℕ
+    pub named : AllByRecursion (IsBelow n frozen) (names_in value)
 
   -- the objects that a frozen one names are there, with lower numbers
   pub below_in : (n : ℕ) (q : Place) (f : Value) → IsBelow n frozen q → value_at_position frozen q.at ≡ Some f → (k : ℕ) × AllByRecursion (IsBelow k frozen) (names_in f)
@@ -93,10 +128,27 @@ module _ {others : List Root} {s : State} {bytes : List ℕ} (pictured : Picture
   frozen_found n q b (inside {target = target} {xs = xs} leads) =
       let f = value_there n q b in
       let r = frozen_stands pictured n q f.0 b f.1 xs target leads in
-      record { value = r.0; blocks = r.1; stands = r.3; tree = tree_on q f.0 xs r.0 (frozen_means pictured n q f.0 b f.1) r.2 }
+      let deep = below_in n q f.0 b f.1 in
+      record {
+        value = r.0;
+        blocks = r.1;
+        stands = r.3;
+        tree = tree_on q f.0 xs r.0 (frozen_means pictured n q f.0 b f.1) r.2;
+        reads = ap (λ o. option_and_then (λ u. value_through frozen u xs) o) f.1 ∙ through_so frozen xs f.0 r.0 r.2;
+        n = deep.0;
+        named = of_part (IsBelow deep.0 frozen) xs f.0 r.0 deep.1 r.2;
+      }
   frozen_found n q b (through f xs ys U p e names leads) =
       let deep = below_in n q f b e in
       let inner = of_cell (IsBelow deep.0 frozen) U p (of_part (IsBelow deep.0 frozen) xs f (node (Label.shared U p) nil) deep.1 names) in
       let r = frozen_found deep.0 (record { at = p; type = U }) inner leads in
       let here : value_at (m q.at) (Selector.content ∷ xs) ≡ Some (m p) = tree_on q f xs (node (Label.shared U p) nil) (frozen_means pictured n q f b e) names ∙ cell_means U p in
-      record { value = r.value; blocks = r.blocks; stands = r.stands; tree = value_on (Selector.content ∷ xs) (Selector.content ∷ ys) (m q.at) (m p) here ∙ r.tree }
+      record {
+        value = r.value;
+        blocks = r.blocks;
+        stands = r.stands;
+        tree = value_on (Selector.content ∷ xs) (Selector.content ∷ ys) (m q.at) (m p) here ∙ r.tree;
+        reads = ap (λ o. option_and_then (λ u. value_through frozen u (xs ++ Selector.content ∷ ys)) o) e ∙ through_on frozen xs (Selector.content ∷ ys) f (node (Label.shared U p) nil) names ∙ r.reads;
+        n = r.n;
+        named = r.named;
+      }

@@ -1,5 +1,6 @@
 -- Paths in frozen objects lead where they led, where the objects' blocks are kept but for the counts.
-use Rattle.std.proofs.Common.{◌≡◌, ◌≢◌, ℕ, zero, suc, ◌+◌, ◌-◌, ◌*◌, ◌≤◌, inl, inr, List, [], ◌∷◌, ◌++◌, refl, sym, ap, subst, arith}
+use Rattle.std.proofs.Common.{◌≡◌, ◌≢◌, ℕ, zero, suc, ◌+◌, ◌-◌, ◌*◌, ◌≤◌, inl, inr, List, [], ◌∷◌, ◌++◌, Bool, true, false, refl, sym, ◌∙◌, ap, subst, arith}
+use Rattle.std.specs.Prelude.{⊤, ◌==◌, if◌then◌else◌}
 use Rattle.std.specs.List.{AllByRecursion}
 use Rattle.seg_spec.specs.Bytes.{IsSame, word}
 use Rattle.seg_spec.specs.Header.{allocator_word}
@@ -11,7 +12,7 @@ use Rattle.seg_spec.specs.Apart.{Separate, KeepsBlockAround}
 use Rattle.seg_spec.specs.Index.{Root}
 use Rattle.seg_spec.specs.Reads.{Place}
 use Rattle.seg_spec.specs.Frozen.{Frozen, root_of_frozen, blocks_by}
-use Rattle.seg_spec.specs.Shared.{names_in, times_named, kept_with, left}
+use Rattle.seg_spec.specs.Shared.{names_in, times_named, kept_with, left, with_count, raised, raised_by}
 use Rattle.seg_spec.specs.Destroying.{HoldFrozen, KeepFrozen}
 use Rattle.seg_spec.specs.Sound.{words_size, payload_of, Picture, frozen_roots, HoldsRoot, HoldsRoots, IsHeld, times, positions}
 use Rattle.seg_spec.specs.Counting.{owners_in}
@@ -24,7 +25,7 @@ use Rattle.seg_spec.proofs.MoveLaw.{HoldsRoots_blocks-one}
 use Rattle.seg_spec.proofs.PutLaw.{kept_whole}
 use Rattle.seg_spec.proofs.RootLaws.{HoldsRoots-split}
 use Rattle.seg_spec.proofs.RootPart.{items_nth}
-use Rattle.client_sim.specs.Shows.{FrozenStay, all_stay, some_go, KeepsFrozenPaths}
+use Rattle.client_sim.specs.Shows.{FrozenStay, all_stay, some_go, some_shared, KeepsFrozenPaths}
 use Rattle.client_sim.proofs.MovedPlaces.{roots_split}
 
 -- what is left of the frozen objects, and paths in them
@@ -38,6 +39,10 @@ frozen_stay {old} {new} {table} same paths = record { stays = all_stay same; pat
 pub frozen_go : {old new : List ℕ} {table : Table} {before after : List Frozen} (gone : List Place) → after ≡ left gone before → KeepsFrozenPaths old new table (left gone before) → KeepsFrozen old new table before after
 frozen_go {old} {new} {table} gone same paths = record { stays = some_go gone same; paths = subst (KeepsFrozenPaths old new table) (sym same) paths }
 
+pub frozen_share : {old new : List ℕ} {table : Table} {before after : List Frozen} (gone names : List Place) → after ≡ left gone (raised_by names before)
+    → KeepsFrozenPaths old new table (left gone (raised_by names before)) → KeepsFrozen old new table before after
+frozen_share {old} {new} {table} gone names same paths = record { stays = some_shared gone names same; paths = subst (KeepsFrozenPaths old new table) (sym same) paths }
+
 same_paths : (bytes : List ℕ) (table : Table) (fs : List Frozen) → KeepsFrozenPaths bytes bytes table fs
 same_paths bytes table [] = tt
 same_paths bytes table (f ∷ fs) = ((λ i path target within leads. leads), same_paths bytes table fs)
@@ -49,6 +54,38 @@ frozen_same_image bytes table fs = record { stays = all_stay refl; paths = same_
 -- where paths from all their roots are kept
 pub frozen_of_roots : (old new : List ℕ) (picture : Picture) → AllByRecursion (KeepsPaths old new picture.table) (frozen_roots picture) → KeepsFrozenPaths old new picture.table picture.frozen
 frozen_of_roots old new picture = each_of_map (KeepsPaths old new picture.table) root_of_frozen picture.frozen
+
+-- ---- the same objects, counted otherwise
+
+abbrev Recounted : List Frozen → List Frozen → Type 0
+Recounted [] [] = ⊤
+Recounted [] (g ∷ gs) = ⊥
+Recounted (f ∷ fs) [] = ⊥
+Recounted (f ∷ fs) (g ∷ gs) = (g ≡ with_count f g.count) × Recounted fs gs
+
+recounted_same : (fs : List Frozen) → Recounted fs fs
+recounted_same [] = tt
+recounted_same (f ∷ fs) = (refl, recounted_same fs)
+
+recounted_then : (fs gs hs : List Frozen) → Recounted fs gs → Recounted gs hs → Recounted fs hs
+recounted_then [] [] [] a b = tt
+recounted_then [] [] (h ∷ hs) a b = absurd b
+recounted_then [] (g ∷ gs) hs a b = absurd a
+recounted_then (f ∷ fs) [] hs a b = absurd a
+recounted_then (f ∷ fs) (g ∷ gs) [] a b = absurd b
+recounted_then (f ∷ fs) (g ∷ gs) (h ∷ hs) a b = (b.0 ∙ ap (λ (x : Frozen). with_count x h.count) a.0, recounted_then fs gs hs a.1 b.1)
+
+recounted_raised : (p : ℕ) (fs : List Frozen) → Recounted fs (raised p fs)
+recounted_raised p [] = tt
+recounted_raised p (f ∷ fs) = (one (f.at == p), recounted_raised p fs)
+  where
+    one : (b : Bool) → (if b then with_count f (suc f.count) else f) ≡ with_count f (if b then with_count f (suc f.count) else f).count
+    one true = refl
+    one false = refl
+
+recounted_by : (names : List Place) (fs : List Frozen) → Recounted fs (raised_by names fs)
+recounted_by [] fs = recounted_same fs
+recounted_by (q ∷ names) fs = recounted_then fs (raised_by names fs) (raised q.at (raised_by names fs)) (recounted_by names fs) (recounted_raised q.at (raised_by names fs))
 
 -- ---- a root whose blocks are kept but for the word that it begins with
 
@@ -94,31 +131,44 @@ module _ (allocator : ℕ) (old new : List ℕ) (table : Table) (valid : IsTable
         Leads-each old new table valid (item_of table root i) i o.values (items_nth table root.at root.type (count root.values) i within)
         (places-same old new table valid root.type _ (spaced-same old new root.at (size table root.type) (count root.values) values)) inside_kept l
 
-  -- what is left of the objects where cells with these names go
-  left_paths : (theirs : ℕ → List ℕ) (gone : List Place) (fs : List Frozen) → ((h : ℕ) → times h (blocks_by theirs fs) ≤ times h (positions (live old))) → HoldFrozen old table theirs fs → KeepFrozen old new theirs (left gone fs)
-      → KeepsFrozenPaths old new table (left gone fs)
-  left_paths theirs gone [] owned hold keep = tt
-  left_paths theirs gone (f ∷ fs) owned hold keep =
+  -- what is left of the objects, counted in whichever way, where cells with these names go
+  left_paths : (theirs : ℕ → List ℕ) (gone : List Place) (fs gs : List Frozen) → Recounted fs gs → ((h : ℕ) → times h (blocks_by theirs fs) ≤ times h (positions (live old))) → HoldFrozen old table theirs fs
+      → KeepFrozen old new theirs (left gone gs) → KeepsFrozenPaths old new table (left gone gs)
+  left_paths theirs gone [] [] same owned hold keep = tt
+  left_paths theirs gone [] (g ∷ gs) same owned hold keep = absurd same
+  left_paths theirs gone (f ∷ fs) [] same owned hold keep = absurd same
+  left_paths theirs gone (f ∷ fs) (g ∷ gs) same owned hold keep =
       let rest : (h : ℕ) → times h (blocks_by theirs fs) ≤ times h (positions (live old)) = λ h. omega (arith, owned h, times-append h (theirs f.at) (blocks_by theirs fs)) in
-      go (f.count - times_named f.at gone) (left_paths theirs (gone ++ names_in f.value) fs rest hold.1) (left_paths theirs gone fs rest hold.1) keep
+      go (g.count - times_named g.at gone) (left_paths theirs (gone ++ names_in g.value) fs gs same.1 rest hold.1) (left_paths theirs gone fs gs same.1 rest hold.1) keep
     where
-      go : (n : ℕ) → (KeepFrozen old new theirs (left (gone ++ names_in f.value) fs) → KeepsFrozenPaths old new table (left (gone ++ names_in f.value) fs))
-          → (KeepFrozen old new theirs (left gone fs) → KeepsFrozenPaths old new table (left gone fs)) → KeepFrozen old new theirs (kept_with f n (left (gone ++ names_in f.value) fs) (left gone fs))
-          → KeepsFrozenPaths old new table (kept_with f n (left (gone ++ names_in f.value) fs) (left gone fs))
+      own_paths : (h : Frozen) → h ≡ with_count f h.count → AllByRecursion (KeepsBlockAround old new h.at 4) (theirs h.at) → KeepsPaths old new table (root_of_frozen h)
+      own_paths h e = subst (λ (x : Frozen). AllByRecursion (KeepsBlockAround old new x.at 4) (theirs x.at) → KeepsPaths old new table (root_of_frozen x)) (sym e)
+          (λ k. counted_paths (root_of_frozen f) (theirs f.at) hold.0 f.at (omega arith) (omega arith) (λ h. omega (arith, owned h, times-append h (theirs f.at) (blocks_by theirs fs))) k)
+
+      go : (n : ℕ) → (KeepFrozen old new theirs (left (gone ++ names_in g.value) gs) → KeepsFrozenPaths old new table (left (gone ++ names_in g.value) gs))
+          → (KeepFrozen old new theirs (left gone gs) → KeepsFrozenPaths old new table (left gone gs)) → KeepFrozen old new theirs (kept_with g n (left (gone ++ names_in g.value) gs) (left gone gs))
+          → KeepsFrozenPaths old new table (kept_with g n (left (gone ++ names_in g.value) gs) (left gone gs))
       go zero without with_it k = without k
-      go (suc n) without with_it k = (
-        counted_paths (root_of_frozen f) (theirs f.at) hold.0 f.at (omega arith) (omega arith) (λ h. omega (arith, owned h, times-append h (theirs f.at) (blocks_by theirs fs))) k.0,
-        with_it k.1,
-      )
+      go (suc n) without with_it k = (own_paths (with_count g (suc n)) (ap (λ (x : Frozen). with_count x (suc n)) same.0) k.0, with_it k.1)
 
 -- of those that an image has
-pub frozen_left : (old new : List ℕ) (picture : Picture) → IsHeld old picture → (theirs : ℕ → List ℕ) → HoldFrozen old picture.table theirs picture.frozen → (gone : List Place) → KeepFrozen old new theirs (left gone picture.frozen)
-    → KeepsFrozenPaths old new picture.table (left gone picture.frozen)
-frozen_left old new picture held theirs hold gone keep =
+frozen_left_of : (old new : List ℕ) (picture : Picture) → IsHeld old picture → (theirs : ℕ → List ℕ) → HoldFrozen old picture.table theirs picture.frozen → (gone : List Place) (gs : List Frozen) → Recounted picture.frozen gs
+    → KeepFrozen old new theirs (left gone gs) → KeepsFrozenPaths old new picture.table (left gone gs)
+frozen_left_of old new picture held theirs hold gone gs recounted keep =
     let s = HoldsRoots-split old picture.table (owners_in picture) (frozen_roots picture) held.root_blocks (subst (λ rs. HoldsRoots old picture.table rs held.root_blocks) (roots_split picture) held.roots) in
     let same : s.right ≡ blocks_by theirs picture.frozen = HoldsRoots_blocks-one old picture.table (frozen_roots picture) s.right (blocks_by theirs picture.frozen) s.rights (roots_held old picture.table theirs picture.frozen hold) in
-    left_paths (word old allocator_word) old new picture.table held.laid_out.is_table held.laid_out.heap theirs gone picture.frozen
+    left_paths (word old allocator_word) old new picture.table held.laid_out.is_table held.laid_out.heap theirs gone picture.frozen gs recounted
     (λ h.
     let e = ap (times h) s.blocks_are in
     let m = ap (times h) same in
     omega (arith, held.owners h, times-append h held.index_blocks held.root_blocks, e, times-append h s.left s.right, m)) hold keep
+
+pub frozen_left : (old new : List ℕ) (picture : Picture) → IsHeld old picture → (theirs : ℕ → List ℕ) → HoldFrozen old picture.table theirs picture.frozen → (gone : List Place) → KeepFrozen old new theirs (left gone picture.frozen)
+    → KeepsFrozenPaths old new picture.table (left gone picture.frozen)
+frozen_left old new picture held theirs hold gone keep = frozen_left_of old new picture held theirs hold gone picture.frozen (recounted_same picture.frozen) keep
+
+-- and of those where cells with these names came too
+pub frozen_left_shared : (old new : List ℕ) (picture : Picture) → IsHeld old picture → (theirs : ℕ → List ℕ) → HoldFrozen old picture.table theirs picture.frozen → (gone names : List Place)
+    → KeepFrozen old new theirs (left gone (raised_by names picture.frozen)) → KeepsFrozenPaths old new picture.table (left gone (raised_by names picture.frozen))
+frozen_left_shared old new picture held theirs hold gone names keep =
+    frozen_left_of old new picture held theirs hold gone (raised_by names picture.frozen) (recounted_by names picture.frozen) keep

@@ -9,12 +9,15 @@ pub mod FrozenPlaces
 pub mod FrozenLeads
 pub mod SeeingLaws
 pub mod SeeingGives
+pub mod SeeingLess
 pub mod SeeingReads
 pub mod SeeingStreams
 pub mod Contents
 pub mod FrozenKept
 pub mod Lifting
 pub mod Lifted
+pub mod Sharing
+pub mod Freezing
 pub mod ItemNames
 pub mod Framing
 pub mod Giving
@@ -49,6 +52,7 @@ pub mod NamedActs
 pub mod Owning
 pub mod OwnedLooks
 pub mod MovingOwned
+pub mod MovingFrozen
 pub mod MovingShows
 pub mod OwnedObjects
 pub mod Putting

@@ -5,8 +5,10 @@ use Rattle.seg_spec.specs.Bytes.{word}
 use Rattle.seg_spec.specs.Header.{next_word}
 use Rattle.seg_spec.specs.Index.{Root, root_named, root_of_type}
 use Rattle.seg_spec.specs.Reads.{Place}
+use Rattle.seg_spec.specs.Frozen.{Frozen}
+use Rattle.seg_spec.specs.Shared.{left}
 use Rattle.seg_spec.specs.Sound.{Picture, IsHeld}
-use Rattle.seg_spec.specs.Counting.{AreCounted, without_cells}
+use Rattle.seg_spec.specs.Counting.{AreCounted}
 use Rattle.client_spec.specs.Machine.{Origin, State}
 use Rattle.client_spec.specs.Pictures.{root_of_register, AreOwned, names_in, uniques_in, Pictures, root_at}
 
@@ -37,10 +39,10 @@ looks_of pictured = record {
   loose = pictured.loose;
 }
 
--- the same with what is left of the frozen objects where cells with these names go
-abbrev pub looks_left : {others : List Root} {s : State} → List Place → Looks others s → Looks others s
-looks_left gone looks = record {
-  picture = without_cells gone looks.picture;
+-- the same with other frozen objects
+abbrev pub looks_with : {others : List Root} {s : State} → List Frozen → Looks others s → Looks others s
+looks_with frozen looks = record {
+  picture = record looks.picture { frozen = frozen };
   types = looks.types;
   names = looks.names;
   uniques = looks.uniques;
@@ -48,6 +50,10 @@ looks_left gone looks = record {
   are_owned = looks.are_owned;
   loose = looks.loose;
 }
+
+-- the same with what is left of them where cells with these names go
+abbrev pub looks_left : {others : List Root} {s : State} → List Place → Looks others s → Looks others s
+looks_left gone looks = looks_with (left gone looks.picture.frozen) looks
 
 -- bytes that hold the picture, and count its frozen objects
 abbrev pub held_by : {others : List Root} {s : State} {bytes : List ℕ} → (looks : Looks others s) → IsHeld bytes looks.picture → AreCounted (word bytes next_word) looks.picture → Pictures others s bytes
@@ -74,7 +80,10 @@ begins_at looks held counted (Origin.Name name i) = refl
 begins_at looks held counted (Origin.Unique T) = refl
 begins_at looks held counted (Origin.Owned r) = refl
 
+pub begins_with : {others : List Root} {s : State} (frozen : List Frozen) (looks : Looks others s) (o : Origin) → root_in looks o ≡ root_in (looks_with frozen looks) o
+begins_with frozen looks (Origin.Name name i) = refl
+begins_with frozen looks (Origin.Unique T) = refl
+begins_with frozen looks (Origin.Owned r) = refl
+
 pub begins_left : {others : List Root} {s : State} (gone : List Place) (looks : Looks others s) (o : Origin) → root_in looks o ≡ root_in (looks_left gone looks) o
-begins_left gone looks (Origin.Name name i) = refl
-begins_left gone looks (Origin.Unique T) = refl
-begins_left gone looks (Origin.Owned r) = refl
+begins_left gone looks o = begins_with (left gone looks.picture.frozen) looks o

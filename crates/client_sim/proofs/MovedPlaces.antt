@@ -6,7 +6,7 @@ use Rattle.seg_spec.specs.Bytes.{word}
 use Rattle.seg_spec.specs.Header.{allocator_word}
 use Rattle.seg_spec.specs.Types.{Table}
 use Rattle.seg_spec.specs.Value.{Value, count, nth, Selector, value_at, with_value_at}
-use Rattle.seg_spec.specs.Heap.{Span, live}
+use Rattle.seg_spec.specs.Heap.{live}
 use Rattle.seg_spec.specs.Block.{KeepsBlock}
 use Rattle.seg_spec.specs.Apart.{BlocksApart}
 use Rattle.seg_spec.specs.Index.{Root}
@@ -14,7 +14,7 @@ use Rattle.seg_spec.specs.Reads.{Place, Holds, Leads}
 use Rattle.seg_spec.specs.Shared.{names_in, IsCounted, IsFalling, left}
 use Rattle.seg_spec.specs.Sound.{Picture, frozen_roots, roots_of, HoldsRoot, HoldsRoots, holds_more_roots, IsLaidOut, IsHeld, times, SameBlocks, positions}
 use Rattle.seg_spec.specs.Counting.{cells_in, owners_in, AreCounted}
-use Rattle.seg_spec.specs.Roots.{item_of, with_item, KeepsPaths, KeepsPathsBeside, PartComesApart, ChangesPlace}
+use Rattle.seg_spec.specs.Roots.{item_of, with_item, KeepsPaths, KeepsPathsBeside, PartComesApart, MovesPlace}
 use Rattle.seg_spec.specs.Owning.{Stands}
 use Rattle.seg_spec.proofs.LiveLaws.{times-append, times-same, times-other, there, each_there, live-apart, OneOrApart, owned_apart}
 use Rattle.seg_spec.proofs.SharedLaws.{counted_again}
@@ -199,9 +199,9 @@ module _ (old : List ℕ) (picture : Picture) (held : IsHeld old picture) (root 
 
   -- ---- a call on it, where some others give way to others
 
-  module _ (new : List ℕ) (w : Value) (others come_blocks : List ℕ) {spans : List Span} (c : ChangesPlace old new table q w others spans (blocks ++ some_blocks) (others ++ come_blocks)) where
-    changes : ChangesPlace old new table q w others spans (p.its ++ some_blocks) (others ++ come_blocks)
-    changes = subst (λ bs. ChangesPlace old new table q w others spans (bs ++ some_blocks) (others ++ come_blocks)) (sym its_are) c
+  module _ (new : List ℕ) (w : Value) (others come_blocks : List ℕ) (c : MovesPlace old new table q w others (blocks ++ some_blocks) (others ++ come_blocks)) where
+    changes : MovesPlace old new table q w others (p.its ++ some_blocks) (others ++ come_blocks)
+    changes = subst (λ bs. MovesPlace old new table q w others (bs ++ some_blocks) (others ++ come_blocks)) (sym its_are) c
 
     -- the index and the other roots are kept, and so are paths beside the place
     pub index_kept : AllByRecursion (KeepsBlock old new) held.index_blocks
@@ -237,27 +237,40 @@ module _ (old : List ℕ) (picture : Picture) (held : IsHeld old picture) (root 
 
 -- ---- what the owners name
 
+names_between : (xs ys zs us : List Place) → SameNames ((xs ++ ys) ++ (zs ++ us)) ((xs ++ zs) ++ (ys ++ us))
+names_between xs ys zs us = names_then (names_same (append_assoc xs ys (zs ++ us))) (names_then (names_joined (names_same {xs = xs} refl) (names_first ys zs us)) (names_same (sym (append_assoc xs zs (ys ++ us)))))
+
 module _ (root : Root) (j : ℕ) (item : Value) (item_is : nth root.values j ≡ Some item) (path : List Selector) (v : Value) (value_is : value_at item path ≡ Some v) where
+  -- the cells around the place, and those of the other owners
+  pub other_cells : List Root → List Place
+  other_cells rest = beside_part root j item item_is path v value_is ++ cells_in rest
+
+  -- beside them all owners name what the place and some owners do
+  pub names_now : (picture : Picture) (some rest : List Root) → Reorders (owners_in picture) (root ∷ (some ++ rest)) → SameNames (cells_in (owners_in picture)) ((names_in v ++ cells_in some) ++ other_cells rest)
+  unfolding other_cells
+  names_now picture some rest now =
+      let around = beside_part root j item item_is path v value_is in
+      names_then now.cells (names_then (names_joined (root_names root j item item_is path v value_is) (names_same (cells_append some rest))) (names_between (names_in v) around (cells_in some) (cells_in rest)))
+
+  -- so they do where the place is another value
+  pub names_after : (other : Picture) (come rest : List Root) (w : Value) → Reorders (with_item root j (with_value_at path w) ∷ (come ++ rest)) (owners_in other)
+      → SameNames ((names_in w ++ cells_in come) ++ other_cells rest) (cells_in (owners_in other))
+  unfolding other_cells
+  names_after other come rest w then =
+      let around = beside_part root j item item_is path v value_is in
+      names_then (names_between (names_in w) (cells_in come) around (cells_in rest))
+      (names_then (names_joined (root_names_then root j item item_is path v value_is w) (names_same (sym (cells_append come rest)))) then.cells)
+
   -- some owners and a place give way to others, and cells with these names go
   pub counted_moved : (next : ℕ) (picture other : Picture) (some come rest : List Root) (w : Value) → Reorders (owners_in picture) (root ∷ (some ++ rest))
       → Reorders (with_item root j (with_value_at path w) ∷ (come ++ rest)) (owners_in other)
       → (gone : List Place) → SameNames (names_in v ++ cells_in some) (gone ++ (names_in w ++ cells_in come)) → other.frozen ≡ left gone picture.frozen → AreCounted next picture → AreCounted next other
   counted_moved next picture other some come rest w now then gone same frozen c =
-      let later = with_item root j (with_value_at path w) in
-      let around = beside_part root j item item_is path v value_is in
-      let before : SameNames (cells_in (owners_in picture)) ((names_in v ++ cells_in some) ++ (around ++ cells_in rest)) =
-      names_then now.cells (names_then (names_joined (root_names root j item item_is path v value_is) (names_same (cells_append some rest))) (names_between (names_in v) around (cells_in some) (cells_in rest))) in
-      let apart : SameNames (cells_in (owners_in picture)) (gone ++ ((names_in w ++ cells_in come) ++ (around ++ cells_in rest))) =
-      names_then before (names_then (names_joined same (names_same {xs = around ++ cells_in rest} refl)) (names_same (append_assoc gone (names_in w ++ cells_in come) (around ++ cells_in rest)))) in
-      let fewer = counted_again next gone ((names_in w ++ cells_in come) ++ (around ++ cells_in rest)) picture.frozen c.falling (names_counted next picture.frozen apart c.counted) in
-      let after : SameNames ((names_in w ++ cells_in come) ++ (around ++ cells_in rest)) (cells_in (owners_in other)) =
-      names_then (names_between (names_in w) (cells_in come) around (cells_in rest))
-      (names_then (names_joined (root_names_then root j item item_is path v value_is w) (names_same (sym (cells_append come rest)))) then.cells) in
+      let kept = other_cells rest in
+      let apart : SameNames (cells_in (owners_in picture)) (gone ++ ((names_in w ++ cells_in come) ++ kept)) =
+      names_then (names_now picture some rest now) (names_then (names_joined same (names_same {xs = kept} refl)) (names_same (append_assoc gone (names_in w ++ cells_in come) kept))) in
+      let fewer = counted_again next gone ((names_in w ++ cells_in come) ++ kept) picture.frozen c.falling (names_counted next picture.frozen apart c.counted) in
       record {
-        counted = subst (λ fs. IsCounted next fs (cells_in (owners_in other))) (sym frozen) (names_counted next (left gone picture.frozen) after fewer);
+        counted = subst (λ fs. IsCounted next fs (cells_in (owners_in other))) (sym frozen) (names_counted next (left gone picture.frozen) (names_after other come rest w then) fewer);
         falling = subst IsFalling (sym frozen) (falling_left gone picture.frozen c.falling);
       }
-    where
-      names_between : (xs ys zs us : List Place) → SameNames ((xs ++ ys) ++ (zs ++ us)) ((xs ++ zs) ++ (ys ++ us))
-      names_between xs ys zs us =
-          names_then (names_same (append_assoc xs ys (zs ++ us))) (names_then (names_joined (names_same {xs = xs} refl) (names_first ys zs us)) (names_same (sym (append_assoc xs zs (ys ++ us)))))

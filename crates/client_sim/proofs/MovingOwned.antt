@@ -3,10 +3,9 @@ use Rattle.std.proofs.Common.{◌≡◌, ◌≢◌, ℕ, zero, suc, ◌<◌, ◌
 use Rattle.std.proofs.lemmas.List.{append-nil}
 use Rattle.std.specs.Prelude.{slice_set}
 use Rattle.std.specs.Option.{option_map_or}
-use Rattle.std.specs.List.{AllByRecursion}
 use Rattle.seg_spec.specs.Types.{Table}
 use Rattle.seg_spec.specs.Value.{Value, nil, cons, count, Selector, with_value_at}
-use Rattle.seg_spec.specs.Heap.{Span, live}
+use Rattle.seg_spec.specs.Heap.{Span}
 use Rattle.seg_spec.specs.Apart.{GoesOnAfter}
 use Rattle.seg_spec.specs.Index.{Root}
 use Rattle.seg_spec.specs.Reads.{Place, Leads}
@@ -16,15 +15,15 @@ use Rattle.seg_spec.specs.Frozen.{root_of_frozen, blocks_by}
 use Rattle.seg_spec.specs.Shared.{names_in, names_each, left}
 use Rattle.seg_spec.specs.Sound.{Picture, frozen_roots, IsPlain, roots_of, HoldsRoot, HoldsRoots, holds_no_root, holds_more_roots, IsLaidOut, IsHeld}
 use Rattle.seg_spec.specs.Destroying.{HoldFrozen}
-use Rattle.seg_spec.specs.Demand.{after_gives}
 use Rattle.seg_spec.specs.Clearing.{ClearsPlace}
 use Rattle.seg_spec.specs.Counting.{cells_in, owners_in, AreCounted}
-use Rattle.seg_spec.specs.Roots.{roots_before, item_of, with_item, KeepsPaths, KeepsPathsBeside, ChangesPlace}
+use Rattle.seg_spec.specs.Roots.{roots_before, item_of, with_item, KeepsPaths, KeepsPathsBeside, ChangesPlace, MovesPlace}
 use Rattle.seg_spec.proofs.Frame.{each_left, each_right}
 use Rattle.seg_spec.proofs.Releasing.{none_gone}
 use Rattle.seg_spec.proofs.CountedPictures.{roots_held}
 use Rattle.seg_spec.proofs.CountedParts.{owners_after, owners_are, owners_with, SameNames, names_same, names_then}
 use Rattle.seg_spec.proofs.OwnerGone.{laid_out_without}
+use Rattle.seg_spec.proofs.MoveLaw.{moves}
 use Rattle.seg_spec.proofs.RootLaws.{HoldsRoots-one, IsLaidOut-kept, IsLaidOut-faced}
 use Rattle.seg_spec.proofs.Writing.{faced}
 use Rattle.seg_spec.proofs.CountedKept.{counted_on}
@@ -100,6 +99,20 @@ module _ {others : List Root} {s : State} {bytes : List ℕ} (pictured : Picture
 -- ---- the roots where paths begin
 
 module _ {others : List Root} {s : State} {bytes : List ℕ} (pictured : Pictures others s bytes) {path : Path} {place : Place} (led : LeadsInImage pictured path place) (old_value : Value) (f : PlaceFound pictured led old_value)
+    (new : List ℕ) where
+  -- the image pictures another state, and a path begins where it began, but those from a register that owns nothing any more
+  pub record MovedPaths (s' : State) (Ends : Origin → Type 0) : Type 0 where
+    pub later : Pictures others s' new
+    pub table_is : later.picture.table ≡ pictured.picture.table
+    pub leads : (other : Path) (target : Place) (x : Value) → path_value s other ≡ Some x → LeadsInImage pictured other target
+        → Ends other.origin ⊎ (((other.origin ≡ path.origin) × GoesOnAfter path.selectors other.selectors) ⊎ LeadsInImage later other target)
+
+  -- and none became frozen
+  pub record Moved (s' : State) (Ends : Origin → Type 0) : Type 0 where
+    pub to : MovedPaths s' Ends
+    pub stays : KeepsFrozen bytes new pictured.picture.table pictured.picture.frozen to.later.picture.frozen
+
+module _ {others : List Root} {s : State} {bytes : List ℕ} (pictured : Pictures others s bytes) {path : Path} {place : Place} (led : LeadsInImage pictured path place) (old_value : Value) (f : PlaceFound pictured led old_value)
     (new : List ℕ) (w : Value) where
   abbrev table : Table
   table = pictured.picture.table
@@ -113,53 +126,50 @@ module _ {others : List Root} {s : State} {bytes : List ℕ} (pictured : Picture
   abbrev whole_then : Value
   whole_then = with_value_at path.selectors w f.whole
 
-  -- a path begins where it began, but those from a register that owns nothing any more
-  pub record Moved (s' : State) (Ends : Origin → Type 0) : Type 0 where
-    pub later : Pictures others s' new
-    pub table_is : later.picture.table ≡ table
-    pub stays : KeepsFrozen bytes new table pictured.picture.frozen later.picture.frozen
-    pub leads : (other : Path) (target : Place) (x : Value) → path_value s other ≡ Some x → LeadsInImage pictured other target
-        → Ends other.origin ⊎ (((other.origin ≡ path.origin) × GoesOnAfter path.selectors other.selectors) ⊎ LeadsInImage later other target)
+  -- where the roots begin then: at the changed one, or at one in which paths are kept
+  abbrev pub BeginsThen : {s' : State} → Looks others s' → (Origin → Type 0) → Type 0
+  BeginsThen looks Ends =
+      (o : Origin) (r : Root) (i : ℕ) → root_in (looks_of pictured) o ≡ Some (r, i)
+      → Ends o ⊎ (((r ≡ led.root) × (i ≡ led.item → o ≡ path.origin) × (root_in looks o ≡ Some (changed, i))) ⊎ (KeepsPaths bytes new table r × (root_in looks o ≡ Some (r, i))))
 
-  -- where the roots are found again
-  paths_then : {s' : State} (looks : Looks others s') (held : IsHeld new looks.picture) (counted : AreCounted (word new next_word) looks.picture) (Ends : Origin → Type 0) (rest : List Root) → looks.picture.table ≡ table
-      → KeepsFrozen bytes new table pictured.picture.frozen looks.picture.frozen → KeepsPathsBeside bytes new table led.root led.item path.selectors → AllByRecursion (KeepsPaths bytes new table) rest
-      → ((o : Origin) (r : Root) (i : ℕ) → root_in (looks_of pictured) o ≡ Some (r, i)
-      → Ends o ⊎ (((r ≡ led.root) × (i ≡ led.item → o ≡ path.origin) × (root_in looks o ≡ Some (changed, i))) ⊎ (KeepsPaths bytes new table r × (root_in looks o ≡ Some (r, i)))))
-      → (m : Moved s' Ends) × ((o : Origin) (r : Root) (i : ℕ) → root_in looks o ≡ Some (r, i) → root_at m.later o ≡ Some (r, i))
-  paths_then looks held counted Ends rest same stays beside kept begins = (
-    record {
-      later = held_by looks held counted;
-      table_is = same;
-      stays = stays;
-      leads = λ other target x there l. elim (begins other.origin l.root l.item (sym (begins_in pictured other.origin) ∙ l.begins)) [
-        | inl e ↦ inl e
-        | inr (inl p) ↦ elim (beside l.item other.selectors target (subst (λ (r : Root). l.item < count r.values) p.0 (item_within pictured other target x there l))
-            (subst (λ (r : Root). Leads bytes table (item_of table r l.item) other.selectors target) p.0 l.leads)) [
-              | inl g ↦ inr (inl (p.1 g.0, g.1))
-              | inr k ↦ inr (inr (record { root = changed; item = l.item; begins = sym (begins_at looks held counted other.origin) ∙ p.2; leads = on_table led.root l.item k }))
-            ]
-        | inr (inr p) ↦ inr (inr (record {
-          root = l.root;
-          item = l.item;
-          begins = sym (begins_at looks held counted other.origin) ∙ p.1;
-          leads = on_table l.root l.item (p.0 l.item other.selectors target (item_within pictured other target x there l) l.leads);
-        }))
-      ];
-    },
-    (λ o r i e. sym (begins_at looks held counted o) ∙ e),
-  )
+  -- where the roots are found again, paths lead where they led
+  pub leads_then : {s' : State} (looks : Looks others s') (held : IsHeld new looks.picture) (counted : AreCounted (word new next_word) looks.picture) (Ends : Origin → Type 0) → looks.picture.table ≡ table
+      → KeepsPathsBeside bytes new table led.root led.item path.selectors → BeginsThen looks Ends
+      → (other : Path) (target : Place) (x : Value) → path_value s other ≡ Some x → LeadsInImage pictured other target
+      → Ends other.origin ⊎ (((other.origin ≡ path.origin) × GoesOnAfter path.selectors other.selectors) ⊎ LeadsInImage (held_by looks held counted) other target)
+  leads_then looks held counted Ends same beside begins other target x there l = elim (begins other.origin l.root l.item (sym (begins_in pictured other.origin) ∙ l.begins)) [
+    | inl e ↦ inl e
+    | inr (inl p) ↦ elim (beside l.item other.selectors target (subst (λ (r : Root). l.item < count r.values) p.0 (item_within pictured other target x there l))
+        (subst (λ (r : Root). Leads bytes table (item_of table r l.item) other.selectors target) p.0 l.leads)) [
+          | inl g ↦ inr (inl (p.1 g.0, g.1))
+          | inr k ↦ inr (inr (record { root = changed; item = l.item; begins = sym (begins_at looks held counted other.origin) ∙ p.2; leads = on_table led.root l.item k }))
+        ]
+    | inr (inr p) ↦ inr (inr (record {
+      root = l.root;
+      item = l.item;
+      begins = sym (begins_at looks held counted other.origin) ∙ p.1;
+      leads = on_table l.root l.item (p.0 l.item other.selectors target (item_within pictured other target x there l) l.leads);
+    }))
+  ]
     where
       on_table : (root : Root) (i : ℕ) {selectors : List Selector} {target : Place} → Leads new table (item_of table root i) selectors target
           → Leads new looks.picture.table (item_of looks.picture.table root i) selectors target
       on_table root i {selectors = selectors} {target = target} k = subst (λ (t : Table). Leads new t (item_of t root i) selectors target) (sym same) k
+
+  paths_then : {s' : State} (looks : Looks others s') (held : IsHeld new looks.picture) (counted : AreCounted (word new next_word) looks.picture) (Ends : Origin → Type 0) → looks.picture.table ≡ table
+      → KeepsFrozen bytes new table pictured.picture.frozen looks.picture.frozen → KeepsPathsBeside bytes new table led.root led.item path.selectors → BeginsThen looks Ends
+      → (m : Moved pictured led old_value f new s' Ends) × ((o : Origin) (r : Root) (i : ℕ) → root_in looks o ≡ Some (r, i) → root_at m.to.later o ≡ Some (r, i))
+  paths_then looks held counted Ends same stays beside begins = (
+    record { to = record { later = held_by looks held counted; table_is = same; leads = leads_then looks held counted Ends same beside begins }; stays = stays },
+    (λ o r i e. sym (begins_at looks held counted o) ∙ e),
+  )
 
   -- ---- an own takes what register c owned
 
   -- The object goes; what the own held goes too, with the frozen objects that nothing else names.
   pub put_moves : (c : ℕ) (root : Root) (its : List ℕ) → path.origin ≢ Origin.Owned c → root_of_register s.registers pictured.owned c ≡ Some root → HoldsRoot bytes table root its → names_in w ≡ names_each root.values
       → (theirs : ℕ → List ℕ) → HoldFrozen bytes table theirs pictured.picture.frozen → ClearsPlace bytes new table place w (f.blocks ++ its) its theirs pictured.picture.frozen (left (names_in old_value) pictured.picture.frozen)
-      → Moved (set_register (put_at s path w) c Register.Undefined) (λ o. o ≡ Origin.Owned c)
+      → Moved pictured led old_value f new (set_register (put_at s path w) c Register.Undefined) (λ o. o ≡ Origin.Owned c)
   put_moves c root its apart owned holds names theirs shared clears =
       let picture = pictured.picture in
       let held = pictured.held in
@@ -184,8 +194,8 @@ module _ {others : List Root} {s : State} {bytes : List ℕ} (pictured : Picture
       let left_blocks = blocks_by theirs (left gone picture.frozen) in
       let comes : HoldsRoots new table (frozen_roots other) left_blocks =
       subst (λ fs. HoldsRoots new table (map root_of_frozen (left gone fs)) left_blocks) (sym same_frozen) (roots_held new table theirs (left gone picture.frozen) clears.holds) in
-      let c' : ChangesPlace bytes new table place w its (after_gives (live bytes) clears.gives) (f.blocks ++ blocks) (its ++ left_blocks) =
-      subst (λ bs. ChangesPlace bytes new table place w its (after_gives (live bytes) clears.gives) bs (its ++ left_blocks)) (append_assoc f.blocks its (blocks_by theirs picture.frozen)) changes in
+      let c' : MovesPlace bytes new table place w its (f.blocks ++ blocks) (its ++ left_blocks) =
+      subst (λ bs. MovesPlace bytes new table place w its bs (its ++ left_blocks)) (append_assoc f.blocks its (blocks_by theirs picture.frozen)) (moves changes) in
       let index = index_kept bytes picture held led.root (root ∷ frozen) rest now led.item f.within path.selectors place led.leads old_value f.blocks f.holds_it blocks goes new w its left_blocks c' in
       let beside = beside_kept bytes picture held led.root (root ∷ frozen) rest now led.item f.within path.selectors place led.leads old_value f.blocks f.holds_it blocks goes new w its left_blocks c' in
       let paths = paths_kept bytes picture held led.root (root ∷ frozen) rest now led.item f.within path.selectors place led.leads old_value f.blocks f.holds_it blocks goes new w its left_blocks c' in
@@ -201,8 +211,8 @@ module _ {others : List Root} {s : State} {bytes : List ℕ} (pictured : Picture
       (counted_moved led.root led.item f.whole f.root.item_is path.selectors old_value f.value_is (word bytes next_word) picture other (root ∷ []) [] rest w b.order owners gone cells (ap (left gone) same_frozen) pictured.counted) in
       let state : put_origin (set_register s c Register.Undefined) path.origin whole_then ≡ set_register (put_at s path w) c Register.Undefined =
       put_order s c Register.Undefined path.origin whole_then apart ∙ ap (λ z. set_register z c Register.Undefined) (sym (put_at_is s path f.whole w f.type f.at)) in
-      subst (λ z. Moved z (λ o. o ≡ Origin.Owned c)) state
-      (paths_then looks there counted (λ o. o ≡ Origin.Owned c) rest same (frozen_go gone (ap (left gone) same_frozen) (frozen_left bytes new picture held theirs shared gone clears.shared_kept)) beside paths
+      subst (λ z. Moved pictured led old_value f new z (λ o. o ≡ Origin.Owned c)) state
+      (paths_then looks there counted (λ o. o ≡ Origin.Owned c) same (frozen_go gone (ap (left gone) same_frozen) (frozen_left bytes new picture held theirs shared gone clears.shared_kept)) beside
       (λ o r i e. elim (l.begins o r i e) [
         | inl g ↦ inl g
         | inr g ↦ elim (put.begins o r i g) [
@@ -215,7 +225,7 @@ module _ {others : List Root} {s : State} {bytes : List ℕ} (pictured : Picture
 
   pub take_moves : (a t : ℕ) (v : Value) (root : Root) → a < length s.registers → owned_by (register (put_at s path w) a) ≡ None → IsPlain root → root.type ≡ t → root.values ≡ cons v nil → HoldsRoot new table root f.blocks
       → SameNames (names_in old_value) (names_in w ++ names_each root.values) → {spans : List Span} → ChangesPlace bytes new table place w [] spans f.blocks f.blocks
-      → (m : Moved (set_register (put_at s path w) a (Register.Owner v t)) (λ o. ⊥)) × (root_at m.later (Origin.Owned a) ≡ Some (root, 0))
+      → (m : Moved pictured led old_value f new (set_register (put_at s path w) a (Register.Owner v t)) (λ o. ⊥)) × (root_at m.to.later (Origin.Owned a) ≡ Some (root, 0))
   take_moves a t v root within free plain type_is values_are holds names {spans = spans} changes =
       let picture = pictured.picture in
       let held = pictured.held in
@@ -237,7 +247,7 @@ module _ {others : List Root} {s : State} {bytes : List ℕ} (pictured : Picture
       l.frozen ∙ ap (λ (p : Picture). p.frozen) put.picture_is ∙ frozen_same picture f.root.which (f.root.before ++ changed ∷ f.root.after) in
       let then : Reorders (changed ∷ (root ∷ (rest ++ frozen))) (roots_of other) =
       subst (λ fs. Reorders (changed ∷ (root ∷ (rest ++ map root_of_frozen fs))) (roots_of other)) same_frozen (from_frozen_last other changed (root ∷ []) rest owners) in
-      let c' : ChangesPlace bytes new table place w [] spans (f.blocks ++ []) ([] ++ f.blocks) = subst (λ bs. ChangesPlace bytes new table place w [] spans bs f.blocks) (sym (append-nil f.blocks)) changes in
+      let c' : MovesPlace bytes new table place w [] (f.blocks ++ []) ([] ++ f.blocks) = subst (λ bs. MovesPlace bytes new table place w [] bs f.blocks) (sym (append-nil f.blocks)) (moves changes) in
       let index = index_kept bytes picture held led.root [] (rest ++ frozen) now led.item f.within path.selectors place led.leads old_value f.blocks f.holds_it [] holds_no_root new w [] f.blocks c' in
       let beside = beside_kept bytes picture held led.root [] (rest ++ frozen) now led.item f.within path.selectors place led.leads old_value f.blocks f.holds_it [] holds_no_root new w [] f.blocks c' in
       let all_paths = paths_kept bytes picture held led.root [] (rest ++ frozen) now led.item f.within path.selectors place led.leads old_value f.blocks f.holds_it [] holds_no_root new w [] f.blocks c' in
@@ -254,9 +264,9 @@ module _ {others : List Root} {s : State} {bytes : List ℕ} (pictured : Picture
       let counted = counted_on bytes new other changes.back_kept
       (counted_moved led.root led.item f.whole f.root.item_is path.selectors old_value f.value_is (word bytes next_word) picture other [] (root ∷ []) rest w order owners [] cells
       (same_frozen ∙ sym (none_gone picture.frozen pictured.counted.counted.some)) pictured.counted) in
-      let moved = paths_then l.later there counted (λ o. ⊥) rest same (frozen_stay same_frozen frozen_paths) beside paths (λ o r i e. elim (put.begins o r i e) [
+      let moved = paths_then l.later there counted (λ o. ⊥) same (frozen_stay same_frozen frozen_paths) beside (λ o r i e. elim (put.begins o r i e) [
         | inl p ↦ inr (inl (p.0, p.1, l.begins o changed i p.2))
         | inr p ↦ inr (inr (each_among (KeepsPaths bytes new table) rest r p.0 paths, l.begins o r i p.1))
       ]) in
-      subst (λ z. (m : Moved (set_register z a (Register.Owner v t)) (λ o. ⊥)) × (root_at m.later (Origin.Owned a) ≡ Some (root, 0))) (sym is)
+      subst (λ z. (m : Moved pictured led old_value f new (set_register z a (Register.Owner v t)) (λ o. ⊥)) × (root_at m.to.later (Origin.Owned a) ≡ Some (root, 0))) (sym is)
       (moved.0, moved.1 (Origin.Owned a) root 0 l.here)

@@ -29,7 +29,8 @@ use Rattle.client_sim.proofs.Led.{Led}
 use Rattle.client_sim.proofs.LeafPuts.{origin_streams}
 use Rattle.client_sim.proofs.Giving.{set_there, set_beside, same_or_not}
 use Rattle.client_sim.proofs.Rooted.{BeginsFrom}
-use Rattle.client_sim.proofs.MovingOwned.{Moved, register_beside}
+use Rattle.client_sim.proofs.FrozenPaths.{KeepsFrozen}
+use Rattle.client_sim.proofs.MovingOwned.{MovedPaths, register_beside}
 
 not_after_none : (x : Selector) (xs ys : List Selector) → xs ++ x ∷ ys ≡ [] → ⊥
 not_after_none x [] ys e = cc
@@ -41,7 +42,7 @@ with_owning w new a owns positions type_ids = record w { image = new; owns = sli
 
 module _ {others : List Root} {types : Table} {constants : List Constant} (one : OneEach constants) {first : Option (List ℕ)} {allocator : ℕ} {ks : RegisterTypes} {s : State} {w : World}
     (h : Shows others types constants first allocator ks s w) (b : ℕ) (class : Class) (T : ℕ) (is : known ks b ≡ RegisterType.Reference class T) (l : Led h b class T) (v : Value) (fits : HasShape s.types T v) (new : List ℕ)
-    (a : ℕ) (y : Register) (Ends : Origin → Type 0) (m : Moved h.pictured l.in_image l.value l.found new v (set_register (put_at s l.path v) a y) Ends) where
+    (a : ℕ) (y : Register) (Ends : Origin → Type 0) (m : MovedPaths h.pictured l.in_image l.value l.found new (set_register (put_at s l.path v) a y) Ends) where
   abbrev pub put_then : State
   put_then = put_at s l.path v
 
@@ -60,7 +61,7 @@ module _ {others : List Root} {types : Table} {constants : List Constant} (one :
       agrees_put_others types constants one class b T ks s h.as_known is refers v fits
 
   -- another register that owns nothing stays
-  stays : (r : ℕ) → a ≢ r → (x : Register) → register s r ≡ x → owned_by x ≡ None → register moved_then r ≡ x
+  pub stays : (r : ℕ) → a ≢ r → (x : Register) → register s r ≡ x → owned_by x ≡ None → register moved_then r ≡ x
   stays r far x e none =
       let t = values.with_value_at l.path.selectors v l.found.whole in
       register_beside put_then a r y far
@@ -166,10 +167,11 @@ module _ {others : List Root} {types : Table} {constants : List Constant} (one :
       (places : (r : ℕ) → a ≢ r → place_in (with_owning w new a owns positions type_ids) r ≡ place_in w r) (front : KeepsFront w.image new) (as_known : IsAsKnown types constants (slice_set ks' a k) moved_then)
       (rest : (r : ℕ) → a ≢ r → Stays r (known ks r) (known ks' r)) (here : Shown m.later (with_owning w new a owns positions type_ids) a k y)
       → ((r : ℕ) → known (slice_set ks' a k) r ≡ RegisterType.Undefined → owns_in w r ≡ false → a ≢ r)
+      → KeepsFrozen w.image new h.pictured.picture.table h.pictured.picture.frozen m.later.picture.frozen
       → Frame (slice_set ks' a k) w (with_owning w new a owns positions type_ids) h.pictured (shows_moved k ks' owns positions type_ids within sixteen at_length id_length places front as_known rest here).pictured
   unfolding shows_moved
-  frame_moved k ks' owns positions type_ids within sixteen at_length id_length places front as_known rest here apart = record {
-    frozen = m.stays;
+  frame_moved k ks' owns positions type_ids within sixteen at_length id_length places front as_known rest here apart frozen = record {
+    frozen = frozen;
     unknown = λ r e o.
         let far = apart r e o in
         record { register_is = stays r far (register s r) refl (owns_nothing h r o); place_is = places r far; owns_is = set_beside w.owns a r owns false far };

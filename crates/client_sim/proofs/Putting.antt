@@ -47,7 +47,7 @@ use Rattle.client_sim.proofs.MovingShows.{with_owning, shows_moved, put_known, s
 use Rattle.client_sim.proofs.OwnedObjects.{owns_here, owns_apart}
 
 -- a path from elsewhere doesn't begin at the register
-begins_elsewhere : (c : ℕ) (o : Origin) → o ≢ Origin.Owned c → begins_at c o ≡ false
+pub begins_elsewhere : (c : ℕ) (o : Origin) → o ≢ Origin.Owned c → begins_at c o ≡ false
 begins_elsewhere c (Origin.Name name i) far = refl
 begins_elsewhere c (Origin.Unique t) far = refl
 begins_elsewhere c (Origin.Owned q) far = choose (c == q) refl
@@ -133,10 +133,10 @@ module _ (allocator : ℕ) (constants : List Constant) (role : Role) (a b c : �
       value_of_form s.types r.type r.form (Full o.value) r.machine_form ((own_fits s.types r.form r.what r.is).1 o.value (h.as_known.typed.owned c o.value r.what o.register_is)) in
       let sixteen : length ks' ≡ 16 = length-map after (without_class (Class.Register c)) ∙ length_set (ended (sharing r.class) ks) b (known ks b) ∙ length-map ks (without_class (sharing r.class)) ∙ h.sixteen in
       let owns_none : owns_in (with_owning w new c false w.positions w.type_ids) c ≡ false = set_there w.owns c false false (let n = h.registers.owns in omega (arith, n, valid.c)) in
-      let shows = shows_moved one h b r.class r.type r.known_as l (Full o.value) fits new c Register.Undefined (λ o. o ≡ Origin.Owned c) moved RegisterType.Undefined ks' false w.positions w.type_ids valid.c sixteen
+      let shows = shows_moved one h b r.class r.type r.known_as l (Full o.value) fits new c Register.Undefined (λ o. o ≡ Origin.Owned c) moved.to RegisterType.Undefined ks' false w.positions w.type_ids valid.c sixteen
       h.registers.positions h.registers.type_ids (λ n far. refl) changes.front_kept
-      (agrees_release types constants one after (put_at s l.path (Full o.value)) c (put_known one h b r.class r.type r.known_as l (Full o.value) fits new c Register.Undefined (λ o. o ≡ Origin.Owned c) moved))
-      (stays_released one h b r.class r.type r.known_as l (Full o.value) fits new c Register.Undefined (λ o. o ≡ Origin.Owned c) moved (λ o e. e)) owns_none in
+      (agrees_release types constants one after (put_at s l.path (Full o.value)) c (put_known one h b r.class r.type r.known_as l (Full o.value) fits new c Register.Undefined (λ o. o ≡ Origin.Owned c) moved.to))
+      (stays_released one h b r.class r.type r.known_as l (Full o.value) fits new c Register.Undefined (λ o. o ≡ Origin.Owned c) moved.to (λ o e. e)) owns_none in
       let content : (x : Option Value) × (content_in l.value ≡ Some x) = elim (own_value s.types r.form l.value r.what r.is r.fits) [ inl none ↦ (None, none) | inr some ↦ (Some some.0, ap content_in some.1) ] in
       let row = put_row s l.path r.form r.what l.value o.value content.0 r.path_is r.path_form_is r.is (ap owned_by o.register_is) l.there content.1 (begins_elsewhere c l.path.origin far) in
       let held : Holds w.image s.types (place_in w b) l.value l.found.blocks = subst (λ (t : Table). Holds w.image t (place_in w b) l.value l.found.blocks) h.table_is l.stands.holds_it in
@@ -151,8 +151,8 @@ module _ (allocator : ℕ) (constants : List Constant) (role : Role) (a b c : �
       subst (λ k. Acts others types constants first allocator put success k s w (with_owning w new c false w.positions w.type_ids)) (ap (λ (k : RegisterTypes × RegisterTypes). k.0) pair)
       (acts_so others types constants first allocator ks s w h put success true (slice_set ks' c RegisterType.Undefined) (set_register (put_at s l.path (Full o.value)) c Register.Undefined)
       (with_owning w new c false w.positions w.type_ids) row blocks changes.length_kept changes.front_kept refl shows
-      (frame_moved one h b r.class r.type r.known_as l (Full o.value) fits new c Register.Undefined (λ o. o ≡ Origin.Owned c) moved _ _ _ _ _ _ _ _ _ _ _ _ _ _
-      (λ n e free. owner_apart h c r.what n (owner ∙ ap RegisterType.Owner (sym same)) free)))
+      (frame_moved one h b r.class r.type r.known_as l (Full o.value) fits new c Register.Undefined (λ o. o ≡ Origin.Owned c) moved.to _ _ _ _ _ _ _ _ _ _ _ _ _ _
+      (λ n e free. owner_apart h c r.what n (owner ∙ ap RegisterType.Owner (sym same)) free) moved.stays))
 
   pub put_acts : PutsOwn w.table
       → ActsAs allocator constants role put w (with_owning w new c false w.positions w.type_ids)

@@ -152,18 +152,18 @@ module _ (allocator : ℕ) (constants : List Constant) (role : Role) (a b c : �
             let at_here : place_in w' a ≡ record { at = at; type = U } =
             ap (λ (n : ℕ). record { at = n; type = slice_index_or type_ids a 0 }) (set_there w.positions a at 0 (let n = h.registers.positions in omega (arith, n, valid.a)))
             ∙ ap (λ (n : ℕ). record { at = at; type = n }) (set_there w.type_ids a U 0 (let n = h.registers.type_ids in omega (arith, n, valid.a))) in
-            let led : LeadsInImage moved.0.later (path_from (Origin.Owned a)) (place_in w' a) = subst (λ (q : Place). LeadsInImage moved.0.later (path_from (Origin.Owned a)) q) (sym at_here)
-            (record { root = root; item = 0; begins = moved.1; leads = leads_itself new moved.0.later.picture.table root }) in
-            let shows = shows_moved one h b r.class r.type r.known_as l Empty fits new a owner (λ o. ⊥) moved.0 (RegisterType.Owner U) after true positions type_ids valid.a sixteen
+            let led : LeadsInImage moved.0.to.later (path_from (Origin.Owned a)) (place_in w' a) = subst (λ (q : Place). LeadsInImage moved.0.to.later (path_from (Origin.Owned a)) q) (sym at_here)
+            (record { root = root; item = 0; begins = moved.1; leads = leads_itself new moved.0.to.later.picture.table root }) in
+            let shows = shows_moved one h b r.class r.type r.known_as l Empty fits new a owner (λ o. ⊥) moved.0.to (RegisterType.Owner U) after true positions type_ids valid.a sixteen
             (length_set w.positions a at ∙ h.registers.positions) (length_set w.type_ids a U ∙ h.registers.type_ids) (others_placed w at U) changes.front_kept as_known
-            (λ n far. stays_put one h b r.class r.type r.known_as l Empty fits new a owner (λ o. ⊥) moved.0 (λ o z. z) n) (owns_here, ap (λ (q : Place). q.type) at_here, led) in
+            (λ n far. stays_put one h b r.class r.type r.known_as l Empty fits new a owner (λ o. ⊥) moved.0.to (λ o z. z) n) (owns_here, ap (λ (q : Place). q.type) at_here, led) in
             let row : outcome constants take true s ≡ Some (success, state) =
             take_row s l.path r.form U l.value (Some v) r.path_is r.path_form_is r.is l.there (ap content_in some.1) ∙ answer_is types constants after after_put known_then success a owner o.0 in
             let blocks : GrantsAsks constants take h.pictured new = record { asks = []; asked = refl; gives = []; returned = refl; blocks = live w.image; granted = refl; left = changes.live_is } in
             subst (λ n. Acts others types constants first allocator take success (slice_set after a (RegisterType.Owner U)) s w (owner_then at n)) (sym t.0)
             (acts_so others types constants first allocator ks s w h take success true (slice_set after a (RegisterType.Owner U)) state w' row blocks changes.length_kept changes.front_kept refl shows
-            (frame_moved one h b r.class r.type r.known_as l Empty fits new a owner (λ o. ⊥) moved.0 _ _ _ _ _ _ _ _ _ _ _ _ _ _
-            (λ n e free. not_given after a n (RegisterType.Owner U) (let m = valid.a in omega (arith, sixteen, m)) (λ f. cc) e)))
+            (frame_moved one h b r.class r.type r.known_as l Empty fits new a owner (λ o. ⊥) moved.0.to _ _ _ _ _ _ _ _ _ _ _ _ _ _
+            (λ n e free. not_given after a n (RegisterType.Owner U) (let m = valid.a in omega (arith, sixteen, m)) (λ f. cc) e) moved.0.stays))
       ])
 
   pub take_acts : (at T : ℕ) → TakesFrom at T w.table → ActsAs allocator constants role take w (owner_then at T)

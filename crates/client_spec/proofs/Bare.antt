@@ -40,11 +40,11 @@ bare_without class (RegisterType.Reference x t) = choose (same_class class (shar
     choose false true e f = ap (λ z. if z then RegisterType.Undefined else RegisterType.Reference x t) f
     choose false false e f = ap (λ z. if z then RegisterType.Undefined else RegisterType.Reference x t) f ∙ ap (λ z. if z then RegisterType.Undefined else RegisterType.Reference x t) (sym e)
 
-bare_ended : (class : Class) (ks : RegisterTypes) → bare (ended class ks) ≡ ended class (bare ks)
+pub bare_ended : (class : Class) (ks : RegisterTypes) → bare (ended class ks) ≡ ended class (bare ks)
 bare_ended class [] = refl
 bare_ended class (k ∷ ks) = ap (λ y. y ∷ bare (ended class ks)) (bare_without class k) ∙ ap (λ ys. without_class class (bare_one k) ∷ ys) (bare_ended class ks)
 
-bare_others : (class : Class) (b : ℕ) (ks : RegisterTypes) → bare (others_ended class b ks) ≡ others_ended class b (bare ks)
+pub bare_others : (class : Class) (b : ℕ) (ks : RegisterTypes) → bare (others_ended class b ks) ≡ others_ended class b (bare ks)
 bare_others class b ks =
     bare_set (ended (sharing class) ks) b (known ks b)
     ∙ ap (λ es. slice_set es b (bare_one (known ks b))) (bare_ended (sharing class) ks)
@@ -83,7 +83,7 @@ from_ended class before ks f r x t e = f r x t (frozen_ended class (known ks r) 
 abbrev pub IsBare : RegisterType → Type 0
 IsBare k = bare_one k ≡ k
 
-bare_is_none : (k : RegisterType) (x : Class) (t : ℕ) → IsBare k → k ≡ RegisterType.Reference (Class.Frozen x) t → ⊥
+pub bare_is_none : (k : RegisterType) (x : Class) (t : ℕ) → IsBare k → k ≡ RegisterType.Reference (Class.Frozen x) t → ⊥
 bare_is_none k x t b e = let f : RegisterType.Undefined ≡ RegisterType.Reference (Class.Frozen x) t = sym (ap bare_one e) ∙ b ∙ e in cc
 
 pub from_set : (a : ℕ) (k : RegisterType) (before ks : RegisterTypes) → IsBare k → FrozenFrom before ks → FrozenFrom before (slice_set ks a k)

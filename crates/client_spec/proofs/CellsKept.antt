@@ -66,7 +66,7 @@ module _ (constants : List Constant) (one : OneEach constants) (class : Class) w
   still : (s : State) → Kept s s
   still s = record { types = refl; cells = λ q U p w e. e }
 
-  onward : (s t u : State) → Kept s t → Kept t u → Kept s u
+  pub onward : (s t u : State) → Kept s t → Kept t u → Kept s u
   onward s t u f g = record { types = g.types ∙ f.types; cells = λ q U p w e. g.cells q U p w (f.cells q U p w e) }
 
   by_origins : (s s' : State) → s'.types ≡ s.types → ((o : Origin) (x : Value × ℕ) → InClass constants class o → at_origin s o ≡ Some x → at_origin s' o ≡ Some x) → Kept s s'
@@ -90,7 +90,7 @@ module _ (constants : List Constant) (one : OneEach constants) (class : Class) w
       ]
 
   -- one that owns an object of another class is let go
-  by_release : (s : State) (a : ℕ) (x : Register) → same_class (Class.Register a) (sharing class) ≡ false → Kept s (set_register s a x)
+  pub by_release : (s : State) (a : ℕ) (x : Register) → same_class (Class.Register a) (sharing class) ≡ false → Kept s (set_register s a x)
   by_release s a x far = by_origins s (set_register s a x) refl kept
     where
       kept : (o : Origin) (y : Value × ℕ) → InClass constants class o → at_origin s o ≡ Some y → at_origin (set_register s a x) o ≡ Some y
@@ -105,7 +105,7 @@ module _ (constants : List Constant) (one : OneEach constants) (class : Class) w
   found_at s p old e = bind_some (at_origin s p.origin) (λ found. values.value_at found.0 p.selectors) old e
 
   -- a value of another class is put
-  by_put : (s : State) (p : Path) (old new : Value) (d : Class) → path_value s p ≡ Some old → InClass constants d p.origin → same_class (sharing d) (sharing class) ≡ false → Kept s (put_at s p new)
+  pub by_put : (s : State) (p : Path) (old new : Value) (d : Class) → path_value s p ≡ Some old → InClass constants d p.origin → same_class (sharing d) (sharing class) ≡ false → Kept s (put_at s p new)
   by_put s p old new d e within far =
       let a = found_at s p old e in
       let root_then = values.with_value_at p.selectors new a.0.0 in

@@ -12,7 +12,7 @@ use Rattle.client_spec.specs.Syntax.{Client}
 use Rattle.client_spec.specs.Grammar.{SpellsClient}
 use Rattle.client_spec.specs.Run.{Ending, finished, stopped, stuck}
 use Rattle.client_spec.specs.OnImages.{Move, Given, Left}
-use Rattle.client_spec.specs.Clients.{AreMoves, AreAccepted, AreUnshared, GoesOn, RunClients, StayWithin, outputs, image_after, ending_after}
+use Rattle.client_spec.specs.Clients.{AreMoves, AreAccepted, GoesOn, RunClients, StayWithin, outputs, image_after, ending_after}
 use Rattle.client_sim.specs.Writes.{Took}
 use Rattle.client_sim.proofs.Printing.{took_more}
 use Rattle.client_run.specs.declared.report.Report.{Report}
@@ -59,7 +59,6 @@ module _ (allocator : ℕ) (clients : List Client) (moves : List Move) (input : 
     pub lefts : List Left
     pub rest : List Client
     pub accepted : AreAccepted table texts rest
-    pub unshared : AreUnshared texts
     pub ready : IsReady allocator [] now table moves
     pub runs : (more : List Left) → GoOn failed rest (given_of [] moves left now) more → RunClients clients (given_of [] moves input old) (lefts ++ more)
     pub within : (more : List Left) → StayWithin rest more → StayWithin clients (lefts ++ more)
@@ -72,12 +71,11 @@ module _ (allocator : ℕ) (clients : List Client) (moves : List Move) (input : 
   took_nothing None = tt
   took_nothing (Some front) = ap Some (sym (append-nil front))
 
-  pub begins : (texts : List (List ℕ)) (table : Table) → AreAccepted table texts clients → AreUnshared texts → IsReady allocator [] old table moves → Midway texts input old table taken [] false
-  begins texts table accepted unshared ready = record {
+  pub begins : (texts : List (List ℕ)) (table : Table) → AreAccepted table texts clients → IsReady allocator [] old table moves → Midway texts input old table taken [] false
+  begins texts table accepted ready = record {
     lefts = [];
     rest = clients;
     accepted = accepted;
-    unshared = unshared;
     ready = ready;
     runs = λ more h. h;
     within = λ more h. h;
@@ -107,7 +105,7 @@ module _ (allocator : ℕ) (clients : List Client) (moves : List Move) (input : 
     module _ (m : Midway (text ∷ texts) left now table taken_now reports false) (client : Client) (clients_then : List Client)
         (accepted : AreAccepted table (text ∷ texts) (client ∷ clients_then)) (rest_is : m.rest ≡ client ∷ clients_then) where
       has : HasRun allocator client [] moves left now table taken_now new table_then taken_then report
-      has = ran client accepted.0 (record { ready = m.ready; agree = accepted.1.agree; unshared = m.unshared.0 client accepted.0 })
+      has = ran client accepted.0 (record { ready = m.ready; agree = accepted.1.agree })
 
       abbrev its : Left
       its = left_of report has.output new
@@ -128,7 +126,6 @@ module _ (allocator : ℕ) (clients : List Client) (moves : List Move) (input : 
         lefts = m.lefts ++ its ∷ [];
         rest = clients_then;
         accepted = subst (λ t. AreAccepted t texts clients_then) (sym has.types_are) accepted.2;
-        unshared = m.unshared.1;
         ready = has.ready;
         runs = λ more h. subst (RunClients clients (given_of [] moves input old)) (sym (append_assoc m.lefts (its ∷ []) more))
             (m.runs (its ∷ more) (subst (λ cs. RunClients cs (given_of [] moves left now) (its ∷ more)) (sym rest_is) (goes_on more h)));
@@ -212,7 +209,7 @@ opened_ready window table moves allocator is named may = record {
 -- on a sound image, with its types
 pub ran_on : (texts : List (List ℕ)) (moves : List Move) (input : List ℕ) (window : Placement) (taken : Option (List ℕ)) (saved : List ℕ) (taken_then : Option (List ℕ)) (reports : List Report) (ending : Ending)
     (table : Table) (allocator : ℕ) → IsImageOf window.bytes table → word window.bytes allocator_word ≡ allocator → (clients : List Client) → AreAccepted table texts clients
-    → ((clients : List Client) → AreAccepted table texts clients → AreUnshared texts → IsReady allocator [] (opened window) table moves → HaveRun clients moves input (opened window) taken saved taken_then reports ending)
+    → ((clients : List Client) → AreAccepted table texts clients → IsReady allocator [] (opened window) table moves → HaveRun clients moves input (opened window) taken saved taken_then reports ending)
     → HaveRunOn texts moves input window taken saved taken_then reports ending
 ran_on texts moves input window taken saved taken_then reports ending table allocator is named clients accepted runs = record {
   accepted = record {
@@ -220,7 +217,7 @@ ran_on texts moves input window taken saved taken_then reports ending table allo
     clients = clients;
     accepted = subst (λ t. AreAccepted t texts clients) (sym is.table_is) accepted;
   };
-  runs = λ unshared may. runs clients accepted unshared (opened_ready window table moves allocator is named may);
+  runs = λ may. runs clients accepted (opened_ready window table moves allocator is named may);
 }
 
 module _ (texts : List (List ℕ)) (moves : List Move) (input : List ℕ) (window : Placement) (taken : Option (List ℕ)) (saved : List ℕ) (taken_then : Option (List ℕ)) (reports : List Report) (how : Ended)
@@ -232,8 +229,8 @@ module _ (texts : List (List ℕ)) (moves : List Move) (input : List ℕ) (windo
       record { can_move = can; sound = h.accepted.sound; clients = h.accepted.clients; accepted = h.accepted.accepted } in
       record {
         can_run = can_run;
-        left = λ unshared.
-            let r = h.runs unshared can.fit in
+        left =
+            let r = h.runs can.fit in
             record {
               lefts = r.lefts;
               outcome = record { can_run = can_run; host = region_of (opened window); host_is = opened_region window; runs = r.runs };

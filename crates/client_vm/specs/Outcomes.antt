@@ -2,8 +2,7 @@
 --     AreReports reports lefts    what the reports say of the runs
 --     AreLeftByRuns ..            the saved image, the reports, the ending and what the output took
 --                                 are those of runs
---     HasOutcome ..               the clients were accepted, and what they left is so where they
---                                 freeze and share nothing
+--     HasOutcome ..               the clients were accepted, and what they left is so
 --     IsRefusedFor .. refused     why no client ran, fault by fault
 use Rattle.std.specs.Prelude.{◌≡◌, ◌⊎◌, ⊤, ℕ, ◌-◌, ◌^◌, min, List, [], ◌∷◌, Option, Some, None}
 use Rattle.seg_spec.specs.Images.{IsSound, upgraded}
@@ -13,7 +12,7 @@ use Rattle.seg_check.specs.Faults.{IsFaultOf}
 use Rattle.client_spec.specs.Syntax.{Client}
 use Rattle.client_spec.specs.Grammar.{SpellsClient}
 use Rattle.client_spec.specs.OnImages.{Move, Left}
-use Rattle.client_spec.specs.Clients.{outputs, image_after, ending_after, table_after, AreUnshared, StayWithin}
+use Rattle.client_spec.specs.Clients.{outputs, image_after, ending_after, table_after, StayWithin}
 use Rattle.client_spec.specs.Outcome.{CanRun, IsOutcome, Refusal, IsTurnOf, IsRefusalOf}
 use Rattle.client_verify.specs.Refusals.{IsRefused}
 use Rattle.client_run.specs.declared.report.Report.{Report}
@@ -50,14 +49,13 @@ pub record AreLeftByRuns (image : List ℕ) (texts : List (List ℕ)) (input : L
   pub saved_is : saved ≡ image_after (upgraded image) lefts
   pub sound : IsSound saved
 
--- The clients were accepted, one after the other, on a sound image. Where all of them freeze and
--- share nothing, runs of the abstract machine left the rest.
+-- The clients were accepted, one after the other, on a sound image, and runs of the abstract machine
+-- left the rest.
 pub record HasOutcome (image : List ℕ) (texts : List (List ℕ)) (input : List ℕ)
     (room base : ℕ) (moves : List Move) (taken taken_then : Option (List ℕ))
     (saved : List ℕ) (reports : List Report) (ended : Ended) : Type 0 where
   pub can_run : CanRun image texts room base moves
-  pub left : AreUnshared texts →
-      AreLeftByRuns image texts input room base moves taken taken_then saved reports ended
+  pub left : AreLeftByRuns image texts input room base moves taken taken_then saved reports ended
 
 -- ---- none of them ran
 

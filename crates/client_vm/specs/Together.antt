@@ -2,15 +2,14 @@
 --     HaveRun ..       what they leave together, where the segment was one that clients run on
 --     ending_if failed         how the last one ended
 --     opened window    the image in a window as it is opened
---     HaveRunOn ..     so it is on a sound image in a window, where the moves may be made and the
---                      clients freeze and share nothing
+--     HaveRunOn ..     so it is on a sound image in a window, where the moves may be made
 use Rattle.std.specs.Prelude.{◌≡◌, ℕ, List, [], length, Bool, Option, if◌then◌else◌}
 use Rattle.seg_spec.specs.Window.{Placement, region_of, with_bytes}
 use Rattle.seg_spec.specs.Images.{IsSound, upgraded}
 use Rattle.client_spec.specs.Syntax.{Client}
 use Rattle.client_spec.specs.Run.{Ending, finished, stopped}
 use Rattle.client_spec.specs.OnImages.{Move, Left}
-use Rattle.client_spec.specs.Clients.{AreUnshared, AreMoves, RunClients, StayWithin, outputs, image_after, ending_after}
+use Rattle.client_spec.specs.Clients.{AreMoves, RunClients, StayWithin, outputs, image_after, ending_after}
 use Rattle.client_sim.specs.Writes.{Took}
 use Rattle.client_run.specs.declared.report.Report.{Report}
 use Rattle.client_run.specs.Runs.{given_of}
@@ -42,6 +41,5 @@ pub record HaveRunOn (texts : List (List ℕ)) (moves : List Move) (input : List
     (window : Placement) (taken : Option (List ℕ)) (saved : List ℕ)
     (taken_then : Option (List ℕ)) (reports : List Report) (ending : Ending) : Type 0 where
   pub accepted : AreAcceptedOn window.bytes texts
-  pub runs : AreUnshared texts →
-      AreMoves (length (region_of window)) (length window.bytes) 0 moves →
+  pub runs : AreMoves (length (region_of window)) (length window.bytes) 0 moves →
       HaveRun accepted.clients moves input (opened window) taken saved taken_then reports ending

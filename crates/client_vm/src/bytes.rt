@@ -4,7 +4,7 @@ ghost use Rattle.seg_spec.specs.Bytes.{word};
 ghost use Rattle.seg_spec.specs.Header.{allocator_word};
 ghost use Rattle.seg_spec.specs.Faulty.{IsImageLength};
 ghost use Rattle.client_spec.specs.Syntax as syntax;
-ghost use Rattle.client_spec.specs.Clients.{AreAccepted, AreUnshared};
+ghost use Rattle.client_spec.specs.Clients.{AreAccepted};
 ghost use Rattle.client_spec.specs.Outcome.{CanMove};
 ghost use Rattle.client_vm.specs.Admitted.{LiesIn, IsWrong};
 ghost use Rattle.client_run.specs.Moves.{moves_of};
@@ -165,7 +165,6 @@ fn run_opened<F: Fit, A: Allocator + Copy, W: Sink>(
         AreAccepted segment.types (map (λ c. c.now) clients.now) trees) }
     ensures runs { IfOk result (λ o. (trees : List syntax.Client) →
         AreAccepted segment.types (map (λ c. c.now) clients.now) trees →
-        AreUnshared (map (λ c. c.now) clients.now) →
         IsReady F.allocator [] segment.window segment.types (moves_of moves.now) →
         HaveRun trees (moves_of moves.now) input.now segment.window (W.taken out.old)
         o.image.items (W.taken out.new) o.reports.items (ending_of o.ended)) }
@@ -277,7 +276,6 @@ fn run_all<F: Fit, A: Allocator, B: Allocator, W: Sink>(
     ensures runs { reports.old.items ≡ [] → length programs.now ≤ vec_capacity reports.old →
         W.has_failed out.old ≡ false → (trees : List syntax.Client) →
         AreAccepted segment.old.types (texts_of programs.now) trees →
-        AreUnshared (texts_of programs.now) →
         IsReady F.allocator [] segment.old.window segment.old.types (moves_of moves.now) →
         HaveRun trees (moves_of moves.now) input.now segment.old.window (W.taken out.old)
         segment.new.window.bytes (W.taken out.new) reports.new.items

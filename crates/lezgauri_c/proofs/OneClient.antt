@@ -64,8 +64,8 @@ module _ (allocator : ℕ) (input : List ℕ) (old new : Placement) (table table
       → (report.ended ≡ ended.OutputFailed) ↔ (failed ≡ true) → HaveRunOn (text ∷ []) [] input old taken new.bytes taken_then (report ∷ []) (ending_of report.ended)
   only_ran is named tree spells verified ran how =
       ran_on (text ∷ []) [] input old taken new.bytes taken_then (report ∷ []) (ending_of report.ended) table allocator is named (tree ∷ []) (spells, verified, tt)
-      (λ clients accepted unshared ready.
-      let first = begins allocator clients [] input (opened old) taken (text ∷ []) table accepted unshared ready in
+      (λ clients accepted ready.
+      let first = begins allocator clients [] input (opened old) taken (text ∷ []) table accepted ready in
       let last = next_ran allocator clients [] input (opened old) taken text [] input (drop report.read input) (opened old) new table table_then taken taken_then [] report failed ran refl how first in
       let ran_all = ends allocator clients [] input (opened old) taken [] (drop report.read input) new table_then taken_then (report ∷ []) failed last refl in
       subst (HaveRun clients [] input (opened old) taken new.bytes taken_then (report ∷ [])) (ending_failed failed report.ended how.1 (done report.ended failed how.0)) ran_all)

@@ -34,4 +34,4 @@ module _ (image : List ℕ) (texts : List (List ℕ)) (input : List ℕ) (room b
       }
 
     pub told_bytes : HasOutcome image texts input room base moves (Some (before ∷ [])) (Some (after ∷ bytes)) saved reports ended → HasOutcome image texts input room base moves (Some []) (Some bytes) saved reports ended
-    told_bytes run = record { can_run = run.can_run; left = λ unshared. left_bytes (run.left unshared) }
+    told_bytes run = record { can_run = run.can_run; left = left_bytes run.left }

@@ -4,7 +4,6 @@
 --     AcceptsClient ..            a sound image, and a client that it accepts, with this bound
 --     IsWrongAs image texts fault     what is wrong with an image or a client, as it is told
 --     IsRun ..                    clients were accepted on a sound image, and runs left the rest
---                                 where they freeze and share nothing
 --     HasRunIn ..                 and the caller's memory has what they left
 --     HasRunOn ..                 one client ran, on an image or on any bytes
 --     IsRefusedAs image texts fault   why no client ran, as it is told
@@ -64,7 +63,7 @@ pub record HasRunIn (image : List ℕ) (texts : List (List ℕ)) (input : List �
   pub size : ℕ
   pub reports : List client_run_report.Report
   pub run : IsRun image texts input (take written output) (take size saved) reports ended
-  -- whatever they do with frozen objects, each went a way through its code, within its bound
+  -- each went a way through its code, within its bound
   pub within : HasReportsOf texts reports ended
   pub written_there : written ≤ length output
   pub saved_there : size ≤ length saved

@@ -6,7 +6,7 @@ ghost use Rattle.seg_spec.specs.Images.{IsSound};
 ghost use Rattle.seg_spec.specs.Window.{region_of};
 ghost use Rattle.seg_check.specs.Faults.{IsImageOf, IsFaultOf};
 ghost use Rattle.client_spec.specs.Syntax as syntax;
-ghost use Rattle.client_spec.specs.Clients.{IsVerified, AreUnshared};
+ghost use Rattle.client_spec.specs.Clients.{IsVerified};
 ghost use Rattle.client_code.specs.Clients.{OfTree, bytes_of};
 ghost use Rattle.client_verify.specs.Accepted.{client_of};
 ghost use Rattle.client_run.specs.declared.report.Ended.{Ended};
@@ -62,7 +62,7 @@ pub extern "C" fn lezgauri_raw_run_on(
     ensures kept { (0 < result) × (result ≢ 101) → image.new ≡ image.old }
     ensures unwritten { (0 < result) × (result ≤ 100) →
         (output.new ≡ output.old) × (written.new ≡ 0) × (report.new ≡ report.old) }
-    ensures small { IsSound image.old → AreUnshared (client.now ∷ []) → result ≢ 102 }
+    ensures small { IsSound image.old → result ≢ 102 }
     ensures status { result ≤ 102 }
 {
     match run_in_room(alloc, image, client, input, output.len()) {
@@ -103,8 +103,7 @@ fn run_in_room(
     ensures within { IfOk result (λ ran. IsReportOf client.now ran.told) }
     ensures outcome { IfOk result (λ ran. IsSound image.now →
         IsRun image.now (client.now ∷ []) input.now (printed ran.sink) ran.image.items
-        (ran.told ∷ []) ran.told.ended ×
-        (AreUnshared (client.now ∷ []) → length (printed ran.sink) ≤ room)) }
+        (ran.told ∷ []) ran.told.ended × (length (printed ran.sink) ≤ room)) }
     ensures refused { IfErr result (λ refused. IsSound image.now →
         IsWrong image.now (client.now ∷ []) refused) }
 {

@@ -1,5 +1,4 @@
 ghost use Rattle.std.specs.Prelude.{◌≡◌, ◌≤◌, ◌<◌, false, [], Some, IfOk, IfErr, length, map};
-ghost use Rattle.client_spec.specs.Clients.{AreUnshared};
 ghost use Rattle.client_run.specs.declared.report.Ended.{Ended};
 ghost use Rattle.client_vm.specs.Outcomes.{HasOutcome, IsRefusedFor};
 ghost use Rattle.client_vm.specs.Reports.{HasReportsOf};
@@ -49,8 +48,7 @@ pub extern "C" fn lezgauri_raw_run(
     ensures no_fault { (ended : Ended) → result ≡ status_number ended → fault.new ≡ no_fault }
     ensures unwritten { (0 < result) × (result ≤ 100) → (output.new ≡ output.old) ×
         (written.new ≡ 0) × (saved.new ≡ saved.old) × (reports.new ≡ reports.old) }
-    ensures small { result ≡ 102 → AreUnshared (map (λ c. c.bytes.now) clients.now) →
-        length saved.old < length image.now }
+    ensures small { result ≡ 102 → length saved.old < length image.now }
     ensures status { result ≤ 102 }
 {
     match run_in_room(alloc, image, clients, input, output.len()) {
@@ -85,8 +83,7 @@ fn run_in_room(
         it.0.reports.items it.0.ended) }
     ensures reports { IfOk result (λ it. HasReportsOf (map (λ c. c.bytes.now) clients.now)
         it.0.reports.items it.0.ended) }
-    ensures room { IfOk result (λ it. AreUnshared (map (λ c. c.bytes.now) clients.now) →
-        length (printed it.1) ≤ room) }
+    ensures room { IfOk result (λ it. length (printed it.1) ≤ room) }
     ensures refused { IfErr result (IsRefusedFor image.now
         (map (λ c. c.bytes.now) clients.now) (length image.now) 0 []) }
 {

@@ -10,22 +10,23 @@ use Rattle.seg_spec.specs.Index.{Root}
 use Rattle.seg_spec.specs.Frozen.{Frozen, root_of_frozen, blocks_by}
 use Rattle.seg_spec.specs.Sound.{Picture, frozen_roots, roots_of, HoldsRoots, IsLaidOut, IsHeld, times}
 use Rattle.seg_spec.specs.Roots.{Listed, by_name, by_type, loose, roots_in, roots_before, with_roots, item_of, with_item, KeepsPaths, KeepsPathsBeside, StretchesComeApart}
-use Rattle.seg_spec.specs.Shared.{names_in, names_each, times_named, IsBelow, IsCounted, IsFalling, left}
+use Rattle.seg_spec.specs.Shared.{names_in, names_each, times_named, IsBelow, IsCounted, IsFalling, left, raised_by}
 use Rattle.seg_spec.specs.Destroying.{HoldFrozen}
 use Rattle.seg_spec.specs.Clearing.{SharedBeside, ClearsPlace}
-use Rattle.seg_spec.specs.Counting.{cells_in, owners_in, AreCounted, without_cells}
+use Rattle.seg_spec.specs.Counting.{cells_in, owners_in, AreCounted}
 use Rattle.seg_spec.proofs.Frame.{each_left, each_right}
 use Rattle.seg_spec.proofs.LiveLaws.{times-append, each_there}
 use Rattle.seg_spec.proofs.LooseRoots.{each_joined}
 use Rattle.seg_spec.proofs.SharedLaws.{named-append, counted_again}
 use Rattle.seg_spec.proofs.Releasing.{none_gone}
+use Rattle.seg_spec.proofs.SharedCounts.{shared_counts}
 use Rattle.seg_spec.proofs.Lowering.{positions_of}
 use Rattle.seg_spec.proofs.CountedPictures.{counted_by, falling_left, cells_append, counted_apart, roots_held, owners_first, OwnerBeside, owner_beside}
 use Rattle.seg_spec.proofs.RootLaws.{roots_come_apart, HoldsRoots-split, IsLaidOut-kept, IsLaidOut-faced, table_kept}
 use Rattle.seg_spec.proofs.Writing.{faced}
-use Rattle.seg_spec.proofs.MoveLaw.{HoldsRoots_blocks-one, stretches, beside_kept, paths_beside, moved_after}
+use Rattle.seg_spec.proofs.MoveLaw.{moves, HoldsRoots_blocks-one, stretches, beside_kept, paths_beside, moved_after}
 use Rattle.seg_spec.proofs.RootPaths.{roots_paths}
-use Rattle.seg_spec.proofs.OwnerGone.{laid_out_without}
+use Rattle.seg_spec.proofs.OwnerGone.{laid_out_with}
 
 -- ---- the owners around some roots of one list
 
@@ -237,23 +238,39 @@ module _ (root : Root) (j : ℕ) (item : Value) (item_is : nth root.values j ≡
         (names_then (names_joined root_names (names_same {xs = cells_in (before ++ after)} refl)) (names_same (append_assoc (names_in v) beside_part (cells_in (before ++ after)))))
         (counted_apart next picture before root after split c)
 
+    -- the cells around the part, with those in its new value
+    cells_then : (w : Value) (other : Picture) → owners_in other ≡ before ++ with_item root j (with_value_at path w) ∷ after → SameNames (names_in w ++ kept_cells) (cells_in (owners_in other))
+    unfolding kept_cells
+    cells_then w other owners =
+        let later = with_item root j (with_value_at path w) in
+        let rest = cells_in (before ++ after) in
+        names_then (names_same (sym (append_assoc (names_in w) beside_part rest)))
+        (names_then (names_joined (root_names_then w) (names_same (cells_append before after)))
+        (names_then (names_first (names_each later.values) (cells_in before) (cells_in after)) (names_same (sym (ap cells_in owners ∙ cells_append before (later ∷ after))))))
+
     -- where the part gives up cells with these names, and is another value then
     pub counted_then : (gone : List Place) (w : Value) → SameNames (names_in v) (gone ++ names_in w) → (other : Picture) → owners_in other ≡ before ++ with_item root j (with_value_at path w) ∷ after
         → other.frozen ≡ left gone picture.frozen → AreCounted next other
     unfolding kept_cells
     counted_then gone w same other owners frozen =
-        let later = with_item root j (with_value_at path w) in
-        let rest = cells_in (before ++ after) in
         let apart = names_counted next picture.frozen
         (names_then (names_joined same (names_same {xs = kept_cells} refl)) (names_same (append_assoc gone (names_in w) kept_cells))) counted_part in
         let fewer = counted_again next gone (names_in w ++ kept_cells) picture.frozen c.falling apart in
-        let cells : SameNames (names_in w ++ kept_cells) (cells_in (owners_in other)) =
-        names_then (names_same (sym (append_assoc (names_in w) beside_part rest)))
-        (names_then (names_joined (root_names_then w) (names_same (cells_append before after)))
-        (names_then (names_first (names_each later.values) (cells_in before) (cells_in after)) (names_same (sym (ap cells_in owners ∙ cells_append before (later ∷ after)))))) in
+        let cells = cells_then w other owners in
         record {
           counted = subst (λ fs. IsCounted next fs (cells_in (owners_in other))) (sym frozen) (names_counted next (left gone picture.frozen) cells fewer);
           falling = subst IsFalling (sym frozen) (falling_left gone picture.frozen c.falling);
+        }
+
+    -- where the part is another value, whose cells name objects that are there: they were counted, and what it named was released
+    pub counted_shared : (w : Value) → AllByRecursion (IsBelow next picture.frozen) (names_in w) → (other : Picture) → owners_in other ≡ before ++ with_item root j (with_value_at path w) ∷ after
+        → other.frozen ≡ left (names_in v) (raised_by (names_in w) picture.frozen) → AreCounted next other
+    counted_shared w below other owners frozen =
+        let final = left (names_in v) (raised_by (names_in w) picture.frozen) in
+        let r = shared_counts next v w kept_cells picture.frozen c.falling counted_part below in
+        record {
+          counted = subst (λ fs. IsCounted next fs (cells_in (owners_in other))) (sym frozen) (names_counted next final (cells_then w other owners) r.1);
+          falling = subst IsFalling (sym frozen) r.0;
         }
 
     -- where it names what it named
@@ -283,17 +300,17 @@ module _ (root : Root) (j : ℕ) (item : Value) (item_is : nth root.values j ≡
             };
           }
 
--- ---- a call on a place that gives up cells, with the frozen objects that go with them
+-- ---- a call on a place that gives up cells, or names other objects, with what is left of the frozen objects
 
 module _ (bytes new : List ℕ) (picture : Picture) (held : IsHeld bytes picture) (which : Listed) (before : List Root) (root : Root) (after : List Root) (among : roots_in picture which ≡ before ++ root ∷ after)
     (j : ℕ) (within : j < count root.values) (path : List Selector) (q : Place) (leads : Leads bytes picture.table (item_of picture.table root j) path q)
-    (v w : Value) (olds news : List ℕ) (was : Holds bytes picture.table q v olds) (theirs : ℕ → List ℕ) (gone : List Place) (holds : HoldFrozen bytes picture.table theirs picture.frozen)
-    (c : ClearsPlace bytes new picture.table q w olds news theirs picture.frozen (left gone picture.frozen)) where
+    (v w : Value) (olds news : List ℕ) (was : Holds bytes picture.table q v olds) (theirs : ℕ → List ℕ) (final : List Frozen) (holds : HoldFrozen bytes picture.table theirs picture.frozen)
+    (c : ClearsPlace bytes new picture.table q w olds news theirs picture.frozen final) where
   abbrev item_then : Root
   item_then = with_item root j (with_value_at path w)
 
   abbrev pub picture_then : Picture
-  picture_then = without_cells gone (with_roots picture which (before ++ item_then ∷ after))
+  picture_then = record (with_roots picture which (before ++ item_then ∷ after)) { frozen = final }
 
   abbrev front : List Root
   front = roots_before picture which before
@@ -304,9 +321,8 @@ module _ (bytes new : List ℕ) (picture : Picture) (held : IsHeld bytes picture
   roots_now : roots_of picture ≡ front ++ (root ∷ (back ++ (frozen_roots picture ++ [])))
   roots_now = owners_first picture front root back (owners_are picture which before (root ∷ []) after among)
 
-  roots_then : roots_of picture_then ≡ front ++ (item_then ∷ (back ++ (map root_of_frozen (left gone picture.frozen) ++ [])))
+  roots_then : roots_of picture_then ≡ front ++ (item_then ∷ (back ++ (map root_of_frozen final ++ [])))
   roots_then = owners_first picture_then front item_then back (same_owners ∙ owners_with picture which before (item_then ∷ []) after)
-      ∙ ap (λ fs. front ++ (item_then ∷ (back ++ (map root_of_frozen (left gone fs) ++ [])))) (same_frozen picture which (before ++ item_then ∷ after))
     where
       same_owners : owners_in picture_then ≡ owners_in (with_roots picture which (before ++ item_then ∷ after))
       same_owners = refl
@@ -315,23 +331,23 @@ module _ (bytes new : List ℕ) (picture : Picture) (held : IsHeld bytes picture
   goes = roots_held bytes picture.table theirs picture.frozen holds
 
   abbrev apart : StretchesComeApart bytes picture held front (root ∷ []) back (frozen_roots picture) []
-  apart = stretches bytes new picture held front back (frozen_roots picture) [] root j path q v w olds news (blocks_by theirs picture.frozen) (blocks_by theirs (left gone picture.frozen)) within leads was goes c.changes roots_now
+  apart = stretches bytes new picture held front back (frozen_roots picture) [] root j path q v w olds news (blocks_by theirs picture.frozen) (blocks_by theirs final) within leads was goes (moves c.changes) roots_now
 
   kept : (h : ℕ) → 1 ≤ times h held.index_blocks + times h apart.around → KeepsBlock bytes new h
-  kept = beside_kept bytes new picture held front back (frozen_roots picture) [] root j path q v w olds news (blocks_by theirs picture.frozen) (blocks_by theirs (left gone picture.frozen)) within leads was goes c.changes roots_now
+  kept = beside_kept bytes new picture held front back (frozen_roots picture) [] root j path q v w olds news (blocks_by theirs picture.frozen) (blocks_by theirs final) within leads was goes (moves c.changes) roots_now
 
   laid_out_then : IsLaidOut new picture_then held.index_blocks
   laid_out_then =
-      laid_out_without new (with_roots picture which (before ++ item_then ∷ after)) held.index_blocks gone
+      laid_out_with new (with_roots picture which (before ++ item_then ∷ after)) held.index_blocks final
       (IsLaidOut-faced new picture held.index_blocks which before root item_then after among (faced root j (with_value_at path w))
       (IsLaidOut-kept bytes new picture held.index_blocks held.laid_out c.changes.length_kept c.changes.front_kept c.changes.back_kept c.changes.heap c.changes.ownable
       (each_there (KeepsBlock bytes new) held.index_blocks (λ h some. kept h (omega arith)))))
 
   pub part_cleared : IsHeld new picture_then
   part_cleared =
-      moved_after bytes new picture picture_then held front back (frozen_roots picture) (map root_of_frozen (left gone picture.frozen)) [] root j path q v w olds news
-      (blocks_by theirs picture.frozen) (blocks_by theirs (left gone picture.frozen)) within
-      leads was goes c.changes (roots_held new picture.table theirs (left gone picture.frozen) c.holds) (table_kept picture which (before ++ item_then ∷ after)) laid_out_then roots_now roots_then
+      moved_after bytes new picture picture_then held front back (frozen_roots picture) (map root_of_frozen final) [] root j path q v w olds news
+      (blocks_by theirs picture.frozen) (blocks_by theirs final) within
+      leads was goes (moves c.changes) (roots_held new picture.table theirs final c.holds) (table_kept picture which (before ++ item_then ∷ after)) laid_out_then roots_now roots_then
 
   -- the other owners lie in blocks that are kept
   record OthersKept : Type 0 where
@@ -366,7 +382,7 @@ module _ (bytes new : List ℕ) (picture : Picture) (held : IsHeld bytes picture
   cleared_paths =
       let o = others_kept in
       let valid = held.laid_out.is_table in (
-        paths_beside bytes new picture held front back (frozen_roots picture) [] root j path q v w olds news (blocks_by theirs picture.frozen) (blocks_by theirs (left gone picture.frozen)) within leads was goes c.changes roots_now,
+        paths_beside bytes new picture held front back (frozen_roots picture) [] root j path q v w olds news (blocks_by theirs picture.frozen) (blocks_by theirs final) within leads was goes (moves c.changes) roots_now,
         each_root front back
             (roots_paths bytes new picture.table valid o.holds_front (each_there (KeepsBlock bytes new) o.fronts (λ h some. kept h (omega (arith, o.are_around h)))))
             (roots_paths bytes new picture.table valid o.holds_back (each_there (KeepsBlock bytes new) o.backs (λ h some. kept h (omega (arith, o.are_around h))))),

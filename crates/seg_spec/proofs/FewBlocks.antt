@@ -8,12 +8,13 @@ use Rattle.seg_spec.proofs.LiveLaws.{times-append, times-same, times-other}
 
 -- ---- a list has no more elements than one that has each as often
 
-record SplitAt (h : ℕ) (ys : List ℕ) : Type 0 where
-  left : List ℕ
-  right : List ℕ
-  is : ys ≡ left ++ h ∷ right
+-- a list around a block that stands in it
+pub record SplitAt (h : ℕ) (ys : List ℕ) : Type 0 where
+  pub left : List ℕ
+  pub right : List ℕ
+  pub is : ys ≡ left ++ h ∷ right
 
-split_at : (h : ℕ) (ys : List ℕ) → 1 ≤ times h ys → SplitAt h ys
+pub split_at : (h : ℕ) (ys : List ℕ) → 1 ≤ times h ys → SplitAt h ys
 split_at h [] l = absurd (omega arith)
 split_at h (y ∷ ys) l = go (cases_eq y h) (λ m. split_at h ys m)
   where

@@ -92,5 +92,8 @@ pub mod CountedParts
 pub mod Sharing
 pub mod Raising
 pub mod Unfolding
+pub mod FreshMeaning
 pub mod OneMoreFrozen
 pub mod SharedCounts
+pub mod CellsBounded
+pub mod FreezeLaw

@@ -53,9 +53,9 @@ module _ (allocator : ℕ) (old new : List ℕ) (table : Table) (its : List ℕ)
           ownable_linked old new table h (others_linked h was (omega (arith, times-append h its (blocks_by theirs frozen)))) (live_at (IsOwnable old table) (live old) h ownable was)
       one h some (suc n) there_is = d.ownable h (omega arith)
 
--- a picture is laid out as it was where fewer of its frozen objects are left
-pub laid_out_without : (bytes : List ℕ) (picture : Picture) (index_blocks : List ℕ) (gone : List Place) → IsLaidOut bytes picture index_blocks → IsLaidOut bytes (without_cells gone picture) index_blocks
-laid_out_without bytes picture index_blocks gone l = record {
+-- a picture is laid out as it was where it has other frozen objects
+pub laid_out_with : (bytes : List ℕ) (picture : Picture) (index_blocks : List ℕ) (frozen : List Frozen) → IsLaidOut bytes picture index_blocks → IsLaidOut bytes (record picture { frozen = frozen }) index_blocks
+laid_out_with bytes picture index_blocks frozen l = record {
   header = l.header;
   types = l.types;
   is_table = l.is_table;
@@ -66,6 +66,10 @@ laid_out_without bytes picture index_blocks gone l = record {
   uniques = l.uniques;
   plain = l.plain;
 }
+
+-- so it is where fewer of them are left
+pub laid_out_without : (bytes : List ℕ) (picture : Picture) (index_blocks : List ℕ) (gone : List Place) → IsLaidOut bytes picture index_blocks → IsLaidOut bytes (without_cells gone picture) index_blocks
+laid_out_without bytes picture index_blocks gone l = laid_out_with bytes picture index_blocks (left gone picture.frozen) l
 
 -- the roots without one, and with what is left of the frozen objects
 pub owners_left : (other : Picture) (before after : List Root) (gone : List Place) (fs : List Frozen) → owners_in other ≡ before ++ after → other.frozen ≡ fs

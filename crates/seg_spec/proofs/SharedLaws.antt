@@ -184,7 +184,7 @@ later_whole : (f : Frozen) (fs gs : List Frozen) → AllByRecursion (λ (g : Fro
 later_whole f fs [] a = tt
 later_whole f fs (g ∷ gs) a = (each_weaker (IsBelow g.number fs) (IsBelow g.number (f ∷ fs)) (λ q h. inr h) (names_in g.value) a.0, later_whole f fs gs a.1)
 
-falls_among : (fs : List Frozen) → NamesLater fs → AllByRecursion (λ (f : Frozen). AllByRecursion (IsBelow f.number fs) (names_in f.value)) fs
+pub falls_among : (fs : List Frozen) → NamesLater fs → AllByRecursion (λ (f : Frozen). AllByRecursion (IsBelow f.number fs) (names_in f.value)) fs
 unfolding NamesLater
 falls_among [] l = tt
 falls_among (f ∷ fs) l = (each_weaker (IsBelow f.number fs) (IsBelow f.number (f ∷ fs)) (λ q h. inr h) (names_in f.value) l.0, later_whole f fs fs (falls_among fs l.1))

@@ -29,7 +29,7 @@ raised_at : (P : ℕ → Type 0) (f : Frozen) (b : Bool) → P f.at → P (cond 
 raised_at P f true h = h
 raised_at P f false h = h
 
-distinct_raised : (p : ℕ) (fs : List Frozen) → AreDistinct fs → AreDistinct (raised p fs)
+pub distinct_raised : (p : ℕ) (fs : List Frozen) → AreDistinct fs → AreDistinct (raised p fs)
 distinct_raised p [] d = tt
 distinct_raised p (f ∷ fs) d =
     (raised_at (λ at. AllByRecursion (λ (g : Frozen). g.at ≢ at) (raised p fs)) f (eqb f.at p) (raised_each (λ (g : Frozen). g.at ≢ f.at) (λ g n h. h) p fs d.0), distinct_raised p fs d.1)

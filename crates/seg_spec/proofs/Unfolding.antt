@@ -42,10 +42,10 @@ pub record Found (n : ℕ) (fs : List Frozen) (q : Place) : Type 0 where
   pub value_is : value_at_position fs q.at ≡ Some object.value
   pub names : AllByRecursion (IsBelow object.number fs) (names_in object.value)
 
-found_here : (f : Frozen) (fs : List Frozen) (p : ℕ) → f.at ≡ p → value_at_position (f ∷ fs) p ≡ Some f.value
+pub found_here : (f : Frozen) (fs : List Frozen) (p : ℕ) → f.at ≡ p → value_at_position (f ∷ fs) p ≡ Some f.value
 found_here f fs p e = ap (λ b. cond b (Some f.value) (value_at_position fs p)) (let same : eqb f.at p ≡ true = grind (arith, nat_tests) in same)
 
-found_after : (f : Frozen) (fs : List Frozen) (p : ℕ) → f.at ≢ p → value_at_position (f ∷ fs) p ≡ value_at_position fs p
+pub found_after : (f : Frozen) (fs : List Frozen) (p : ℕ) → f.at ≢ p → value_at_position (f ∷ fs) p ≡ value_at_position fs p
 found_after f fs p e = ap (λ b. cond b (Some f.value) (value_at_position fs p)) (let other : eqb f.at p ≡ false = grind (arith, nat_tests) in other)
 
 found_in : (n : ℕ) (all fs : List Frozen) (q : Place) → AreDistinct fs → AllByRecursion (λ (f : Frozen). AllByRecursion (IsBelow f.number all) (names_in f.value)) fs → IsBelow n fs q
@@ -77,6 +77,21 @@ module _ (fs : List Frozen) (distinct : AreDistinct fs) (falling : AllByRecursio
       let trees = same_tree (meaning n fs) (meaning m fs) f.object.value inside in
       ap (owner_by (λ v. replaced (meaning n fs) v)) f.value_is ∙ ap Full trees ∙ sym (ap (owner_by (λ v. replaced (meaning m fs) v)) f.value_is)
 
+-- ---- objects that are among others, with the same values, read as there
+
+module _ (fs gs : List Frozen) (distinct : AreDistinct gs) (falling : AllByRecursion (λ (g : Frozen). AllByRecursion (IsBelow g.number gs) (names_in g.value)) gs)
+    (same_value : (n : ℕ) (q : Place) → IsBelow n gs q → value_at_position gs q.at ≡ value_at_position fs q.at) where
+  pub means_among : (n : ℕ) (q : Place) → IsBelow n gs q → meaning n gs q.at ≡ meaning n fs q.at
+  unfolding meaning
+  means_among zero q h = refl
+  means_among (suc n) q h =
+      let g = found (suc n) gs q distinct falling h in
+      let below = each_weaker (IsBelow g.object.number gs) (IsBelow n gs) (λ r k. wider g.object.number n gs r (let less = g.less in omega arith) k) (names_in g.object.value) g.names in
+      let inside = each_weaker (IsBelow n gs) (λ (r : Place). meaning n gs r.at ≡ meaning n fs r.at) (λ r k. means_among n r k) (names_in g.object.value) below in
+      let trees = same_tree (meaning n gs) (meaning n fs) g.object.value inside in
+      let there : value_at_position fs q.at ≡ Some g.object.value = sym (same_value (suc n) q h) ∙ g.value_is in
+      ap (owner_by (λ v. replaced (meaning n gs) v)) g.value_is ∙ ap Full trees ∙ sym (ap (owner_by (λ v. replaced (meaning n fs) v)) there)
+
 -- ---- what is left reads as before
 
 left_value : (n : ℕ) (gone : List Place) (fs : List Frozen) (q : Place) → AreDistinct fs → IsBelow n (left gone fs) q → value_at_position (left gone fs) q.at ≡ value_at_position fs q.at
@@ -101,16 +116,7 @@ left_value n gone (f ∷ fs) q d h = go (f.count - times_named f.at gone) (left_
 module _ (gone : List Place) (fs : List Frozen) (distinct : AreDistinct fs) (left_distinct : AreDistinct (left gone fs))
     (left_falling : AllByRecursion (λ (f : Frozen). AllByRecursion (IsBelow f.number (left gone fs)) (names_in f.value)) (left gone fs)) where
   pub means_the_same : (n : ℕ) (q : Place) → IsBelow n (left gone fs) q → meaning n (left gone fs) q.at ≡ meaning n fs q.at
-  unfolding meaning
-  means_the_same zero q h = refl
-  means_the_same (suc n) q h =
-      let f = found (suc n) (left gone fs) q left_distinct left_falling h in
-      let below = each_weaker (IsBelow f.object.number (left gone fs)) (IsBelow n (left gone fs)) (λ r k. wider f.object.number n (left gone fs) r (let less = f.less in omega arith) k)
-      (names_in f.object.value) f.names in
-      let inside = each_weaker (IsBelow n (left gone fs)) (λ (r : Place). meaning n (left gone fs) r.at ≡ meaning n fs r.at) (λ r k. means_the_same n r k) (names_in f.object.value) below in
-      let trees = same_tree (meaning n (left gone fs)) (meaning n fs) f.object.value inside in
-      let there : value_at_position fs q.at ≡ Some f.object.value = sym (left_value (suc n) gone fs q distinct h) ∙ f.value_is in
-      ap (owner_by (λ v. replaced (meaning n (left gone fs)) v)) f.value_is ∙ ap Full trees ∙ sym (ap (owner_by (λ v. replaced (meaning n fs) v)) there)
+  means_the_same n q h = means_among fs (left gone fs) left_distinct left_falling (λ k r b. left_value k gone fs r distinct b) n q h
 
   pub reads_the_same : (n : ℕ) (v : Value) → AllByRecursion (IsBelow n (left gone fs)) (names_in v) → unfolded n (left gone fs) v ≡ unfolded n fs v
   reads_the_same n v named =

@@ -69,6 +69,7 @@ impl<F: Fit, A: Allocator> Heap<F, A> {
     pub fn freeze(&mut self, cell: Place, object: u32) -> Result<(), Code>
         ensures window { KeepsHost self.old.window self.new.window }
         ensures types { self.new.types ≡ self.old.types }
+        ensures next { suc (word self.old.window.bytes next_word) ≤ 2 ^ 32 }
         ensures used_up { suc (word self.old.window.bytes next_word) ≡ 2 ^ 32 →
             (result ≡ Err Code.NumbersUsedUp) × (self.new.window ≡ self.old.window) }
         ensures code { suc (word self.old.window.bytes next_word) < 2 ^ 32 →

@@ -165,8 +165,7 @@ kept_row : (i : Instruction) (s t : State) (host : List ℕ) (n : ℕ) → outco
     → ChangesBlocks increment.constants i before.pictured success start
     → Row i (situation s start host n) (situation t start (again host start) (n + 1))
 kept_row i s t host n row before after blocks = record {
-  room = true;
-  row = row;
+  row = inl (true, row);
   before = before;
   after = after;
   blocks = blocks;
@@ -221,8 +220,7 @@ module _ (h : List ℕ) where
   stores : Row (at Operation.Store 0 0 1 (pos 0)) (situation added start h4 4) (situation (more []) image h5 5)
   unfolding effect
   stores = record {
-    room = true;
-    row = refl;
+    row = inl (true, refl);
     before = pictured added.registers tt;
     after = pictured_then [];
     blocks = record { asks = []; asked = refl; gives = []; returned = refl; blocks = live start; granted = refl; left = same_live };
@@ -234,8 +232,7 @@ module _ (h : List ℕ) where
   prints : Row (at Operation.OutInt 0 1 0 (pos 0)) (situation (more []) image h5 5) (situation (more (codes "42\n")) image h6 6)
   unfolding effect digits
   prints = record {
-    room = true;
-    row = refl;
+    row = inl (true, refl);
     before = pictured_then [];
     after = pictured_then (codes "42\n");
     blocks = record { asks = []; asked = refl; gives = []; returned = refl; blocks = live image; granted = refl; left = refl };

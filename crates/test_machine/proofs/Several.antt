@@ -1,4 +1,4 @@
--- Several clients, one after the other: each stays within its bound where they leave frozen objects alone, and the image after the last is one again.
+-- Several clients, one after the other: each stays within its bound, and the image after the last is one again.
 use Rattle.std.proofs.Common.{◌≡◌, ◌≢◌, ℕ, ◌≤◌, List, [], ◌∷◌, sym, ap, ◌∙◌, subst}
 use Rattle.seg_spec.specs.Types.{Table, Agree, longer}
 use Rattle.seg_spec.specs.Bytes.{word}
@@ -10,8 +10,7 @@ use Rattle.client_spec.specs.Syntax.{Client}
 use Rattle.client_spec.specs.Grammar.{SpellsClient}
 use Rattle.client_spec.specs.Run.{Ending, finished, stopped, stuck, bound}
 use Rattle.client_spec.specs.OnImages.{Given, Left, RunsClient}
-use Rattle.client_spec.specs.Safe.{IsUnshared}
-use Rattle.client_spec.specs.Clients.{IsVerified, AreAccepted, AreUnshared, given_next, GoesOn, RunClients, image_after, StayWithin}
+use Rattle.client_spec.specs.Clients.{IsVerified, AreAccepted, given_next, GoesOn, RunClients, image_after, StayWithin}
 use Rattle.test_machine.proofs.Simulated.{run_of_states, client_within_bound}
 use Rattle.test_machine.proofs.Stopped.{run_writes}
 
@@ -24,24 +23,24 @@ table_left client given left table picture held is runs =
     runs.is_left.types ∙ (run_writes client.constants client.code runs.first.state runs.last.state left.steps left.ending run).types ∙ runs.is_first.types ∙ ap (λ t. longer t client.types) same
 
 one_within : (client : Client) (given : Given) (left : Left) (text : List ℕ) (table : Table) (picture : Picture) → IsHeld given.image picture → picture.table ≡ table → SpellsClient text client
-    → IsVerified table client → IsUnshared client → RunsClient client given left
+    → IsVerified table client → RunsClient client given left
     → (left.steps ≤ bound client.code) × (left.ending ≢ stuck)
-one_within client given left text table picture held is spells verified alone runs =
+one_within client given left text table picture held is spells verified runs =
     let same : runs.is_first.picture.table ≡ table = (Held-one given.image runs.is_first.picture picture runs.is_first.held held).table ∙ is in
-    client_within_bound client given left spells.valid alone runs (subst (λ t. Agree t client.types) (sym same) verified.agree)
+    client_within_bound client given left spells.valid verified.typed runs (subst (λ t. Agree t client.types) (sym same) verified.agree)
 
 pub all_within : (table : Table) (texts : List (List ℕ)) (clients : List Client) (given : Given) (lefts : List Left) (picture : Picture) → IsHeld given.image picture → picture.table ≡ table
-    → AreAccepted table texts clients → AreUnshared texts → RunClients clients given lefts → StayWithin clients lefts
-all_within table [] [] given [] picture held is a u r = tt
-all_within table [] [] given (left ∷ lefts) picture held is a u r = absurd r
-all_within table [] (client ∷ clients) given lefts picture held is a u r = absurd a
-all_within table (text ∷ texts) [] given lefts picture held is a u r = absurd a
-all_within table (text ∷ texts) (client ∷ clients) given [] picture held is a u r = tt
-all_within table (text ∷ texts) (client ∷ clients) given (left ∷ lefts) picture held is a u r =
-    let one = one_within client given left text table picture held is a.0 a.1 (u.0 client a.0) r.0 in
+    → AreAccepted table texts clients → RunClients clients given lefts → StayWithin clients lefts
+all_within table [] [] given [] picture held is a r = tt
+all_within table [] [] given (left ∷ lefts) picture held is a r = absurd r
+all_within table [] (client ∷ clients) given lefts picture held is a r = absurd a
+all_within table (text ∷ texts) [] given lefts picture held is a r = absurd a
+all_within table (text ∷ texts) (client ∷ clients) given [] picture held is a r = tt
+all_within table (text ∷ texts) (client ∷ clients) given (left ∷ lefts) picture held is a r =
+    let one = one_within client given left text table picture held is a.0 a.1 r.0 in
     let next = r.0.is_left.picture in
     let table_is = table_left client given left table picture held is r.0 in
-    (one.0, one.1, rest left.ending r.1 (all_within (longer table client.types) texts clients (given_next given left) lefts next r.0.is_left.held table_is a.2 u.1))
+    (one.0, one.1, rest left.ending r.1 (all_within (longer table client.types) texts clients (given_next given left) lefts next r.0.is_left.held table_is a.2))
   where
     none : (ls : List Left) → ls ≡ [] → StayWithin clients ls
     none [] e = tt

@@ -9,9 +9,9 @@ use Rattle.client_spec.specs.Answer.{Answer, success, is_zero, already_exists, b
 use Rattle.client_spec.specs.Grammar.{IsClient}
 use Rattle.client_spec.specs.Run.{Ending, stuck, Way, Nothing, Then, OneStep, picked, Performs, Loops, Run, RunOne, bound}
 use Rattle.client_spec.specs.Plain.{plain_machine}
-use Rattle.client_spec.specs.Safe.{IsUnshared}
-use Rattle.client_spec.specs.OnImages.{Move, Situation, TickOn, image_machine, Given, Left, RunsClient}
-use Rattle.client_spec.proofs.Keeping.{never_wrong_beside}
+use Rattle.client_spec.specs.Safe.{IsAccepted}
+use Rattle.client_spec.specs.OnImages.{Move, Situation, RowWith, TickOn, image_machine, Given, Left, RunsClient}
+use Rattle.client_spec.proofs.Keeping.{never_wrong}
 use Rattle.client_spec.proofs.PicturedTrees.{begins_first, pictures_trees}
 
 pub record Maps (way : Way Situation) (plain : Way State) : Type 0 where
@@ -42,11 +42,15 @@ module _ (constants : List Constant) (others : List Root) (moves : List Move) wh
   picked_maps a b c d f g null_or_none = g
   picked_maps a b c d f g numbers_used_up = g
 
+  row_alone : (i : Instruction) (bytes : List ℕ) (s : State) (answer : Answer) (s' : State) → RowWith constants i bytes s answer s' → (plain_machine constants).row i s answer s'
+  row_alone i bytes s answer s' (inl r) = inl r
+  row_alone i bytes s answer s' (inr u) = inr u.0
+
   performs_maps : (i : Instruction) (a b : Way Situation) (c d : Way State) → Maps a c → Maps b d → Maps (Performs Situation (image_machine constants others moves) i a b) (Performs State (plain_machine constants) i c d)
   performs_maps i a b c d f g = record { each = λ x y n end w. by x y n end w }
     where
       by : (x y : Situation) (n : ℕ) (end : Ending) → Performs Situation (image_machine constants others moves) i a b x y n end → Performs State (plain_machine constants) i c d x.state y.state n end
-      by x y n end (inl w) = inl (w.0, w.1.state, w.2, inl (w.3.room, w.3.row), (picked_maps a b c d f g w.0).each _ _ _ _ w.4, w.5)
+      by x y n end (inl w) = inl (w.0, w.1.state, w.2, row_alone i x.image x.state w.0 w.1.state w.3.row, (picked_maps a b c d f g w.0).each _ _ _ _ w.4, w.5)
       by x y n end (inr (inl w)) = inr (inl (w.0.cut, w.1, w.2))
       by x y n end (inr (inr w)) = absurd w.0
 
@@ -81,9 +85,9 @@ pub run_of_states : (constants : List Constant) (others : List Root) (moves : Li
     → Run Situation (image_machine constants others moves) code x y n end → Run State (plain_machine constants) code x.state y.state n end
 run_of_states constants others moves code x y n end w = (run_maps constants others moves code).each x y n end w
 
-pub client_within_bound : (client : Client) (given : Given) (left : Left) → IsClient client → IsUnshared client → (runs : RunsClient client given left)
+pub client_within_bound : (client : Client) (given : Given) (left : Left) → IsClient client → IsAccepted client → (runs : RunsClient client given left)
     → Agree runs.is_first.picture.table client.types → (left.steps ≤ bound client.code) × (left.ending ≢ stuck)
-client_within_bound client given left valid unshared runs agree =
-    never_wrong_beside client valid unshared runs.first.state runs.last.state left.steps left.ending (begins_first client given runs.first valid runs.is_first agree)
+client_within_bound client given left valid accepted runs agree =
+    never_wrong client valid accepted runs.first.state runs.last.state left.steps left.ending (begins_first client given runs.first valid runs.is_first agree)
     (pictures_trees runs.is_first.pictured).1
     (run_of_states client.constants given.others given.moves client.code runs.first runs.last left.steps left.ending runs.run)

@@ -8,7 +8,7 @@ use Rattle.test_definitions.proofs.OnePicture.{Held-one}
 use Rattle.client_spec.specs.Syntax.{Client}
 use Rattle.client_spec.specs.Grammar.{SpellsClient}
 use Rattle.client_spec.specs.OnImages.{Move, Left}
-use Rattle.client_spec.specs.Clients.{IsVerified, AreAccepted, AreUnshared, AreMoves, table_after, image_after, StayWithin}
+use Rattle.client_spec.specs.Clients.{IsVerified, AreAccepted, AreMoves, table_after, image_after, StayWithin}
 use Rattle.client_spec.specs.Outcome.{given_first, CanRun, IsOutcome, Refusal, IsTurnOf, IsRefusalOf}
 use Rattle.client_spec.proofs.OneClient.{one_client}
 use Rattle.test_machine.proofs.Several.{all_within, held_after}
@@ -17,11 +17,11 @@ bytes_one : (text : List ℕ) (client other : Client) → SpellsClient text clie
 bytes_one text client other h k = one_client client other h.valid k.valid (sym h.spelled ∙ k.spelled)
 
 module _ (image : List ℕ) (texts : List (List ℕ)) (input : List ℕ) (room base : ℕ) (moves : List Move) (lefts : List Left) (o : IsOutcome image texts input room base moves lefts) where
-  pub within_after : AreUnshared texts → StayWithin o.can_run.clients lefts
-  within_after unshared =
+  pub within_after : StayWithin o.can_run.clients lefts
+  within_after =
       let can = o.can_run in
       let picture = can.sound.picture in
-      all_within picture.table texts can.clients (given_first (upgraded image) o.host input base moves) lefts picture (upgraded_held image picture can.sound.held) refl can.accepted unshared o.runs
+      all_within picture.table texts can.clients (given_first (upgraded image) o.host input base moves) lefts picture (upgraded_held image picture can.sound.held) refl can.accepted o.runs
 
   pub sound_after : IsSound (image_after (upgraded image) lefts)
   sound_after =

@@ -7,7 +7,7 @@ ghost use Rattle.client_spec.specs.Text.{text_of};
 ghost use Rattle.client_spec.specs.Run.{finished, stopped, stuck, bound};
 ghost use Rattle.client_spec.specs.Clients.{outputs, image_after, ending_after, table_after, StayWithin, AreMoves, IsFirstBadMove, IsLeftInPlace};
 ghost use Rattle.client_spec.specs.Safe.{IsFront, Writes};
-ghost use Rattle.client_spec.specs.Typed.{Reason, RegisterType, reason_number, types_after, unshared_after};
+ghost use Rattle.client_spec.specs.Typed.{Reason, RegisterType, reason_number, types_after};
 ghost use Rattle.client_spec.specs.Fixtures.{increment, chain, cycle, dangling, lost, retyped, three_turns, counting_down, idle, echo, kill_twice, as_a_text, nested, types, constants, beginning, counted, no_names, RunsTo, left_with, two_runs, given_at_0, move_to};
 ghost use Rattle.seg_spec.specs.Types.{Form};
 
@@ -27,8 +27,6 @@ pub fn the_increment()
         ++ codes "ADD r1 r1 r2\nSTORE r0 r1\nOUTI r1\nELSE\nEND\n" }
     ensures steps { bound increment.code ≡ 6 }
     ensures accepted { types_after increment.types increment.constants increment.code
-        (replicate 16 RegisterType.Undefined) ≡ Ok (replicate 16 RegisterType.Undefined) }
-    ensures unshared { unshared_after increment.types increment.constants increment.code
         (replicate 16 RegisterType.Undefined) ≡ Ok (replicate 16 RegisterType.Undefined) }
 {}
 

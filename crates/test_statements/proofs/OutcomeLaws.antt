@@ -120,7 +120,7 @@ no_client-whole =
     let can_run : CanRun counter [] 2048 0 [] = record { can_move = moves; sound = counter_sound; clients = []; accepted = tt } in
     record {
       can_run = can_run;
-      left = λ unshared. record {
+      left = record {
         lefts = [];
         outcome = record { can_run = can_run; host = replicate 2048 0; host_is = refl; runs = tt };
         within = tt;
@@ -139,7 +139,7 @@ no_lefts table (client ∷ clients) given lefts a r = absurd a
 
 module _ {input : List ℕ} {base : ℕ} {taken taken_then : Option (List ℕ)} {saved : List ℕ} {reports : List Report} {how : Ended} (o : HasOutcome counter [] input 2048 base [] taken taken_then saved reports how) where
   pub left : AreLeftByRuns counter [] input 2048 base [] taken taken_then saved reports how
-  left = o.left tt
+  left = o.left
 
   nothing_left : left.lefts ≡ []
   nothing_left =

@@ -16,8 +16,8 @@ loop-program-init g c empty room = (
   ap length empty,
   omega arith,
   subst (AreReportsOf []) (sym empty) tt,
-  λ works trees accepted unshared ready.
-      let first = begins g.F.Fit.allocator trees (moves_of c.args.moves.now) c.args.input.now c.args.segment.now.window (g.W.Sink.taken c.args.out.now) (texts_of c.args.programs.now) c.args.segment.now.types accepted unshared ready in
+  λ works trees accepted ready.
+      let first = begins g.F.Fit.allocator trees (moves_of c.args.moves.now) c.args.input.now c.args.segment.now.window (g.W.Sink.taken c.args.out.now) (texts_of c.args.programs.now) c.args.segment.now.types accepted ready in
       let its = λ (reports : List Report) (failed : Bool). Midway g.F.Fit.allocator trees (moves_of c.args.moves.now) c.args.input.now c.args.segment.now.window (g.W.Sink.taken c.args.out.now) (texts_of c.args.programs.now) c.args.input.now
       c.args.segment.now.window c.args.segment.now.types (g.W.Sink.taken c.args.out.now) reports failed in
       subst (its c.args.reports.now.items) (sym works) (subst (λ reports. its reports false) (sym empty) first),
@@ -33,7 +33,7 @@ loop-program-preserved g c empty room =
       ran.0,
       (let capacity = h.1 in let more = c.push.ensures.capacity in omega (arith, capacity, more)),
       ran.1,
-      λ works trees accepted unshared ready.
+      λ works trees accepted ready.
           let text : Verified → List ℕ = λ p. bytes_of (client_of p) in
           let k = c.loop-program.program-index in
           let now = c.loop-program.segment in
@@ -51,7 +51,7 @@ loop-program-preserved g c empty room =
           (sym c.failed.ensures ∙ c.if-failed.false)
           (subst (λ ts. Midway g.F.Fit.allocator trees (moves_of c.args.moves.now) c.args.input.now c.args.segment.now.window (g.W.Sink.taken c.args.out.now) ts
           left now.window now.types taken c.loop-program.reports.items (g.W.Sink.has_failed c.loop-program.out))
-          these (h.3 works trees accepted unshared ready)) in
+          these (h.3 works trees accepted ready)) in
           subst (λ rs. Midway g.F.Fit.allocator trees (moves_of c.args.moves.now) c.args.input.now c.args.segment.now.window (g.W.Sink.taken c.args.out.now) texts c.rest-left.result.now
           new.segment.window new.segment.types (g.W.Sink.taken new.out) rs
           (g.W.Sink.has_failed new.out)) (sym pushed)
@@ -74,14 +74,14 @@ returns-after-loop-program-clause-all g c empty room works =
     omega (arith, h.0, far, near)
 
 pub returns-after-loop-program-clause-runs : goal.returns-after-loop-program-clause-runs
-returns-after-loop-program-clause-runs g c empty room works trees accepted unshared ready =
-    let m = (c.loop-program.invariant empty room).3 works trees accepted unshared ready in
+returns-after-loop-program-clause-runs g c empty room works trees accepted ready =
+    let m = (c.loop-program.invariant empty room).3 works trees accepted ready in
     let none : texts_of (drop c.loop-program.program-index c.args.programs.now) ≡ [] = ap texts_of (drop_all c.loop-program.program-index c.args.programs.now c.loop-program-test.false) in
     ends g.F.Fit.allocator trees (moves_of c.args.moves.now) c.args.input.now c.args.segment.now.window (g.W.Sink.taken c.args.out.now) (texts_of (drop c.loop-program.program-index c.args.programs.now)) c.loop-program.left.now
     c.loop-program.segment.window c.loop-program.segment.types (g.W.Sink.taken c.loop-program.out) c.loop-program.reports.items (g.W.Sink.has_failed c.loop-program.out) m none
 
 pub returns-then-failed-clause-runs : goal.returns-then-failed-clause-runs
-returns-then-failed-clause-runs g c empty room works trees accepted unshared ready =
-    let m = (c.loop-program.invariant empty room).3 works trees accepted unshared ready in
+returns-then-failed-clause-runs g c empty room works trees accepted ready =
+    let m = (c.loop-program.invariant empty room).3 works trees accepted ready in
     stops g.F.Fit.allocator trees (moves_of c.args.moves.now) c.args.input.now c.args.segment.now.window (g.W.Sink.taken c.args.out.now) (texts_of (drop c.loop-program.program-index c.args.programs.now)) c.loop-program.left.now
     c.loop-program.segment.window c.loop-program.segment.types (g.W.Sink.taken c.loop-program.out) c.loop-program.reports.items (g.W.Sink.has_failed c.loop-program.out) m (sym c.failed.ensures ∙ c.if-failed.true)

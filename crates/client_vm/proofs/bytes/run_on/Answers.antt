@@ -2,7 +2,7 @@ use Rattle.std.proofs.Common.{ℕ, List, [], map, subst}
 use Rattle.seg_spec.specs.Window.{Placement}
 use Rattle.client_spec.specs.Syntax.{Client}
 use Rattle.client_spec.specs.Run.{Ending}
-use Rattle.client_spec.specs.Clients.{AreAccepted, AreUnshared}
+use Rattle.client_spec.specs.Clients.{AreAccepted}
 use Rattle.client_run.specs.declared.report.Report.{Report}
 use Rattle.client_run.specs.Moves.{moves_of}
 use Rattle.client_run.specs.Runs.{ending_of, IsReady}
@@ -22,7 +22,7 @@ returns-in-Ok-clause-runs g c =
     let before = g.W.Sink.taken c.args.out.now in
     let after = g.W.Sink.taken c.run_opened.new.out in
     let its = λ (w : Placement) (clients : List Client) (saved : List ℕ) (reports : List Report) (ending : Ending).
-    AreAccepted segment.types texts clients → AreUnshared texts → IsReady g.F.Fit.allocator [] w segment.types moves → HaveRun clients moves c.args.input.now w before saved after reports ending in
+    AreAccepted segment.types texts clients → IsReady g.F.Fit.allocator [] w segment.types moves → HaveRun clients moves c.args.input.now w before saved after reports ending in
     both_ok ((clients : List Client) × AreAccepted segment.types texts clients) (λ o. (clients : List Client) → its segment.window clients o.image.items o.reports.items (ending_of o.ended))
     (λ o. HaveRunOn texts moves c.args.input.now c.args.window before o.image.items after o.reports.items (ending_of o.ended)) c.run_opened.result
     (λ o a runs. ran_on texts moves c.args.input.now c.args.window before o.image.items after o.reports.items (ending_of o.ended) segment.types g.F.Fit.allocator c.in-Ok.ensures.image c.in-Ok.ensures.allocator a.0 a.1

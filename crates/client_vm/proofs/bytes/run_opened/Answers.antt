@@ -5,7 +5,7 @@ use Rattle.client_verify.specs.Accepted.{client_of}
 use Rattle.client_verify.specs.declared.verified.Verified.{Verified}
 use Rattle.seg_spec.specs.Window.{Placement}
 use Rattle.client_spec.specs.Run.{Ending}
-use Rattle.client_spec.specs.Clients.{AreAccepted, AreUnshared}
+use Rattle.client_spec.specs.Clients.{AreAccepted}
 use Rattle.client_run.specs.Moves.{moves_of}
 use Rattle.client_vm.specs.Reports.{texts_of, AreReportsOf}
 use Rattle.client_run.specs.Runs.{ending_of}
@@ -30,11 +30,11 @@ returns-clause-reports g c =
     }
 
 pub returns-clause-runs : goal.returns-clause-runs
-returns-clause-runs g c trees accepted unshared ready =
+returns-clause-runs g c trees accepted ready =
     let texts : texts_of c.as_slice.result.now ≡ map (λ x. x.now) c.args.clients.now = ap texts_of c.as_slice.ensures.value ∙ c.in_ok-programs.ensures.texts in
     let few : length c.as_slice.result.now ≡ length c.args.clients.now = sym (length-map c.as_slice.result.now (λ (p : Verified). bytes_of (client_of p))) ∙ ap length texts ∙ length-map c.args.clients.now (λ x. x.now) in
     let room : length c.as_slice.result.now ≤ vec_capacity c.in_ok-reports.reports = (let capacity = c.in_ok-reports.ensures.capacity in omega (arith, capacity, few)) in
-    let ran = c.run_all.ensures.runs c.in_ok-reports.ensures.items room c.requires.works trees (subst (λ ts. AreAccepted c.args.segment.types ts trees) (sym texts) accepted) (subst AreUnshared (sym texts) unshared) ready in
+    let ran = c.run_all.ensures.runs c.in_ok-reports.ensures.items room c.requires.works trees (subst (λ ts. AreAccepted c.args.segment.types ts trees) (sym texts) accepted) ready in
     let bytes : c.run_all.new.segment.window.bytes ≡ c.into_bytes.result.items = sym (c.into_bytes.ensures ∙ ap (λ (w : Placement). w.bytes) c.into_window.ensures) in
     let is : c.failed.result ≡ g.W.Sink.has_failed c.run_all.new.out = c.failed.ensures in
     let ending : ending_if (g.W.Sink.has_failed c.run_all.new.out) ≡ ending_of c.if-failed.ended = ending_failed (g.W.Sink.has_failed c.run_all.new.out) c.if-failed.ended

@@ -36,12 +36,12 @@ returns-then-replace-clause-outcome c ended is =
     }
 
 pub returns-in-Ok-clause-small : goal.returns-in-Ok-clause-small
-returns-in-Ok-clause-small c sound unshared is =
+returns-in-Ok-clause-small c sound is =
     let image = c.args.image.now in
     let ran = c.in-Ok.ran in
     let run = c.in-Ok.ensures.outcome sound in
-    let size = saved_size image (c.args.client.now ∷ []) c.args.input.now (length image) 0 [] ran.image.items (ran.told ∷ []) ran.told.ended (Some []) (Some ran.sink.bytes.items) (run.0.left unshared) in
-    let room = run.1 unshared in
+    let size = saved_size image (c.args.client.now ∷ []) c.args.input.now (length image) 0 [] ran.image.items (ran.told ∷ []) ran.told.ended (Some []) (Some ran.sink.bytes.items) run.0.left in
+    let room = run.1 in
     elim c.else-put.branch [
       | else-put-via-then-put+else-replace w ↦ w.replace.ensures.other w.if-replace.false (sym size ∙ sym (ap length w.as_slice.ensures.value))
       | else-put-via-else-put w ↦ (let full = c.put.ensures.full w.if-put.false in let bytes = ap length c.bytes-in-Ok.ensures in omega (arith, full, bytes, room))

@@ -32,12 +32,12 @@ returns-then-put-2-clause-outcome c ended is =
     }
 
 pub returns-in-Ok-clause-small : goal.returns-in-Ok-clause-small
-returns-in-Ok-clause-small c is unshared =
+returns-in-Ok-clause-small c is =
     let image = c.args.image.now in
     let outcome = c.in-Ok.outcome in
     let texts : List (List ℕ) = map (λ it. it.bytes.now) c.args.clients.now in
-    let size = saved_size image texts c.args.input.now (length image) 0 [] outcome.image.items outcome.reports.items outcome.ended (Some []) (Some c.in-Ok.sink.bytes.items) (c.in-Ok.ensures.outcome.left unshared) in
-    let room = c.in-Ok.ensures.room unshared in
+    let size = saved_size image texts c.args.input.now (length image) 0 [] outcome.image.items outcome.reports.items outcome.ended (Some []) (Some c.in-Ok.sink.bytes.items) c.in-Ok.ensures.outcome.left in
+    let room = c.in-Ok.ensures.room in
     elim c.else-put.branch [
       | else-put-via-then-put+else-put-2 w ↦ (let full = w.put-then-put.ensures.full w.if-put-2.false in let bytes = ap length w.as_slice-then-put.ensures.value in omega (arith, full, bytes, size))
       | else-put-via-else-put w ↦ absurd (let full = c.put.ensures.full w.if-put.false in let bytes = ap length c.bytes-in-Ok.ensures in omega (arith, full, bytes, room))
