@@ -1,9 +1,9 @@
 use crate::tests::door::{Host, types_in};
-use crate::tests::runs::{leaves, run_on};
 use lezgauri::{Ended, Fault, Report, Type};
 use lezgauri_uses::new_counter;
 use std::test::Fail;
 use support_data::{COUNT, INCREMENT_FILE, counter, sharing};
+use support_runs::{leaves, run_on};
 
 /// Two runs of one client on an image that stays open: 41 + 1 + 1. Each takes six steps, as `ELSE` and `END` are none.
 #[test]

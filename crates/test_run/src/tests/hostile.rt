@@ -1,8 +1,8 @@
-use crate::tests::runs::{PLAIN, Setting, run_files, verified};
 use seg_layout::TypeTable;
 use std::process::Abort;
 use std::test::Fail;
 use support_data::{INCREMENT_FILE, counter};
+use support_runs::{PLAIN, Setting, run_files, verified};
 
 /// Runs a client, if it is accepted, on the counter's image. It must end within its bound.
 fn ends_within_its_bound(

@@ -1,6 +1,6 @@
 use crate::tests::plays::plays;
-use crate::tests::runs::{KINDS, SEQ_FLAT};
 use std::test::Fail;
+use support_runs::{KINDS, SEQ_FLAT};
 
 /// The least and the greatest number are keys, of both kinds of maps. Prints the first, the next, and the code after the last.
 #[test]

@@ -1,6 +1,5 @@
 //! Calls of which host memory is refused: each answers so, and nothing was written then.
 
-use crate::tests::windows::{opened, window};
 use client_code::{assemble, parse, print};
 use client_vm::{Refused, Schedule, Through, run_bytes};
 use lezgauri::{AllocatorKind, Image, IndexKind, Unopened};
@@ -14,6 +13,7 @@ use std::alloc::Global;
 use std::process::Abort;
 use std::test::Fail;
 use support_data::{INCREMENT, INCREMENT_FILE, Limited, counter, counter_saved};
+use support_runs::{opened, window};
 
 /// What a run within this many bytes of host memory gives: nothing but a refusal for memory before anything is
 /// written, or all.

@@ -1,6 +1,4 @@
-use crate::tests::runs::{KINDS, Kind, run_anew};
 use crate::tests::sizes::MAKE_EACH_KIND;
-use crate::tests::windows::{opened, window};
 use arrayvec::ArrayVec;
 use seg_bestfit::BestFit;
 use seg_block::Fit;
@@ -12,6 +10,7 @@ use std::alloc::Global;
 use std::process::Abort;
 use std::test::Fail;
 use support_data::{front, sharing, write_words};
+use support_runs::{KINDS, Kind, opened, run_anew, window};
 
 /// How a byte is changed: one bit, all bits, every second bit.
 const CHANGES: [u8; 11] = [1, 2, 4, 8, 16, 32, 64, 128, 0xff, 0x55, 0xaa];

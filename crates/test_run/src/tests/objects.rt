@@ -1,6 +1,6 @@
 use crate::tests::plays::plays;
-use crate::tests::runs::{KINDS, SEQ_FLAT};
 use std::test::Fail;
+use support_runs::{KINDS, SEQ_FLAT};
 
 /// Makes x, stores 42 and prints it, or prints why not.
 const MAKE: &str = "type i64

@@ -1,10 +1,6 @@
 //! Where a segment lies in its host's memory, and how it moves.
 
 use crate::tests::containers::{FIVE_TEXTS, PRINT_TEXTS};
-use crate::tests::runs::{
-    KINDS, PLAIN, Ran, SEQ_FLAT, Setting, empty, leaves, outcome_of, run_files, run_in, verified,
-};
-use crate::tests::windows::{opened, placed};
 use client_vm::{Ended, Move, Through, moves_fit, run};
 use seg_manager::Segment;
 use seg_raw::{Fault, Region};
@@ -13,6 +9,7 @@ use std::alloc::Global;
 use std::process::Abort;
 use std::test::Fail;
 use support_data::{INCREMENT_FILE, Limited, chain, counter, counter_saved};
+use support_runs::{KINDS, PLAIN, SEQ_FLAT, Ran, Setting, empty, leaves, opened, outcome_of, placed, run_files, run_in, verified};
 
 /// The bytes of the host, all of them 0xa5 but for the segment.
 const ROOM: u32 = 8192;

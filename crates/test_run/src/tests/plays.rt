@@ -11,12 +11,12 @@
 //!
 //! Each run must end well, and its saved image be sound.
 
-use crate::tests::runs::{Kind, PLAIN, Ran, Setting, client, empty, run_files, statistics_of};
 use client_vm::Ended;
 use seg_manager::IndexKind;
 use std::alloc::Global;
 use std::str;
 use std::test::Fail;
+use support_runs::{PLAIN, Kind, Ran, Setting, client, empty, run_files, statistics_of};
 
 /// Runs what a text says on each kind of segments.
 pub(crate) fn plays(alloc: Global, kinds: &[Kind], text: &str) -> Result<(), Fail> {

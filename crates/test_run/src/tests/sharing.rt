@@ -2,11 +2,6 @@
 //! 1024 bytes has a heap of 320 at 704, in which a number, a cell and a frozen number take 32 bytes each.
 
 use crate::tests::plays::plays;
-use crate::tests::runs::{
-    KINDS, Kind, PLAIN, Ran, SEQ_FLAT, Setting, client, empty, leaves, outcome_of, run_anew,
-    run_in, run_on, verified,
-};
-use crate::tests::windows::window;
 use client_vm::Ended;
 use seg_check::check;
 use seg_layout::TypeTable;
@@ -15,6 +10,7 @@ use std::alloc::Global;
 use std::process::Abort;
 use std::test::Fail;
 use support_data::{NOTICE, PUBLISH, write_words};
+use support_runs::{KINDS, PLAIN, SEQ_FLAT, Kind, Ran, Setting, client, empty, leaves, outcome_of, run_anew, run_in, run_on, verified, window};
 
 /// Freezes a number into a cell, shares it in another, and reads it there after the first cell went.
 const SHARE: &str = "type i64

@@ -1,6 +1,5 @@
 //! Traces, whose lines are worked out by hand from what instructions do.
 
-use crate::tests::runs::{client, created, verified};
 use client_trace::{Untraced, trace};
 use client_vm::Through;
 use seg_manager::IndexKind;
@@ -9,6 +8,7 @@ use std::alloc::Global;
 use std::process::Abort;
 use std::test::Fail;
 use support_data::Limited;
+use support_runs::{client, created, verified};
 
 /// A vector gets a struct, whose field gets the numbers 2 and 1 in a loop; it has no item 1. Then an object comes and goes.
 const STORES: &str = r"type i64

@@ -1,11 +1,11 @@
 //! Clients that share what they keep, and hosts that embed the library.
 
 use crate::tests::plays::plays;
-use crate::tests::runs::{KINDS, client};
 use lezgauri::{Code, Fault, Through};
 use lezgauri_uses::{Cache, Settings, count, new_counter, read_settings, write_settings};
 use std::test::Fail;
 use support_data::{CACHE, CONFIGURE, COUNT, Limited, SETTINGS};
+use support_runs::{KINDS, client};
 
 /// Clients share a counter, from one run of the program to the next.
 #[test]

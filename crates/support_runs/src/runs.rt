@@ -1,4 +1,6 @@
-use crate::tests::windows::window;
+//! Segments of each kind, and runs of clients on them.
+
+use crate::windows::window;
 use client_code::{assemble, parse};
 use client_verify::{Verified, verify};
 use client_vm::{Ended, Move, Refused, Report, Schedule, Through, run_bytes};
@@ -17,35 +19,35 @@ use support_data::Limited;
 
 /// How a segment keeps its free blocks and its names.
 #[derive(Debug, Clone, Copy, PartialEq, Eq)]
-pub(crate) struct Kind {
-    pub(crate) is_best_fit: bool,
-    pub(crate) index: IndexKind,
+pub struct Kind {
+    pub is_best_fit: bool,
+    pub index: IndexKind,
 }
 
-pub(crate) const SEQ_FLAT: Kind = Kind {
+pub const SEQ_FLAT: Kind = Kind {
     is_best_fit: false,
     index: IndexKind::Flat,
 };
 
-pub(crate) const SEQ_TREE: Kind = Kind {
+pub const SEQ_TREE: Kind = Kind {
     is_best_fit: false,
     index: IndexKind::Tree,
 };
 
-pub(crate) const BEST_FLAT: Kind = Kind {
+pub const BEST_FLAT: Kind = Kind {
     is_best_fit: true,
     index: IndexKind::Flat,
 };
 
-pub(crate) const BEST_TREE: Kind = Kind {
+pub const BEST_TREE: Kind = Kind {
     is_best_fit: true,
     index: IndexKind::Tree,
 };
 
-pub(crate) const KINDS: [Kind; 4] = [SEQ_FLAT, SEQ_TREE, BEST_FLAT, BEST_TREE];
+pub const KINDS: [Kind; 4] = [SEQ_FLAT, SEQ_TREE, BEST_FLAT, BEST_TREE];
 
 /// The image of an empty segment.
-pub(crate) fn empty(alloc: Global, size: u32, kind: Kind) -> Result<Vec<u8>, Fail> {
+pub fn empty(alloc: Global, size: u32, kind: Kind) -> Result<Vec<u8>, Fail> {
     if kind.is_best_fit {
         empty_on::<BestFit>(alloc, size, kind.index)
     } else {
@@ -58,7 +60,7 @@ fn empty_on<F: Fit>(alloc: Global, size: u32, index: IndexKind) -> Result<Vec<u8
 }
 
 /// An empty segment.
-pub(crate) fn created<F: Fit>(
+pub fn created<F: Fit>(
     alloc: Global,
     size: u32,
     index: IndexKind,
@@ -71,37 +73,37 @@ pub(crate) fn created<F: Fit>(
 }
 
 /// The file of the client that a text spells.
-pub(crate) fn client(alloc: Global, text: &str) -> Result<Vec<u8>, Fail> {
+pub fn client(alloc: Global, text: &str) -> Result<Vec<u8>, Fail> {
     Ok(assemble(alloc, text.as_bytes())?)
 }
 
 /// The client in a file, if it is accepted on a segment with these types.
-pub(crate) fn verified<'c>(file: &'c [u8], types: &TypeTable) -> Result<Verified<'c>, Fault> {
+pub fn verified<'c>(file: &'c [u8], types: &TypeTable) -> Result<Verified<'c>, Fault> {
     verify(parse(file)?, types)
 }
 
 /// What a run of clients came to.
 #[derive(Drop)]
-pub(crate) struct Ran {
-    pub(crate) out: Vec<u8>,
-    pub(crate) image: Vec<u8>,
-    pub(crate) reports: Vec<Report>,
-    pub(crate) ended: Ended,
+pub struct Ran {
+    pub out: Vec<u8>,
+    pub image: Vec<u8>,
+    pub reports: Vec<Report>,
+    pub ended: Ended,
 }
 
 /// What a run is given beside the image and the clients.
 #[derive(Clone, Copy)]
-pub(crate) struct Setting<'a> {
-    pub(crate) input: &'a [u8],
-    pub(crate) room: u32,
-    pub(crate) base: u32,
-    pub(crate) moves: &'a [Move],
-    pub(crate) at_a_time: usize,
-    pub(crate) limit: usize,
+pub struct Setting<'a> {
+    pub input: &'a [u8],
+    pub room: u32,
+    pub base: u32,
+    pub moves: &'a [Move],
+    pub at_a_time: usize,
+    pub limit: usize,
 }
 
 /// A region of 2 MiB, no input, and an output that takes all.
-pub(crate) const PLAIN: Setting<'static> = Setting {
+pub const PLAIN: Setting<'static> = Setting {
     input: &[],
     room: 1 << 21,
     base: 0,
@@ -111,7 +113,7 @@ pub(crate) const PLAIN: Setting<'static> = Setting {
 };
 
 /// Runs the clients that the texts spell. The saved image must be one that is accepted.
-pub(crate) fn run_in(
+pub fn run_in(
     alloc: Global,
     image: &[u8],
     texts: &[&str],
@@ -126,7 +128,7 @@ pub(crate) fn run_in(
 }
 
 /// Runs clients. The saved image must be one that is accepted.
-pub(crate) fn run_files(
+pub fn run_files(
     alloc: Global,
     image: &[u8],
     clients: &[&[u8]],
@@ -142,7 +144,7 @@ pub(crate) fn run_files(
 }
 
 /// What a run of clients comes to, or why nothing runs.
-pub(crate) fn outcome_of(
+pub fn outcome_of(
     alloc: Global,
     image: &[u8],
     clients: &[&[u8]],
@@ -164,26 +166,26 @@ pub(crate) fn outcome_of(
 }
 
 /// Runs the clients that the texts spell on an image.
-pub(crate) fn run_on(alloc: Global, image: &[u8], texts: &[&str]) -> Result<Ran, Fail> {
+pub fn run_on(alloc: Global, image: &[u8], texts: &[&str]) -> Result<Ran, Fail> {
     run_in(alloc, image, texts, PLAIN)
 }
 
 /// Runs the clients that the texts spell on an empty segment.
-pub(crate) fn run_anew(alloc: Global, size: u32, kind: Kind, texts: &[&str]) -> Result<Ran, Fail> {
+pub fn run_anew(alloc: Global, size: u32, kind: Kind, texts: &[&str]) -> Result<Ran, Fail> {
     run_on(alloc, empty(alloc, size, kind)?.as_slice(), texts)
 }
 
 /// What an image holds, in numbers.
 #[derive(Debug, Clone, Copy, PartialEq, Eq)]
-pub(crate) struct Statistics {
-    pub(crate) free: u32,
-    pub(crate) largest: u32,
-    pub(crate) named: u32,
-    pub(crate) unique: usize,
+pub struct Statistics {
+    pub free: u32,
+    pub largest: u32,
+    pub named: u32,
+    pub unique: usize,
 }
 
 /// What an image holds, which must be one that is accepted.
-pub(crate) fn statistics_of(alloc: Global, image: &[u8]) -> Result<Statistics, Fail> {
+pub fn statistics_of(alloc: Global, image: &[u8]) -> Result<Statistics, Fail> {
     let placed = window(alloc, image)?;
     let types = check(alloc, &placed)?;
     // the numbers don't depend on the allocator
@@ -197,7 +199,7 @@ pub(crate) fn statistics_of(alloc: Global, image: &[u8]) -> Result<Statistics, F
 }
 
 /// The clients print this, and leave so many bytes free and so many names.
-pub(crate) fn leaves(
+pub fn leaves(
     rt: &(impl Abort + AllocGlobal),
     ran: &Ran,
     printed: &str,

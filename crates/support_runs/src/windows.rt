@@ -8,7 +8,7 @@ use seg_raw::{Fault, Region};
 use std::alloc::Global;
 
 /// An image at a base of a region.
-pub(crate) fn placed(
+pub fn placed(
     region: Region<Global>,
     base: u32,
     image: &[u8],
@@ -24,13 +24,13 @@ pub(crate) fn placed(
 }
 
 /// An image of at most 2 MiB in a region of its own.
-pub(crate) fn window(alloc: Global, image: &[u8]) -> Result<Window<Global>, Fault> {
+pub fn window(alloc: Global, image: &[u8]) -> Result<Window<Global>, Fault> {
     let len = u32::try_from(image.len()).map_err(|_| Fault::BadHeader)?;
     placed(Region::new(alloc, len.min(1 << 21))?, 0, image)
 }
 
 /// The segment in a window, if it is sound and on this allocator.
-pub(crate) fn opened<F: Fit>(
+pub fn opened<F: Fit>(
     alloc: Global,
     window: Window<Global>,
 ) -> Result<Segment<F, Global>, Fault> {

@@ -1,15 +1,13 @@
 use crate::tests::abstract_run::{AbstractRun, Sharing};
 use crate::tests::generator::{Generator, Version};
 use crate::tests::model::Objects;
-use crate::tests::runs::{
-    KINDS, Kind, PLAIN, Setting, client, empty, run_files, statistics_of, verified,
-};
 use client_code::{Client, parse};
 use seg_layout::TypeTable;
 use std::alloc::Global;
 use std::process::Abort;
 use std::test::Fail;
 use support_data::write_words;
+use support_runs::{KINDS, PLAIN, Kind, Setting, client, empty, run_files, statistics_of, verified};
 
 const INPUT: &[u8] = b"the input of a client";
 
