@@ -29,7 +29,6 @@ use Rattle.seg_spec.specs.Destroying.{HoldFrozen}
 use Rattle.seg_spec.proofs.CountedParts.{names_same}
 use Rattle.seg_spec.proofs.LiveLaws.{times-append}
 use Rattle.seg_spec.proofs.OneMoreFrozen.{not_there}
-use Rattle.seg_spec.proofs.SharedLaws.{left_each, wider}
 use Rattle.client_spec.specs.Machine.{◌>>=◌, Origin, Path, Register, State, register, set_register, owned_by, path_value, put_at}
 use Rattle.client_spec.specs.Grammar.{IsInstruction}
 use Rattle.client_spec.specs.Asks.{LedTo, Asks, Refreezes, ChangesBlocks}
@@ -37,12 +36,13 @@ use Rattle.client_spec.specs.Bare.{bare, bare_one}
 use Rattle.client_spec.specs.Pictures.{Pictures, meaning_in, trees_of}
 use Rattle.client_spec.specs.Shape.{HasShape}
 use Rattle.client_spec.specs.Meaning.{IsAsKnown, Meets, Refers}
-use Rattle.client_spec.specs.Typed.{Class, RegisterType, Reason, RegisterTypes, known, same_class, sharing, reference_needed, form_needed, owner_needed, required, freezes, is_owner, without_class, ended, others_ended, reaches, sharing_rule, rule_of}
+use Rattle.client_spec.specs.Typed.{Class, RegisterType, Reason, RegisterTypes, known, same_class, sharing, is_owner, without_class, ended, others_ended}
+use Rattle.client_spec.specs.Typed.{reference_needed, form_needed, owner_needed, required, freezes, reaches, sharing_rule, rule_of}
 use Rattle.client_spec.specs.Typed as typed
 use Rattle.client_spec.proofs.Bare.{IsBare, known_bare, bare_is_none, bare_set, bare_ended, bare_others, from_set}
 use Rattle.client_spec.proofs.CellsKept.{by_put, by_release, onward}
 use Rattle.client_spec.proofs.Changes.{agrees_release, agrees_put_others}
-use Rattle.client_spec.proofs.PicturedTrees.{at_name, trees_one}
+use Rattle.client_spec.proofs.PicturedTrees.{trees_one}
 use Rattle.client_spec.proofs.SharedTrees.{trees_put}
 use Rattle.client_spec.proofs.Shapes.{value_of_form}
 use Rattle.client_spec.proofs.Cases.{reference_is, required_is, not_is}
@@ -61,8 +61,9 @@ use Rattle.client_spec.specs.Effect.{outcome, effect}
 use Rattle.client_spec.specs.Plain.{UsesUp}
 use Rattle.client_spec.specs.OnImages.{RowWith}
 use Rattle.client_spec.specs.Trees.{unfolded_register}
-use Rattle.client_sim.specs.Shows.{World, place_in, owns_in, Shows}
-use Rattle.client_sim.specs.Seeing.{path_through, Anchored, Sees, SeenActs}
+use Rattle.client_sim.specs.Shows.{World, place_in, owns_in, KeepsRegister, Shows}
+use Rattle.client_sim.specs.Seeing.{Anchored, Sees, SeenActs}
+use Rattle.client_sim.specs.Sharing.{CellClaim, OnCell, FreezesObject, FindsNoRoom}
 use Rattle.client_sim.specs.Acting.{AreRight, ActsAs, IsRefusedAs}
 use Rattle.client_sim.proofs.LeafPuts.{with_image}
 use Rattle.client_sim.proofs.Led.{Led}
@@ -74,9 +75,9 @@ use Rattle.client_sim.proofs.Putting.{begins_elsewhere}
 use Rattle.client_sim.proofs.Granting.{denies}
 use Rattle.client_sim.proofs.SeeingGives.{in_words, sees_number}
 use Rattle.client_sim.proofs.Giving.{set_there, set_beside}
-use Rattle.client_sim.proofs.SeeingLaws.{cell_named, cell_within}
-use Rattle.client_sim.proofs.Framing.{owner_apart}
-use Rattle.client_sim.proofs.FrozenKept.{each_found, StayNamed, paths_at, NamedStill, leads_still}
+use Rattle.client_sim.proofs.Framing.{owns_nothing, owner_apart}
+use Rattle.client_sim.proofs.FrozenKept.{left_value, StayNamed, paths_at}
+use Rattle.client_sim.proofs.StillAnchored.{still_anchored}
 use Rattle.client_sim.proofs.SeeingLess.{IsLess, Less, less_then, less_without, sees_less}
 use Rattle.client_sim.proofs.Sharing.{CellSeen, of_led, plain_led, shared_is}
 use Rattle.client_sim.proofs.MovingShows.{with_owning, shows_moved, put_known, stays, stays_released}
@@ -85,21 +86,6 @@ use Rattle.client_sim.proofs.Numbers.{with_number}
 module _ (allocator : ℕ) (constants : List Constant) (role : Role) (a b c : ℕ) (number : ℤ) (w : World) (new : List ℕ) where
   abbrev freeze : Instruction
   freeze = record { operation = Operation.Freeze; a = a; b = b; c = c; number = number }
-
-  -- what holds of the call on a cell that stands at register b's place, with the object that stands at that of register c
-  abbrev pub OnCell : Table → ((T : ℕ) (v x : Value) (blocks inside : List ℕ) (theirs : ℕ → List ℕ) (now : List Frozen) → Type 0) → Type 0
-  OnCell table claim =
-      (T : ℕ) (v x : Value) (blocks inside : List ℕ) (theirs : ℕ → List ℕ) (kept : List Place) (now : List Frozen) → form_at table (place_in w b).type ≡ Some (Form.shared T)
-      → (stands : Stands allocator w.image table (place_in w b) v blocks) → IsLoose w.image table (record { at = (place_in w c).at; type = T }) x inside
-      → FrozenBeside w.image table (stands.home ∷ (blocks ++ block_of (place_in w c).at ∷ inside)) (names_in x ++ (names_in v ++ kept)) (word w.image next_word) theirs now
-      → suc (word w.image next_word) < 2 ^ 32 → claim T v x blocks inside theirs now
-
-  -- it made the object frozen, or there was no room
-  abbrev pub FreezesObject : Table → Type 0
-  FreezesObject table = OnCell table (λ T v x blocks inside theirs now. Freezes allocator w.image new table (place_in w b) T (place_in w c).at x inside blocks (names_in v) theirs now)
-
-  abbrev pub FindsNoRoom : Table → Type 0
-  FindsNoRoom table = OnCell table (λ T v x blocks inside theirs now. Refuses allocator w.image new (block_for (frozen_words + size table T) ∷ []))
 
   abbrev pub world_frozen : World
   world_frozen = with_number (with_owning w new c false w.positions w.type_ids) a (pos 1)
@@ -232,11 +218,10 @@ module _ (allocator : ℕ) (constants : List Constant) (role : Role) (a b c : �
       form_here = ap (form_at table) l.type_is ∙ ap (λ (ts : Table). form_at ts f.type) (pictured.types ∙ sym same_types) ∙ f.form
 
       -- what holds of the call holds of it here
-      of_call : (claim : Table → (T : ℕ) (v x : Value) (blocks inside : List ℕ) (theirs : ℕ → List ℕ) (now : List Frozen) → Type 0) → OnCell w.table (claim w.table) → suc next < 2 ^ 32 → (x : Around)
-          → claim table f.held l.value o.value l.found.blocks x.inside x.theirs frozen
+      of_call : (claim : Table → CellClaim) → OnCell allocator w.image w.table (place_in w b) object (claim w.table) → suc next < 2 ^ 32 → (x : Around) → claim table f.held l.value o.value l.found.blocks x.inside x.theirs frozen
       of_call claim call some x =
           let k = beside x in
-          subst (λ (ts : Table). OnCell ts (claim ts)) on_table call f.held l.value o.value l.found.blocks x.inside x.theirs k.0 frozen form_here stands x.loose k.1 some
+          subst (λ (ts : Table). OnCell allocator w.image ts (place_in w b) object (claim ts)) on_table call f.held l.value o.value l.found.blocks x.inside x.theirs k.0 frozen form_here stands x.loose k.1 some
 
       asks_is : block_for (frozen_words + size table f.held) ∷ [] ≡ block_for (frozen_words + size h.plain.types f.held) ∷ []
       asks_is = ap (λ (ts : Table). block_for (frozen_words + size ts f.held) ∷ []) pictured.types
@@ -312,7 +297,7 @@ module _ (allocator : ℕ) (constants : List Constant) (role : Role) (a b c : �
 
       -- ---- it succeeds
 
-      module _ (some : suc next < 2 ^ 32) (call : FreezesObject w.table) where
+      module _ (some : suc next < 2 ^ 32) (call : FreezesObject allocator w.image new w.table (place_in w b) object) where
         abbrev x : Around
         x = around
 
@@ -409,7 +394,7 @@ module _ (allocator : ℕ) (constants : List Constant) (role : Role) (a b c : �
               let other : y.at ≢ z.payload = λ same. not_named n y frozen elsewhere there same in
               let still = left_of_it n y other (subst (λ fs. IsBelow n fs y) moved.frozen_is later) in
               let is_left = beside_it y.at v other (ap (λ fs. value_at_position fs y.at) (sym moved.frozen_is) ∙ is) in
-              left_value n y v still is_left;
+              left_value frozen (left gone frozen) gone [] pictured.counted.counted.distinct (subst AreDistinct moved.frozen_is then_pictured.counted.counted.distinct).1 refl n y v still is_left;
           paths = λ n y there later xs target leads.
               let other : y.at ≢ z.payload = λ same. not_named n y frozen elsewhere there same in
               paths_at w.image new table n y (left gone frozen) moved.left_paths (left_of_it n y other (subst (λ fs. IsBelow n fs y) moved.frozen_is later)) xs target leads;
@@ -431,13 +416,6 @@ module _ (allocator : ℕ) (constants : List Constant) (role : Role) (a b c : �
                 choose true same g = absurd (other (sym (eqb-true z.payload at same)))
                 choose false same g = g
 
-            left_value : (n : ℕ) (y : Place) (v : Value) → IsBelow n (left gone frozen) y → value_at_position (left gone frozen) y.at ≡ Some v → value_at_position frozen y.at ≡ Some v
-            left_value n y v b is =
-                let P = λ (at T : ℕ) (u : Value). value_at_position frozen at ≡ Some u in
-                let each = left_each (λ (g : Frozen). P g.at g.type g.value) (λ g k q. q) gone frozen (each_found frozen pictured.counted.counted.distinct) in
-                let distinct = (subst AreDistinct moved.frozen_is then_pictured.counted.counted.distinct).1 in
-                at_name P n (left gone frozen) y v distinct each b is
-
         was_read : (r : ℕ) (y : Class) (T : ℕ) → known released r ≡ RegisterType.Reference (Class.Frozen y) T
             → (known ks r ≡ RegisterType.Reference (Class.Frozen y) T) × (same_class (sharing f.class) (sharing (Class.Frozen y)) ≡ false) × (same_class (Class.Register c) (sharing (Class.Frozen y)) ≡ false)
         was_read r y T k =
@@ -448,36 +426,20 @@ module _ (allocator : ℕ) (constants : List Constant) (role : Role) (a b c : �
               | inr p ↦ (let first = still_known (sharing f.class) (Class.Frozen y) (known ks r) T (sym p ∙ last.0) in (first.0, first.1, last.1))
             ]
 
-        named_still : (types_stay : moved_state.types ≡ h.plain.types) (q : Path) (U at : ℕ) → path_value h.plain q ≡ Some (node (Label.shared U at) nil) → path_value moved_state q ≡ Some (node (Label.shared U at) nil)
-            → NamedStill pictured pictured then_pictured shows.pictured stay types_stay (record { at = at; type = U })
-        named_still types_stay q U at names later =
-            let y : Place = record { at = at; type = U } in
-            let n = word new next_word in
-            let before = wider next (next + n) frozen y (omega arith) (cell_named pictured q U at names) in
-            let then_too = λ (v : Pictures others moved_state new). wider n (next + n) v.picture.frozen y (omega arith) (cell_named v q U at later) in
-            record { n = next + n; there = before; there_before = before; there_after = then_too then_pictured; there_then = then_too shows.pictured }
-
         anchored : (r : ℕ) (y : Class) (T : ℕ) → known released r ≡ RegisterType.Reference (Class.Frozen y) T → Anchored shows.pictured world r T
         anchored r y T k =
             let was = was_read r y T k in
-            let p = h.anchored r y T was.0 in
-            let away = owner_apart h.shows c f.held r (known_bare ks c ∙ ap bare_one f.owns) p.unowned in
+            let unowned = (h.anchored r y T was.0).unowned in
+            let away = owner_apart h.shows c f.held r (known_bare ks c ∙ ap bare_one f.owns) unowned in
             let put = by_put constants one (Class.Frozen y) h.plain l.path l.value cell f.class l.there l.within was.1 in
             let release = by_release constants one (Class.Frozen y) (put_at h.plain l.path cell) c Register.Undefined was.2 in
             let kept = onward constants one (Class.Frozen y) h.plain (put_at h.plain l.path cell) moved_state put release in
-            let names = kept.cells p.cell p.object_type p.object (cell_within h r y T was.0) p.names in
-            let q : Place = record { at = p.object; type = p.object_type } in
-            record {
-              unowned = set_beside w.owns c r false false away ∙ p.unowned;
-              cell = p.cell;
-              rest = p.rest;
-              path_is = stays one h.shows b f.class f.type known_before l cell fits new c Register.Undefined (λ (q : Origin). q ≡ Origin.Owned c) moved.to r away (Register.Reference (path_through p.cell p.rest)) p.path_is refl;
-              object_type = p.object_type;
-              object = p.object;
-              names = names;
-              type_is = p.type_is;
-              leads = leads_still pictured pictured then_pictured shows.pictured stay kept.types q (named_still kept.types p.cell p.object_type p.object p.names names) p.leads;
-            }
+            let keeps : KeepsRegister h.plain moved_state w world r = record {
+              register_is = stays one h.shows b f.class f.type known_before l cell fits new c Register.Undefined (λ (q : Origin). q ≡ Origin.Owned c) moved.to r away (register h.plain r) refl (owns_nothing h.shows r unowned);
+              place_is = refl;
+              owns_is = set_beside w.owns c r false false away;
+            } in
+            still_anchored h world pictured then_pictured shows.pictured stay r y T was.0 kept keeps
 
         sees_released : Sees others types constants first allocator released state world
         sees_released = record { plain = moved_state; shows = shows; trees = trees; as_known = as_known; anchored = anchored }
@@ -550,7 +512,8 @@ module _ (allocator : ℕ) (constants : List Constant) (role : Role) (a b c : �
               same_input = refl;
             })
 
-  pub freeze_denied : suc (word w.image next_word) < 2 ^ 32 → FindsNoRoom w.table → IsRefusedAs allocator constants role freeze w (with_number (with_image w new) a (pos (answer_number bad_alloc)))
+  pub freeze_denied : suc (word w.image next_word) < 2 ^ 32 → FindsNoRoom allocator w.image new w.table (place_in w b) (place_in w c).at
+      → IsRefusedAs allocator constants role freeze w (with_number (with_image w new) a (pos (answer_number bad_alloc)))
   freeze_denied some call types others first ks good bad t right valid e h =
       let f = found right h valid e in
       let x = around right h valid e f in
@@ -575,5 +538,5 @@ module _ (allocator : ℕ) (constants : List Constant) (role : Role) (a b c : �
             (failed right h valid e f numbers_used_up (inr (row, none)) refl),
       )
 
-  pub freeze_acts : suc (word w.image next_word) < 2 ^ 32 → FreezesObject w.table → ActsAs allocator constants role freeze w world_frozen
+  pub freeze_acts : suc (word w.image next_word) < 2 ^ 32 → FreezesObject allocator w.image new w.table (place_in w b) (place_in w c).at → ActsAs allocator constants role freeze w world_frozen
   freeze_acts some call types others first ks good bad t right valid e h = acts right h valid e (found right h valid e) some call

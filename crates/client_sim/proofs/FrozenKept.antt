@@ -23,7 +23,7 @@ use Rattle.client_sim.specs.Seeing.{value_place, LeadsFrozen, inside, through}
 use Rattle.client_sim.proofs.FrozenLeads.{of_part, of_cell}
 
 -- each object is found by its position
-pub each_found : (fs : List Frozen) → AreDistinct fs → AllByRecursion (λ (f : Frozen). value_at_position fs f.at ≡ Some f.value) fs
+each_found : (fs : List Frozen) → AreDistinct fs → AllByRecursion (λ (f : Frozen). value_at_position fs f.at ≡ Some f.value) fs
 each_found [] d = tt
 each_found (f ∷ fs) d = (here, further fs d.0 (each_found fs d.1))
   where
@@ -72,6 +72,14 @@ each_raised_by : (P : ℕ → ℕ → Value → Type 0) (names : List Place) (fs
 each_raised_by P [] fs a = a
 each_raised_by P (q ∷ names) fs a = each_raised P q.at (raised_by names fs) (each_raised_by P names fs a)
 
+-- the value of an object that is left, where cells with these names go and others come, was its value before
+pub left_value : (before after : List Frozen) (gone names : List Place) → AreDistinct before → AreDistinct after → after ≡ left gone (raised_by names before)
+    → (n : ℕ) (x : Place) (v : Value) → IsBelow n after x → value_at_position after x.at ≡ Some v → value_at_position before x.at ≡ Some v
+left_value before after gone names distinct distinct_then after_is n x v b e =
+    let P = λ (at T : ℕ) (u : Value). value_at_position before at ≡ Some u in
+    let each = left_each (λ (g : Frozen). P g.at g.type g.value) (λ g k h. h) gone (raised_by names before) (each_raised_by P names before (each_found before distinct)) in
+    at_name P n after x v distinct_then (subst (AllByRecursion (λ (g : Frozen). P g.at g.type g.value)) (sym after_is) each) b e
+
 -- paths in one of the objects in which they are kept
 pub paths_at : (old new : List ℕ) (table : Table) (n : ℕ) (x : Place) (fs : List Frozen) → KeepsFrozenPaths old new table fs → IsBelow n fs x
     → (xs : List Selector) (target : Place) → Leads old table (value_place x) xs target → Leads new table (value_place x) xs target
@@ -88,21 +96,14 @@ module _ {others : List Root} {s s' : State} {old new : List ℕ} (before : Pict
   stay_value : (n : ℕ) (x : Place) (f : Value) → IsBelow n after.picture.frozen x → value_at_position after.picture.frozen x.at ≡ Some f → value_at_position before.picture.frozen x.at ≡ Some f
   stay_value n x f b e = by stays
     where
-      P : ℕ → ℕ → Value → Type 0
-      P at T v = value_at_position before.picture.frozen at ≡ Some v
-
-      all : AllByRecursion (λ (g : Frozen). P g.at g.type g.value) before.picture.frozen
-      all = each_found before.picture.frozen before.counted.counted.distinct
-
-      some_left : (gone : List Place) (fs : List Frozen) → after.picture.frozen ≡ left gone fs → AllByRecursion (λ (g : Frozen). P g.at g.type g.value) fs → value_at_position before.picture.frozen x.at ≡ Some f
-      some_left gone fs same each =
-          at_name P n after.picture.frozen x f after.counted.counted.distinct
-          (subst (AllByRecursion (λ (g : Frozen). P g.at g.type g.value)) (sym same) (left_each (λ (g : Frozen). P g.at g.type g.value) (λ g k h. h) gone fs each)) b e
+      some_left : (gone names : List Place) → after.picture.frozen ≡ left gone (raised_by names before.picture.frozen) → value_at_position before.picture.frozen x.at ≡ Some f
+      some_left gone names same =
+          left_value before.picture.frozen after.picture.frozen gone names before.counted.counted.distinct after.counted.counted.distinct same n x f b e
 
       by : FrozenStay before.picture.frozen after.picture.frozen → value_at_position before.picture.frozen x.at ≡ Some f
       by (all_stay same) = ap (λ fs. value_at_position fs x.at) (sym same) ∙ e
-      by (some_go gone same) = some_left gone before.picture.frozen same all
-      by (some_shared gone names same) = some_left gone (raised_by names before.picture.frozen) same (each_raised_by P names before.picture.frozen all)
+      by (some_go gone same) = some_left gone [] same
+      by (some_shared gone names same) = some_left gone names same
 
   pub stay_named : StayNamed old new before.picture.table before.picture.frozen after.picture.frozen
   stay_named = record { value = λ n x f there. stay_value n x f; paths = λ n x there b. paths_at old new before.picture.table n x after.picture.frozen paths b }

@@ -14,6 +14,7 @@ pub mod SeeingReads
 pub mod SeeingStreams
 pub mod Contents
 pub mod FrozenKept
+pub mod StillAnchored
 pub mod Lifting
 pub mod Lifted
 pub mod Sharing

@@ -4,7 +4,7 @@ use Rattle.std.specs.List.{AllByRecursion}
 use Rattle.seg_spec.specs.Bytes.{word}
 use Rattle.seg_spec.specs.Header.{allocator_word, free_word, KeepsFront}
 use Rattle.seg_spec.specs.Types.{Table}
-use Rattle.seg_spec.specs.Value.{Value, count}
+use Rattle.seg_spec.specs.Value.{Value}
 use Rattle.seg_spec.specs.Value as values
 use Rattle.seg_spec.specs.Heap.{live}
 use Rattle.seg_spec.specs.Block.{block_of, KeepsBlock}

@@ -1,20 +1,19 @@
 -- SHARE: a cell comes to name what another one names, and what it named before is released.
-use Rattle.std.proofs.Common.{◌≡◌, ℕ, ◌+◌, ℤ, List, [], ◌∷◌, ◌++◌, length, true, false, inl, inr, Option, Some, refl, sym, ◌∙◌, ap, subst, arith}
-use Rattle.std.specs.Prelude.{◌≤◌, ◌==◌, Ok}
+use Rattle.std.proofs.Common.{◌≡◌, ℕ, ℤ, List, [], ◌++◌, true, false, inl, inr, Option, Some, refl, sym, ◌∙◌, ap, subst}
+use Rattle.std.specs.Prelude.{◌==◌, Ok}
 use Rattle.std.specs.List.{AllByRecursion}
 use Rattle.std.proofs.lemmas.Bool.{eqb-true, eq-eqb}
 use Rattle.seg_spec.specs.Bytes.{word}
 use Rattle.seg_spec.specs.Header.{next_word}
 use Rattle.seg_spec.specs.Types.{Form, Table, form_at}
-use Rattle.seg_spec.specs.Value.{Label, Value, node, nil, value_at}
+use Rattle.seg_spec.specs.Value.{Value, value_at}
 use Rattle.seg_spec.specs.Index.{Root}
-use Rattle.seg_spec.specs.Reads.{Place, Holds}
+use Rattle.seg_spec.specs.Reads.{Holds}
 use Rattle.seg_spec.specs.Owning.{Stands}
 use Rattle.seg_spec.specs.Frozen.{Frozen, blocks_by}
 use Rattle.seg_spec.specs.Shared.{names_in, IsBelow, raised_by, left, freed, replaced}
 use Rattle.seg_spec.specs.Destroying.{HoldFrozen}
 use Rattle.seg_spec.specs.Clearing.{ClearsPlace}
-use Rattle.seg_spec.specs.Sharing.{FrozenBeside}
 use Rattle.seg_spec.proofs.CellsBounded.{counts_within}
 use Rattle.client_spec.specs.declared.table.Operation.{Operation}
 use Rattle.client_spec.specs.declared.table.Role.{Role}
@@ -44,11 +43,12 @@ use Rattle.client_spec.proofs.Spelled.{one_each}
 use Rattle.client_spec.proofs.UnfoldedStates.{register_same, value_same, type_same, put_same}
 use Rattle.client_spec.proofs.Values.{bind_some}
 use Rattle.client_sim.specs.Shows.{World, place_in, Shows}
-use Rattle.client_sim.specs.Seeing.{LeadsFrozen, Anchored, Sees, SeenActs}
+use Rattle.client_sim.specs.Seeing.{Anchored, Sees, SeenActs}
+use Rattle.client_sim.specs.Sharing.{SharesCell}
 use Rattle.client_sim.specs.Acting.{AreRight, ActsAs}
 use Rattle.client_sim.proofs.Changing.{shows_changed, frame_changed}
 use Rattle.client_sim.proofs.Framing.{Frame}
-use Rattle.client_sim.proofs.FrozenKept.{StayNamed, stay_named, NamedStill, leads_still}
+use Rattle.client_sim.proofs.FrozenKept.{stay_named}
 use Rattle.client_sim.proofs.FrozenLeads.{through_so}
 use Rattle.client_sim.proofs.Granting.{given_back_shared, gives_back}
 use Rattle.client_sim.proofs.LeafPuts.{with_image}
@@ -57,8 +57,8 @@ use Rattle.client_sim.proofs.Lifted.{changeable_bare, bare_or_read}
 use Rattle.client_sim.proofs.Lifting.{later_trees}
 use Rattle.client_sim.proofs.Placed.{PlacePut, frozen_beside, place_shared}
 use Rattle.client_sim.proofs.SeeingGives.{in_words}
-use Rattle.client_sim.proofs.SeeingLaws.{named_at, cell_named, cell_within, read_led}
-use Rattle.seg_spec.proofs.SharedLaws.{wider}
+use Rattle.client_sim.proofs.SeeingLaws.{named_at, read_led}
+use Rattle.client_sim.proofs.StillAnchored.{still_anchored}
 
 -- ---- a register that leads to a cell
 
@@ -139,15 +139,6 @@ module _ (allocator : ℕ) (constants : List Constant) (role : Role) (a b c : �
   abbrev share : Instruction
   share = record { operation = Operation.Share; a = a; b = b; c = c; number = number }
 
-  -- what the call makes of a cell that stands at register b's place, with what one at that of register c names
-  abbrev pub SharesCell : Table → Type 0
-  SharesCell table =
-      (T next : ℕ) (v x : Value) (blocks others : List ℕ) (theirs : ℕ → List ℕ) (kept : List Place) (now : List Frozen)
-      → form_at table (place_in w b).type ≡ Some (Form.shared T) → form_at table (place_in w c).type ≡ Some (Form.shared T) → (stands : Stands allocator w.image table (place_in w b) v blocks)
-      → Holds w.image table (place_in w c) x others → FrozenBeside w.image table (stands.home ∷ blocks) (names_in v ++ kept) next theirs now → AllByRecursion (IsBelow next now) (names_in x)
-      → AllByRecursion (λ (f : Frozen). f.count ≤ length w.image) now
-      → ClearsPlace w.image new table (place_in w b) x blocks [] theirs now (left (names_in v) (raised_by (names_in x) now))
-
   share_row : (t : State) (p q : Path) (T : ℕ) (old value : Value) → path_of t b ≡ Some p → path_form t p ≡ Some (Form.shared T) → path_of t c ≡ Some q → path_form t q ≡ Some (Form.shared T)
       → path_value t p ≡ Some old → path_value t q ≡ Some value → outcome constants share true t ≡ Some (success, put_at t p value)
   unfolding effect
@@ -210,7 +201,7 @@ module _ (allocator : ℕ) (constants : List Constant) (role : Role) (a b c : �
           bad_is = ap (λ (z : RegisterTypes × RegisterTypes). z.1) pair;
         }
 
-    module _ (call : SharesCell w.table) (f : Found) where
+    module _ (call : SharesCell allocator w.image new w.table (place_in w b) (place_in w c)) (f : Found) where
       abbrev class : Class
       class = f.class
 
@@ -255,10 +246,11 @@ module _ (allocator : ℕ) (constants : List Constant) (role : Role) (a b c : �
           let stands = subst (λ (ts : Table). Stands allocator w.image ts (place_in w b) l.value l.found.blocks) on_table l.stands in
           let beside = frozen_beside pictured l.in_image l.value l.found allocator stands in
           let bounded = counts_within w.image pictured.picture pictured.held (next h) pictured.counted in
+          let shares = subst (λ (ts : Table). SharesCell allocator w.image new ts (place_in w b) (place_in w c)) on_table call in
           record {
             theirs = beside.0;
             holds = beside.2.holds;
-            clears = subst SharesCell on_table call f.held (next h) l.value value l.found.blocks from.blocks beside.0 beside.1 (frozen h) (form_here b f.type l.type_is f.form) (form_here c f.from_type from.type_is f.from_form) stands
+            clears = shares f.held (next h) l.value value l.found.blocks from.blocks beside.0 beside.1 (frozen h) (form_here b f.type l.type_is f.form) (form_here c f.from_type from.type_is f.from_form) stands
                 (subst (λ (ts : Table). Holds w.image ts (place_in w c) value from.blocks) on_table from.holds) beside.2 from.named bounded;
           }
 
@@ -319,9 +311,6 @@ module _ (allocator : ℕ) (constants : List Constant) (role : Role) (a b c : �
 
       -- ---- registers that are only read
 
-      stays : StayNamed w.image new table (frozen h) put.later.picture.frozen
-      stays = stay_named pictured put.later put.stays.stays put.stays.paths
-
       frame : Frame (others_ended f.class b (bare ks)) w world pictured plainly.pictured
       unfolding plainly
       frame = frame_changed one h.shows b f.class f.type known_before l value fits new put s.clears.changes.front_kept
@@ -336,36 +325,12 @@ module _ (allocator : ℕ) (constants : List Constant) (role : Role) (a b c : �
         | inr p ↦ still_known (sharing f.class) (Class.Frozen x) (known ks r) T (sym p ∙ k)
       ]
 
-      named_still : (types_stay : state.types ≡ h.plain.types) (cell : Path) (U at : ℕ) → path_value h.plain cell ≡ Some (node (Label.shared U at) nil) → path_value state cell ≡ Some (node (Label.shared U at) nil)
-          → NamedStill pictured pictured put.later shows.pictured stays types_stay (record { at = at; type = U })
-      named_still types_stay cell U at names later =
-          let q : Place = record { at = at; type = U } in
-          let k = next h in
-          let n = word new next_word in
-          let before = wider k (k + n) (frozen h) q (omega arith) (cell_named pictured cell U at names) in
-          let then_too = λ (z : Pictures others state new). wider n (k + n) z.picture.frozen q (omega arith) (cell_named z cell U at later) in
-          record { n = k + n; there = before; there_before = before; there_after = then_too put.later; there_then = then_too shows.pictured }
-
       anchored : (r : ℕ) (x : Class) (T : ℕ) → known after r ≡ RegisterType.Reference (Class.Frozen x) T → Anchored shows.pictured world r T
       anchored r x T k =
           let was = was_read r x T k in
-          let a = h.anchored r x T was.0 in
-          let keeps = frame.unknown r (unread r x T k) a.unowned in
           let kept = by_put constants one (Class.Frozen x) h.plain l.path l.value value f.class l.there l.within was.1 in
-          let names = kept.cells a.cell a.object_type a.object (cell_within h r x T was.0) a.names in
-          let q : Place = record { at = a.object; type = a.object_type } in
-          record {
-            unowned = keeps.owns_is ∙ a.unowned;
-            cell = a.cell;
-            rest = a.rest;
-            path_is = keeps.register_is ∙ a.path_is;
-            object_type = a.object_type;
-            object = a.object;
-            names = names;
-            type_is = ap (λ (y : Place). y.type) keeps.place_is ∙ a.type_is;
-            leads = subst (LeadsFrozen new shows.pictured.picture.table shows.pictured.picture.frozen q a.rest) (sym keeps.place_is)
-                (leads_still pictured pictured put.later shows.pictured stays kept.types q (named_still kept.types a.cell a.object_type a.object a.names names) a.leads);
-          }
+          let keeps = frame.unknown r (unread r x T k) (h.anchored r x T was.0).unowned in
+          still_anchored h world pictured put.later shows.pictured (stay_named pictured put.later put.stays.stays put.stays.paths) r x T was.0 kept keeps
 
       sees : Sees others types constants first allocator after (put_at t l.path (replaced (m h) value)) world
       sees = record { plain = state; shows = shows; trees = trees; as_known = as_known; anchored = anchored }
@@ -414,10 +379,10 @@ module _ (allocator : ℕ) (constants : List Constant) (role : Role) (a b c : �
         same_input = refl;
       }
 
-    pub share_seen : SharesCell w.table → SeenActs others types constants first allocator share success good t w (with_image w new)
+    pub share_seen : SharesCell allocator w.image new w.table (place_in w b) (place_in w c) → SeenActs others types constants first allocator share success good t w (with_image w new)
     share_seen call =
         let f = found in
         subst (λ zs. SeenActs others types constants first allocator share success zs t w (with_image w new)) f.good_is (acts call f)
 
-  pub share_acts : SharesCell w.table → ActsAs allocator constants role share w (with_image w new)
+  pub share_acts : SharesCell allocator w.image new w.table (place_in w b) (place_in w c) → ActsAs allocator constants role share w (with_image w new)
   share_acts call types others first ks good bad t right valid e h = share_seen right h valid e call

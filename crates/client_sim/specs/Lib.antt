@@ -2,3 +2,4 @@ pub mod Writes
 pub mod Shows
 pub mod Acting
 pub mod Seeing
+pub mod Sharing
