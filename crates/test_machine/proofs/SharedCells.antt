@@ -6,7 +6,7 @@ use Rattle.std.specs.List.{AllByRecursion}
 use Rattle.seg_spec.specs.Bytes.{slice, spelling, number, number_of, signed, word}
 use Rattle.seg_spec.specs.Header.{next_word}
 use Rattle.seg_spec.specs.Pointer.{target}
-use Rattle.seg_spec.specs.Types.{Table, form_bytes, Form, size}
+use Rattle.seg_spec.specs.Types.{form_bytes, Form, size}
 use Rattle.seg_spec.specs.Value.{Value, Int, Empty, nil, cons}
 use Rattle.seg_spec.specs.Heap.{Tile, Fill, AreHeaders, heap_start}
 use Rattle.seg_spec.specs.Block.{Kind, IsPayload, IsOwnable, block_of}
@@ -18,7 +18,7 @@ use Rattle.seg_spec.specs.Counting.{AreCounted, FrozenGone}
 use Rattle.seg_spec.specs.Roots.{item_of}
 use Rattle.seg_spec.specs.Sound.{Picture, HoldsRoot, holds_no_root, holds_more_roots, IsLaidOut, IsHeld, times, positions}
 use Rattle.seg_spec.specs.Destroying.{HoldFrozen}
-use Rattle.seg_spec.specs.Demand.{units_for}
+use Rattle.seg_spec.specs.Demand.{Ask, units_for}
 use Rattle.seg_spec.specs.Fixtures.{words, back, live_header, sharing_table, sharing_cell}
 use Rattle.seg_spec.proofs.OneReading.{Holds-one}
 use Rattle.seg_spec.proofs.Releases.{frozen_there}
@@ -27,9 +27,9 @@ use Rattle.test_definitions.proofs.SharedImages.{sharing_table-valid, all_types}
 use Rattle.client_spec.specs.declared.table.Operation.{Operation}
 use Rattle.client_spec.specs.Syntax.{Instruction}
 use Rattle.client_spec.specs.Machine.{◌>>=◌, Origin, Path, Register, State, with_name, at_origin}
-use Rattle.client_spec.specs.Answer.{path_from, path_of}
+use Rattle.client_spec.specs.Answer.{path_from}
 use Rattle.client_spec.specs.Pictures.{Pictures, LeadsInImage, value_through, names_in as names_of_picture, object_of}
-use Rattle.client_spec.specs.Asks.{LedTo, WithFrozen, Refreezes, Renames, Asks, Returns}
+use Rattle.client_spec.specs.Asks.{Refreezes, Renames, Asks, Returns}
 use Rattle.client_spec.specs.Fixtures.{at, beginning, no_names}
 
 -- ---- the image
@@ -51,16 +51,16 @@ image =
     ++ live_header 2 2 2
     ++ (spelling 8 9 ++ replicate 8 0)
 
-abbrev the_number : Frozen
+abbrev pub the_number : Frozen
 the_number = record { at = 816; type = 0; number = 0; count = 1; value = Int (pos 41) }
 
-abbrev cells : Root
+abbrev pub cells : Root
 cells = plain_root (codes "p") 720 1 (cons sharing_cell (cons Empty nil))
 
-abbrev nine : Root
+abbrev pub nine : Root
 nine = plain_root [] 848 0 (cons (Int (pos 9)) nil)
 
-abbrev picture : Picture
+abbrev pub picture : Picture
 picture = record { table = sharing_table; names = cells ∷ []; uniques = []; loose = nine ∷ []; frozen = the_number ∷ [] }
 
 abbrev tiles : List Tile
@@ -192,7 +192,7 @@ laid_out = record {
   plain = (record { no_name = refl; no_words = refl; value = Int (pos 9); values_are = refl }, tt);
 }
 
-held : IsHeld image picture
+pub held : IsHeld image picture
 held = record {
   index_blocks = 752 ∷ [];
   laid_out = laid_out;
@@ -205,7 +205,7 @@ next_is : word image next_word ≡ 1
 unfolding image slice number number_of
 next_is = refl
 
-counted : AreCounted (word image next_word) picture
+pub counted : AreCounted (word image next_word) picture
 unfolding names_in names_each
 counted = subst (λ n. AreCounted n picture) (sym next_is) (record {
   counted = record {
@@ -221,7 +221,7 @@ counted = subst (λ n. AreCounted n picture) (sym next_is) (record {
 
 -- ---- the state that it pictures
 
-abbrev cell : ℕ → Path
+abbrev pub cell : ℕ → Path
 cell j = path_from (Origin.Name (codes "p") j)
 
 abbrev pub state : State
@@ -229,14 +229,14 @@ state = record (beginning sharing_table (with_name no_names (codes "p") (Some (r
   registers = Register.Undefined ∷ Register.Reference (cell 0) ∷ Register.Reference (cell 1) ∷ Register.Owner (Int (pos 9)) 0 ∷ [];
 }
 
-same_names : (name : List ℕ) → state.names name ≡ names_of_picture picture name
+pub same_names : (name : List ℕ) → state.names name ≡ names_of_picture picture name
 same_names name = choose (same_name name (codes "p"))
   where
     choose : (b : Bool) → (if b then Some (record { type = 1; values = cons sharing_cell (cons Empty nil) }) else None) ≡ option_map object_of (if b then Some cells else None)
     choose true = refl
     choose false = refl
 
-pub pictured : Pictures [] state image
+abbrev pub pictured : Pictures [] state image
 pictured = record { picture = picture; held = held; counted = counted; types = refl; names = same_names; uniques = λ T. refl; owned = nine ∷ []; are_owned = (refl, refl, tt); loose = refl }
 
 -- ---- where registers lead
@@ -272,6 +272,12 @@ stands j path to e l =
     is_here (item_of sharing_table m.root m.item) to m.leads ∙ sym (ap (λ (r : Root × ℕ). item_of sharing_table r.0 r.1) (root_is (cells, j) (m.root, m.item) m.begins))
 
 -- ---- what goes
+
+not_none : (x : ℕ) (xs : List ℕ) → x ∷ xs ≡ [] → ⊥
+not_none x xs e = cc
+
+one_more : (x y z : ℕ) (xs : List ℕ) → x ∷ [] ≡ y ∷ z ∷ xs → ⊥
+one_more x y z xs e = cc
 
 -- the number stands in the block at 800
 number_in : (theirs : ℕ → List ℕ) → HoldFrozen image sharing_table theirs (the_number ∷ []) → (inside : List ℕ) × (theirs 816 ≡ 800 ∷ inside)
@@ -315,11 +321,18 @@ unfolding size
 asks = (subst (λ n. suc n < 2 ^ 32) (sym next_is) (lit< tt), place 0, 0, record { path = cell 0; path_is = refl; stands = to_first; form_is = refl }, refl)
 
 pub asks_nothing : Asks [] (freeze 1) pictured [] → ⊥
-asks_nothing r = let e = r.4 in cc
+asks_nothing r = let e = r.4 in not_one e
+  where
+    not_one : {x : Ask} → [] ≡ x ∷ [] → ⊥
+    not_one e = cc
 
 pub freezes : Returns [] (freeze 1) pictured (832 ∷ 800 ∷ [])
-freezes = (place 0, Form.shared 0, record { path = cell 0; path_is = refl; stands = to_first; form_is = refl },
-  record { root = nine; owned = refl; value = sharing_cell; own = []; holds = full_cell; gives_are = (800 ∷ [], number_gone, refl) })
+freezes = (
+  place 0,
+  Form.shared 0,
+  record { path = cell 0; path_is = refl; stands = to_first; form_is = refl },
+  record { root = nine; owned = refl; value = sharing_cell; own = []; holds = full_cell; gives_are = (800 ∷ [], number_gone, refl) },
+)
 
 pub freezes_less : Returns [] (freeze 1) pictured (832 ∷ []) → ⊥
 freezes_less r =
@@ -328,12 +341,15 @@ freezes_less r =
     let v = full_goes f.own f.value f.holds in
     let goes = number_goes f.gives_are.0 (subst (λ w. FrozenGone image picture (names_in w) f.gives_are.0) v.0 f.gives_are.1) in
     let e : 832 ∷ [] ≡ (block_of f.root.at ∷ f.own) ++ f.gives_are.0 = f.gives_are.2 in
-    let g : 832 ∷ [] ≡ block_of f.root.at ∷ 800 ∷ goes.0 = rw (v.1, goes.1) at e in
-    cc
+    one_more 832 (block_of f.root.at) 800 goes.0 (rw (v.1, goes.1) at e)
 
 pub freezes_again : Returns [] (freeze 2) pictured (832 ∷ [])
-freezes_again = (place 1, Form.shared 0, record { path = cell 1; path_is = refl; stands = to_second; form_is = refl },
-  record { root = nine; owned = refl; value = Empty; own = []; holds = empty_cell; gives_are = ([], none_gone, refl) })
+freezes_again = (
+  place 1,
+  Form.shared 0,
+  record { path = cell 1; path_is = refl; stands = to_second; form_is = refl },
+  record { root = nine; owned = refl; value = Empty; own = []; holds = empty_cell; gives_are = ([], none_gone, refl) },
+)
 
 pub freezes_more : Returns [] (freeze 2) pictured (832 ∷ 800 ∷ []) → ⊥
 freezes_more r =
@@ -342,20 +358,27 @@ freezes_more r =
     let v = empty_goes f.own f.value f.holds in
     let goes = none_goes f.gives_are.0 (subst (λ w. FrozenGone image picture (names_in w) f.gives_are.0) v.0 f.gives_are.1) in
     let e : 832 ∷ 800 ∷ [] ≡ (block_of f.root.at ∷ f.own) ++ f.gives_are.0 = f.gives_are.2 in
-    let g : 832 ∷ 800 ∷ [] ≡ block_of f.root.at ∷ [] = rw (v.1, goes) at e in
-    cc
+    one_more (block_of f.root.at) 832 800 [] (sym (rw (v.1, goes) at e))
 
 -- ---- SHARE
 
 pub shares : Returns [] (share 1 2) pictured (800 ∷ [])
 unfolding names_in names_each
-shares = (place 0, Form.shared 0, record { path = cell 0; path_is = refl; stands = to_first; form_is = refl },
-  record { value = sharing_cell; own = []; holds = full_cell; path = cell 1; path_is = refl; other = Empty; there = refl; theirs = theirs_are; frozen_hold = all_hold; gives_are = refl })
+shares = (
+  place 0,
+  Form.shared 0,
+  record { path = cell 0; path_is = refl; stands = to_first; form_is = refl },
+  record { value = sharing_cell; own = []; holds = full_cell; path = cell 1; path_is = refl; other = Empty; there = refl; theirs = theirs_are; frozen_hold = all_hold; gives_are = refl },
+)
 
 pub shares_again : Returns [] (share 2 1) pictured []
 unfolding names_in names_each
-shares_again = (place 1, Form.shared 0, record { path = cell 1; path_is = refl; stands = to_second; form_is = refl },
-  record { value = Empty; own = []; holds = empty_cell; path = cell 0; path_is = refl; other = sharing_cell; there = refl; theirs = theirs_are; frozen_hold = all_hold; gives_are = refl })
+shares_again = (
+  place 1,
+  Form.shared 0,
+  record { path = cell 1; path_is = refl; stands = to_second; form_is = refl },
+  record { value = Empty; own = []; holds = empty_cell; path = cell 0; path_is = refl; other = sharing_cell; there = refl; theirs = theirs_are; frozen_hold = all_hold; gives_are = refl },
+)
 
 abbrev led_through : Path → Option Value
 led_through path = at_origin state path.origin >>= λ found. value_through picture.frozen found.0 path.selectors
@@ -366,24 +389,27 @@ other_is j v other path e f g =
     let h : Some v ≡ Some other = sym f ∙ ap led_through same ∙ g in
     cc
 
-pub shares_nothing : Returns [] (share 1 2) pictured [] → ⊥
+-- what goes where the first cell becomes as the other one, and where the other one becomes as it
+first_by : (gives own : List ℕ) (v w : Value) (theirs : ℕ → List ℕ) → v ≡ sharing_cell → own ≡ [] → w ≡ Empty → gives ≡ own ++ blocks_by theirs (freed (names_in v) (raised_by (names_in w) (the_number ∷ []))) → gives ≡ theirs 816 ++ []
 unfolding names_in names_each
+first_by gives own v w theirs full none empty e = rw (full, none, empty) at e
+
+second_by : (gives own : List ℕ) (v w : Value) (theirs : ℕ → List ℕ) → v ≡ Empty → own ≡ [] → w ≡ sharing_cell → gives ≡ own ++ blocks_by theirs (freed (names_in v) (raised_by (names_in w) (the_number ∷ []))) → gives ≡ []
+unfolding names_in names_each
+second_by gives own v w theirs empty none full e = rw (empty, none, full) at e
+
+pub shares_nothing : Returns [] (share 1 2) pictured [] → ⊥
 shares_nothing r =
     let at_first = stands 0 r.2.path r.0 r.2.path_is r.2.stands in
     let f : Renames [] (share 1 2) pictured (place 0) [] = subst (λ q. Renames [] (share 1 2) pictured q []) at_first r.3 in
     let v = full_goes f.own f.value f.holds in
-    let other = other_is 1 Empty f.other f.path f.path_is refl f.there in
     let n = number_in f.theirs f.frozen_hold in
-    let e : [] ≡ f.theirs 816 ++ [] = rw (v.0, v.1, other) at f.gives_are in
-    let g : [] ≡ (800 ∷ n.0) ++ [] = rw n.1 at e in
-    cc
+    let e : [] ≡ 800 ∷ (n.0 ++ []) = first_by [] f.own f.value f.other f.theirs v.0 v.1 (other_is 1 Empty f.other f.path f.path_is refl f.there) f.gives_are ∙ ap (λ bs. bs ++ []) n.1 in
+    not_none 800 (n.0 ++ []) (sym e)
 
 pub shares_more : Returns [] (share 2 1) pictured (800 ∷ []) → ⊥
-unfolding names_in names_each
 shares_more r =
     let at_second = stands 1 r.2.path r.0 r.2.path_is r.2.stands in
     let f : Renames [] (share 2 1) pictured (place 1) (800 ∷ []) = subst (λ q. Renames [] (share 2 1) pictured q (800 ∷ [])) at_second r.3 in
     let v = empty_goes f.own f.value f.holds in
-    let other = other_is 0 sharing_cell f.other f.path f.path_is refl f.there in
-    let e : 800 ∷ [] ≡ [] = rw (v.0, v.1, other) at f.gives_are in
-    cc
+    not_none 800 [] (second_by (800 ∷ []) f.own f.value f.other f.theirs v.0 v.1 (other_is 0 sharing_cell f.other f.path f.path_is refl f.there) f.gives_are)

@@ -4,7 +4,6 @@ ghost use Rattle.std.specs.Prelude.{◌≡◌, ℕ, List, [], ◌∷◌, codes, 
 ghost use Rattle.seg_spec.specs.Value.{Int, Empty, nil, cons, Selector, value_at};
 ghost use Rattle.seg_spec.specs.Index.{plain_root};
 ghost use Rattle.seg_spec.specs.Demand.{units_for};
-ghost use Rattle.seg_spec.specs.Sound.{Picture};
 ghost use Rattle.seg_spec.specs.Fixtures.{sharing_table, sharing_cell, sharing_picture};
 ghost use Rattle.client_spec.specs.declared.table.Operation.{Operation};
 ghost use Rattle.client_spec.specs.Machine.{Origin, Register, State};
@@ -26,12 +25,12 @@ pub fn through_a_shared_cell()
     ensures inside { value_at sharing_cell (Selector.content ∷ []) ≡ None }
 {}
 
-/// The first of two cells names the number 41, which is frozen, and the other one nothing; registers 1 and 2 lead to them, and
-/// register 3 owns the number 9. FREEZE of it asks for one block of 2 units. It gives back the block at 832 in which 9 stood, and
-/// where it goes into the first cell the block at 800 too, since nothing names 41 then. SHARE gives back that block where the first
-/// cell is to be as the other, and nothing where the other one is to be as the first.
+/// The first of two cells names the number 41, which is frozen, and the other one nothing. Registers 1 and 2 lead to them, and
+/// register 3 owns the number 9. FREEZE of 9 asks for one block of 2 units. It gives back the block at 832, in which 9 stood, and
+/// where 9 goes into the first cell the block at 800 too, since nothing names 41 then. SHARE gives back that block where the
+/// first cell is to be as the other one, and nothing where the other one is to be as the first.
 pub fn rows_of_shared_cells()
-    ensures { (image : List ℕ) (s : State) × (pictured : Pictures [] s image) ×
+    ensures { (image : List ℕ) × (s : State) × (pictured : Pictures [] s image) ×
         (pictured.picture ≡ record {
           table = sharing_table;
           names = plain_root (codes "p") 720 1 (cons sharing_cell (cons Empty nil)) ∷ [];

@@ -1,13 +1,12 @@
 -- What sound images and rows say of the objects that cells share.
-use Rattle.std.proofs.Common.{◌≡◌, ◌≢◌, ℕ, zero, suc, ◌+◌, ◌-◌, ◌*◌, ◌/◌, ◌≤◌, ◌<◌, ◌⊎◌, inl, inr, true, false, List, [], ◌∷◌, ◌++◌, length, map, cond, eqb, Option, Some, None, option_map, option_and_then, ℤ, refl, sym, ap, ◌∙◌, subst, append_assoc, arith}
+use Rattle.std.proofs.Common.{◌≡◌, ◌≢◌, ℕ, zero, suc, ◌+◌, ◌-◌, ◌*◌, ◌/◌, ◌≤◌, ◌<◌, ◌⊎◌, inl, inr, true, false, List, [], ◌∷◌, ◌++◌, length, map, cond, eqb, Option, Some, None, ℤ, refl, sym, ap, ◌∙◌, subst, append_assoc, arith}
 use Rattle.std.specs.List.{AllByRecursion}
-use Rattle.std.specs.Option.{option_or}
 use Rattle.std.proofs.lemmas.Bool.{cases_eq}
 use Rattle.seg_spec.specs.Bytes.{word}
 use Rattle.seg_spec.specs.Header.{next_word, version_word, allocator_word}
 use Rattle.seg_spec.specs.Types.{Table, size}
 use Rattle.seg_spec.specs.Value.{Value, Full}
-use Rattle.seg_spec.specs.Heap.{Span, span, Tile, span_of, Fill, live_of, free_of, tiles, live, gaps, gaps_of, heap_start, granted, with_block, without, pick, IsHeap}
+use Rattle.seg_spec.specs.Heap.{Span, span, Tile, span_of, Fill, live_of, free_of, tiles, live, gaps, heap_start, granted, with_block, without, pick, IsHeap}
 use Rattle.seg_spec.specs.Block.{block_of}
 use Rattle.seg_spec.specs.Reads.{Place}
 use Rattle.seg_spec.specs.Index.{Root, ListsNames}
@@ -15,7 +14,7 @@ use Rattle.seg_spec.specs.Frozen.{Frozen, frozen_words, root_of_frozen, blocks_b
 use Rattle.seg_spec.specs.Shared.{names_in, names_of, times_named, IsBelow, AreDistinct, IsFalling, replaced, owner_by, meaning, with_count, raised, raised_by, freed, freed_with}
 use Rattle.seg_spec.specs.Sound.{Picture, frozen_roots, roots_of, HoldsRoots, IsHeld, times, positions, SameBlocks}
 use Rattle.seg_spec.specs.Destroying.{HoldFrozen}
-use Rattle.seg_spec.specs.Demand.{Ask, need, block_for, blocks_then, after_asks, after_gives}
+use Rattle.seg_spec.specs.Demand.{Ask, need, block_for, after_asks, after_gives}
 use Rattle.seg_spec.specs.Spending.{replaced as replaced_buffers}
 use Rattle.seg_spec.specs.Counting.{cells_in, owners_in, AreCounted, FrozenGone}
 use Rattle.seg_spec.specs.Images.{IsSound}
@@ -133,14 +132,14 @@ none_without h bs once = go (cases_eq (times h (positions bs)) 0)
 -- of blocks that each stand there once, one that is given back isn't left
 not_left : (h : ℕ) (bs : List Span) (gives : List ℕ) → times h (positions bs) ≤ 1 → 1 ≤ times h gives → times h (positions (after_gives bs gives)) ≡ 0
 not_left h bs [] once some = absurd (omega arith)
-not_left h bs (x ∷ gives) once some = go (cases_eq x h)
+not_left h bs (x ∷ gives) once some = go (cases_eq x h) (λ few more. not_left h (without x bs) gives few more)
   where
-    go : (x ≡ h) ⊎ (x ≢ h) → times h (positions (after_gives (without x bs) gives)) ≡ 0
-    go (inl e) =
+    go : (x ≡ h) ⊎ (x ≢ h) → (times h (positions (without x bs)) ≤ 1 → 1 ≤ times h gives → times h (positions (after_gives (without x bs) gives)) ≡ 0) → times h (positions (after_gives (without x bs) gives)) ≡ 0
+    go (inl e) rest =
         let none : times h (positions (without x bs)) ≡ 0 = subst (λ y. times h (positions (without y bs)) ≡ 0) (sym e) (none_without h bs once) in
         let less = fewer_left h (without x bs) gives in
         omega arith
-    go (inr other) = let less = fewer h x bs in not_left h (without x bs) gives (omega arith) (omega (arith, times-other h x gives other))
+    go (inr other) rest = let less = fewer h x bs in rest (omega arith) (omega (arith, times-other h x gives other))
 
 -- ---- a block that is taken
 
@@ -156,7 +155,7 @@ parted h (t ∷ ts) from to f =
     elim t.live as (λ b. Parted h from (positions (cond b (span_of t ∷ live_of ts) (live_of ts))) (positions (cond b (free_of ts) (span_of t ∷ free_of ts)))) [
       | true ↦ go (positions (live_of ts)) (positions (free_of ts)) rest.once rest.above (cases_eq t.at h)
       | false ↦ (let p = go (positions (free_of ts)) (positions (live_of ts)) (let once = rest.once in omega arith) (λ some. rest.above (omega arith)) (cases_eq t.at h) in
-        record { once = (let once = p.once in omega arith); above = λ some. p.above (omega arith) })
+          record { once = (let once = p.once in omega arith); above = λ some. p.above (omega arith) })
     ]
   where
     go : (xs ys : List ℕ) → times h xs + times h ys ≤ 1 → (1 ≤ times h xs + times h ys → from + 16 * t.units ≤ h) → (t.at ≡ h) ⊎ (t.at ≢ h) → Parted h from (t.at ∷ xs) ys
@@ -329,7 +328,7 @@ among_all theirs [] a = tt
 among_all theirs (g ∷ gs) a = (
   omega (arith, a.0, times-append (block_of g.at) (theirs g.at) (blocks_by theirs gs)),
   each_weaker (λ (f : Frozen). 1 ≤ times (block_of f.at) (blocks_by theirs gs)) (λ (f : Frozen). 1 ≤ times (block_of f.at) (blocks_by theirs (g ∷ gs)))
-  (λ f there. omega (arith, there, times-append (block_of f.at) (theirs g.at) (blocks_by theirs gs))) gs (among_all theirs gs a.1),
+      (λ f there. omega (arith, there, times-append (block_of f.at) (theirs g.at) (blocks_by theirs gs))) gs (among_all theirs gs a.1),
 )
 
 -- an object goes whose cells all go
@@ -347,8 +346,8 @@ last_goes theirs gone (f ∷ fs) a =
         let rest = freed (gone ++ names_in f.value) fs in (
           (λ few. omega (arith, a.0, times-append (block_of f.at) (theirs f.at) (blocks_by theirs rest))),
           each_weaker (λ (g : Frozen). g.count ≤ times_named g.at (gone ++ names_in f.value) → 1 ≤ times (block_of g.at) (blocks_by theirs rest))
-          (λ (g : Frozen). g.count ≤ times_named g.at gone → 1 ≤ times (block_of g.at) (blocks_by theirs (f ∷ rest)))
-          (λ g goes few. let there = goes (omega (arith, few, named-append g.at gone (names_in f.value))) in omega (arith, there, times-append (block_of g.at) (theirs f.at) (blocks_by theirs rest))) fs without,
+              (λ (g : Frozen). g.count ≤ times_named g.at gone → 1 ≤ times (block_of g.at) (blocks_by theirs (f ∷ rest)))
+              (λ g goes few. let there = goes (omega (arith, few, named-append g.at gone (names_in f.value))) in omega (arith, there, times-append (block_of g.at) (theirs f.at) (blocks_by theirs rest))) fs without,
         )
     go (suc n) e without with_it = ((λ few. absurd (omega arith)), with_it)
 

@@ -26,11 +26,11 @@ ghost use Rattle.client_vm.specs.Outcomes.{HasOutcome};
 
 use client_vm::{Ended, Report};
 
-/// Whatever the image, the clients, their input, the place and the moves: the saved image is sound, and in its picture each frozen
-/// object counts the cells that name it, and there is one. Its number is below the image's next one, and above those of the
-/// objects that its value names, so that no cells lead round in a circle: each means one tree, however far one goes down. No
-/// object is there that no cell names, each live block is the index's, an owner's or a frozen object's, and where no object is
-/// named or unique no block is live.
+/// Whatever the image, the clients, their input, the place and the moves: the saved image is sound, and in its picture each
+/// frozen object counts the cells that name it, and there is one. Its number is below the image's next one, and above those of
+/// the objects that its value names, so that no cells lead round in a circle: each means one tree, however far one goes down.
+/// No object is there that no cell names, each live block is the index's, an owner's or a frozen object's, and where no object
+/// is named or unique no block is live.
 pub fn shared_objects()
     ensures counts { (image : List ℕ) (texts : List (List ℕ)) (input : List ℕ) (room base : ℕ)
         (moves : List Move) (taken taken_then : Option (List ℕ)) (saved : List ℕ)
@@ -87,8 +87,8 @@ pub fn shared_objects()
         (live saved ≡ []) × (gaps saved ≡ span heap_start ((length saved - heap_start) / 16) ∷ []) }
 {}
 
-/// A client begins on the trees of the image's objects, in which no value names a position, and leaves those of the image that is
-/// left.
+/// A client begins on the trees of the image's objects, in which no value names a position, and leaves those of the image that
+/// is left.
 pub fn runs_of_trees()
     ensures objects { (client : Client) (given : Given) (left : Left) →
         (runs : RunsClient client given left) →
@@ -99,9 +99,9 @@ pub fn runs_of_trees()
         AreTrees runs.first.state × AreTrees runs.last.state }
 {}
 
-/// What a row returns is no live block after it. With cells that go, the block of each frozen object goes whose cells are all
-/// among them, and of each that nothing else names then; with the cell that SHARE overwrites too, once the object counts that
-/// both cells name. In no picture on the way is an object that no cell names.
+/// What a row returns is no live block after it. With cells that go, the block of each frozen object is returned whose cells
+/// are all among them, and of each that goes with such a one; so it is with what SHARE overwrites, once the object counts which
+/// both cells name. No picture has an object that no cell names.
 pub fn rows_with_shared_objects()
     ensures returned { (constants : List Constant) (others : List Root) (moves : List Move)
         (i : Instruction) (x y : Situation) →
@@ -126,8 +126,8 @@ pub fn rows_with_shared_objects()
         ≡ 0 → AllByRecursion (λ f. f.at ≢ at) pictured.picture.frozen }
 {}
 
-/// An image as it is opened is of version 2, and has the same picture, with the same names and unique objects, and the same live
-/// blocks. One of version 1 has no frozen object.
+/// An image as it is opened is of version 2, and has the same picture, with the same names and unique objects, and the same
+/// live blocks. One of version 1 has no frozen object.
 pub fn upgraded_images()
     ensures picture { (image : List ℕ) (picture : Picture) → IsHeld image picture →
         IsHeld (upgraded image) picture }
