@@ -27,7 +27,7 @@ sharing_tiles = record { at = 704; units = 3; live = true } ∷ record { at = 75
 some_is : (a b : Form) → Some a ≡ Some b → a ≡ b
 some_is a b e = cc
 
-sharing_table-valid : IsTable sharing_table
+pub sharing_table-valid : IsTable sharing_table
 unfolding size
 sharing_table-valid = record { few = lit≤ tt; forms = forms; sizes = sizes }
   where
@@ -41,7 +41,7 @@ sharing_table-valid = record { few = lit≤ tt; forms = forms; sizes = sizes }
     sizes (suc zero) = lit≤ tt
     sizes (suc (suc T)) = lit≤ tt
 
-all_types : (table : Table) → AreOfVersion sharing_version table
+pub all_types : (table : Table) → AreOfVersion sharing_version table
 all_types table = record { each = λ T form e. any_type form }
 
 -- ---- what the roots hold

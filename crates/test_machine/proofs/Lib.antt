@@ -5,3 +5,4 @@ pub mod Stopped
 pub mod Several
 pub mod Whole
 pub mod CounterRun
+pub mod SharedCells

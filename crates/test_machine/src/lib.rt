@@ -7,4 +7,5 @@ pub mod grammar;
 pub mod operations;
 pub mod pictures;
 pub mod safety;
+pub mod sharing;
 pub mod trees;

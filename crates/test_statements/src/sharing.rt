@@ -1,0 +1,144 @@
+//! What a run's outcome says of the objects that cells share.
+
+ghost use Rattle.std.specs.Prelude.{◌≡◌, ◌≢◌, ℕ, ◌-◌, ◌/◌, ◌<◌, ◌≤◌, List, [], ◌∷◌, ◌++◌, length, Option};
+ghost use Rattle.std.specs.List.{AllByRecursion};
+ghost use Rattle.seg_spec.specs.Bytes.{word};
+ghost use Rattle.seg_spec.specs.Header.{version_word, next_word, sharing_version};
+ghost use Rattle.seg_spec.specs.Value.{Value, Full};
+ghost use Rattle.seg_spec.specs.Heap.{heap_start, span, live, gaps};
+ghost use Rattle.seg_spec.specs.Block.{block_of};
+ghost use Rattle.seg_spec.specs.Reads.{Place};
+ghost use Rattle.seg_spec.specs.Index.{Root, ListsNames};
+ghost use Rattle.seg_spec.specs.Frozen.{blocks_by};
+ghost use Rattle.seg_spec.specs.Shared.{names_in, names_of, times_named, IsBelow, meaning, raised_by, freed};
+ghost use Rattle.seg_spec.specs.Sound.{Picture, HoldsRoots, IsHeld, times, positions, SameBlocks};
+ghost use Rattle.seg_spec.specs.Destroying.{HoldFrozen};
+ghost use Rattle.seg_spec.specs.Counting.{cells_in, owners_in, AreCounted, FrozenGone};
+ghost use Rattle.seg_spec.specs.Images.{upgraded};
+ghost use Rattle.client_spec.specs.Syntax.{Constant, Instruction, Client};
+ghost use Rattle.client_spec.specs.Machine.{State};
+ghost use Rattle.client_spec.specs.Answer.{success};
+ghost use Rattle.client_spec.specs.Trees.{AreTrees};
+ghost use Rattle.client_spec.specs.Pictures.{HasObjects, Pictures};
+ghost use Rattle.client_spec.specs.Asks.{Returns, Renames};
+ghost use Rattle.client_spec.specs.OnImages.{Move, Situation, RowOn, Given, Left, RunsClient};
+ghost use Rattle.client_vm.specs.Outcomes.{HasOutcome};
+
+use client_vm::{Ended, Report};
+
+/// Whatever the image, the clients, their input, the place and the moves: the saved image is sound, and in its picture each
+/// frozen object counts the cells that name it, and there is one. Its number is below the image's next one, and above those of
+/// the objects that its value names, so that no cells lead round in a circle: each means one tree, however far one goes down.
+/// No object is there that no cell names, each live block is the index's, an owner's or a frozen object's, and where no object
+/// is named or unique no block is live.
+pub fn shared_objects()
+    ensures counts { (image : List ℕ) (texts : List (List ℕ)) (input : List ℕ) (room base : ℕ)
+        (moves : List Move) (taken taken_then : Option (List ℕ)) (saved : List ℕ)
+        (reports : List Report) (ended : Ended) →
+        (outcome : HasOutcome image texts input room base moves taken taken_then
+        saved reports ended) →
+        AllByRecursion (λ f. (1 ≤ f.count) × (f.count ≡
+        times_named f.at (cells_in (owners_in outcome.left.sound.picture)
+        ++ names_of outcome.left.sound.picture.frozen))) outcome.left.sound.picture.frozen }
+    ensures numbers { (image : List ℕ) (texts : List (List ℕ)) (input : List ℕ) (room base : ℕ)
+        (moves : List Move) (taken taken_then : Option (List ℕ)) (saved : List ℕ)
+        (reports : List Report) (ended : Ended) →
+        (outcome : HasOutcome image texts input room base moves taken taken_then
+        saved reports ended) →
+        AllByRecursion (λ f. (f.number < word saved next_word) ×
+        AllByRecursion (IsBelow f.number outcome.left.sound.picture.frozen) (names_in f.value))
+        outcome.left.sound.picture.frozen }
+    ensures trees { (image : List ℕ) (texts : List (List ℕ)) (input : List ℕ) (room base : ℕ)
+        (moves : List Move) (taken taken_then : Option (List ℕ)) (saved : List ℕ)
+        (reports : List Report) (ended : Ended) →
+        (outcome : HasOutcome image texts input room base moves taken taken_then
+        saved reports ended) →
+        AllByRecursion (λ cell. (tree : Value) × ((n : ℕ) → word saved next_word ≤ n →
+        meaning n outcome.left.sound.picture.frozen cell.at ≡ Full tree))
+        (cells_in (owners_in outcome.left.sound.picture)
+        ++ names_of outcome.left.sound.picture.frozen) }
+    ensures unnamed { (image : List ℕ) (texts : List (List ℕ)) (input : List ℕ) (room base : ℕ)
+        (moves : List Move) (taken taken_then : Option (List ℕ)) (saved : List ℕ)
+        (reports : List Report) (ended : Ended) →
+        (outcome : HasOutcome image texts input room base moves taken taken_then
+        saved reports ended) →
+        (at : ℕ) → times_named at (cells_in (owners_in outcome.left.sound.picture)
+        ++ names_of outcome.left.sound.picture.frozen) ≡ 0 →
+        AllByRecursion (λ f. f.at ≢ at) outcome.left.sound.picture.frozen }
+    ensures blocks { (image : List ℕ) (texts : List (List ℕ)) (input : List ℕ) (room base : ℕ)
+        (moves : List Move) (taken taken_then : Option (List ℕ)) (saved : List ℕ)
+        (reports : List Report) (ended : Ended) →
+        (outcome : HasOutcome image texts input room base moves taken taken_then
+        saved reports ended) →
+        (index own : List ℕ) × (theirs : ℕ → List ℕ) ×
+        ListsNames saved outcome.left.sound.picture.names index ×
+        HoldsRoots saved outcome.left.sound.picture.table
+        (owners_in outcome.left.sound.picture) own ×
+        HoldFrozen saved outcome.left.sound.picture.table theirs
+        outcome.left.sound.picture.frozen ×
+        SameBlocks (positions (live saved))
+        (index ++ (own ++ blocks_by theirs outcome.left.sound.picture.frozen)) }
+    ensures nothing { (image : List ℕ) (texts : List (List ℕ)) (input : List ℕ) (room base : ℕ)
+        (moves : List Move) (taken taken_then : Option (List ℕ)) (saved : List ℕ)
+        (reports : List Report) (ended : Ended) →
+        (outcome : HasOutcome image texts input room base moves taken taken_then
+        saved reports ended) →
+        outcome.left.sound.picture.names ≡ [] → outcome.left.sound.picture.uniques ≡ [] →
+        (live saved ≡ []) × (gaps saved ≡ span heap_start ((length saved - heap_start) / 16) ∷ []) }
+{}
+
+/// A client begins on the trees of the image's objects, in which no value names a position, and leaves those of the image that
+/// is left.
+pub fn runs_of_trees()
+    ensures objects { (client : Client) (given : Given) (left : Left) →
+        (runs : RunsClient client given left) →
+        HasObjects (word given.image next_word) runs.is_first.picture runs.first.state ×
+        HasObjects (word left.image next_word) runs.is_left.picture runs.last.state }
+    ensures trees { (client : Client) (given : Given) (left : Left) →
+        (runs : RunsClient client given left) →
+        AreTrees runs.first.state × AreTrees runs.last.state }
+{}
+
+/// What a row returns is no live block after it. With cells that go, the block of each frozen object is returned whose cells
+/// are all among them, and of each that goes with such a one; so it is with what SHARE overwrites, once the object counts which
+/// both cells name. No picture has an object that no cell names.
+pub fn rows_with_shared_objects()
+    ensures returned { (constants : List Constant) (others : List Root) (moves : List Move)
+        (i : Instruction) (x y : Situation) →
+        (row : RowOn constants others moves i x success y) →
+        (gives : List ℕ) × Returns constants i row.before.pictured gives ×
+        ((h : ℕ) → 1 ≤ times h gives → times h (positions (live y.image)) ≡ 0) }
+    ensures last_cell { (bytes : List ℕ) (picture : Picture) (gone : List Place) (blocks : List ℕ) →
+        FrozenGone bytes picture gone blocks →
+        AllByRecursion (λ f. f.count ≤ times_named f.at gone → 1 ≤ times (block_of f.at) blocks)
+        picture.frozen }
+    ensures with_it { (bytes : List ℕ) (picture : Picture) (gone : List Place) (blocks : List ℕ) →
+        FrozenGone bytes picture gone blocks →
+        AllByRecursion (λ f. 1 ≤ times (block_of f.at) blocks) (freed gone picture.frozen) }
+    ensures shared { (constants : List Constant) (i : Instruction) (others : List Root) (s : State)
+        (bytes : List ℕ) (pictured : Pictures others s bytes) (place : Place) (gives : List ℕ) →
+        (renames : Renames constants i pictured place gives) →
+        AllByRecursion (λ f. 1 ≤ times (block_of f.at) gives) (freed (names_in renames.value)
+        (raised_by (names_in renames.other) pictured.picture.frozen)) }
+    ensures unnamed { (others : List Root) (s : State) (bytes : List ℕ) (at : ℕ) →
+        (pictured : Pictures others s bytes) →
+        times_named at (cells_in (owners_in pictured.picture) ++ names_of pictured.picture.frozen)
+        ≡ 0 → AllByRecursion (λ f. f.at ≢ at) pictured.picture.frozen }
+{}
+
+/// An image as it is opened is of version 2, and has the same picture, with the same names and unique objects, and the same
+/// live blocks. One of version 1 has no frozen object.
+pub fn upgraded_images()
+    ensures picture { (image : List ℕ) (picture : Picture) → IsHeld image picture →
+        IsHeld (upgraded image) picture }
+    ensures counts { (image : List ℕ) (picture : Picture) →
+        AreCounted (word image next_word) picture →
+        AreCounted (word (upgraded image) next_word) picture }
+    ensures version { (image : List ℕ) (picture : Picture) → IsHeld image picture →
+        word (upgraded image) version_word ≡ sharing_version }
+    ensures blocks { (image : List ℕ) (picture : Picture) → IsHeld image picture →
+        live (upgraded image) ≡ live image }
+    ensures first_version { (image : List ℕ) (picture : Picture) → IsHeld image picture →
+        AreCounted (word image next_word) picture → word image version_word ≡ 1 →
+        picture.frozen ≡ [] }
+{}
