@@ -113,12 +113,7 @@ pub const PLAIN: Setting<'static> = Setting {
 };
 
 /// Runs the clients that the texts spell. The saved image must be one that is accepted.
-pub fn run_in(
-    alloc: Global,
-    image: &[u8],
-    texts: &[&str],
-    setting: Setting,
-) -> Result<Ran, Fail> {
+pub fn run_in(alloc: Global, image: &[u8], texts: &[&str], setting: Setting) -> Result<Ran, Fail> {
     let mut files = Vec::new(alloc);
     for text in texts {
         files.push(client(alloc, text)?)?;

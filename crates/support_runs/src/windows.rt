@@ -8,11 +8,7 @@ use seg_raw::{Fault, Region};
 use std::alloc::Global;
 
 /// An image at a base of a region.
-pub fn placed(
-    region: Region<Global>,
-    base: u32,
-    image: &[u8],
-) -> Result<Window<Global>, Fault> {
+pub fn placed(region: Region<Global>, base: u32, image: &[u8]) -> Result<Window<Global>, Fault> {
     let len = u32::try_from(image.len()).map_err(|_| Fault::BadHeader)?;
     match Window::place(region, base, len) {
         Ok(mut window) => {
@@ -30,10 +26,7 @@ pub fn window(alloc: Global, image: &[u8]) -> Result<Window<Global>, Fault> {
 }
 
 /// The segment in a window, if it is sound and on this allocator.
-pub fn opened<F: Fit>(
-    alloc: Global,
-    window: Window<Global>,
-) -> Result<Segment<F, Global>, Fault> {
+pub fn opened<F: Fit>(alloc: Global, window: Window<Global>) -> Result<Segment<F, Global>, Fault> {
     match open::<F, Global, Global>(alloc, window) {
         Ok(segment) => Ok(segment),
         Err((fault, _window)) => Err(fault),

@@ -202,7 +202,8 @@ module _ (bytes : List ℕ) (allocator : ℕ) (heap : IsHeap allocator bytes) wh
           here g is_gap counted (inl same) =
               let both = apart h in
               let gap : 1 ≤ times h (positions (gaps bytes)) = subst (λ x. 1 ≤ times x (positions (gaps bytes))) same is_gap in
-              let first : times h (g.at ∷ positions (live bytes)) ≡ 1 + times h (positions (live bytes)) = subst (λ x. times h (x ∷ positions (live bytes)) ≡ 1 + times h (positions (live bytes))) (sym same) (times-same h (positions (live bytes))) in
+              let first : times h (g.at ∷ positions (live bytes)) ≡ 1 + times h (positions (live bytes)) =
+              subst (λ x. times h (x ∷ positions (live bytes)) ≡ 1 + times h (positions (live bytes))) (sym same) (times-same h (positions (live bytes))) in
               omega arith
           here g is_gap counted (inr other) = let both = apart h in let same = times-other h g.at (positions (live bytes)) other in omega arith
 

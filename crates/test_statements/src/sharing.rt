@@ -1,6 +1,6 @@
 //! What a run's outcome says of the objects that cells share.
 
-ghost use Rattle.std.specs.Prelude.{◌≡◌, ◌≢◌, ℕ, ◌-◌, ◌/◌, ◌<◌, ◌≤◌, List, [], ◌∷◌, ◌++◌, length, Option};
+ghost use Rattle.std.specs.Prelude.{◌≡◌, ◌≢◌, ℕ, ◌-◌, ◌/◌, ◌<◌, ◌≤◌, List, [], ◌∷◌, ◌++◌, length};
 ghost use Rattle.std.specs.List.{AllByRecursion};
 ghost use Rattle.seg_spec.specs.Bytes.{word};
 ghost use Rattle.seg_spec.specs.Header.{version_word, next_word, sharing_version};
@@ -22,9 +22,7 @@ ghost use Rattle.client_spec.specs.Trees.{AreTrees};
 ghost use Rattle.client_spec.specs.Pictures.{HasObjects, Pictures};
 ghost use Rattle.client_spec.specs.Asks.{Returns, Renames};
 ghost use Rattle.client_spec.specs.OnImages.{Move, Situation, RowOn, Given, Left, RunsClient};
-ghost use Rattle.client_vm.specs.Outcomes.{HasOutcome};
-
-use client_vm::{Ended, Report};
+ghost use Rattle.test_statements.specs.Saved.{OfSaved};
 
 /// Whatever the image, the clients, their input, the place and the moves: the saved image is sound, and in its picture each
 /// frozen object counts the cells that name it, and there is one. Its number is below the image's next one, and above those of
@@ -32,59 +30,28 @@ use client_vm::{Ended, Report};
 /// No object is there that no cell names, each live block is the index's, an owner's or a frozen object's, and where no object
 /// is named or unique no block is live.
 pub fn shared_objects()
-    ensures counts { (image : List ℕ) (texts : List (List ℕ)) (input : List ℕ) (room base : ℕ)
-        (moves : List Move) (taken taken_then : Option (List ℕ)) (saved : List ℕ)
-        (reports : List Report) (ended : Ended) →
-        (outcome : HasOutcome image texts input room base moves taken taken_then
-        saved reports ended) →
-        AllByRecursion (λ f. (1 ≤ f.count) × (f.count ≡
-        times_named f.at (cells_in (owners_in outcome.left.sound.picture)
-        ++ names_of outcome.left.sound.picture.frozen))) outcome.left.sound.picture.frozen }
-    ensures numbers { (image : List ℕ) (texts : List (List ℕ)) (input : List ℕ) (room base : ℕ)
-        (moves : List Move) (taken taken_then : Option (List ℕ)) (saved : List ℕ)
-        (reports : List Report) (ended : Ended) →
-        (outcome : HasOutcome image texts input room base moves taken taken_then
-        saved reports ended) →
-        AllByRecursion (λ f. (f.number < word saved next_word) ×
-        AllByRecursion (IsBelow f.number outcome.left.sound.picture.frozen) (names_in f.value))
-        outcome.left.sound.picture.frozen }
-    ensures trees { (image : List ℕ) (texts : List (List ℕ)) (input : List ℕ) (room base : ℕ)
-        (moves : List Move) (taken taken_then : Option (List ℕ)) (saved : List ℕ)
-        (reports : List Report) (ended : Ended) →
-        (outcome : HasOutcome image texts input room base moves taken taken_then
-        saved reports ended) →
-        AllByRecursion (λ cell. (tree : Value) × ((n : ℕ) → word saved next_word ≤ n →
-        meaning n outcome.left.sound.picture.frozen cell.at ≡ Full tree))
-        (cells_in (owners_in outcome.left.sound.picture)
-        ++ names_of outcome.left.sound.picture.frozen) }
-    ensures unnamed { (image : List ℕ) (texts : List (List ℕ)) (input : List ℕ) (room base : ℕ)
-        (moves : List Move) (taken taken_then : Option (List ℕ)) (saved : List ℕ)
-        (reports : List Report) (ended : Ended) →
-        (outcome : HasOutcome image texts input room base moves taken taken_then
-        saved reports ended) →
-        (at : ℕ) → times_named at (cells_in (owners_in outcome.left.sound.picture)
-        ++ names_of outcome.left.sound.picture.frozen) ≡ 0 →
-        AllByRecursion (λ f. f.at ≢ at) outcome.left.sound.picture.frozen }
-    ensures blocks { (image : List ℕ) (texts : List (List ℕ)) (input : List ℕ) (room base : ℕ)
-        (moves : List Move) (taken taken_then : Option (List ℕ)) (saved : List ℕ)
-        (reports : List Report) (ended : Ended) →
-        (outcome : HasOutcome image texts input room base moves taken taken_then
-        saved reports ended) →
-        (index own : List ℕ) × (theirs : ℕ → List ℕ) ×
-        ListsNames saved outcome.left.sound.picture.names index ×
-        HoldsRoots saved outcome.left.sound.picture.table
-        (owners_in outcome.left.sound.picture) own ×
-        HoldFrozen saved outcome.left.sound.picture.table theirs
-        outcome.left.sound.picture.frozen ×
+    ensures counts { OfSaved (λ saved sound. AllByRecursion (λ f. (1 ≤ f.count) × (f.count ≡
+        times_named f.at (cells_in (owners_in sound.picture) ++ names_of sound.picture.frozen)))
+        sound.picture.frozen) }
+    ensures numbers { OfSaved (λ saved sound. AllByRecursion (λ f. (f.number < word saved next_word)
+        × AllByRecursion (IsBelow f.number sound.picture.frozen) (names_in f.value))
+        sound.picture.frozen) }
+    ensures trees { OfSaved (λ saved sound. AllByRecursion (λ cell. (tree : Value) ×
+        ((n : ℕ) → word saved next_word ≤ n →
+        meaning n sound.picture.frozen cell.at ≡ Full tree))
+        (cells_in (owners_in sound.picture) ++ names_of sound.picture.frozen)) }
+    ensures unnamed { OfSaved (λ saved sound. (at : ℕ) →
+        times_named at (cells_in (owners_in sound.picture) ++ names_of sound.picture.frozen) ≡ 0 →
+        AllByRecursion (λ f. f.at ≢ at) sound.picture.frozen) }
+    ensures blocks { OfSaved (λ saved sound. (index own : List ℕ) × (theirs : ℕ → List ℕ) ×
+        ListsNames saved sound.picture.names index ×
+        HoldsRoots saved sound.picture.table (owners_in sound.picture) own ×
+        HoldFrozen saved sound.picture.table theirs sound.picture.frozen ×
         SameBlocks (positions (live saved))
-        (index ++ (own ++ blocks_by theirs outcome.left.sound.picture.frozen)) }
-    ensures nothing { (image : List ℕ) (texts : List (List ℕ)) (input : List ℕ) (room base : ℕ)
-        (moves : List Move) (taken taken_then : Option (List ℕ)) (saved : List ℕ)
-        (reports : List Report) (ended : Ended) →
-        (outcome : HasOutcome image texts input room base moves taken taken_then
-        saved reports ended) →
-        outcome.left.sound.picture.names ≡ [] → outcome.left.sound.picture.uniques ≡ [] →
-        (live saved ≡ []) × (gaps saved ≡ span heap_start ((length saved - heap_start) / 16) ∷ []) }
+        (index ++ (own ++ blocks_by theirs sound.picture.frozen))) }
+    ensures nothing { OfSaved (λ saved sound. sound.picture.names ≡ [] →
+        sound.picture.uniques ≡ [] → (live saved ≡ []) ×
+        (gaps saved ≡ span heap_start ((length saved - heap_start) / 16) ∷ [])) }
 {}
 
 /// A client begins on the trees of the image's objects, in which no value names a position, and leaves those of the image that

@@ -7,7 +7,9 @@ use std::alloc::Global;
 use std::process::Abort;
 use std::test::Fail;
 use support_data::write_words;
-use support_runs::{KINDS, PLAIN, Kind, Setting, client, empty, run_files, statistics_of, verified};
+use support_runs::{
+    KINDS, Kind, PLAIN, Setting, client, empty, run_files, statistics_of, verified,
+};
 
 const INPUT: &[u8] = b"the input of a client";
 

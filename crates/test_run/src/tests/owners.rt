@@ -3,7 +3,7 @@ use client_vm::Ended;
 use std::alloc::Global;
 use std::test::Fail;
 use support_data::chain;
-use support_runs::{KINDS, PLAIN, Kind, Ran, Setting, empty, run_in, statistics_of};
+use support_runs::{KINDS, Kind, PLAIN, Ran, Setting, empty, run_in, statistics_of};
 
 /// A chain of 20,000 objects, each of which owns the one before, is made and destroyed.
 #[test]

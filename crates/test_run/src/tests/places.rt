@@ -9,7 +9,10 @@ use std::alloc::Global;
 use std::process::Abort;
 use std::test::Fail;
 use support_data::{INCREMENT_FILE, Limited, chain, counter, counter_saved};
-use support_runs::{KINDS, PLAIN, SEQ_FLAT, Ran, Setting, empty, leaves, opened, outcome_of, placed, run_files, run_in, verified};
+use support_runs::{
+    KINDS, PLAIN, Ran, SEQ_FLAT, Setting, empty, leaves, opened, outcome_of, placed, run_files,
+    run_in, verified,
+};
 
 /// The bytes of the host, all of them 0xa5 but for the segment.
 const ROOM: u32 = 8192;

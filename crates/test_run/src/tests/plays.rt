@@ -16,7 +16,7 @@ use seg_manager::IndexKind;
 use std::alloc::Global;
 use std::str;
 use std::test::Fail;
-use support_runs::{PLAIN, Kind, Ran, Setting, client, empty, run_files, statistics_of};
+use support_runs::{Kind, PLAIN, Ran, Setting, client, empty, run_files, statistics_of};
 
 /// Runs what a text says on each kind of segments.
 pub(crate) fn plays(alloc: Global, kinds: &[Kind], text: &str) -> Result<(), Fail> {

@@ -10,7 +10,10 @@ use std::alloc::Global;
 use std::process::Abort;
 use std::test::Fail;
 use support_data::{NOTICE, PUBLISH, write_words};
-use support_runs::{KINDS, PLAIN, SEQ_FLAT, Kind, Ran, Setting, client, empty, leaves, outcome_of, run_anew, run_in, run_on, verified, window};
+use support_runs::{
+    KINDS, Kind, PLAIN, Ran, SEQ_FLAT, Setting, client, empty, leaves, outcome_of, run_anew,
+    run_in, run_on, verified, window,
+};
 
 /// Freezes a number into a cell, shares it in another, and reads it there after the first cell went.
 const SHARE: &str = "type i64
@@ -236,8 +239,8 @@ fn the_first_of_two_frozen_structs_is_left(rt: HostRuntime) -> Result<(), Fail> 
     Ok(())
 }
 
-/// The unique cell names a frozen 7, and an object that is 8 takes the last gap: it isn't frozen, and both stay. A gap of 48 bytes
-/// is used up by a block of 32, since 16 are no block.
+/// The unique cell names a frozen 7, and an object that is 8 takes the last gap: it isn't frozen, and both stay. A gap of 48
+/// bytes is used up by a block of 32, since 16 are no block.
 #[test]
 fn no_gap_for_a_frozen_object(rt: HostRuntime) -> Result<(), Fail> {
     plays(

@@ -2,7 +2,7 @@ use crate::tests::plays::plays;
 use client_vm::Ended;
 use std::process::Abort;
 use std::test::Fail;
-use support_runs::{KINDS, SEQ_FLAT, Kind, run_anew, statistics_of};
+use support_runs::{KINDS, Kind, SEQ_FLAT, run_anew, statistics_of};
 
 /// Makes an object of each kind, asks for room in each way, and prints each code.
 pub(crate) const MAKE_EACH_KIND: &str = "type i64

@@ -1,0 +1,17 @@
+-- What is claimed of each image that clients leave.
+--     OfSaved claim      it holds of every saved image, which is sound, whatever the image, the
+--                        clients, their input, the place and the moves are, and what the output
+--                        takes
+use Rattle.std.specs.Prelude.{ℕ, List, Option}
+use Rattle.seg_spec.specs.Images.{IsSound}
+use Rattle.client_spec.specs.OnImages.{Move}
+use Rattle.client_run.specs.declared.report.Report.{Report}
+use Rattle.client_run.specs.declared.report.Ended.{Ended}
+use Rattle.client_vm.specs.Outcomes.{HasOutcome}
+
+abbrev pub OfSaved : ((saved : List ℕ) → IsSound saved → Type 0) → Type 0
+OfSaved claim = (image : List ℕ) (texts : List (List ℕ)) (input : List ℕ) (room base : ℕ)
+    (moves : List Move) (taken taken_then : Option (List ℕ)) (saved : List ℕ)
+    (reports : List Report) (ended : Ended) →
+    (outcome : HasOutcome image texts input room base moves taken taken_then
+    saved reports ended) → claim saved outcome.left.sound
