@@ -26,9 +26,9 @@ pub fn through_a_shared_cell()
 {}
 
 /// The first of two cells names the number 41, which is frozen, and the other one nothing. Registers 1 and 2 lead to them, and
-/// register 3 owns the number 9. FREEZE of 9 asks for one block of 2 units. It gives back the block at 832, in which 9 stood, and
-/// where 9 goes into the first cell the block at 800 too, since nothing names 41 then. SHARE gives back that block where the
-/// first cell is to be as the other one, and nothing where the other one is to be as the first.
+/// register 3 owns the number 9. FREEZE of 9 asks for one block of 2 units. It gives back the block at 832, in which 9 stood,
+/// and where 9 goes into the first cell the block at 800 too, since nothing names 41 then. SHARE gives back that block where
+/// the first cell is to be as the other one, and nothing where the other one is to be as the first.
 pub fn rows_of_shared_cells()
     ensures { (image : List ℕ) × (s : State) × (pictured : Pictures [] s image) ×
         (pictured.picture ≡ record {

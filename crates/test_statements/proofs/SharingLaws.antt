@@ -35,7 +35,7 @@ use Rattle.client_spec.specs.declared.table.Operation.{Operation}
 use Rattle.client_spec.specs.Syntax.{Constant, Instruction}
 use Rattle.client_spec.specs.Machine.{State}
 use Rattle.client_spec.specs.Pictures.{Pictures}
-use Rattle.client_spec.specs.Asks.{Returns, Renames, GrantsAsks, ChangesOnSuccess}
+use Rattle.client_spec.specs.Asks.{WithFrozen, Returns, Renames, GrantsAsks, ChangesOnSuccess}
 
 -- ---- counted pictures
 
@@ -363,6 +363,19 @@ module _ (bytes : List ℕ) (picture : Picture) (names : List Place) (blocks : L
   with_it =
       subst (λ bs. AllByRecursion (λ (f : Frozen). 1 ≤ times (block_of f.at) bs) (freed names picture.frozen)) (sym g.blocks_are)
       (among_all g.theirs (freed names picture.frozen) (freed_stand g.theirs names picture.frozen stand))
+
+-- with the cells that go in a row the block of each object goes whose cells are all among them
+pub row_frees : (constants : List Constant) {others : List Root} {s : State} {bytes : List ℕ} (p : Pictures others s bytes) (new : List ℕ) (i : Instruction) → ChangesOnSuccess constants i p i.operation new
+    → (gives : List ℕ) × Returns constants i p gives
+    × ((names : List Place) (own : List ℕ) → WithFrozen constants i p names own gives → AllByRecursion (λ (f : Frozen). f.count ≤ times_named f.at names → times (block_of f.at) (positions (live new)) ≡ 0) p.picture.frozen)
+row_frees constants {bytes = bytes} p new i changes =
+    let r = row_gives constants p new i.a i.b i.c i.number i.operation changes in (
+      r.0,
+      r.1,
+      λ names own w. each_weaker (λ (f : Frozen). f.count ≤ times_named f.at names → 1 ≤ times (block_of f.at) w.0) (λ (f : Frozen). f.count ≤ times_named f.at names → times (block_of f.at) (positions (live new)) ≡ 0)
+          (λ f goes few. r.2 (block_of f.at) (let there = goes few in subst (λ bs. 1 ≤ times (block_of f.at) bs) (sym w.2) (omega (arith, there, times-append (block_of f.at) own w.0))))
+          p.picture.frozen (last_cell bytes p.picture names w.0 w.1),
+    )
 
 pub shared_goes : (constants : List Constant) (i : Instruction) {others : List Root} {s : State} {bytes : List ℕ} (p : Pictures others s bytes) (place : Place) (gives : List ℕ) (r : Renames constants i p place gives)
     → AllByRecursion (λ (f : Frozen). 1 ≤ times (block_of f.at) gives) (freed (names_in r.value) (raised_by (names_in r.other) p.picture.frozen))

@@ -20,7 +20,7 @@ ghost use Rattle.client_spec.specs.Machine.{State};
 ghost use Rattle.client_spec.specs.Answer.{success};
 ghost use Rattle.client_spec.specs.Trees.{AreTrees};
 ghost use Rattle.client_spec.specs.Pictures.{HasObjects, Pictures};
-ghost use Rattle.client_spec.specs.Asks.{Returns, Renames};
+ghost use Rattle.client_spec.specs.Asks.{WithFrozen, Returns, Renames};
 ghost use Rattle.client_spec.specs.OnImages.{Move, Situation, RowOn, Given, Left, RunsClient};
 ghost use Rattle.test_statements.specs.Saved.{OfSaved};
 
@@ -66,15 +66,24 @@ pub fn runs_of_trees()
         AreTrees runs.first.state × AreTrees runs.last.state }
 {}
 
-/// What a row returns is no live block after it. With cells that go, the block of each frozen object is returned whose cells
-/// are all among them, and of each that goes with such a one; so it is with what SHARE overwrites, once the object counts which
-/// both cells name. No picture has an object that no cell names.
+/// What a row returns is no live block after it. So it is with the block of each frozen object all of whose cells go in the row:
+/// it is returned, and so are those of the objects that go with such a one; where SHARE overwrites a cell, once the object counts
+/// which both cells name. No picture has an object that no cell names.
 pub fn rows_with_shared_objects()
     ensures returned { (constants : List Constant) (others : List Root) (moves : List Move)
         (i : Instruction) (x y : Situation) →
         (row : RowOn constants others moves i x success y) →
         (gives : List ℕ) × Returns constants i row.before.pictured gives ×
         ((h : ℕ) → 1 ≤ times h gives → times h (positions (live y.image)) ≡ 0) }
+    ensures in_the_row { (constants : List Constant) (others : List Root) (moves : List Move)
+        (i : Instruction) (x y : Situation) →
+        (row : RowOn constants others moves i x success y) →
+        (gives : List ℕ) × Returns constants i row.before.pictured gives ×
+        ((gone : List Place) (own : List ℕ) →
+        WithFrozen constants i row.before.pictured gone own gives →
+        AllByRecursion (λ f. f.count ≤ times_named f.at gone →
+        times (block_of f.at) (positions (live y.image)) ≡ 0)
+        row.before.pictured.picture.frozen) }
     ensures last_cell { (bytes : List ℕ) (picture : Picture) (gone : List Place) (blocks : List ℕ) →
         FrozenGone bytes picture gone blocks →
         AllByRecursion (λ f. f.count ≤ times_named f.at gone → 1 ≤ times (block_of f.at) blocks)
