@@ -13,7 +13,6 @@ use seg_open::save;
 use seg_raw::{Fault, Region};
 use seg_seqfit::SeqFit;
 use std::alloc::Global;
-use std::process::Abort;
 use std::test::Fail;
 use support_data::Limited;
 
@@ -191,20 +190,4 @@ pub fn statistics_of(alloc: Global, image: &[u8]) -> Result<Statistics, Fail> {
         named: segment.num_named(),
         unique: segment.num_unique(),
     })
-}
-
-/// The clients print this, and leave so many bytes free and so many names.
-pub fn leaves(
-    rt: &(impl Abort + AllocGlobal),
-    ran: &Ran,
-    printed: &str,
-    free: u32,
-    named: u32,
-) -> Result<(), Fail> {
-    assert_eq!(rt; ran.out.as_slice(), printed.as_bytes());
-    let left = statistics_of(rt.alloc(), ran.image.as_slice())?;
-    assert_eq!(rt; left.free, free);
-    assert_eq!(rt; left.named, named);
-    assert!(rt; ran.ended == Ended::Done);
-    Ok(())
 }

@@ -4,6 +4,7 @@ mod door;
 mod hostile;
 mod hosts;
 mod images;
+mod left;
 mod maps;
 mod memory;
 mod mutations;

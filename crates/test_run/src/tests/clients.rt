@@ -1,9 +1,10 @@
 use crate::tests::door::{Host, types_in};
+use crate::tests::left::leaves;
 use lezgauri::{Ended, Fault, Report, Type};
 use lezgauri_uses::new_counter;
 use std::test::Fail;
 use support_data::{COUNT, INCREMENT_FILE, counter, sharing};
-use support_runs::{leaves, run_on};
+use support_runs::run_on;
 
 /// Two runs of one client on an image that stays open: 41 + 1 + 1. Each takes six steps, as `ELSE` and `END` are none.
 #[test]

@@ -1,6 +1,7 @@
 //! Where a segment lies in its host's memory, and how it moves.
 
 use crate::tests::containers::{FIVE_TEXTS, PRINT_TEXTS};
+use crate::tests::left::leaves;
 use client_vm::{Ended, Move, Through, moves_fit, run};
 use seg_manager::Segment;
 use seg_raw::{Fault, Region};
@@ -10,8 +11,8 @@ use std::process::Abort;
 use std::test::Fail;
 use support_data::{INCREMENT_FILE, Limited, chain, counter, counter_saved};
 use support_runs::{
-    KINDS, PLAIN, Ran, SEQ_FLAT, Setting, empty, leaves, opened, outcome_of, placed, run_files,
-    run_in, verified,
+    KINDS, PLAIN, Ran, SEQ_FLAT, Setting, empty, opened, outcome_of, placed, run_files, run_in,
+    verified,
 };
 
 /// The bytes of the host, all of them 0xa5 but for the segment.

@@ -1,6 +1,7 @@
 //! Clients that freeze objects, share them and read them. What is printed and left is worked out by hand: an empty segment of
 //! 1024 bytes has a heap of 320 at 704, in which a number, a cell and a frozen number take 32 bytes each.
 
+use crate::tests::left::leaves;
 use crate::tests::plays::plays;
 use client_vm::Ended;
 use seg_check::check;
@@ -11,8 +12,8 @@ use std::process::Abort;
 use std::test::Fail;
 use support_data::{NOTICE, PUBLISH, write_words};
 use support_runs::{
-    KINDS, Kind, PLAIN, Ran, SEQ_FLAT, Setting, client, empty, leaves, outcome_of, run_anew,
-    run_in, run_on, verified, window,
+    KINDS, Kind, PLAIN, Ran, SEQ_FLAT, Setting, client, empty, outcome_of, run_anew, run_in,
+    run_on, verified, window,
 };
 
 /// Freezes a number into a cell, shares it in another, and reads it there after the first cell went.

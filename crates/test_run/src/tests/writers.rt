@@ -1,11 +1,12 @@
 //! Outputs that fail, and an output that takes little at a time.
 
 use crate::tests::containers::{FIVE_TEXTS, PRINT_TEXTS};
+use crate::tests::left::leaves;
 use client_vm::Ended;
 use std::process::Abort;
 use std::test::Fail;
 use support_data::front;
-use support_runs::{PLAIN, SEQ_FLAT, Setting, empty, leaves, run_in, run_on};
+use support_runs::{PLAIN, SEQ_FLAT, Setting, empty, run_in, run_on};
 
 /// An output that takes so many bytes and no more: what was made before stays, and the saved image is accepted.
 fn output_fails_after(rt: &(impl Abort + AllocGlobal), limit: usize) -> Result<(), Fail> {
