@@ -16,8 +16,8 @@ ghost use Rattle.client_spec.specs.Fixtures.{at};
 /// Where no object stands at that position, or only what the cell itself has inside counts, they lead nowhere.
 pub fn through_a_shared_cell()
     ensures itself { value_through sharing_picture.frozen sharing_cell [] ≡ Some sharing_cell }
-    ensures content { value_through sharing_picture.frozen sharing_cell (Selector.content ∷ []) ≡
-        Some (Int (pos 41)) }
+    ensures content { value_through sharing_picture.frozen sharing_cell
+        (Selector.content ∷ []) ≡ Some (Int (pos 41)) }
     ensures further { value_through sharing_picture.frozen sharing_cell
         (Selector.content ∷ Selector.content ∷ []) ≡ None }
     ensures no_object { value_through [] sharing_cell (Selector.content ∷ []) ≡ None }

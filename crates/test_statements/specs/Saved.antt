@@ -2,7 +2,12 @@
 --     OfSaved claim      it holds of every saved image, which is sound, whatever the image, the
 --                        clients, their input, the place and the moves are, and what the output
 --                        takes
-use Rattle.std.specs.Prelude.{ℕ, List, Option}
+--     all_cells picture  what the cells of a picture name, those in frozen objects among them
+use Rattle.std.specs.Prelude.{ℕ, List, ◌++◌, Option}
+use Rattle.seg_spec.specs.Reads.{Place}
+use Rattle.seg_spec.specs.Shared.{names_of}
+use Rattle.seg_spec.specs.Sound.{Picture}
+use Rattle.seg_spec.specs.Counting.{cells_in, owners_in}
 use Rattle.seg_spec.specs.Images.{IsSound}
 use Rattle.client_spec.specs.OnImages.{Move}
 use Rattle.client_run.specs.declared.report.Report.{Report}
@@ -15,3 +20,6 @@ OfSaved claim = (image : List ℕ) (texts : List (List ℕ)) (input : List ℕ) 
     (reports : List Report) (ended : Ended) →
     (outcome : HasOutcome image texts input room base moves taken taken_then
     saved reports ended) → claim saved outcome.left.sound
+
+abbrev pub all_cells : Picture → List Place
+all_cells picture = cells_in (owners_in picture) ++ names_of picture.frozen

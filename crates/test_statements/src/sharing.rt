@@ -10,10 +10,10 @@ ghost use Rattle.seg_spec.specs.Block.{block_of};
 ghost use Rattle.seg_spec.specs.Reads.{Place};
 ghost use Rattle.seg_spec.specs.Index.{Root, ListsNames};
 ghost use Rattle.seg_spec.specs.Frozen.{blocks_by};
-ghost use Rattle.seg_spec.specs.Shared.{names_in, names_of, times_named, IsBelow, meaning, raised_by, freed};
+ghost use Rattle.seg_spec.specs.Shared.{names_in, times_named, IsBelow, meaning, raised_by, freed};
 ghost use Rattle.seg_spec.specs.Sound.{Picture, HoldsRoots, IsHeld, times, positions, SameBlocks};
 ghost use Rattle.seg_spec.specs.Destroying.{HoldFrozen};
-ghost use Rattle.seg_spec.specs.Counting.{cells_in, owners_in, AreCounted, FrozenGone};
+ghost use Rattle.seg_spec.specs.Counting.{owners_in, AreCounted, FrozenGone};
 ghost use Rattle.seg_spec.specs.Images.{upgraded};
 ghost use Rattle.client_spec.specs.Syntax.{Constant, Instruction, Client};
 ghost use Rattle.client_spec.specs.Machine.{State};
@@ -22,7 +22,7 @@ ghost use Rattle.client_spec.specs.Trees.{AreTrees};
 ghost use Rattle.client_spec.specs.Pictures.{HasObjects, Pictures};
 ghost use Rattle.client_spec.specs.Asks.{WithFrozen, Returns, Renames};
 ghost use Rattle.client_spec.specs.OnImages.{Move, Situation, RowOn, Given, Left, RunsClient};
-ghost use Rattle.test_statements.specs.Saved.{OfSaved};
+ghost use Rattle.test_statements.specs.Saved.{OfSaved, all_cells};
 
 /// Whatever the image, the clients, their input, the place and the moves: the saved image is sound, and in its picture each
 /// frozen object counts the cells that name it, and there is one. Its number is below the image's next one, and above those of
@@ -30,20 +30,22 @@ ghost use Rattle.test_statements.specs.Saved.{OfSaved};
 /// No object is there that no cell names, each live block is the index's, an owner's or a frozen object's, and where no object
 /// is named or unique no block is live.
 pub fn shared_objects()
-    ensures counts { OfSaved (λ saved sound. AllByRecursion (λ f. (1 ≤ f.count) × (f.count ≡
-        times_named f.at (cells_in (owners_in sound.picture) ++ names_of sound.picture.frozen)))
+    ensures counts { OfSaved (λ saved sound. AllByRecursion (λ f.
+        (1 ≤ f.count) × (f.count ≡ times_named f.at (all_cells sound.picture)))
         sound.picture.frozen) }
-    ensures numbers { OfSaved (λ saved sound. AllByRecursion (λ f. (f.number < word saved next_word)
-        × AllByRecursion (IsBelow f.number sound.picture.frozen) (names_in f.value))
+    ensures numbers { OfSaved (λ saved sound. AllByRecursion (λ f.
+        (f.number < word saved next_word) ×
+        AllByRecursion (IsBelow f.number sound.picture.frozen) (names_in f.value))
         sound.picture.frozen) }
     ensures trees { OfSaved (λ saved sound. AllByRecursion (λ cell. (tree : Value) ×
         ((n : ℕ) → word saved next_word ≤ n →
         meaning n sound.picture.frozen cell.at ≡ Full tree))
-        (cells_in (owners_in sound.picture) ++ names_of sound.picture.frozen)) }
+        (all_cells sound.picture)) }
     ensures unnamed { OfSaved (λ saved sound. (at : ℕ) →
-        times_named at (cells_in (owners_in sound.picture) ++ names_of sound.picture.frozen) ≡ 0 →
+        times_named at (all_cells sound.picture) ≡ 0 →
         AllByRecursion (λ f. f.at ≢ at) sound.picture.frozen) }
-    ensures blocks { OfSaved (λ saved sound. (index own : List ℕ) × (theirs : ℕ → List ℕ) ×
+    ensures blocks { OfSaved (λ saved sound.
+        (index own : List ℕ) × (theirs : ℕ → List ℕ) ×
         ListsNames saved sound.picture.names index ×
         HoldsRoots saved sound.picture.table (owners_in sound.picture) own ×
         HoldFrozen saved sound.picture.table theirs sound.picture.frozen ×
@@ -84,11 +86,13 @@ pub fn rows_with_shared_objects()
         AllByRecursion (λ f. f.count ≤ times_named f.at gone →
         times (block_of f.at) (positions (live y.image)) ≡ 0)
         row.before.pictured.picture.frozen) }
-    ensures last_cell { (bytes : List ℕ) (picture : Picture) (gone : List Place) (blocks : List ℕ) →
+    ensures last_cell { (bytes : List ℕ) (picture : Picture) (gone : List Place)
+        (blocks : List ℕ) →
         FrozenGone bytes picture gone blocks →
         AllByRecursion (λ f. f.count ≤ times_named f.at gone → 1 ≤ times (block_of f.at) blocks)
         picture.frozen }
-    ensures with_it { (bytes : List ℕ) (picture : Picture) (gone : List Place) (blocks : List ℕ) →
+    ensures with_it { (bytes : List ℕ) (picture : Picture) (gone : List Place)
+        (blocks : List ℕ) →
         FrozenGone bytes picture gone blocks →
         AllByRecursion (λ f. 1 ≤ times (block_of f.at) blocks) (freed gone picture.frozen) }
     ensures shared { (constants : List Constant) (i : Instruction) (others : List Root) (s : State)
@@ -98,8 +102,8 @@ pub fn rows_with_shared_objects()
         (raised_by (names_in renames.other) pictured.picture.frozen)) }
     ensures unnamed { (others : List Root) (s : State) (bytes : List ℕ) (at : ℕ) →
         (pictured : Pictures others s bytes) →
-        times_named at (cells_in (owners_in pictured.picture) ++ names_of pictured.picture.frozen)
-        ≡ 0 → AllByRecursion (λ f. f.at ≢ at) pictured.picture.frozen }
+        times_named at (all_cells pictured.picture) ≡ 0 →
+        AllByRecursion (λ f. f.at ≢ at) pictured.picture.frozen }
 {}
 
 /// An image as it is opened is of version 2, and has the same picture, with the same names and unique objects, and the same
