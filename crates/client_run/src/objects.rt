@@ -340,6 +340,7 @@ impl Machine<'_> {
         }
     }
 
+    #[inline(never)]
     pub(crate) fn share<F: Fit, A: Allocator>(&self, segment: &mut Segment<F, A>, i: &Instruction)
         ensures window { KeepsHost segment.old.window segment.new.window }
         ensures types { segment.new.types ≡ segment.old.types }

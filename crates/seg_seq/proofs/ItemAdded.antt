@@ -6,7 +6,7 @@ use Rattle.std.proofs.lemmas.List.{append-nil}
 use Rattle.seg_spec.specs.Bytes.{set_word, IsSame, ChangesOnly}
 use Rattle.seg_spec.specs.Pointer.{target}
 use Rattle.seg_spec.specs.Types.{Form, Table, form_at, size}
-use Rattle.seg_spec.specs.Value.{Values, nil, cons, count, append, Seq, default_of, Selector}
+use Rattle.seg_spec.specs.Value.{Value, Values, nil, cons, count, append, Seq, Selector}
 use Rattle.seg_spec.specs.Block.{Kind, tag_of, block_of, IsInside, KeepsBlock, payload_size}
 use Rattle.seg_spec.specs.Reads.{Place, count_at, named, start, items, NamesRoom, Holds, HoldsEach, holds_none, Leads}
 use Rattle.seg_spec.specs.Cells.{IsWithin}
@@ -139,7 +139,7 @@ module _ (allocator : ℕ) (old mid : List ℕ) (table : Table) (place : Place) 
         let fits = room in
         record { fits = omega (arith, g.high, lc.frames.length_kept, l.frames.length_kept); small = lc.heap.small }
 
-    module _ (new : List ℕ) (changes : ChangesOnly counted new q (size table U)) (default : Holds new table (record { at = q; type = U }) (default_of table U) []) where
+    module _ (new : List ℕ) (v : Value) (changes : ChangesOnly counted new q (size table U)) (item : Holds new table (record { at = q; type = U }) v []) where
       ln : Leaves allocator old new table place blocks r.others r.succeeds.left
       ln = counting.inner_leaves allocator old counted table s.is_table place blocks r.others r.succeeds.left lc new (block_of p) q (size table U) changes item_inside g.mine
 
@@ -179,11 +179,11 @@ module _ (allocator : ℕ) (old mid : List ℕ) (table : Table) (place : Place) 
           let k = entries_kept mid new table s.is_table (Form.vec U) p n (Seq vs) e.owned first_now owned_kept (vs, refl, was) in
           subst (λ ws. HoldsEach new table (items table p U n) ws e.owned) (sym (same_items vs k.0 k.1)) k.2
 
-      all_items : HoldsEach new table (items table p U (n + 1)) (append vs (cons (default_of table U) nil)) e.owned
+      all_items : HoldsEach new table (items table p U (n + 1)) (append vs (cons v nil)) e.owned
       all_items =
-          let joined = each_joined new table old_items default holds_none in
-          let j = subst (λ ps. HoldsEach new table ps (append vs (cons (default_of table U) nil)) (e.owned ++ [])) (sym (one_more table U p n)) joined in
-          subst (HoldsEach new table (items table p U (n + 1)) (append vs (cons (default_of table U) nil))) (append-nil e.owned) j
+          let joined = each_joined new table old_items item holds_none in
+          let j = subst (λ ps. HoldsEach new table ps (append vs (cons v nil)) (e.owned ++ [])) (sym (one_more table U p n)) joined in
+          subst (HoldsEach new table (items table p U (n + 1)) (append vs (cons v nil))) (append-nil e.owned) j
 
       now_there : start new place.at ≡ p
       now_there = rw names refl
@@ -194,17 +194,17 @@ module _ (allocator : ℕ) (old mid : List ℕ) (table : Table) (place : Place) 
           let more : (n + 1) * size table U ≡ n * size table U + size table U = grind arith in
           rw names (block_again mid new p (tag_of Kind.buffer place.type) (count_at mid place.at * size table U) (count_at new place.at * size table U) header_now (rw (counts, more) fits) g.block_is)
 
-      holds_them : Holds new table place (Seq (append vs (cons (default_of table U) nil))) r.others
+      holds_them : Holds new table place (Seq (append vs (cons v nil))) r.others
       holds_them =
-          let each : HoldsEach new table (items table (start new place.at) U (count_at new place.at)) (append vs (cons (default_of table U) nil)) e.owned = rw (now_there, counts) all_items in
+          let each : HoldsEach new table (items table (start new place.at) U (count_at new place.at)) (append vs (cons v nil)) e.owned = rw (now_there, counts) all_items in
           let own : r.others ≡ named new place.at ++ e.owned = others_are ∙ ap (λ o. option_to_list (option_map block_of o) ++ e.owned) (sym names) in
-          rw own (holds_buffered new table place (Form.vec U) (Seq (append vs (cons (default_of table U) nil))) e.owned f refl room_now (append vs (cons (default_of table U) nil), refl, each))
+          rw own (holds_buffered new table place (Form.vec U) (Seq (append vs (cons v nil))) e.owned f refl room_now (append vs (cons v nil), refl, each))
 
-      pub item_added : Succeeds allocator old new table place (Seq (append vs (cons (default_of table U) nil))) asks [] blocks r.others
+      pub item_added : Succeeds allocator old new table place (Seq (append vs (cons v nil))) asks [] blocks r.others
       item_added = record {
         left = r.succeeds.left;
         left_is = r.succeeds.left_is;
-        changes = ended allocator old new table place blocks r.others r.succeeds.left ln (Seq (append vs (cons (default_of table U) nil))) holds_them;
+        changes = ended allocator old new table place blocks r.others r.succeeds.left ln (Seq (append vs (cons v nil))) holds_them;
       }
 
       pub item_stands : Leads new table place (Selector.item (count vs) ∷ []) (record { at = q; type = U })

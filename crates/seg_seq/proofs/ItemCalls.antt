@@ -21,7 +21,7 @@ use Rattle.seg_value.specs.Buffers.{NamesBuffer}
 use Rattle.seg_value.specs.declared.content.Content.{Content}
 use Rattle.seg_value.specs.declared.place.Place.{Place as Where}
 use Rattle.seg_seq.specs.Buffers.{NamesNone}
-use Rattle.seg_seq.specs.Sequences.{HasItems, IsFull, LacksRoom, PushesBack, PopsBack, push_asks}
+use Rattle.seg_seq.specs.Sequences.{HasItems, IsFull, LacksRoom, PushesItem, PushesBack, PopsBack, push_asks}
 use Rattle.seg_seq.proofs.Rooms.{entries_fit}
 use Rattle.seg_seq.proofs.ItemRemoved.{some_buffer, last, value_is, item_stands as item_stands_there, item_beside, item_lost}
 use Rattle.seg_seq.proofs.ItemAdded.{has_each, count_few, has_buffer_now, item_within, item_added, item_stands}
@@ -55,10 +55,11 @@ module _ (allocator : ℕ) (old : Stored) (cell T U : ℕ) (vs : Values) (blocks
   module _ (mid counted new : Stored) (r : Reserves allocator old.window.bytes mid.window.bytes old.types (object_at cell T) (Seq vs) blocks (buffer_asks old.window.bytes cell each len) (len * each))
       (counted_is : counted.window.bytes ≡ set_word mid.window.bytes (cell + 4) len) (same_types : counted.types ≡ old.types) (first before at V : ℕ) (first_is : first ≡ start mid.window.bytes cell) (before_is : before ≡ 0)
       (at_is : at ≡ (first + kept * each + before) % 2 ^ 32) (V_is : V ≡ U) where
-    pub item_pushed : (IsWithin counted.window.bytes at (size counted.types V) → ChangesOnly counted.window.bytes new.window.bytes at (size counted.types V))
-        → (IsWithin counted.window.bytes at (size counted.types V) → V < length counted.types → Holds new.window.bytes counted.types (object_at at V) (default_of counted.types V) [])
-        → PushesBack allocator old new (object_at cell T) U vs blocks at
-    item_pushed changes default =
+    -- the item has any value
+    pub any_pushed : (v : Value) → (IsWithin counted.window.bytes at (size counted.types V) → ChangesOnly counted.window.bytes new.window.bytes at (size counted.types V))
+        → (IsWithin counted.window.bytes at (size counted.types V) → V < length counted.types → Holds new.window.bytes counted.types (object_at at V) v [])
+        → PushesItem v allocator old new (object_at cell T) U vs blocks at
+    any_pushed v changes item =
         let r' : Reserves allocator old.window.bytes mid.window.bytes old.types (object_at cell T) (Seq vs) blocks (push_asks old (object_at cell T) U) ((count_at old.window.bytes cell + 1) * size old.types U) =
         rw (one_size, one_longer) at r in
         let c' : counted.window.bytes ≡ set_word mid.window.bytes (cell + 4) (count_at old.window.bytes cell + 1) = rw one_longer at counted_is in
@@ -68,17 +69,24 @@ module _ (allocator : ℕ) (old : Stored) (cell T U : ℕ) (vs : Values) (blocks
         let place : at ≡ b.0 + count_at old.window.bytes cell * size old.types U = item_at first kept each before b.0 (count_at old.window.bytes cell) (size old.types U) at there kept_is one_size before_is at_is
         (let f = within.fits in let m = within.small in omega arith) in
         let changes' = rw (V_is, same_types, place) at changes in
-        let default' = rw (V_is, same_types, place) at default in
+        let item' = rw (V_is, same_types, place) at item in
         let known = item_known old.types T U h.stands.is_table h.form_is in
         let done = changes' within in
-        let it = default' within known in
+        let it = item' within known in
         rw place (record {
           holds_it = record {
             others = r'.others;
-            succeeds = item_added allocator old.window.bytes mid.window.bytes old.types (object_at cell T) U vs blocks h.form_is h.stands (push_asks old (object_at cell T) U) r' counted.window.bytes c' b.0 b.1 new.window.bytes done it;
+            succeeds = item_added allocator old.window.bytes mid.window.bytes old.types (object_at cell T) U vs blocks h.form_is h.stands (push_asks old (object_at cell T) U) r' counted.window.bytes c' b.0 b.1 new.window.bytes v done it;
           };
-          leads = item_stands allocator old.window.bytes mid.window.bytes old.types (object_at cell T) U vs blocks h.form_is h.stands (push_asks old (object_at cell T) U) r' counted.window.bytes c' b.0 b.1 new.window.bytes done it;
+          leads = item_stands allocator old.window.bytes mid.window.bytes old.types (object_at cell T) U vs blocks h.form_is h.stands (push_asks old (object_at cell T) U) r' counted.window.bytes c' b.0 b.1 new.window.bytes v done it;
         })
+
+    pub item_pushed : (IsWithin counted.window.bytes at (size counted.types V) → ChangesOnly counted.window.bytes new.window.bytes at (size counted.types V))
+        → (IsWithin counted.window.bytes at (size counted.types V) → V < length counted.types → Holds new.window.bytes counted.types (object_at at V) (default_of counted.types V) [])
+        → PushesBack allocator old new (object_at cell T) U vs blocks at
+    item_pushed changes default =
+        let same : default_of counted.types V ≡ default_of old.types U = ap (λ t. default_of t V) same_types ∙ ap (default_of old.types) V_is in
+        any_pushed (default_of old.types U) changes (λ within known. subst (λ v. Holds new.window.bytes counted.types (object_at at V) v []) same (default within known))
 
 -- a vector whose cell names no buffer has no room for an item
 pub none_is_full : (allocator : ℕ) (old : Stored) (cell T U : ℕ) (vs : Values) (blocks : List ℕ) → HasItems allocator old (object_at cell T) U vs blocks → NamesNone old.window.bytes cell → IsFull old (object_at cell T) U

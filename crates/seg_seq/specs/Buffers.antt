@@ -1,29 +1,38 @@
--- The buffer that a cell names, as the program reads it.
---     IsBuffer bytes cell buffer      the cell names this buffer
---     NamesNone bytes cell            the cell names no buffer, or doesn't all lie in the segment
---     LacksEntry buffer size          the buffer has no room for an entry more of some bytes
---     HasEntry buffer size at         it has, and the entry stands at a position
-use Rattle.std.specs.Prelude.{◌≡◌, ℕ, ◌+◌, ◌*◌, ◌%◌, ◌^◌, ◌<◌, ◌≤◌, ◌⊎◌, List, length, Some, None}
+-- Whether the buffer that a cell names has room for an entry more, as the program reads it.
+--     LacksEntry bytes cell size          the cell names no buffer or doesn't all lie in the segment, or
+--                                         the buffer has no room for an entry of some bytes
+--     HasEntry bytes cell size room       it has, and the entry stands there
+use Rattle.std.specs.Prelude.{◌≡◌, ℕ, ◌+◌, ◌*◌, ◌<◌, ◌≤◌, ◌⊎◌, List, length, Some, None}
 use Rattle.seg_spec.specs.Pointer.{target}
 use Rattle.seg_spec.specs.Reads.{count_at}
 use Rattle.seg_spec.specs.Spending.{units_named}
-use Rattle.seg_seq.specs.declared.buffer.Buffer.{Buffer}
-
--- the cell names this buffer
-pub record IsBuffer (bytes : List ℕ) (cell : ℕ) (buffer : Buffer) : Type 0 where
-  pub start_is : target bytes cell ≡ Some buffer.start
-  pub units_is : 16 ≤ buffer.start → buffer.units ≡ units_named bytes cell
-  pub count_is : buffer.count ≡ count_at bytes cell
+use Rattle.seg_seq.specs.declared.room.Room.{Room}
 
 -- the cell names no buffer, or doesn't all lie in the segment
 abbrev pub NamesNone : List ℕ → ℕ → Type 0
 NamesNone bytes cell = (target bytes cell ≡ None) ⊎ (length bytes < cell + 8)
 
--- the buffer has no room for an entry more
-abbrev pub LacksEntry : Buffer → ℕ → Type 0
-LacksEntry buffer size = 16 * buffer.units < (buffer.count + 1) * size + 16
+-- the buffer at `start` has no room for an entry more, or the segment ends before it
+abbrev pub IsShort : List ℕ → ℕ → ℕ → ℕ → Type 0
+IsShort bytes cell size start =
+    (16 * units_named bytes cell < (count_at bytes cell + 1) * size + 16)
+    ⊎ (length bytes < start + (count_at bytes cell + 1) * size)
 
--- it has, and the entry stands at the position
-pub record HasEntry (buffer : Buffer) (size at : ℕ) : Type 0 where
-  pub fits : (buffer.count + 1) * size + 16 ≤ 16 * buffer.units
-  pub at_is : at ≡ (buffer.start + buffer.count * size) % 2 ^ 32
+-- the cell names a buffer, and it has none
+pub record NamesShort (bytes : List ℕ) (cell size : ℕ) : Type 0 where
+  pub start : ℕ
+  pub start_is : target bytes cell ≡ Some start
+  pub short : 16 ≤ start → IsShort bytes cell size start
+
+-- no entry more has room
+abbrev pub LacksEntry : List ℕ → ℕ → ℕ → Type 0
+LacksEntry bytes cell size = NamesNone bytes cell ⊎ NamesShort bytes cell size
+
+-- one has, and stands at a place
+pub record HasEntry (bytes : List ℕ) (cell size : ℕ) (room : Room) : Type 0 where
+  pub start : ℕ
+  pub start_is : target bytes cell ≡ Some start
+  pub count_is : room.count ≡ count_at bytes cell
+  pub fits : 16 ≤ start → (room.count + 1) * size + 16 ≤ 16 * units_named bytes cell
+  pub at_is : 16 ≤ start → room.at ≡ start + room.count * size
+  pub inside : room.at + size ≤ length bytes

@@ -1,8 +1,9 @@
 -- Sequences of any kind, as the calls on them find them.
 --     is_sequence form              values of this form are strings, vectors or lists
+--     HasNumbers table T            values of a type are vectors of numbers
 --     KindOf table T form result    the kind of the sequences of a type, and what their cells name
 use Rattle.std.specs.Prelude.{◌≡◌, ℕ, Bool, true, false, Option, Some, Result, Ok, Err}
-use Rattle.seg_spec.specs.Types.{Form, Table}
+use Rattle.seg_spec.specs.Types.{Form, Table, form_at}
 use Rattle.seg_spec.specs.Block.{Kind, tag_of}
 use Rattle.seg_raw.specs.declared.code.Code.{Code}
 use Rattle.seg_raw.specs.declared.code.Code.TheVariants as code
@@ -18,6 +19,12 @@ is_sequence (Some Form.str) = true
 is_sequence (Some (Form.vec U)) = true
 is_sequence (Some (Form.list U)) = true
 is_sequence _ = false
+
+-- values of the type are vectors of numbers
+pub record HasNumbers (table : Table) (T : ℕ) : Type 0 where
+  pub item : ℕ
+  pub vector_is : form_at table T ≡ Some (Form.vec item)
+  pub number_is : form_at table item ≡ Some Form.i64
 
 -- the kind of the sequences of a type, and what their cells name: none where its values are no sequences
 abbrev pub KindOf : Table → ℕ → Option Form → Result (sequence.Kind × Content) Code → Type 0

@@ -16,8 +16,9 @@
 --         a string, whose buffer is to have n bytes, has this text now, or it lacked the room
 --     ExtendsText allocator old new place kept n xs blocks at len
 --         a string keeps its first bytes, and has n more from a position on, whatever they are
---     PushesBack allocator old new place U vs blocks p    a default item joined the others, and
---                                                         stands at a position
+--     PushesItem item allocator old new place U vs blocks p   an item joined the others, and stands
+--                                                             at a position
+--     PushesBack allocator old new place U vs blocks p    a default item did
 --     PopsBack old new place vs home blocks               the last item went, with what it owned
 --     IsPast index n code                         of n there is none at the index
 --     ShowsByte heap place xs index p             the byte of a text at an index stands there
@@ -124,13 +125,18 @@ abbrev pub push_asks : Stored → Place → ℕ → List Ask
 push_asks heap place U = buffer_asks heap.window.bytes place.at (size heap.types U)
     (count_at heap.window.bytes place.at + 1)
 
--- a default item joined the others, and stands at the position p
-pub record PushesBack (allocator : ℕ) (old new : Stored) (place : Place) (U : ℕ) (vs : Values)
-    (blocks : List ℕ) (p : ℕ) : Type 0 where
-  pub holds_it : ComesToHold allocator old new place
-      (Seq (append vs (cons (default_of old.types U) nil))) (push_asks old place U) [] blocks
+-- an item joined the others, and stands at the position p
+pub record PushesItem (item : Value) (allocator : ℕ) (old new : Stored) (place : Place) (U : ℕ)
+    (vs : Values) (blocks : List ℕ) (p : ℕ) : Type 0 where
+  pub holds_it : ComesToHold allocator old new place (Seq (append vs (cons item nil)))
+      (push_asks old place U) [] blocks
   pub leads : Leads new.window.bytes old.types place (Selector.item (count vs) ∷ [])
       (record { at = p; type = U })
+
+-- a default item did
+abbrev pub PushesBack : ℕ → Stored → Stored → Place → ℕ → Values → List ℕ → ℕ → Type 0
+PushesBack allocator old new place U vs blocks p =
+    PushesItem (default_of old.types U) allocator old new place U vs blocks p
 
 -- the last item went, with what it owned, and with the frozen objects that it named last; the place
 -- lies in the block `home`

@@ -2,15 +2,17 @@
 //! isn't for is refused as OtherType.
 #![tactic(auto)]
 
-mod buffer;
 mod kind;
 mod list;
+mod numbers;
 mod pushing;
 mod ring;
+mod room;
 mod sequence;
 mod text;
 
 pub use list::{next, pop_front, prev, push_front};
+pub use numbers::Numbers;
 pub use pushing::push_in_place;
 pub use sequence::{at, pop_back, push_back};
 pub use text::{append, assign, push_byte};

@@ -3,12 +3,12 @@
 ghost use Rattle.std.specs.Prelude.{◌≡◌, ℕ, ◌+◌, List, length, Some, None, IfSome, MatchOption};
 ghost use Rattle.seg_spec.specs.Bytes.{set_word, set_long};
 ghost use Rattle.seg_spec.specs.Types.{Form, form_at};
-ghost use Rattle.seg_spec.specs.Value.{Values};
+ghost use Rattle.seg_spec.specs.Value.{Values, Int};
 ghost use Rattle.seg_spec.specs.Window.{KeepsHost};
 ghost use Rattle.seg_value.specs.Places.{place_of, object_at};
-ghost use Rattle.seg_seq.specs.Sequences.{HasItems, IsFull, PushesBack};
+ghost use Rattle.seg_seq.specs.Sequences.{HasItems, IsFull, PushesBack, PushesItem};
 
-use crate::buffer::Buffer;
+use crate::room::Room;
 use seg_block::Fit;
 use seg_layout::{Type, TypeId};
 use seg_ptr::words::put_word;
@@ -57,14 +57,19 @@ fn push_default<F: Fit, A: Allocator>(
         (PushesBack F.allocator heap.old heap.new (object_at cell T) U vs blocks) }
 {
     match heap.types().kind(type_id) {
-        Some(Type::I64) => push_number(heap, cell),
+        Some(Type::I64) => push_number_in_place(heap, cell, 0),
         Some(_) | None => push_value(heap, cell, type_id),
     }
 }
 
-/// As [`push_default`], of a vector of numbers.
+/// Adds a number to the vector of numbers whose cell stands at a position, and returns the number's. None where its buffer has
+/// no room; then nothing changes.
 #[inline(always)]
-fn push_number<F: Fit, A: Allocator>(heap: &mut Heap<F, A>, cell: u32) -> Option<u32>
+pub(crate) fn push_number_in_place<F: Fit, A: Allocator>(
+    heap: &mut Heap<F, A>,
+    cell: u32,
+    number: i64,
+) -> Option<u32>
     ensures window { KeepsHost heap.old.window heap.new.window }
     ensures types { heap.new.types ≡ heap.old.types }
     ensures none { result ≡ None → heap.new.window ≡ heap.old.window }
@@ -72,26 +77,25 @@ fn push_number<F: Fit, A: Allocator>(heap: &mut Heap<F, A>, cell: u32) -> Option
         HasItems F.allocator heap.old (object_at cell T) U vs blocks →
         form_at heap.old.types U ≡ Some Form.i64 →
         MatchOption result (IsFull heap.old (object_at cell T) U)
-        (PushesBack F.allocator heap.old heap.new (object_at cell T) U vs blocks) }
+        (PushesItem (Int number) F.allocator heap.old heap.new (object_at cell T) U vs blocks) }
 {
-    let buffer = Buffer::of(heap.window(), cell)?;
-    let at = buffer.next(NUMBER as u32)?;
-    let len = buffer.count.wrapping_add(1);
-    put_zero(heap.window_mut().bytes_mut(), cell, len, at);
-    Some(at)
+    let room = Room::of(heap.window().view(), cell, NUMBER as u32)?;
+    let len = room.count.wrapping_add(1);
+    let bytes = heap.window_mut().bytes_mut();
+    put_number(bytes, cell, len, room.at, number.cast_unsigned());
+    Some(room.position())
 }
 
-/// Writes the count of a cell, and the number 0 to a position.
+/// Writes the count of a cell, and a number to a position.
 // Both into the same lent bytes, which stay in registers.
 #[inline(always)]
-fn put_zero(bytes: &mut [u8], cell: u32, count: u32, at: u32)
-    ensures bytes { bytes.new ≡ set_long (set_word bytes.old (cell + 4) count) at 0 }
+fn put_number(bytes: &mut [u8], cell: u32, count: u32, at: usize, number: u64)
+    ensures bytes { bytes.new ≡ set_long (set_word bytes.old (cell + 4) count) at number }
     ensures length { length bytes.new ≡ length bytes.old }
 {
     put_word(bytes, cell as usize + 4, count);
-    let from = at as usize;
-    if from + NUMBER <= bytes.len() {
-        bytes[from..from + NUMBER].copy_from_slice(&u64::to_le_bytes(0));
+    if at.saturating_add(NUMBER) <= bytes.len() {
+        bytes[at..at + NUMBER].copy_from_slice(&u64::to_le_bytes(number));
     }
 }
 
@@ -110,9 +114,9 @@ fn push_value<F: Fit, A: Allocator>(
         MatchOption result (IsFull heap.old (object_at cell T) U)
         (PushesBack F.allocator heap.old heap.new (object_at cell T) U vs blocks) }
 {
-    let buffer = Buffer::of(heap.window(), cell)?;
-    let at = buffer.next(heap.types().size(type_id))?;
-    heap.set_count(cell, buffer.count.wrapping_add(1));
+    let room = Room::of(heap.window().view(), cell, heap.types().size(type_id))?;
+    let at = room.position();
+    heap.set_count(cell, room.count.wrapping_add(1));
     heap.init_default(Place { at, type_id });
     Some(at)
 }

@@ -5,8 +5,8 @@ ghost use Rattle.seg_spec.specs.Window.{KeepsHost};
 ghost use Rattle.seg_value.specs.Places.{place_of};
 ghost use Rattle.seg_seq.specs.Sequences.{HasText, Declines, LacksRoom, LacksByte, ComesToHold, Rewrites, ExtendsText, text_asks};
 
-use crate::buffer::Buffer;
 use crate::kind::Kind;
+use crate::room::Room;
 use seg_block::Fit;
 use seg_layout::Type;
 use seg_raw::Code;
@@ -101,11 +101,10 @@ fn push_byte_in_place<F: Fit, A: Allocator>(
     let Some(Type::Str) = heap.types().kind(text.type_id) else {
         return None;
     };
-    let buffer = Buffer::of(heap.window(), text.at)?;
-    let at = buffer.next(1)?;
-    let len = buffer.count.wrapping_add(1);
+    let room = Room::of(heap.window().view(), text.at, 1)?;
+    let len = room.count.wrapping_add(1);
     heap.set_count(text.at, len);
-    heap.window_mut().put8(at as usize, byte);
+    heap.window_mut().put8(room.at, byte);
     Some(len)
 }
 

@@ -1,13 +1,9 @@
 use Rattle.std.proofs.Common.{◌≡◌, ◌∙◌, ◌+◌, ◌++◌, ◌∷◌, [], length, IfOk, refl, ap, subst}
-use Rattle.seg_spec.specs.Types.{Table}
-use Rattle.seg_spec.specs.Window.{Placement}
 use Rattle.seg_value.specs.Places.{place_of}
 use Rattle.seg_value.specs.Stored.{Stored}
 use Rattle.seg_seq.specs.Sequences.{HasText, Rewrites}
+use Rattle.seg_seq.proofs.InPlace.{same_stored}
 use Rattle.seg_seq.proofs.text.push_byte.Goals as goal
-
-same_stored : (a b : Stored) → a.window ≡ b.window → a.types ≡ b.types → a ≡ b
-same_stored a b w t = ap (λ (x : Placement). record { window = x; types = a.types }) w ∙ ap (λ (x : Table). record { window = b.window; types = x }) t
 
 pub returns-in-Some-clause-length : goal.returns-in-Some-clause-length
 returns-in-Some-clause-length g c = λ xs blocks t. (c.in-Some.ensures.text xs blocks t).0

@@ -1,0 +1,108 @@
+ghost use Rattle.std.specs.Prelude.{◌≡◌, ℕ, List, Some, MatchOption, MatchResult};
+ghost use Rattle.seg_spec.specs.Types.{Form, form_at};
+ghost use Rattle.seg_spec.specs.Value.{Values, Int};
+ghost use Rattle.seg_spec.specs.Window.{KeepsHost};
+ghost use Rattle.seg_raw.specs.declared.code.Code.TheVariants.{OtherType};
+ghost use Rattle.seg_value.specs.Places.{place_of, object_at};
+ghost use Rattle.seg_value.specs.Buffers.{NamesBuffer};
+ghost use Rattle.seg_seq.specs.Kinds.{HasNumbers};
+ghost use Rattle.seg_seq.specs.Sequences.{HasItems, LacksRoom, PushesItem, push_asks};
+
+use crate::kind::Kind;
+use crate::pushing::push_number_in_place;
+use seg_block::Fit;
+use seg_layout::Type;
+use seg_raw::Code;
+use seg_value::{Content, Heap, Place};
+use std::alloc::Allocator;
+
+/// A vector of numbers, found to be one once, so that a push doesn't ask the type table.
+#[derive(Debug, Clone, Copy, PartialEq, Eq)]
+pub struct Numbers {
+    vector: Place,
+}
+
+impl Numbers {
+    /// The vector of numbers at a place. `OtherType` where the place is none.
+    pub fn of<F: Fit, A: Allocator>(heap: &Heap<F, A>, vector: Place) -> Result<Numbers, Code>
+        ensures { MatchResult result
+            (λ numbers. (numbers.vector ≡ vector) × HasNumbers heap.now.types vector.type_id)
+            (λ code. (code ≡ OtherType) × ¬ HasNumbers heap.now.types vector.type_id) }
+    {
+        let Some(Type::Vec(item)) = heap.types().kind(vector.type_id) else {
+            return Err(Code::OtherType);
+        };
+        match heap.types().kind(item) {
+            Some(Type::I64) => Ok(Numbers { vector }),
+            Some(_) | None => Err(Code::OtherType),
+        }
+    }
+
+    /// Adds a number after the others, and returns its position. `BadAlloc` where there is no room for it; then nothing
+    /// changes.
+    #[inline(always)]
+    pub fn push<F: Fit, A: Allocator>(self, heap: &mut Heap<F, A>, number: i64) -> Result<u32, Code>
+        ensures window { KeepsHost heap.old.window heap.new.window }
+        ensures types { heap.new.types ≡ heap.old.types }
+        ensures vector { (U : ℕ) (vs : Values) (blocks : List ℕ) →
+            HasItems F.allocator heap.old (place_of self.vector) U vs blocks →
+            form_at heap.old.types U ≡ Some Form.i64 →
+            MatchResult result
+            (PushesItem (Int number) F.allocator heap.old heap.new (place_of self.vector) U vs blocks)
+            (LacksRoom F.allocator heap.old heap.new (push_asks heap.old (place_of self.vector) U)) }
+    {
+        match push_number_in_place(heap, self.vector.at, number) {
+            Some(at) => Ok(at),
+            None => self.push_asking(heap, number),
+        }
+    }
+
+    /// As [`push`](Numbers::push), where a larger buffer may have to be asked for.
+    #[inline(never)]
+    fn push_asking<F: Fit, A: Allocator>(
+        self,
+        heap: &mut Heap<F, A>,
+        number: i64,
+    ) -> Result<u32, Code>
+        ensures window { KeepsHost heap.old.window heap.new.window }
+        ensures types { heap.new.types ≡ heap.old.types }
+        ensures vector { (U : ℕ) (vs : Values) (blocks : List ℕ) →
+            HasItems F.allocator heap.old (place_of self.vector) U vs blocks →
+            form_at heap.old.types U ≡ Some Form.i64 →
+            MatchResult result
+            (PushesItem (Int number) F.allocator heap.old heap.new (place_of self.vector) U vs blocks)
+            (LacksRoom F.allocator heap.old heap.new (push_asks heap.old (place_of self.vector) U)) }
+    {
+        let (kind, content) = Kind::of(heap, self.vector)?;
+        match kind {
+            Kind::Vector => push_number(heap, &content, self.vector.at, number),
+            Kind::Text | Kind::List => Err(Code::OtherType),
+        }
+    }
+}
+
+/// Adds a number to a buffer, and returns its position.
+fn push_number<F: Fit, A: Allocator>(
+    heap: &mut Heap<F, A>,
+    content: &Content,
+    cell: u32,
+    number: i64,
+) -> Result<u32, Code>
+    ensures window { KeepsHost heap.old.window heap.new.window }
+    ensures types { heap.new.types ≡ heap.old.types }
+    ensures vector { (T U : ℕ) (vs : Values) (blocks : List ℕ) →
+        NamesBuffer heap.old.types T content.now →
+        HasItems F.allocator heap.old (object_at cell T) U vs blocks →
+        form_at heap.old.types U ≡ Some Form.i64 →
+        MatchResult result
+        (PushesItem (Int number) F.allocator heap.old heap.new (object_at cell T) U vs blocks)
+        (LacksRoom F.allocator heap.old heap.new (push_asks heap.old (object_at cell T) U)) }
+{
+    let kept = heap.count(cell);
+    let len = kept.saturating_add(1);
+    let start = heap.reserve(content, cell, len)?;
+    heap.set_count(cell, len);
+    let at = content.entry.value_at(start, kept);
+    heap.store(at, number);
+    Ok(at)
+}
