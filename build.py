@@ -1,5 +1,6 @@
 #!/usr/bin/env python3
-"""Proves and builds a program, crates/NAME/out/NAME, and all below it: segrun, which runs clients, or segtool, which has all commands.
+"""Proves and builds a program, crates/NAME/out/NAME, and all below it: segrun, which runs clients, segtool, which has all commands,
+or bench_calls, whose pushes bench/operations.py counts.
 
 That is the gate, `rt ci`, of a copy of these crates alone, without the edits that the prover must refuse, so each is proved once."""
 import argparse
@@ -10,7 +11,7 @@ import tempfile
 from pathlib import Path
 
 ROOT = Path(__file__).resolve().parent
-PROGRAMS = ("segrun", "segtool")
+PROGRAMS = ("segrun", "segtool", "bench_calls")
 
 
 def lines():
@@ -45,7 +46,7 @@ def lay(program, copy):
 
 
 def main():
-    parser = argparse.ArgumentParser(description=__doc__.partition("\n")[0])
+    parser = argparse.ArgumentParser(description=__doc__.partition("\n\n")[0])
     parser.add_argument("program", nargs="?", choices=PROGRAMS, default=PROGRAMS[0], help="[default: %(default)s]")
     program = parser.parse_args().program
     made = Path("crates") / program / "out" / program

@@ -1,11 +1,15 @@
 #!/usr/bin/env python3
-"""Compares the clients of segtool with Boost.Interprocess and Lua, an operation at a time.
+"""Compares the clients of segtool, and a host's own calls, with Boost.Interprocess and Lua, an operation at a time.
 
-    operations.py SEGTOOL [--time ROUNDS] [--only WORK,..] [--configs best+tree,seq+flat] [--no-count]
+    operations.py SEGTOOL [--calls BENCH_CALLS] [--time ROUNDS] [--only WORK,..] [--configs best+tree,seq+flat] [--no-count]
 
 Each work is a client and a base: the same loop without the library's operations. Both run on the same image; the
 difference, divided by the operations, is what one takes. Instructions are counted by callgrind, which is exact whatever
 else the machine does; times are the least of ROUNDS rounds in which client, base and peer run by turns.
+
+The work vec_push_host is no client's: the program BENCH_CALLS, which build.py makes (bench_calls), pushes by the library's
+own call, in a segment of best+tree. What it takes for N pushes is the base of what it takes for 2 N, so its loop counts, as
+the peer's does. Without --calls the work is left out.
 
 Needs valgrind, lua5.4, g++ and libboost-dev."""
 import argparse
@@ -48,6 +52,9 @@ WORKS = {
 
 # the steps of a turn of the loops that Lua runs too
 LOOPS = {"loop_count": 3, "loop_mixed": 9}
+
+# the work of a host, the peer's beside it, and how many pushes are its base
+HOST, HOST_PEER, HOST_CONFIG, HOST_PUSHES = "vec_push_host", "vec_push", "best+tree", 500000
 
 
 def run(*words):
@@ -133,34 +140,47 @@ def compare_loop(bench, name, rounds, count):
     row(name, "a step", counted[0], times[0], counted[1], times[1])
 
 
-def compare_work(bench, peer, name, config, rounds, count):
-    """A client beside Boost.Interprocess: what an operation takes."""
-    work = WORKS[name]
-    operations = work.turns * work.operations
-    client, base = bench.pair(work, config, work.turns)
-    other = [peer, name, config, str(operations)]
+def compare(name, config, pair, other, operations, rounds, count):
+    """A command and its base, which lacks so many operations, beside Boost.Interprocess: what an operation takes."""
+    whole, base = pair
     ours = theirs = 0
     if count:
-        ours = (instructions(client) - instructions(base)) / operations
+        ours = (instructions(whole) - instructions(base)) / operations
         theirs = instructions(other, ["--instr-atstart=no"]) / operations
-    least = {"client": 1e9, "base": 1e9, "peer": 1e9}
+    least = {"whole": 1e9, "base": 1e9, "peer": 1e9}
     for _ in range(rounds):
-        least["client"] = min(least["client"], seconds(client))
+        least["whole"] = min(least["whole"], seconds(whole))
         least["base"] = min(least["base"], seconds(base))
         least["peer"] = min(least["peer"], float(run(*other).stdout.split()[3]))
-    our_time = (least["client"] - least["base"]) / operations * 1e9
+    our_time = (least["whole"] - least["base"]) / operations * 1e9
     row(name, config, ours, our_time, theirs, least["peer"])
+
+
+def compare_work(bench, peer, name, config, rounds, count):
+    """A client beside Boost.Interprocess."""
+    work = WORKS[name]
+    operations = work.turns * work.operations
+    pair = bench.pair(work, config, work.turns)
+    compare(name, config, pair, [peer, name, config, str(operations)], operations, rounds, count)
+
+
+def compare_host(calls, peer, rounds, count):
+    """A host's own pushes beside Boost.Interprocess."""
+    pair = [calls, str(2 * HOST_PUSHES)], [calls, str(HOST_PUSHES)]
+    other = [peer, HOST_PEER, HOST_CONFIG, str(HOST_PUSHES)]
+    compare(HOST, HOST_CONFIG, pair, other, HOST_PUSHES, rounds, count)
 
 
 def main():
     parser = argparse.ArgumentParser(description=__doc__, formatter_class=argparse.RawDescriptionHelpFormatter)
     parser.add_argument("segtool")
+    parser.add_argument("--calls", metavar="BENCH_CALLS", help=f"the program bench_calls; without it {HOST} is left out")
     parser.add_argument("--time", type=int, default=5, metavar="ROUNDS")
-    parser.add_argument("--only", default=",".join([*LOOPS, *WORKS]), metavar="WORK,..")
+    parser.add_argument("--only", default=",".join([*LOOPS, HOST, *WORKS]), metavar="WORK,..")
     parser.add_argument("--configs", default="best+tree,seq+flat", metavar="CONFIG,..")
     parser.add_argument("--no-count", action="store_true")
     words = parser.parse_args()
-    only = words.only.split(",")
+    only, configs = words.only.split(","), words.configs.split(",")
     with tempfile.TemporaryDirectory() as folder:
         bench, peer = Bench(os.path.abspath(words.segtool), folder), f"{folder}/peer"
         run("g++", "-O2", "-std=c++17", f"{HERE}/peer.cpp", "-o", peer, "-lpthread", "-lrt")
@@ -168,8 +188,10 @@ def main():
         print(f"{'work':17}{'config':10}" + f"{'instr.':>10}{'ns':>9}" * 2 + f"{'instr.':>8}{'ns':>8}")
         for name in filter(LOOPS.__contains__, only):
             compare_loop(bench, name, words.time, not words.no_count)
+        if words.calls and HOST in only and HOST_CONFIG in configs:
+            compare_host(os.path.abspath(words.calls), peer, words.time, not words.no_count)
         for name in filter(WORKS.__contains__, only):
-            for config in words.configs.split(","):
+            for config in configs:
                 compare_work(bench, peer, name, config, words.time, not words.no_count)
 
 
