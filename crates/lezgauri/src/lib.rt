@@ -20,5 +20,6 @@ pub use seg_layout::{Fields, MAX_TYPES, Type, TypeId, TypeTable};
 pub use seg_manager::{IndexKind, MAX_NAME, MIN_LEN, Named, Segment};
 pub use seg_ptr::MAX_LEN;
 pub use seg_raw::{Code, Fault};
+pub use seg_seq::Numbers;
 pub use seg_seqfit::SeqFit;
 pub use seg_value::Place;

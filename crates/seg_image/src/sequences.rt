@@ -5,11 +5,11 @@ ghost use Rattle.seg_spec.specs.Demand.{block_for};
 ghost use Rattle.seg_spec.specs.Items.{without_last};
 ghost use Rattle.seg_spec.specs.Reads.{count_at, start};
 ghost use Rattle.seg_spec.specs.Types.{Form, form_at, size};
-ghost use Rattle.seg_spec.specs.Value.{Value, Values, Text, nil, cons, count, append, default_of};
+ghost use Rattle.seg_spec.specs.Value.{Value, Values, Int, Text, nil, cons, count, append, default_of};
 ghost use Rattle.seg_value.specs.Places.{place_of};
-ghost use Rattle.seg_seq.specs.Kinds.{is_sequence};
+ghost use Rattle.seg_seq.specs.Kinds.{is_sequence, HasNumbers};
 ghost use Rattle.seg_seq.specs.Lists.{HasList, IsNoList, AddsItem, LosesItem};
-ghost use Rattle.seg_seq.specs.Sequences.{HasText, HasItems, item_type, Declines, HasNone, ComesToHold, LacksRoom, Rewrites, push_asks, PushesBack, PopsBack, IsPast, ShowsItem};
+ghost use Rattle.seg_seq.specs.Sequences.{HasText, HasItems, item_type, Declines, HasNone, ComesToHold, LacksRoom, Rewrites, push_asks, PushesItem, PushesBack, PopsBack, IsPast, ShowsItem};
 ghost use Rattle.seg_image.specs.Images.{segment_of, allocator_of, bytes_in, types_of, ChangesBytes};
 ghost use Rattle.seg_image.specs.Places.{position_of, is_counted};
 
@@ -17,7 +17,7 @@ use crate::image::{Image, on};
 use crate::places::placed;
 use seg_layout::Type;
 use seg_raw::Code;
-use seg_seq::{append, assign, at, pop_back, pop_front, push_back, push_front};
+use seg_seq::{Numbers, append, assign, at, pop_back, pop_front, push_back, push_front};
 use seg_value::{Place, count, start};
 use std::alloc::Allocator;
 
@@ -135,6 +135,31 @@ impl<A: Allocator> Image<A> {
     {
         let item = self.item_type(place)?;
         on!(self, segment => placed(push_back(segment.heap_mut(), place), item))
+    }
+
+    /// A vector of numbers, found to be one once for all that is pushed. `OtherType` where a place's type is no such vector's.
+    pub fn numbers(&self, place: Place) -> Result<Numbers, Code>
+        ensures { MatchResult result
+            (λ numbers. (numbers.vector ≡ place) × HasNumbers (types_of self.now) place.type_id)
+            (λ code. (code ≡ Code.OtherType) × ¬ HasNumbers (types_of self.now) place.type_id) }
+    {
+        on!(self, segment => Numbers::of(segment.heap(), place))
+    }
+
+    /// Adds a number after the last one of a vector of numbers, and returns its position. `BadAlloc` where there is no room;
+    /// then nothing changes. Its numbers may move: places in it end.
+    pub fn push_number(&mut self, vector: Numbers, number: i64) -> Result<u32, Code>
+        ensures bytes { ChangesBytes self.old self.new }
+        ensures vector { (U : ℕ) (vs : Values) (blocks : List ℕ) →
+            HasItems (allocator_of self.old) (segment_of self.old) (place_of vector.vector) U vs
+            blocks → form_at (types_of self.old) U ≡ Some Form.i64 →
+            MatchResult result
+            (PushesItem (Int number) (allocator_of self.old) (segment_of self.old)
+            (segment_of self.new) (place_of vector.vector) U vs blocks)
+            (LacksRoom (allocator_of self.old) (segment_of self.old) (segment_of self.new)
+            (push_asks (segment_of self.old) (place_of vector.vector) U)) }
+    {
+        on!(self, segment => vector.push(segment.heap_mut(), number))
     }
 
     /// Adds a default item before the first one of a list. `OtherType` where a place's type is none, `BadAlloc` where there

@@ -2,7 +2,7 @@
 //! a short proof.
 
 use lezgauri::{
-    AllocatorKind, Code, Fault, Image, IndexKind, Named, Place, Report, Through, Type, TypeId,
+    AllocatorKind, Code, Fault, Image, IndexKind, Named, Numbers, Place, Report, Through, Type, TypeId,
     TypeTable, Verified, check, run, type_table, verify,
 };
 use std::alloc::Global;
@@ -220,6 +220,14 @@ impl Host {
 
     pub(crate) fn push_back(&mut self, place: Place) -> Result<Place, Code> {
         self.image.push_back(place)
+    }
+
+    pub(crate) fn numbers(&self, place: Place) -> Result<Numbers, Code> {
+        self.image.numbers(place)
+    }
+
+    pub(crate) fn push_number(&mut self, vector: Numbers, number: i64) -> Result<u32, Code> {
+        self.image.push_number(vector, number)
     }
 
     pub(crate) fn push_front(&mut self, place: Place) -> Result<Place, Code> {

@@ -144,6 +144,21 @@ fn has_items(rt: &impl Abort, image: &mut Host, name: &[u8], t: TypeId) -> Resul
     Ok(())
 }
 
+/// The numbers 5 to 20 in a vector that grows for them, which no list takes.
+fn has_numbers(rt: &impl Abort, image: &mut Host) -> Result<(), Fail> {
+    let vector = image.construct(b"n", 2, 1)?;
+    let numbers = image.numbers(vector)?;
+    for number in 5..21 {
+        image.push_number(numbers, number)?;
+    }
+    has_length(rt, image, vector, 16);
+    holds(rt, image, image.item(vector, 0)?, Ok(5));
+    holds(rt, image, image.item(vector, 15)?, Ok(20));
+    let list = image.find(b"l", 3)?;
+    assert_eq!(rt; image.numbers(list).err(), Some(Code::OtherType));
+    Ok(())
+}
+
 /// A new number at the front of the list, and the 1 after it.
 fn has_a_front(rt: &impl Abort, image: &mut Host) -> Result<(), Fail> {
     let list = image.find(b"l", 3)?;
@@ -205,6 +220,7 @@ fn hosts_work_on_containers(rt: HostRuntime) -> Result<(), Fail> {
     has_items(&rt, &mut image, b"v", 2)?;
     has_items(&rt, &mut image, b"l", 3)?;
     has_a_front(&rt, &mut image)?;
+    has_numbers(&rt, &mut image)?;
     has_keys(&rt, &mut image, b"f", 4)?;
     has_keys(&rt, &mut image, b"m", 5)?;
     assert!(rt; types_in(rt.alloc(), image.bytes()).is_ok());
