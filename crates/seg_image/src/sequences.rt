@@ -5,11 +5,11 @@ ghost use Rattle.seg_spec.specs.Demand.{block_for};
 ghost use Rattle.seg_spec.specs.Items.{without_last};
 ghost use Rattle.seg_spec.specs.Reads.{count_at, start};
 ghost use Rattle.seg_spec.specs.Types.{Form, form_at, size};
-ghost use Rattle.seg_spec.specs.Value.{Value, Values, Int, Text, nil, cons, count, append, default_of};
+ghost use Rattle.seg_spec.specs.Value.{Value, Values, Text, nil, cons, count, append, default_of};
 ghost use Rattle.seg_value.specs.Places.{place_of};
 ghost use Rattle.seg_seq.specs.Kinds.{is_sequence, HasNumbers};
 ghost use Rattle.seg_seq.specs.Lists.{HasList, IsNoList, AddsItem, LosesItem};
-ghost use Rattle.seg_seq.specs.Sequences.{HasText, HasItems, item_type, Declines, HasNone, ComesToHold, LacksRoom, Rewrites, push_asks, PushesItem, PushesBack, PopsBack, IsPast, ShowsItem};
+ghost use Rattle.seg_seq.specs.Sequences.{HasText, HasItems, item_type, Declines, HasNone, ComesToHold, LacksRoom, Rewrites, push_asks, PushesNumber, PushesBack, PopsBack, IsPast, ShowsItem};
 ghost use Rattle.seg_image.specs.Images.{segment_of, allocator_of, bytes_in, types_of, ChangesBytes};
 ghost use Rattle.seg_image.specs.Places.{position_of, is_counted};
 
@@ -150,14 +150,8 @@ impl<A: Allocator> Image<A> {
     /// then nothing changes. Its numbers may move: places in it end.
     pub fn push_number(&mut self, vector: Numbers, number: i64) -> Result<u32, Code>
         ensures bytes { ChangesBytes self.old self.new }
-        ensures vector { (U : ℕ) (vs : Values) (blocks : List ℕ) →
-            HasItems (allocator_of self.old) (segment_of self.old) (place_of vector.vector) U vs
-            blocks → form_at (types_of self.old) U ≡ Some Form.i64 →
-            MatchResult result
-            (PushesItem (Int number) (allocator_of self.old) (segment_of self.old)
-            (segment_of self.new) (place_of vector.vector) U vs blocks)
-            (LacksRoom (allocator_of self.old) (segment_of self.old) (segment_of self.new)
-            (push_asks (segment_of self.old) (place_of vector.vector) U)) }
+        ensures vector { PushesNumber (allocator_of self.old) (segment_of self.old)
+            (segment_of self.new) (place_of vector.vector) number result }
     {
         on!(self, segment => vector.push(segment.heap_mut(), number))
     }

@@ -19,14 +19,16 @@
 --     PushesItem item allocator old new place U vs blocks p   an item joined the others, and stands
 --                                                             at a position
 --     PushesBack allocator old new place U vs blocks p    a default item did
+--     PushesNumber allocator old new place number result
+--         a number joined the items of a vector of numbers, or it lacked the room
 --     PopsBack old new place vs home blocks               the last item went, with what it owned
 --     IsPast index n code                         of n there is none at the index
 --     ShowsByte heap place xs index p             the byte of a text at an index stands there
 --     ShowsItem heap place U index p              the item of a vector or a list at an index does
-use Rattle.std.specs.Prelude.{◌≡◌, ℕ, ◌+◌, ◌-◌, ◌*◌, ◌<◌, ◌≤◌, List, [], ◌∷◌, length, take, slice_index, Option, Some, None, Result, Err, MatchResult}
+use Rattle.std.specs.Prelude.{◌≡◌, ℕ, ℤ, ◌+◌, ◌-◌, ◌*◌, ◌<◌, ◌≤◌, List, [], ◌∷◌, length, take, slice_index, Option, Some, None, Result, Err, MatchResult}
 use Rattle.seg_spec.specs.Bytes.{byte}
 use Rattle.seg_spec.specs.Types.{Form, form_at, size}
-use Rattle.seg_spec.specs.Value.{Value, Values, nil, cons, Text, Seq, count, nth, append, default_of, Selector}
+use Rattle.seg_spec.specs.Value.{Value, Values, nil, cons, Int, Text, Seq, count, nth, append, default_of, Selector}
 use Rattle.seg_spec.specs.Reads.{Place, count_at, start, Leads}
 use Rattle.seg_spec.specs.Calls.{Refuses}
 use Rattle.seg_spec.specs.Demand.{Ask}
@@ -137,6 +139,14 @@ pub record PushesItem (item : Value) (allocator : ℕ) (old new : Stored) (place
 abbrev pub PushesBack : ℕ → Stored → Stored → Place → ℕ → Values → List ℕ → ℕ → Type 0
 PushesBack allocator old new place U vs blocks p =
     PushesItem (default_of old.types U) allocator old new place U vs blocks p
+
+-- a number joined the items of a vector of numbers, or it lacked the room
+abbrev pub PushesNumber : ℕ → Stored → Stored → Place → ℤ → Result ℕ Code → Type 0
+PushesNumber allocator old new place number result =
+    (U : ℕ) (vs : Values) (blocks : List ℕ) → HasItems allocator old place U vs blocks →
+    form_at old.types U ≡ Some Form.i64 →
+    MatchResult result (PushesItem (Int number) allocator old new place U vs blocks)
+    (LacksRoom allocator old new (push_asks old place U))
 
 -- the last item went, with what it owned, and with the frozen objects that it named last; the place
 -- lies in the block `home`

@@ -6,7 +6,7 @@ ghost use Rattle.seg_raw.specs.declared.code.Code.TheVariants.{OtherType};
 ghost use Rattle.seg_value.specs.Places.{place_of, object_at};
 ghost use Rattle.seg_value.specs.Buffers.{NamesBuffer};
 ghost use Rattle.seg_seq.specs.Kinds.{HasNumbers};
-ghost use Rattle.seg_seq.specs.Sequences.{HasItems, LacksRoom, PushesItem, push_asks};
+ghost use Rattle.seg_seq.specs.Sequences.{HasItems, LacksRoom, PushesItem, PushesNumber, push_asks};
 
 use crate::kind::Kind;
 use crate::pushing::push_number_in_place;
@@ -44,12 +44,8 @@ impl Numbers {
     pub fn push<F: Fit, A: Allocator>(self, heap: &mut Heap<F, A>, number: i64) -> Result<u32, Code>
         ensures window { KeepsHost heap.old.window heap.new.window }
         ensures types { heap.new.types ≡ heap.old.types }
-        ensures vector { (U : ℕ) (vs : Values) (blocks : List ℕ) →
-            HasItems F.allocator heap.old (place_of self.vector) U vs blocks →
-            form_at heap.old.types U ≡ Some Form.i64 →
-            MatchResult result
-            (PushesItem (Int number) F.allocator heap.old heap.new (place_of self.vector) U vs blocks)
-            (LacksRoom F.allocator heap.old heap.new (push_asks heap.old (place_of self.vector) U)) }
+        ensures vector { PushesNumber F.allocator heap.old heap.new (place_of self.vector) number
+            result }
     {
         match push_number_in_place(heap, self.vector.at, number) {
             Some(at) => Ok(at),
@@ -66,12 +62,8 @@ impl Numbers {
     ) -> Result<u32, Code>
         ensures window { KeepsHost heap.old.window heap.new.window }
         ensures types { heap.new.types ≡ heap.old.types }
-        ensures vector { (U : ℕ) (vs : Values) (blocks : List ℕ) →
-            HasItems F.allocator heap.old (place_of self.vector) U vs blocks →
-            form_at heap.old.types U ≡ Some Form.i64 →
-            MatchResult result
-            (PushesItem (Int number) F.allocator heap.old heap.new (place_of self.vector) U vs blocks)
-            (LacksRoom F.allocator heap.old heap.new (push_asks heap.old (place_of self.vector) U)) }
+        ensures vector { PushesNumber F.allocator heap.old heap.new (place_of self.vector) number
+            result }
     {
         let (kind, content) = Kind::of(heap, self.vector)?;
         match kind {

@@ -23,7 +23,8 @@ impl Room {
     #[inline(always)]
     pub(crate) fn of(bytes: View, cell: u32, size: u32) -> Option<Room>
         ensures { MatchOption result
-            (LacksEntry bytes.entry.bytes.now cell size) (HasEntry bytes.entry.bytes.now cell size) }
+            (LacksEntry bytes.entry.bytes.now cell size)
+            (HasEntry bytes.entry.bytes.now cell size) }
     {
         let cell = cell as usize;
         if bytes.len() < cell + CELL {

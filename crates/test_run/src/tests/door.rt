@@ -2,8 +2,8 @@
 //! a short proof.
 
 use lezgauri::{
-    AllocatorKind, Code, Fault, Image, IndexKind, Named, Numbers, Place, Report, Through, Type, TypeId,
-    TypeTable, Verified, check, run, type_table, verify,
+    AllocatorKind, Code, Fault, Image, IndexKind, Named, Numbers, Place, Report, Through, Type,
+    TypeId, TypeTable, Verified, check, run, type_table, verify,
 };
 use std::alloc::Global;
 use std::test::Fail;

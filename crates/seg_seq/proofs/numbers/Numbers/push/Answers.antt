@@ -1,10 +1,9 @@
-use Rattle.std.proofs.Common.{◌≡◌, ◌∙◌, ℤ, Some, refl, ap, subst, w64, of_z, to_z, MatchResult}
+use Rattle.std.proofs.Common.{◌≡◌, ℤ, refl, ap, subst, w64, of_z, to_z, MatchResult}
 use Rattle.std.proofs.lemmas.Int.{to_z-of_z}
-use Rattle.seg_spec.specs.Types.{Form, form_at}
 use Rattle.seg_spec.specs.Value.{Int}
 use Rattle.seg_value.specs.Places.{place_of}
 use Rattle.seg_value.specs.Stored.{Stored}
-use Rattle.seg_seq.specs.Sequences.{HasItems, PushesItem, LacksRoom, push_asks}
+use Rattle.seg_seq.specs.Sequences.{PushesItem, PushesNumber, LacksRoom, push_asks}
 use Rattle.seg_seq.proofs.InPlace.{same_stored}
 use Rattle.seg_seq.proofs.numbers.Numbers.push.Goals as goal
 
@@ -21,5 +20,4 @@ returns-in-None-clause-vector g c = λ U vs blocks h number.
     let after = c.push_asking.new.heap in
     subst (λ (z : ℤ). MatchResult c.push_asking.result (PushesItem (Int z) g.F.Fit.allocator c.args.heap.now after vector U vs blocks)
     (LacksRoom g.F.Fit.allocator c.args.heap.now after (push_asks c.args.heap.now vector U))) (to_z-of_z w64 c.args.number c.ranges.number)
-    (subst (λ (s : Stored). HasItems g.F.Fit.allocator s vector U vs blocks → form_at s.types U ≡ Some Form.i64 →
-    MatchResult c.push_asking.result (PushesItem (Int (to_z w64 (of_z w64 c.args.number))) g.F.Fit.allocator s after vector U vs blocks) (LacksRoom g.F.Fit.allocator s after (push_asks s vector U))) stays (c.push_asking.ensures.vector U vs blocks) h number)
+    (subst (λ (s : Stored). PushesNumber g.F.Fit.allocator s after vector (to_z w64 (of_z w64 c.args.number)) c.push_asking.result) stays c.push_asking.ensures.vector U vs blocks h number)
