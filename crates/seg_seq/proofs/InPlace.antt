@@ -1,5 +1,5 @@
 -- Entries that a buffer has room for, from what the calls below them return.
-use Rattle.std.proofs.Common.{◌≡◌, ℕ, ◌+◌, ◌-◌, ◌*◌, ◌%◌, ◌^◌, ◌<◌, ◌≤◌, ◌⊎◌, inl, inr, min, List, [], length, Option, Some, refl, sym, ◌∙◌, ap, subst, arith, zero-add, add-zero}
+use Rattle.std.proofs.Common.{◌≡◌, ℕ, ◌+◌, ◌-◌, ◌*◌, ◌%◌, ◌^◌, ◌<◌, ◌≤◌, ◌⊎◌, inl, inr, min, List, [], length, Option, Some, refl, sym, ◌∙◌, ap, subst, arith, zero-add}
 use Rattle.seg_spec.specs.Bytes.{long, signed, signed_long, set_word, set_long, ChangesOnly}
 use Rattle.seg_spec.specs.Heap.{units_at}
 use Rattle.seg_spec.specs.Block.{block_of}

@@ -1,4 +1,4 @@
-use Rattle.std.proofs.Common.{rules, ◌≡◌, ◌+◌, ◌≤◌, [], length, refl, ap, ◌∙◌, sym, subst, arith, Err, w64}
+use Rattle.std.proofs.Common.{rules, ◌≡◌, ◌+◌, ◌≤◌, [], length, refl, ap, ◌∙◌, sym, subst, Err, w64}
 use Rattle.std.proofs.lemmas.Int.{to_z-of_z}
 use Rattle.seg_spec.specs.Bytes.{set_word, signed_long, ChangesOnly}
 use Rattle.seg_spec.specs.Reads.{Holds}

@@ -6,7 +6,7 @@ use Rattle.seg_value.specs.Places.{place_of}
 use Rattle.seg_value.specs.Stored.{Stored}
 use Rattle.seg_seq.specs.Buffers.{LacksEntry, HasEntry}
 use Rattle.seg_seq.proofs.InPlace.{text_form, lacks_byte, byte_more, byte_at, byte_room}
-use Rattle.seg_seq.proofs.TextCalls.{counted_all, all_kept, makes_room, written_to, one_byte, none_lacks}
+use Rattle.seg_seq.proofs.TextCalls.{counted_all, all_kept, makes_room, written_to, one_byte}
 use Rattle.seg_seq.proofs.text.push_byte_in_place.Goals as goal
 
 pub returns-in_err-room-clause-text : goal.returns-in_err-room-clause-text

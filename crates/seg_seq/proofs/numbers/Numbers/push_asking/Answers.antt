@@ -1,4 +1,4 @@
-use Rattle.std.proofs.Common.{◌≡◌, ℤ, subst, inr, w64, MatchResult}
+use Rattle.std.proofs.Common.{ℤ, subst, inr, w64, MatchResult}
 use Rattle.std.proofs.lemmas.Int.{to_z-of_z}
 use Rattle.seg_spec.specs.Value.{Int}
 use Rattle.seg_value.specs.Places.{place_of}
