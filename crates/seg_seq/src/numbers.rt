@@ -16,7 +16,8 @@ use seg_raw::Code;
 use seg_value::{Content, Heap, Place};
 use std::alloc::Allocator;
 
-/// A vector of numbers, found to be one once, so that a push doesn't ask the type table.
+/// A vector of numbers, found to be one once, so that a push doesn't ask the type table. Entries of a table never change, so it
+/// stays one.
 #[derive(Debug, Clone, Copy, PartialEq, Eq)]
 pub struct Numbers {
     vector: Place,
