@@ -49,8 +49,8 @@ pub record AreLeftByRuns (image : List ℕ) (texts : List (List ℕ)) (input : L
   pub saved_is : saved ≡ image_after (upgraded image) lefts
   pub sound : IsSound saved
 
--- The clients were accepted, one after the other, on a sound image, and runs of the abstract machine
--- left the rest.
+-- The clients were accepted, one after the other, on a sound image, and runs of the abstract
+-- machine left the rest.
 pub record HasOutcome (image : List ℕ) (texts : List (List ℕ)) (input : List ℕ)
     (room base : ℕ) (moves : List Move) (taken taken_then : Option (List ℕ))
     (saved : List ℕ) (reports : List Report) (ended : Ended) : Type 0 where

@@ -36,7 +36,8 @@ pub fn check<A: Allocator, B: Allocator>(alloc: B, w: &Window<A>) -> Result<Type
 /// have some.
 pub fn read_types<A: Allocator>(w: &Window<A>) -> Result<TypeTable, Fault>
     ensures { HasHeader w.now.bytes →
-        IsReading (word w.now.bytes version_word) (slice w.now.bytes types_start types_size) result }
+        IsReading (word w.now.bytes version_word)
+        (slice w.now.bytes types_start types_size) result }
 {
     let bytes = w.slice(header::TYPES, ENTRY * MAX_TYPES);
     if header::shares(w) {

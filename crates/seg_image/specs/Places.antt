@@ -71,7 +71,8 @@ StandsIn image place v blocks =
 
 -- the claim holds of a place of the image, where a map stands there: of the type of its values, its keys
 -- and values, and the blocks that it owns
-abbrev pub WhereMap : {A : Type 0} → Image A → Place → (ℕ → List ℤ → Values → List ℕ → Type 0) → Type 0
+abbrev pub WhereMap : {A : Type 0} → Image A → Place →
+    (ℕ → List ℤ → Values → List ℕ → Type 0) → Type 0
 WhereMap image map claim =
     WhereMaps (allocator_of image) (bytes_in image) (types_of image) (place_of map) claim
 

@@ -14,7 +14,8 @@ use Rattle.seg_rbtree.specs.Ways.{Layer, plug, steps_of, IsWayIn, following, aft
 use Rattle.seg_rbtree.specs.Paths.{node_at}
 
 -- a part of a search tree stands at the place that a path leads to, below layers
-pub record IsPartAt (bytes : List ℕ) (path : Path) (layers : List Layer) (part : Tree) : Type 0 where
+pub record IsPartAt (bytes : List ℕ) (path : Path) (layers : List Layer) (part : Tree) :
+    Type 0 where
   pub steps_are : path.steps.items ≡ steps_of layers
   pub whole : IsSearchTree bytes path.root (plug part layers)
 

@@ -1,7 +1,7 @@
 -- Whether the buffer that a cell names has room for an entry more, as the program reads it.
---     LacksEntry bytes cell size          the cell names no buffer or doesn't all lie in the segment, or
---                                         the buffer has no room for an entry of some bytes
---     HasEntry bytes cell size room       it has, and the entry stands there
+--     LacksEntry bytes cell size      the cell names no buffer or doesn't all lie in the segment, or
+--                                     the buffer has no room for an entry of some bytes
+--     HasEntry bytes cell size room   it has, and the entry stands there
 use Rattle.std.specs.Prelude.{◌≡◌, ℕ, ◌+◌, ◌*◌, ◌<◌, ◌≤◌, ◌⊎◌, List, length, Some, None}
 use Rattle.seg_spec.specs.Pointer.{target}
 use Rattle.seg_spec.specs.Reads.{count_at}

@@ -136,7 +136,8 @@ impl<F: Fit, A: Allocator> Heap<F, A> {
     /// Writes the words of a frozen object that one cell names, and the number of the next one.
     fn count_frozen(&mut self, payload: u32, number: u32)
         ensures window { self.new.window ≡ with_bytes self.old.window (set_word (set_word (set_word
-            self.old.window.bytes payload 1) (payload + 4) number) next_word ((number + 1) % 2 ^ 32)) }
+            self.old.window.bytes payload 1) (payload + 4) number)
+            next_word ((number + 1) % 2 ^ 32)) }
         ensures types { self.new.types ≡ self.old.types }
     {
         self.window.put32(payload as usize, 1);

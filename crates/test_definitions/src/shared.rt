@@ -36,7 +36,8 @@ pub fn releasing()
         AllByRecursion (λ f. times_named f.at kept
         + times_named f.at (names_of (left gone frozen)) ≡ 0) (freed gone frozen) }
     ensures all { (at : ℕ) (gone : List Place) (frozen : List Frozen) →
-        times at (map (λ f. f.at) (left gone frozen)) + times at (map (λ f. f.at) (freed gone frozen))
+        times at (map (λ f. f.at) (left gone frozen))
+        + times at (map (λ f. f.at) (freed gone frozen))
         ≡ times at (map (λ f. f.at) frozen) }
 {}
 
