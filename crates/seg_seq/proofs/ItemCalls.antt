@@ -1,10 +1,11 @@
 -- What the calls on vectors return, from what the calls below them return.
-use Rattle.std.proofs.Common.{◌≡◌, ℕ, ◌+◌, ◌-◌, ◌*◌, ◌%◌, ◌^◌, ◌<◌, inl, inr, min, List, [], ◌∷◌, length, Option, Some, refl, sym, ap, ◌∙◌, subst, arith}
+use Rattle.std.proofs.Common.{◌≡◌, ℕ, ◌+◌, ◌-◌, ◌*◌, ◌%◌, ◌^◌, ◌<◌, inl, inr, min, List, [], ◌∷◌, length, Option, Some, refl, sym, ap, ◌∙◌, subst, arith, zero-add}
 use Rattle.seg_spec.specs.Bytes.{set_word, ChangesOnly}
 use Rattle.seg_spec.specs.Types.{Form, Table, IsTable, form_at, size}
 use Rattle.seg_spec.specs.Value.{Value, Values, count, Seq, default_of}
 use Rattle.seg_spec.specs.Reads.{count_at, start, Holds}
 use Rattle.seg_spec.specs.Cells.{IsWithin}
+use Rattle.seg_spec.specs.Window.{with_bytes}
 use Rattle.seg_spec.specs.Calls.{Refuses}
 use Rattle.seg_spec.specs.Growing.{Reserves}
 use Rattle.seg_spec.specs.Owning.{Stands}
@@ -21,7 +22,7 @@ use Rattle.seg_value.specs.Buffers.{NamesBuffer}
 use Rattle.seg_value.specs.declared.content.Content.{Content}
 use Rattle.seg_value.specs.declared.place.Place.{Place as Where}
 use Rattle.seg_seq.specs.Buffers.{NamesNone}
-use Rattle.seg_seq.specs.Sequences.{HasItems, IsFull, LacksRoom, PushesItem, PushesBack, PopsBack, push_asks}
+use Rattle.seg_seq.specs.Sequences.{HasItems, IsFull, LacksRoom, CountsItem, PushesItem, PushesBack, PopsBack, push_asks}
 use Rattle.seg_seq.proofs.Rooms.{entries_fit}
 use Rattle.seg_seq.proofs.ItemRemoved.{some_buffer, last, value_is, item_stands as item_stands_there, item_beside, item_lost}
 use Rattle.seg_seq.proofs.ItemAdded.{has_each, count_few, has_buffer_now, item_within, item_added, item_stands}
@@ -87,6 +88,34 @@ module _ (allocator : ℕ) (old : Stored) (cell T U : ℕ) (vs : Values) (blocks
     item_pushed changes default =
         let same : default_of counted.types V ≡ default_of old.types U = ap (λ t. default_of t V) same_types ∙ ap (default_of old.types) V_is in
         any_pushed (default_of old.types U) changes (λ within known. subst (λ v. Holds new.window.bytes counted.types (object_at at V) v []) same (default within known))
+
+  -- an item more that is counted alone
+  module _ (mid counted : Stored) (r : Reserves allocator old.window.bytes mid.window.bytes old.types (object_at cell T) (Seq vs) blocks (buffer_asks old.window.bytes cell each len) (len * each))
+      (counted_is : counted.window.bytes ≡ set_word mid.window.bytes (cell + 4) len) (first before at : ℕ) (first_is : first ≡ start mid.window.bytes cell) (before_is : before ≡ 0)
+      (at_is : at ≡ (first + kept * each + before) % 2 ^ 32) where
+    pub item_counted : CountsItem allocator old counted (object_at cell T) U vs blocks at
+    item_counted = record {
+      mid = mid.window.bytes;
+      reserves = rw (one_size, one_longer) at r;
+      counted = rw one_longer at counted_is;
+      at_is = (let there : at ≡ (start mid.window.bytes cell + count_at old.window.bytes cell * size old.types U + 0) % 2 ^ 32 = rw (first_is, kept_is, one_size, before_is) at at_is in omega arith);
+    }
+
+-- what is written there then is the item
+module _ (allocator : ℕ) (old : Stored) (cell T U : ℕ) (vs : Values) (blocks : List ℕ) (h : HasItems allocator old (object_at cell T) U vs blocks) (counted new : Stored) (at : ℕ)
+    (c : CountsItem allocator old counted (object_at cell T) U vs blocks at) (same_types : counted.types ≡ old.types) where
+  counted_few : count_at old.window.bytes cell + 1 ≡ min (count_at old.window.bytes cell + 1) 4294967295
+  counted_few = let few = count_few allocator old.window.bytes old.types (object_at cell T) U vs blocks h.form_is h.stands in omega arith
+
+  place_is : at ≡ (start c.mid cell + count_at old.window.bytes cell * size old.types U + 0) % 2 ^ 32
+  place_is = let there = c.at_is in omega arith
+
+  pub item_written : (v : Value) → (IsWithin counted.window.bytes at (size counted.types U) → ChangesOnly counted.window.bytes new.window.bytes at (size counted.types U))
+      → (IsWithin counted.window.bytes at (size counted.types U) → U < length counted.types → Holds new.window.bytes counted.types (object_at at U) v [])
+      → PushesItem v allocator old new (object_at cell T) U vs blocks at
+  item_written v changes item =
+      any_pushed allocator old cell T U vs blocks h (size old.types U) (count_at old.window.bytes cell) (count_at old.window.bytes cell + 1) (sym (zero-add (size old.types U))) refl counted_few
+      (record { window = with_bytes old.window c.mid; types = old.types }) counted new c.reserves c.counted same_types (start c.mid cell) 0 at U refl refl place_is refl v changes item
 
 -- a vector whose cell names no buffer has no room for an item
 pub none_is_full : (allocator : ℕ) (old : Stored) (cell T U : ℕ) (vs : Values) (blocks : List ℕ) → HasItems allocator old (object_at cell T) U vs blocks → NamesNone old.window.bytes cell → IsFull old (object_at cell T) U

@@ -16,6 +16,7 @@
 --         a string, whose buffer is to have n bytes, has this text now, or it lacked the room
 --     ExtendsText allocator old new place kept n xs blocks at len
 --         a string keeps its first bytes, and has n more from a position on, whatever they are
+--     CountsItem allocator old new place U vs blocks at   an item more is counted, and isn't written
 --     PushesItem item allocator old new place U vs blocks p   an item joined the others, and stands
 --                                                             at a position
 --     PushesBack allocator old new place U vs blocks p    a default item did
@@ -25,14 +26,14 @@
 --     IsPast index n code                         of n there is none at the index
 --     ShowsByte heap place xs index p             the byte of a text at an index stands there
 --     ShowsItem heap place U index p              the item of a vector or a list at an index does
-use Rattle.std.specs.Prelude.{◌≡◌, ℕ, ℤ, ◌+◌, ◌-◌, ◌*◌, ◌<◌, ◌≤◌, List, [], ◌∷◌, length, take, slice_index, Option, Some, None, Result, Err, MatchResult}
-use Rattle.seg_spec.specs.Bytes.{byte}
+use Rattle.std.specs.Prelude.{◌≡◌, ℕ, ℤ, ◌+◌, ◌-◌, ◌*◌, ◌%◌, ◌^◌, ◌<◌, ◌≤◌, List, [], ◌∷◌, length, take, slice_index, Option, Some, None, Result, Err, MatchResult}
+use Rattle.seg_spec.specs.Bytes.{byte, set_word}
 use Rattle.seg_spec.specs.Types.{Form, form_at, size}
 use Rattle.seg_spec.specs.Value.{Value, Values, nil, cons, Int, Text, Seq, count, nth, append, default_of, Selector}
 use Rattle.seg_spec.specs.Reads.{Place, count_at, start, Leads}
 use Rattle.seg_spec.specs.Calls.{Refuses}
 use Rattle.seg_spec.specs.Demand.{Ask}
-use Rattle.seg_spec.specs.Growing.{Succeeds}
+use Rattle.seg_spec.specs.Growing.{Succeeds, Reserves}
 use Rattle.seg_spec.specs.Items.{without_last}
 use Rattle.seg_spec.specs.Owning.{Stands}
 use Rattle.seg_spec.specs.Clearing.{BesideShared, LosesPart}
@@ -126,6 +127,17 @@ pub record ExtendsText (allocator : ℕ) (old new : Stored) (place : Place) (kep
 abbrev pub push_asks : Stored → Place → ℕ → List Ask
 push_asks heap place U = buffer_asks heap.window.bytes place.at (size heap.types U)
     (count_at heap.window.bytes place.at + 1)
+
+-- an item more is counted, and has room at a position, where it isn't written yet
+pub record CountsItem (allocator : ℕ) (old new : Stored) (place : Place) (U : ℕ) (vs : Values)
+    (blocks : List ℕ) (at : ℕ) : Type 0 where
+  pub mid : List ℕ
+  pub reserves : Reserves allocator old.window.bytes mid old.types place (Seq vs) blocks
+      (push_asks old place U) ((count_at old.window.bytes place.at + 1) * size old.types U)
+  pub counted : new.window.bytes
+      ≡ set_word mid (place.at + 4) (count_at old.window.bytes place.at + 1)
+  pub at_is : at
+      ≡ (start mid place.at + count_at old.window.bytes place.at * size old.types U) % 2 ^ 32
 
 -- an item joined the others, and stands at the position p
 pub record PushesItem (item : Value) (allocator : ℕ) (old new : Stored) (place : Place) (U : ℕ)

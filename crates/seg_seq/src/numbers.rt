@@ -10,6 +10,7 @@ ghost use Rattle.seg_seq.specs.Sequences.{HasItems, LacksRoom, PushesItem, Pushe
 
 use crate::kind::Kind;
 use crate::pushing::push_number_in_place;
+use crate::sequence::count_entry;
 use seg_block::Fit;
 use seg_layout::Type;
 use seg_raw::Code;
@@ -91,11 +92,7 @@ fn push_number<F: Fit, A: Allocator>(
         (PushesItem (Int number) F.allocator heap.old heap.new (object_at cell T) U vs blocks)
         (LacksRoom F.allocator heap.old heap.new (push_asks heap.old (object_at cell T) U)) }
 {
-    let kept = heap.count(cell);
-    let len = kept.saturating_add(1);
-    let start = heap.reserve(content, cell, len)?;
-    heap.set_count(cell, len);
-    let at = content.entry.value_at(start, kept);
+    let at = count_entry(heap, content, cell)?;
     heap.store(at, number);
     Ok(at)
 }

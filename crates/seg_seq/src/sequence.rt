@@ -9,14 +9,14 @@ ghost use Rattle.seg_value.specs.Buffers.{NamesBuffer};
 ghost use Rattle.seg_value.specs.Places.{place_of, object_at};
 ghost use Rattle.seg_seq.specs.Kinds.{is_sequence};
 ghost use Rattle.seg_seq.specs.Lists.{HasList, AddsItem, LosesItem};
-ghost use Rattle.seg_seq.specs.Sequences.{HasText, HasItems, item_type, Declines, HasNone, ComesToHold, LacksRoom, push_asks, PushesBack, PopsBack, IsPast, ShowsByte, ShowsItem};
+ghost use Rattle.seg_seq.specs.Sequences.{HasText, HasItems, item_type, Declines, HasNone, ComesToHold, LacksRoom, push_asks, CountsItem, PushesBack, PopsBack, IsPast, ShowsByte, ShowsItem};
 
 use crate::kind::Kind;
 use crate::list::{item_of, push_node, remove_node};
 use crate::ring::{Way, neighbour, node_at};
 use seg_block::Fit;
 use seg_raw::Code;
-use seg_value::{Content, Heap, Place};
+use seg_value::{Content, Heap, Held, Place};
 use std::alloc::Allocator;
 
 /// The position of an item of a vector or a list, or of a byte of a string. `OtherType` where the place is none of them,
@@ -94,13 +94,34 @@ fn push_entry<F: Fit, A: Allocator>(
         (PushesBack F.allocator heap.old heap.new (object_at cell T) U vs blocks)
         (LacksRoom F.allocator heap.old heap.new (push_asks heap.old (object_at cell T) U)) }
 {
+    let at = count_entry(heap, content, cell)?;
+    match content.entry.held {
+        Held::Value(type_id) => heap.init_default(Place { at, type_id }),
+        Held::Bytes | Held::Pointer => {}
+    }
+    Ok(at)
+}
+
+/// Makes room for an entry more in a buffer and counts it, and returns the position of its value, which isn't written.
+#[inline(always)]
+pub(crate) fn count_entry<F: Fit, A: Allocator>(
+    heap: &mut Heap<F, A>,
+    content: &Content,
+    cell: u32,
+) -> Result<u32, Code>
+    ensures window { KeepsHost heap.old.window heap.new.window }
+    ensures types { heap.new.types ≡ heap.old.types }
+    ensures vector { (T U : ℕ) (vs : Values) (blocks : List ℕ) →
+        NamesBuffer heap.old.types T content.now →
+        HasItems F.allocator heap.old (object_at cell T) U vs blocks →
+        MatchResult result
+        (CountsItem F.allocator heap.old heap.new (object_at cell T) U vs blocks)
+        (LacksRoom F.allocator heap.old heap.new (push_asks heap.old (object_at cell T) U)) }
+{
     let kept = heap.count(cell);
     let len = kept.saturating_add(1);
     let start = heap.reserve(content, cell, len)?;
     heap.set_count(cell, len);
-    if let Some(item) = content.entry.value(start, kept) {
-        heap.init_default(item);
-    }
     Ok(content.entry.value_at(start, kept))
 }
 

@@ -28,8 +28,9 @@ returns-clause-vector g c = λ T U vs blocks h same.
     let has : HasEntry old.window.bytes cell (size old.types U) room =
     subst (λ z. HasEntry old.window.bytes cell z room) size_is (subst (λ bytes. HasEntry bytes cell c.size.result room) here c.in_ok-room.ensures) in
     let more = item_more g.F.Fit.allocator old cell T U vs blocks h room has at len c.position-at.ensures refl in
+    let there = item_place g.F.Fit.allocator old cell T U vs blocks h room has at len c.position-at.ensures refl in
     let counted = c.set_count.new.self in
     let written = bytes_of counted.window (with_bytes old.window (set_word old.window.bytes (cell + 4) len)) c.set_count.ensures.window in
     item_pushed g.F.Fit.allocator old cell T U vs blocks h (size old.types U) room.count len (sym (zero-add (size old.types U))) has.count_is more old counted
     c.init_default.new.self (item_room g.F.Fit.allocator old cell T U vs blocks h room has at len c.position-at.ensures refl) written c.set_count.ensures.types
-    has.start 0 at c.args.type_id (item_first g.F.Fit.allocator old cell T U vs blocks h room has) refl (item_place g.F.Fit.allocator old cell T U vs blocks h room has at len c.position-at.ensures refl) same c.init_default.ensures.changes c.init_default.ensures.default
+    has.start 0 at c.args.type_id (item_first g.F.Fit.allocator old cell T U vs blocks h room has) refl there same c.init_default.ensures.changes c.init_default.ensures.default
