@@ -2,8 +2,3 @@ pub mod Views
 pub mod Files
 pub mod Parts
 pub mod Clients
-pub mod Texts
-pub mod Items
-pub mod Lines
-pub mod Headers
-pub mod Outlines

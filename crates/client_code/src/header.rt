@@ -1,9 +1,7 @@
-ghost use Rattle.std.specs.Prelude.{◌≡◌, ◌≢◌, ◌≤◌, ◌<◌, ◌+◌, ◌*◌, ◌++◌, ℕ, length, IfOk, IfErr, OnOk, MatchOption};
+ghost use Rattle.std.specs.Prelude.{◌≡◌, ◌≢◌, ◌≤◌, ◌<◌, ◌+◌, ◌*◌, ℕ, length, IfOk, IfErr, OnOk, MatchOption};
 ghost use Rattle.seg_spec.specs.Bytes as bytes;
-ghost use Rattle.seg_spec.specs.Bytes.{spelling};
 ghost use Rattle.client_spec.specs.Grammar.{file_version};
 ghost use Rattle.client_code.specs.Files.{IsFileVersion, IsFileHeader, AreRight};
-ghost use Rattle.client_code.specs.Headers.{header_bytes};
 ghost use Rattle.client_code.specs.declared.header.TheConstants.{MOST_CONSTANTS, MOST_INSTRUCTIONS};
 ghost use Rattle.client_code.specs.declared.types.TheConstants.{MOST_TYPES};
 
@@ -11,10 +9,9 @@ use crate::types::{ENTRY, MOST_TYPES, TYPES_AT, version_of};
 use byteorder::{ByteOrder, LittleEndian};
 use seg_layout::TypeTable;
 use seg_raw::Fault;
-use std::alloc::{AllocError, Allocator};
 
 /// The first bytes of a client file.
-const MAGIC: &[u8; 4] = b"SEGC";
+pub const MAGIC: &[u8; 4] = b"SEGC";
 
 /// The version of files whose types share nothing.
 pub const FIRST_VERSION: u32 = 1;
@@ -76,13 +73,6 @@ fn count(file: &[u8], at: u32, most: u32) -> Result<u32, Fault>
     }
 }
 
-/// Adds the bytes of a word to a file.
-fn append_word<A: Allocator>(file: &mut Vec<u8, A>, word: u32) -> Result<(), AllocError>
-    ensures { OnOk result (file.new.items ≡ file.old.items ++ spelling 4 word) }
-{
-    file.extend_from_slice(&word.to_le_bytes())
-}
-
 impl Header {
     /// The header of a file, or the position of the first field that is wrong or cut.
     pub fn read(file: &[u8]) -> Result<Header, Fault>
@@ -107,29 +97,6 @@ impl Header {
             constants,
             instructions,
         })
-    }
-
-    /// Adds the header's bytes to a file of a version.
-    pub fn append<A: Allocator>(
-        &self,
-        version: u32,
-        file: &mut Vec<u8, A>,
-    ) -> Result<(), AllocError>
-        ensures { OnOk result (file.new.items ≡ file.old.items
-            ++ header_bytes version self.now.types self.now.constants self.now.instructions) }
-    {
-        file.extend_from_slice(MAGIC)?;
-        append_word(file, version)?;
-        append_word(file, self.types)?;
-        append_word(file, self.constants)?;
-        append_word(file, self.instructions)
-    }
-
-    /// The number of types, constants and instructions together.
-    pub fn entries(&self) -> u32
-        ensures { result ≡ self.now.types + self.now.constants + self.now.instructions }
-    {
-        self.types + self.constants + self.instructions
     }
 
     /// The position of the first constant, after the type entries.

@@ -1,4 +1,5 @@
-use client_code::{Client, print};
+use client_code::Client;
+use client_text::print;
 use std::alloc::{AllocError, Global};
 
 /// The canonical text of a client's instructions.

@@ -7,7 +7,8 @@
 
 mod clients;
 
-pub use client_code::{Client, assemble, parse, print};
+pub use client_code::{Client, parse};
+pub use client_text::{assemble, print};
 pub use client_verify::Verified;
 pub use client_vm::{
     Ended, Move, Outcome, Refused, Report, Schedule, Sink, Stopped, Through, run_bytes, run_image,

@@ -1,7 +1,8 @@
 //! Segments of each kind, and runs of clients on them.
 
 use crate::windows::window;
-use client_code::{assemble, parse};
+use client_code::parse;
+use client_text::assemble;
 use client_verify::{Verified, verify};
 use client_vm::{Ended, Move, Refused, Report, Schedule, Through, run_bytes};
 use seg_bestfit::BestFit;

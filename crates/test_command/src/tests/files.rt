@@ -1,6 +1,6 @@
 //! The programs on files in memory, and what they print.
 
-use client_code::assemble;
+use client_text::assemble;
 use client_vm::Through;
 use seg_command::command;
 use seg_files::{FileFault, Files};

@@ -1,4 +1,5 @@
-use client_code::{Number, Operand, Operation, Role, assemble, parse, print};
+use client_code::{Number, Operand, Operation, Role, parse};
+use client_text::{assemble, print};
 use std::alloc::AllocError;
 use std::process::Abort;
 use std::test::Fail;

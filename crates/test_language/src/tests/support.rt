@@ -1,4 +1,5 @@
-use client_code::{assemble, parse};
+use client_code::parse;
+use client_text::assemble;
 use client_verify::verify;
 use seg_layout::TypeTable;
 use seg_raw::Fault;

@@ -1,4 +1,5 @@
-use client_code::{assemble, parse, print};
+use client_code::parse;
+use client_text::{assemble, print};
 use seg_raw::Fault;
 use std::alloc::{AllocError, Global};
 use std::process::Abort;

@@ -1,6 +1,7 @@
 //! Calls of which host memory is refused: each answers so, and nothing was written then.
 
-use client_code::{assemble, parse, print};
+use client_code::parse;
+use client_text::{assemble, print};
 use client_vm::{Refused, Schedule, Through, run_bytes};
 use lezgauri::{AllocatorKind, Image, IndexKind, Unopened};
 use linked_list_allocator::LocalHeap;

@@ -1,5 +1,6 @@
 use crate::tests::explain::sources::{clients_alone, is, parts, run_of};
-use client_code::{assemble, parse};
+use client_code::parse;
+use client_text::assemble;
 use client_verify::verify;
 use seg_explain::explain;
 use seg_layout::TypeTable;

@@ -1,5 +1,5 @@
 use crate::tests::explain::sources::{is, parts};
-use client_code::assemble;
+use client_text::assemble;
 use seg_explain::{Sources, explain};
 use std::alloc::Global;
 use std::test::Fail;

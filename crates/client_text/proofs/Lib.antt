@@ -1,0 +1,14 @@
+pub mod Spacing
+pub mod Outcomes
+pub mod Numerals
+pub mod LineWords
+pub mod Unescaping
+pub mod ItemWords
+pub mod TextLines
+pub mod Sections
+pub mod SpelledLines
+pub mod ValidItems
+pub mod WrittenFiles
+pub mod Assembling
+pub mod FirstWords
+pub mod WordGroups

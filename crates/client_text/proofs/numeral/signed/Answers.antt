@@ -1,0 +1,34 @@
+use Rattle.std.proofs.lemmas.Int.{to_z-of_z}
+use Rattle.std.proofs.Common.{FitsSigned, ◌∙◌, sym, ap, subst}
+use Rattle.std.specs.Fmt.{signed_decimal}
+use Rattle.std.specs.Int.{w32}
+use Rattle.std.specs.Str.{IsUtf8}
+use Rattle.std.proofs.lemmas.Str.{IsUtf8-from_ascii}
+use Rattle.std.proofs.lemmas.Fmt.{IsAscii-signed, parse-signed_decimal}
+use Rattle.std.proofs.lemmas.Slice.Eq.{slice_eq-Decides}
+use Rattle.std.proofs.lemmas.Bool.Decides.{Decides-eqb, not_from_Decides}
+use Rattle.client_text.proofs.Outcomes.{on_none, not_parsed, parsed_one, failed_test}
+use Rattle.client_text.proofs.Numerals.{within, is_text, not_text}
+use Rattle.client_text.proofs.numeral.signed.Goals as goal
+
+pub returns-in_err-ok-clause-none : goal.returns-in_err-ok-clause-none
+returns-in_err-ok-clause-none c =
+    on_none c.from_residual.result _ (λ n small same.
+    not_text _ _ c.from_utf8.result c.args.word.now c.from_utf8.ensures.cases (sym c.ok.ensures.value ∙ c.in_err-ok.was)
+    (subst IsUtf8 (sym same) (IsUtf8-from_ascii (signed_decimal n) (IsAscii-signed n (within n small)))))
+
+pub returns-in_err-number-clause-none : goal.returns-in_err-number-clause-none
+returns-in_err-number-clause-none c =
+    on_none c.from_residual-in_err-number.result _ (λ n small same.
+    not_parsed c.parse.result n (sym c.ok-2.ensures.value ∙ c.in_err-number.was)
+    (parse-signed_decimal w32 n c.in_ok-ok.field-0.now c.parse.result small (within n small) (is_text _ c.from_utf8.result c.in_ok-ok.field-0
+    c.args.word.now c.from_utf8.ensures.cases (sym c.ok.ensures.value ∙ c.in_ok-ok.was) ∙ same) c.parse.ensures.value.0))
+
+pub returns-clause-none : goal.returns-clause-none
+returns-clause-none c =
+    failed_test c.eq.result _ c.then_some.result _ c.then_some.ensures (λ differ n small same.
+    let one = parsed_one c.parse.result c.in_ok-number.number n (sym c.ok-2.ensures.value ∙ c.in_ok-number.was)
+    (parse-signed_decimal w32 n c.in_ok-ok.field-0.now c.parse.result small (within n small) (is_text _ c.from_utf8.result c.in_ok-ok.field-0
+    c.args.word.now c.from_utf8.ensures.cases (sym c.ok.ensures.value ∙ c.in_ok-ok.was) ∙ same) c.parse.ensures.value.0) in
+    not_from_Decides c.eq.result (slice_eq-Decides Decides-eqb _ _ c.eq.result c.eq.ensures) differ (c.as_bytes.ensures.value ∙ c.format.ensures.text
+    ∙ ap signed_decimal (to_z-of_z w32 c.in_ok-number.number (subst (FitsSigned w32) (sym one) small) ∙ one) ∙ sym same))
