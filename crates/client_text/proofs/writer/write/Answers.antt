@@ -46,7 +46,7 @@ returns-clause-whole g c whole =
     let all : c.loop.counter ≡ entry_total header = reached c.loop.counter c.entries-end.result (entry_total header) c.loop.auto.counter-end c.loop-test.false c.entries-end.ensures in
     ends c.args.text.now c.args.file.now.items _ _ _ header.types header.constants header.instructions c.loop.counter c.loop.invariant.written
     (sym c.loop.invariant.rest ∙ when_none c.next_meant.result c.is_none.result _ c.is_none.ensures whole c.next_meant.ensures.none)
-    (omega arith) c.in_ok-append.ensures limits.0 limits.1 limits.2 c.version_in.ensures (λ items spells. ap (λ n. map section_of (take n items)) all ∙ counted.counted items spells)
+    (omega arith) c.in_ok-append_header.ensures limits.0 limits.1 limits.2 c.version_in.ensures (λ items spells. ap (λ n. map section_of (take n items)) all ∙ counted.counted items spells)
 
 pub returns-clause-cut : goal.returns-clause-cut
 returns-clause-cut g c cut tree spells =
