@@ -1,6 +1,5 @@
 ghost use Rattle.std.specs.Prelude.{◌≡◌, ◌≢◌, ℕ, List, ◌<◌, ◌≤◌, length, All, IfSome, IfNone, IsTrue};
 ghost use Rattle.client_spec.specs.Text.{hex_digit, is_plain, SpellsText};
-ghost use Rattle.client_code.specs.declared.constant.TheConstants.{LONGEST};
 ghost use Rattle.client_text.specs.Texts.{SpellsByte};
 
 use arrayvec::ArrayVec;
