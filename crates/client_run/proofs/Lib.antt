@@ -1,17 +1,18 @@
-pub mod Versions
-pub mod MovesLaws
-pub mod NumberLaws
-pub mod WritingLaws
-pub mod PartLaws
-pub mod ObjectLaws
-pub mod SharingLaws
-pub mod MakingLaws
-pub mod OwnerLaws
-pub mod ItemLaws
-pub mod NamedLaws
-pub mod PositionLaws
-pub mod OwningLaws
-pub mod IndexLaws
-pub mod CourseLaws
-pub mod UnnamedLaws
-pub mod RunLaws
+mod Versions
+mod MovesLaws
+mod NumberLaws
+mod OpenerLaws
+mod WritingLaws
+mod PartLaws
+mod ObjectLaws
+mod SharingLaws
+mod MakingLaws
+mod OwnerLaws
+mod ItemLaws
+mod NamedLaws
+mod PositionLaws
+mod OwningLaws
+mod IndexLaws
+mod CourseLaws
+mod UnnamedLaws
+mod RunLaws
