@@ -8,14 +8,16 @@ ghost use Rattle.seg_layout.specs.Forms.{form_of, map_option};
 ghost use Rattle.seg_layout.specs.Reading.{IsReading};
 ghost use Rattle.seg_raw.specs.declared.fault.Fault.TheVariants.{Memory};
 ghost use Rattle.seg_check.specs.Faults.{IsImageOf, IsFaultOf, IsFrontRight};
+ghost use Rattle.seg_check.specs.Stations.{KnowsNothing, KnowsHeap, FindsHeap, FindsOwners};
 
 use crate::claims::Claims;
+use crate::fault::ContentFault;
 use crate::header::check_header;
 use crate::image::Image;
 use seg_layout::{ENTRY, MAX_TYPES, Type, TypeId, TypeTable};
 use seg_ptr::{Window, header};
 use seg_raw::Fault;
-use std::alloc::Allocator;
+use std::alloc::{AllocError, Allocator};
 
 /// The types of a segment whose bytes are an image, or the first fault in this order: the header, the types, the
 /// blocks, the free blocks, the names, the unique objects, the values, what frozen objects count, blocks that nothing owns.
@@ -77,22 +79,51 @@ fn check_heap<A: Allocator, B: Allocator + Copy>(
         OnOk result (IsImageOf w.now.bytes types.now) }
     ensures fault { HasFront w.now.bytes types.now → IfErr result (IsFaultOf w.now.bytes) }
 {
-    let mut claims = Claims::new(alloc, w, shares(types))?;
+    let mut claims = no_claims(alloc, w, types)?;
     let image = Image {
         w,
         bytes: w.view(),
         types,
     };
-    let free_list = image.check_tiles(&mut claims).map_err(Fault::BadBlock)?;
-    image
-        .check_free(&claims, free_list)
-        .map_err(Fault::BadFree)?;
-    image.check_index(&mut claims)?;
-    image.check_uniques(&mut claims)?;
-    image.check_values(&mut claims)?;
-    claims.check_counts(w.view(), w.get32(header::NEXT_NUMBER))?;
+    image.check_structure(&mut claims)?;
+    image.check_content(&mut claims)?;
     match claims.first_unowned() {
         Some(block) => Err(Fault::Unowned(block)),
         None => Ok(()),
+    }
+}
+
+/// The claims of an image before its blocks are known.
+fn no_claims<A: Allocator, B: Allocator + Copy>(
+    alloc: B,
+    w: &Window<A>,
+    types: &TypeTable,
+) -> Result<Claims<B>, AllocError>
+    ensures { HasFront w.now.bytes types.now →
+        IfOk result (KnowsNothing w.now.bytes types.now) }
+{
+    Claims::new(alloc, w, shares(types))
+}
+
+impl<A: Allocator> Image<'_, A> {
+    /// The blocks of the heap, and the free ones among them.
+    fn check_structure<B: Allocator>(&self, claims: &mut Claims<B>) -> Result<(), Fault>
+        ensures { HasFront self.now.w.now.bytes self.now.types.now →
+            KnowsNothing self.now.w.now.bytes self.now.types.now claims.old →
+            FindsHeap self.now.w.now.bytes self.now.types.now claims.new result }
+    {
+        let free_list = self.check_tiles(claims).map_err(Fault::BadBlock)?;
+        self.check_free(claims, free_list).map_err(Fault::BadFree)
+    }
+
+    /// What owns the blocks: the names, the unique objects, the values, and what frozen objects count.
+    fn check_content<B: Allocator>(&self, claims: &mut Claims<B>) -> Result<(), ContentFault>
+        ensures { KnowsHeap self.now.w.now.bytes self.now.types.now claims.old →
+            FindsOwners self.now.w.now.bytes self.now.types.now claims.new result }
+    {
+        self.check_index(claims)?;
+        self.check_uniques(claims)?;
+        self.check_values(claims)?;
+        claims.check_counts(self.bytes, self.w.get32(header::NEXT_NUMBER))
     }
 }

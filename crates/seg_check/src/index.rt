@@ -1,11 +1,14 @@
-ghost use Rattle.std.specs.Prelude.{◌≡◌, ℕ, ◌+◌, ◌^◌, ◌≤◌, ◌↔◌, List, [], ◌∷◌, All, IsTrue, IfOk, IfErr, OnOk, Some};
+ghost use Rattle.std.specs.Prelude.{◌≡◌, ℕ, ◌+◌, ◌^◌, ◌≤◌, ◌↔◌, List, [], ◌∷◌, ◌++◌, All, IsTrue, IfOk, IfErr, OnOk, Some};
 ghost use Rattle.seg_spec.specs.Bytes.{word};
 ghost use Rattle.seg_spec.specs.Pointer.{target};
+ghost use Rattle.seg_spec.specs.Types.{form_at};
 ghost use Rattle.seg_spec.specs.Header.{index_kind_word, index_cell};
 ghost use Rattle.seg_spec.specs.Index.{Precedes, index_node_size};
 ghost use Rattle.seg_spec.specs.Shapes.{tree_words};
 ghost use Rattle.seg_spec.specs.Reads.{count_at};
-ghost use Rattle.seg_check.specs.Claiming.{Refuses};
+ghost use Rattle.seg_layout.specs.Forms.{has_cells};
+ghost use Rattle.seg_check.specs.Claiming.{Refuses, turns_where};
+ghost use Rattle.seg_check.specs.Marks.{awaiting};
 ghost use Rattle.seg_check.specs.Resolving.{IsReady};
 ghost use Rattle.seg_check.specs.Roots.{StepsIndex, AdvancesRoots, CanResolveRoots, names_ahead, ClaimsNamed, CanClaimNamed, ClaimsTree, CanClaimTree};
 
@@ -15,6 +18,7 @@ use crate::image::Image;
 use crate::marks::Turn;
 use crate::walk::{Tree, Visit};
 use seg_index::{ENTRY, IndexKind, MAX_NAME, NameEntry, name_count, named_tag, node_content};
+use seg_layout::TypeId;
 use seg_ptr::header;
 use seg_value::Content;
 use std::alloc::Allocator;
@@ -169,13 +173,30 @@ impl<'w, A: Allocator> Image<'w, A> {
         };
         let size = entry.values_len(self.types.size(type_id)) as u64 + u64::from(entry.name_len);
         let start = claims.claim(self.bytes, at, named_tag(type_id), size)?;
-        if self.has_turns(Content::object(self.types, type_id).entry) {
-            claims.await_turn(Turn {
-                start,
-                count: u32::from(entry.count),
-            })?;
+        let count = u32::from(entry.count);
+        self.await_values(claims, type_id, Turn { start, count })
+    }
+
+    /// Lets the values of a claimed object wait for their turn, where they may name blocks.
+    #[inline]
+    fn await_values<B: Allocator>(
+        &self,
+        claims: &mut Claims<B>,
+        type_id: TypeId,
+        turn: Turn,
+    ) -> Result<(), ContentFault>
+        ensures waits { OnOk result (claims.new ≡ record claims.old {
+          turns =
+              claims.old.turns ++ awaiting claims.old.naming.below
+              (turns_where (has_cells (form_at self.now.types.now type_id)) turn.start turn.count);
+        }) }
+        ensures refused { IfErr result (λ fault. fault ≡ ContentFault.Memory) }
+    {
+        if self.types.has_pointers(type_id) {
+            claims.await_turn(turn)
+        } else {
+            Ok(())
         }
-        Ok(())
     }
 }
 

@@ -80,7 +80,7 @@ impl<A: Allocator> Image<'_, A> {
 }
 
 /// The keys of a map, one after the other.
-#[derive(Debug, Clone, Copy)]
+#[derive(Clone, Copy)]
 struct Keys {
     last: Option<i64>,
     ascend: bool,

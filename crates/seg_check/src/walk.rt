@@ -14,7 +14,7 @@ use std::alloc::Allocator;
 const DEPTH: usize = 60;
 
 /// A tree as it is to be.
-#[derive(Debug, Clone, Copy)]
+#[derive(Clone, Copy)]
 pub(crate) struct Tree {
     /// The position of the pointer to its root.
     pub(crate) root: u32,
@@ -45,7 +45,7 @@ impl Tree {
 }
 
 /// What a walk comes to. Each node is entered before its left part, and passed between its left and its right part.
-#[derive(Debug, Clone, Copy)]
+#[derive(Clone, Copy)]
 pub(crate) enum Visit {
     /// The position of a pointer that names a node.
     Enter(u32),
@@ -54,7 +54,7 @@ pub(crate) enum Visit {
 }
 
 /// What is above a place in a tree.
-#[derive(Debug, Clone, Copy, Default)]
+#[derive(Clone, Copy, Default)]
 struct Above {
     /// How many nodes.
     nodes: u8,
@@ -65,7 +65,7 @@ struct Above {
 }
 
 /// A node that was entered and not passed, and what is above its children.
-#[derive(Debug, Clone, Copy, Default)]
+#[derive(Clone, Copy, Default)]
 struct Entered {
     node: u32,
     above: Above,

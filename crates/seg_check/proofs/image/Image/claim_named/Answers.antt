@@ -1,16 +1,22 @@
-use Rattle.std.proofs.Common.{◌≡◌, ℕ, ◌+◌, ◌*◌, List, Option, None, Some, Err, sym, ap, ◌∙◌, subst, arith}
-use Rattle.std.specs.Prelude.{IfErr}
+use Rattle.std.proofs.Common.{◌≡◌, ℕ, ◌+◌, ◌*◌, ◌++◌, [], List, Option, None, Some, Result, Ok, Err, sym, ap, ◌∙◌, subst, arith}
+use Rattle.std.specs.Prelude.{IfErr, OnOk}
+use Rattle.std.proofs.lemmas.List.{append-nil}
 use Rattle.std.proofs.lemmas.Result.{err_from_is_err_and}
-use Rattle.seg_spec.specs.Types.{Table, size}
+use Rattle.seg_spec.specs.Types.{Table, form_at, size}
+use Rattle.seg_layout.specs.Forms.{has_cells}
 use Rattle.seg_spec.specs.Pointer.{target}
 use Rattle.seg_spec.specs.Block.{Kind, tag_of}
 use Rattle.seg_index.specs.Names.{type_of}
 use Rattle.seg_index.proofs.NamedTags.{is_named, in_block}
+use Rattle.seg_block.specs.declared.tag.Tag.{Tag}
 use Rattle.seg_block.specs.Tags.{word_of, kind_of}
-use Rattle.seg_check.specs.Claiming.{Refuses, AreLive, CanClaim}
-use Rattle.seg_check.specs.Marks.{Known}
+use Rattle.seg_check.specs.declared.fault.ContentFault.{ContentFault}
+use Rattle.seg_check.specs.declared.fault.ContentFault.TheVariants.{Memory}
+use Rattle.seg_check.specs.declared.marks.Turn.{Turn}
+use Rattle.seg_check.specs.Claiming.{Refuses, AreLive, CanClaim, ClaimsBlock, turns_where}
+use Rattle.seg_check.specs.Marks.{Known, awaiting}
 use Rattle.seg_check.specs.Resolving.{IsReady}
-use Rattle.seg_check.specs.Roots.{CanClaimNamed}
+use Rattle.seg_check.specs.Roots.{ClaimsNamed, CanClaimNamed}
 use Rattle.seg_check.proofs.OpenLaws.{ready_live}
 use Rattle.seg_check.proofs.StepLaws.{refuses_map}
 use Rattle.seg_check.proofs.image.Image.claim_named.Goals as goal
@@ -23,6 +29,61 @@ type_claimed bytes table known at n len object ready is can =
     let less = can.type_known in
     ap (type_of bytes) (is ∙ can.can.names) ∙ in_block bytes can.can.start can.can.is_block.after_header ∙ is_named _ can.type (can.can.is_block.has_tag ∙ omega arith) (omega arith)
 
+-- a claimed block whose turns wait now
+claims_waiting : (bytes : List ℕ) (old mid : Known) (at tag room start : ℕ) (turns : List Turn) → ClaimsBlock bytes old mid at tag room [] start
+    → ClaimsBlock bytes old (record mid { turns = mid.turns ++ awaiting mid.naming.below turns }) at tag room turns start
+claims_waiting bytes old mid at tag room start turns c =
+    let a = c.claims in
+    record {
+      names = c.names;
+      is_block = c.is_block;
+      claims = record {
+        claimed = a.claimed;
+        counted = λ i. record { unclaimed = (a.counted i).unclaimed; free = (a.counted i).free };
+        turns_are = ap (λ ts. ts ++ awaiting mid.naming.below turns) (a.turns_are ∙ append-nil old.turns) ∙ ap (λ n. old.turns ++ awaiting n.below turns) a.naming_kept;
+        naming_kept = a.naming_kept;
+      };
+    }
+
+tag_named : (tag : Tag) (T : ℕ) → kind_of tag.kind ≡ Kind.named → tag.type_id ≡ T → word_of tag ≡ tag_of Kind.named T
+tag_named tag T kind type = ap (λ k. tag_of k tag.type_id) kind ∙ ap (tag_of Kind.named) type
+
+module _ (bytes near : List ℕ) (table : Table) (old : Known) (at n len T tag room : ℕ) (near_is : near ≡ bytes) (tag_is : tag ≡ tag_of Kind.named T) (room_is : room ≡ n * size table T + len) (ready : IsReady bytes table old) where
+  live : AreLive near old.unclaimed
+  live = subst (λ b. AreLive b old.unclaimed) (sym near_is) (ready_live bytes table old ready)
+
+  named_claimed : {A : Type 0} (mid new : Known) (start k : ℕ) → k ≡ n → (result : Result A ContentFault) → (AreLive near old.unclaimed → ClaimsBlock near old mid at tag room [] start)
+      → OnOk result (new ≡ record mid { turns = mid.turns ++ awaiting mid.naming.below (turns_where (has_cells (form_at table T)) start k) }) → OnOk result (ClaimsNamed bytes table old new at n len)
+  named_claimed mid new start k same (Ok x) c waits =
+      let turns = turns_where (has_cells (form_at table T)) start in
+      let here = subst (λ b. ClaimsBlock b old mid at tag room [] start) near_is (c live) in
+      let typed = subst (λ t. ClaimsBlock bytes old mid at t room [] start) tag_is here in
+      let sized = subst (λ m. ClaimsBlock bytes old mid at (tag_of Kind.named T) m [] start) room_is typed in
+      let all = claims_waiting bytes old mid at (tag_of Kind.named T) (n * size table T + len) start (turns k) sized in
+      record {
+        type = T;
+        start = start;
+        claims = subst (λ m. ClaimsBlock bytes old new at (tag_of Kind.named T) (n * size table T + len) (turns m) start) same
+            (subst (λ x. ClaimsBlock bytes old x at (tag_of Kind.named T) (n * size table T + len) (turns k) start) (sym waits) all);
+      }
+  named_claimed mid new start k same (Err f) c waits = tt
+
+  named_refused : {A : Type 0} (object : Option ℕ) → object ≡ target bytes at → type_of bytes object ≡ Some T → (e : ContentFault) (result : Result A ContentFault)
+      → (AreLive near old.unclaimed → Refuses e (CanClaim near old at tag room)) → (x : ContentFault) × (result ≡ Err x) × (x ≡ e) → IfErr result (λ fault. Refuses fault (CanClaimNamed bytes table old at n len))
+  named_refused object is some e result refused r =
+      subst (λ x. IfErr x (λ fault. Refuses fault (CanClaimNamed bytes table old at n len))) (sym (r.1 ∙ ap Err r.2))
+      (refuses_map e (CanClaim near old at tag room) (CanClaimNamed bytes table old at n len) (λ can.
+      let both : Some can.type ≡ Some T = sym (type_claimed bytes table old at n len object ready is can) ∙ some in
+      let type_is : can.type ≡ T = cc in
+      let one = subst (λ t. CanClaim bytes old at (tag_of Kind.named t) (n * size table t + len)) type_is can.can in
+      subst (λ b. CanClaim b old at tag room) (sym near_is)
+      (subst (λ t. CanClaim bytes old at t room) (sym tag_is) (subst (λ m. CanClaim bytes old at (tag_of Kind.named T) m) (sym room_is) one)))
+      (refused live))
+
+memory_refuses : {A : Type 0} (P : Type 0) (result : Result A ContentFault) → IfErr result (λ f. f ≡ Memory) → IfErr result (λ f. Refuses f P)
+memory_refuses P (Ok x) e = tt
+memory_refuses P (Err f) e = subst (λ x. Refuses x P) (sym e) tt
+
 pub returns-in_default-clause-refused : goal.returns-in_default-clause-refused
 returns-in_default-clause-refused g c = λ ready is can.
     let some = type_claimed c.args.self.now.w.now.bytes c.args.self.now.types.now c.args.claims.now c.args.at c.args.entry.now.count c.args.entry.now.name_len c.args.entry.now.object ready is can in
@@ -31,26 +92,20 @@ returns-in_default-clause-refused g c = λ ready is can.
 
 pub returns-in_err-start-clause-refused : goal.returns-in_err-start-clause-refused
 returns-in_err-start-clause-refused g c = λ ready is.
-    let bytes = c.args.self.now.w.now.bytes in
-    let table = c.args.self.now.types.now in
-    let old = c.args.claims.now in
-    let at = c.args.at in
     let n = c.args.entry.now.count in
-    let len = c.args.entry.now.name_len in
-    let P = CanClaimNamed bytes table old at n len in
-    let e = c.in_err-start.field-0.0 in
-    let failed = err_from_is_err_and c.from_residual.result c.from_residual.ensures.1 in
-    let same : failed.0 ≡ e = failed.2 in
-    let near : c.args.self.now.bytes.bytes.now ≡ bytes = c.args.self.now.same in
-    let tag = c.named_tag.result in
-    let tag_is : word_of tag ≡ tag_of Kind.named c.in-Some.type_id = (λ i. tag_of (kind_of (c.named_tag.ensures.kind i)) (c.named_tag.ensures.type_id i)) in
-    let size_is : c.values_len.result + c.from.result ≡ n * size table c.in-Some.type_id + len = (λ i. (c.values_len.ensures.len ∙ ap (λ k. n * k) c.size.ensures.value) i + c.from.ensures i) in
-    let room = c.values_len.result + c.from.result in
-    subst (λ x. IfErr x (λ fault. Refuses fault P)) (sym (failed.1 ∙ ap Err same))
-    (refuses_map e (CanClaim c.args.self.now.bytes.bytes.now old at (word_of tag) room) P (λ can.
-    let both : Some can.type ≡ Some c.in-Some.type_id = sym (type_claimed bytes table old at n len c.args.entry.now.object ready is can) ∙ sym c.type_id.ensures ∙ c.in-Some.is in
-    let type_is : can.type ≡ c.in-Some.type_id = cc in
-    let one = subst (λ T. CanClaim bytes old at (tag_of Kind.named T) (n * size table T + len)) type_is can.can in
-    subst (λ b. CanClaim b old at (word_of tag) room) (sym near)
-    (subst (λ t. CanClaim bytes old at t room) (sym tag_is) (subst (λ m. CanClaim bytes old at (tag_of Kind.named c.in-Some.type_id) m) (sym size_is) one)))
-    (c.in_err-start.ensures.refused (subst (λ b. AreLive b old.unclaimed) (sym near) (ready_live bytes table old ready))))
+    let T = c.in-Some.type_id in
+    named_refused c.args.self.now.w.now.bytes c.args.self.now.bytes.bytes.now c.args.self.now.types.now c.args.claims.now c.args.at n c.args.entry.now.name_len T (word_of c.named_tag.result) (c.values_len.result + c.from.result) c.args.self.now.same
+    (tag_named c.named_tag.result T (ap kind_of c.named_tag.ensures.kind) c.named_tag.ensures.type_id) (ap (λ l. l + c.from.result) (c.values_len.ensures.len ∙ ap (λ k. n * k) c.size.ensures.value) ∙ ap (λ l. n * size c.args.self.now.types.now T + l) c.from.ensures)
+    ready c.args.entry.now.object is (sym c.type_id.ensures ∙ c.in-Some.is) c.in_err-start.field-0.0 c.from_residual.result c.in_err-start.ensures.refused (err_from_is_err_and c.from_residual.result c.from_residual.ensures.1)
+
+pub returns-clause-claimed : goal.returns-clause-claimed
+returns-clause-claimed g c = λ ready is.
+    let n = c.args.entry.now.count in
+    let T = c.in-Some.type_id in
+    named_claimed c.args.self.now.w.now.bytes c.args.self.now.bytes.bytes.now c.args.self.now.types.now c.args.claims.now c.args.at n c.args.entry.now.name_len T (word_of c.named_tag.result) (c.values_len.result + c.from.result) c.args.self.now.same
+    (tag_named c.named_tag.result T (ap kind_of c.named_tag.ensures.kind) c.named_tag.ensures.type_id) (ap (λ l. l + c.from.result) (c.values_len.ensures.len ∙ ap (λ k. n * k) c.size.ensures.value) ∙ ap (λ l. n * size c.args.self.now.types.now T + l) c.from.ensures)
+    ready c.claim.new.self c.await_values.new.claims c.in_ok-start.start c.from-count.result c.from-count.ensures c.await_values.result c.in_ok-start.ensures.claimed c.await_values.ensures.waits
+
+pub returns-clause-refused : goal.returns-clause-refused
+returns-clause-refused g c = λ ready is.
+    memory_refuses (CanClaimNamed c.args.self.now.w.now.bytes c.args.self.now.types.now c.args.claims.now c.args.at c.args.entry.now.count c.args.entry.now.name_len) c.await_values.result c.await_values.ensures.refused
