@@ -70,12 +70,7 @@ impl Cells {
 /// Writes the default of a value: 0 for numbers, empty or null for all else.
 // a value that is one cell, as most are, needs no recursion
 #[inline(always)]
-pub fn set_default<A: Allocator>(
-    w: &mut Window<A>,
-    types: &TypeTable,
-    cells: Cells,
-    place: Place,
-)
+pub fn set_default<A: Allocator>(w: &mut Window<A>, types: &TypeTable, cells: Cells, place: Place)
     ensures host { KeepsHost w.old w.new }
     ensures cells { IsTable types.now → cells ≡ cells_of (form_at types.now place.type_id) →
         LiesWithin w.old.bytes types.now place →
@@ -126,12 +121,7 @@ fn set_fields<A: Allocator>(w: &mut Window<A>, types: &TypeTable, place: Place)
 }
 
 /// Makes the cells of a value name what they named where it was before: so many bytes further on.
-fn point_again<A: Allocator>(
-    w: &mut Window<A>,
-    types: &TypeTable,
-    place: Place,
-    distance: u32,
-)
+fn point_again<A: Allocator>(w: &mut Window<A>, types: &TypeTable, place: Place, distance: u32)
     ensures host { KeepsHost w.old w.new }
     ensures pointed { LiesWithin w.old.bytes types.now place →
         ChangesCells (λ old new at form. IsFurther old new distance at form)
