@@ -10,10 +10,11 @@ use Rattle.seg_block.specs.Tags.{kind_of, word_of}
 use Rattle.seg_block.specs.declared.tag.Kind.{Kind}
 use Rattle.seg_block.specs.declared.tag.Kind.TheVariants as kind
 use Rattle.seg_block.specs.declared.tag.Tag.{Tag}
-use Rattle.seg_value.specs.Contents.{IsEntryOf, IsContent, ContentOf, OfBlock}
+use Rattle.seg_cells.specs.Entries.{IsEntryOf}
+use Rattle.seg_value.specs.Contents.{IsContent, ContentOf, OfBlock}
 use Rattle.seg_value.specs.declared.content.Content.{Content}
 use Rattle.seg_value.specs.declared.content.Shape.TheVariants.{Object}
-use Rattle.seg_value.specs.declared.entry.Entry.{Entry}
+use Rattle.seg_cells.specs.declared.entry.Entry.{Entry}
 use Rattle.seg_check.proofs.TagNumbers.{number_small, one_tag, type_small, kind_from, kind_of-from}
 use Rattle.seg_check.specs.declared.marks.Turn.{Turn}
 use Rattle.seg_check.specs.Turns.{kind_with, places_by, places_with, places_in, entries_by, IsEntryFor, HasEntries}

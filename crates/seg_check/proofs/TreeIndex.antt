@@ -15,7 +15,7 @@ use Rattle.seg_spec.proofs.OneReading.{IsTree-one}
 use Rattle.seg_check.specs.Claiming.{AreLive, CanClaim, ClaimsBlock, turns_where, has_turns}
 use Rattle.seg_block.specs.Tags.{word_of}
 use Rattle.seg_value.specs.declared.content.Content.{Content}
-use Rattle.seg_value.specs.declared.entry.Held.TheVariants as held
+use Rattle.seg_cells.specs.declared.entry.Held.TheVariants as held
 use Rattle.seg_check.specs.Marks.{Known, ClaimsAll, Within}
 use Rattle.seg_check.specs.Resolving.{IsReady}
 use Rattle.seg_check.specs.Walks.{Completes, Hangs, IsSteady, Proceeds, entering_of}

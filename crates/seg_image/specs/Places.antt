@@ -17,8 +17,8 @@ use Rattle.seg_spec.specs.Owning.{Stands}
 use Rattle.seg_raw.specs.declared.code.Code.{Code}
 use Rattle.seg_raw.specs.declared.code.Code.TheVariants as code
 use Rattle.seg_manager.specs.declared.names.Found.{Found}
-use Rattle.seg_value.specs.declared.place.Place.{Place}
-use Rattle.seg_value.specs.Places.{place_of}
+use Rattle.seg_cells.specs.declared.place.Place.{Place}
+use Rattle.seg_cells.specs.Places.{place_of}
 use Rattle.seg_map.specs.EitherMap.{WhereMaps}
 use Rattle.seg_image.specs.declared.image.Image.{Image}
 use Rattle.seg_image.specs.Images.{allocator_of, bytes_in, types_of}

@@ -17,7 +17,7 @@ use Rattle.seg_spec.specs.Index.{Root, Index, OpensIndex, OpensFlat, IsEntry, Ar
 use Rattle.seg_spec.specs.Sound.{times, positions}
 use Rattle.seg_spec.proofs.Leading.{each_at}
 use Rattle.seg_spec.proofs.LiveLaws.{there, LiesIn, live-lie}
-use Rattle.seg_value.specs.Search.{IsBetween}
+use Rattle.seg_cells.specs.Search.{IsBetween}
 use Rattle.seg_value.specs.Names.{FindsNames}
 use Rattle.seg_value.proofs.Named.{name_block, name_room}
 use Rattle.seg_index.specs.Names.{name_at}

@@ -3,7 +3,7 @@
 ghost use Rattle.std.specs.Prelude.{◌≡◌, true, false, Err, IsOkUnless};
 ghost use Rattle.std.specs.Result.{result_ok};
 ghost use Rattle.seg_spec.specs.Types.{form_at};
-ghost use Rattle.seg_value.specs.Places.{place_of};
+ghost use Rattle.seg_cells.specs.Places.{place_of};
 ghost use Rattle.seg_map.specs.EitherMap.{has_keys, WhereMaps};
 ghost use Rattle.seg_map.specs.Maps.{first_of, keys_above};
 

@@ -30,11 +30,11 @@ use Rattle.seg_spec.proofs.CellSteps.{ChangesOnly-wider, size_aligned}
 use Rattle.seg_spec.proofs.LiveLaws.{times-same, times-append}
 use Rattle.seg_spec.proofs.Paths.{Middle, middle}
 use Rattle.seg_spec.proofs.OneReading.{Holds-one}
-use Rattle.seg_value.specs.Contents.{IsEntryOf}
+use Rattle.seg_cells.specs.Entries.{IsEntryOf}
 use Rattle.seg_value.specs.Entries.{OpensEntry, ClosesEntry, flat_asks, flat_value}
-use Rattle.seg_value.specs.Places.{object_at, place_of}
-use Rattle.seg_value.specs.declared.place.Place as code
-use Rattle.seg_value.specs.declared.entry.Entry.{Entry}
+use Rattle.seg_cells.specs.Places.{object_at, place_of}
+use Rattle.seg_cells.specs.declared.place.Place as code
+use Rattle.seg_cells.specs.declared.entry.Entry.{Entry}
 use Rattle.seg_spec.specs.Shrinking.{KeepsPathsInside}
 use Rattle.seg_map.specs.Maps.{value_of, AddsKey, PutsKey, TakesKey, RemovesKey, KeepsLowerKeys}
 use Rattle.seg_map.proofs.KeyLaws.{stands_before, still_there, parted_missing, inserted_place, inserted_ascends, place_below}

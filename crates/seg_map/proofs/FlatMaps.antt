@@ -24,9 +24,9 @@ use Rattle.seg_spec.proofs.PlaceSteps.{owned_live}
 use Rattle.seg_spec.proofs.Buffered.{Buffered, buffered}
 use Rattle.seg_spec.proofs.OneReading.{Opens-one}
 use Rattle.seg_value.proofs.Runs.{spaced_get, map_get}
-use Rattle.seg_value.specs.Search.{IsBetween}
-use Rattle.seg_value.specs.Contents.{IsEntryOf}
-use Rattle.seg_value.specs.declared.entry.Entry.{Entry}
+use Rattle.seg_cells.specs.Search.{IsBetween}
+use Rattle.seg_cells.specs.Entries.{IsEntryOf}
+use Rattle.seg_cells.specs.declared.entry.Entry.{Entry}
 use Rattle.seg_map.specs.Maps.{value_of, first_of, keys_above}
 use Rattle.seg_map.proofs.KeyLaws.{Parted, parted_at, parted_front, parted_after, found_place, missing_place, missing_below, place_below, found_next, missing_next, parted_found, parted_missing}
 

@@ -23,7 +23,7 @@ use Rattle.seg_spec.specs.Frozen.{Frozen}
 use Rattle.seg_spec.specs.Shared.{named_in}
 use Rattle.seg_spec.specs.Growing.{Succeeds}
 use Rattle.seg_spec.specs.Owning.{Stands}
-use Rattle.seg_value.specs.Places.{object_at}
+use Rattle.seg_cells.specs.Places.{object_at}
 
 -- the first of keys, if there is one
 abbrev pub first_of : List ℤ → Option ℤ

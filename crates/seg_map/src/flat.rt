@@ -6,8 +6,8 @@ ghost use Rattle.seg_spec.specs.Owning.{Stands};
 ghost use Rattle.seg_spec.specs.Types.{Form, form_at};
 ghost use Rattle.seg_spec.specs.Value.{Values, Map};
 ghost use Rattle.seg_spec.specs.Window.{KeepsHost};
-ghost use Rattle.seg_value.specs.Places.{object_at};
-ghost use Rattle.seg_value.specs.Contents.{IsEntryOf};
+ghost use Rattle.seg_cells.specs.Places.{object_at};
+ghost use Rattle.seg_cells.specs.Entries.{IsEntryOf};
 ghost use Rattle.seg_value.specs.Entries.{NamesFlatMap, flat_asks};
 ghost use Rattle.seg_map.specs.Maps.{WhereMap, FindsValue, PutsKey, RemovesKey, KeepsLowerKeys, first_of, keys_above};
 

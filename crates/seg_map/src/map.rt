@@ -5,7 +5,7 @@ ghost use Rattle.seg_spec.specs.Owning.{Stands};
 ghost use Rattle.seg_spec.specs.Types.{form_at};
 ghost use Rattle.seg_spec.specs.Value.{Values, Map};
 ghost use Rattle.seg_spec.specs.Window.{KeepsHost};
-ghost use Rattle.seg_value.specs.Places.{place_of};
+ghost use Rattle.seg_cells.specs.Places.{place_of};
 ghost use Rattle.seg_rbtree.specs.Following.{LeadsInside};
 ghost use Rattle.seg_map.specs.EitherMap.{has_keys, IsMapOf, WhereMaps, key_asks, KeepsTreePaths, KeepsKeysBut};
 ghost use Rattle.seg_map.specs.Maps.{FindsValue, PutsKey, RemovesKey, first_of, keys_above};

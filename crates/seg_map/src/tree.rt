@@ -19,8 +19,8 @@ ghost use Rattle.seg_rbtree.specs.Parts.{part};
 ghost use Rattle.seg_rbtree.specs.Roots.{root_word};
 ghost use Rattle.seg_rbtree.specs.Following.{LeadsInside};
 ghost use Rattle.seg_rbtree.proofs.Keys.{equal_to_one};
-ghost use Rattle.seg_value.specs.Contents.{IsEntryOf};
-ghost use Rattle.seg_value.specs.Places.{object_at};
+ghost use Rattle.seg_cells.specs.Entries.{IsEntryOf};
+ghost use Rattle.seg_cells.specs.Places.{object_at};
 ghost use Rattle.seg_map.specs.Maps.{WhereMap, FindsValue, PutsKey, RemovesKey, first_of, keys_above};
 ghost use Rattle.seg_map.specs.Trees.{VALUE, NamesTree, KeepsOtherKeys};
 

@@ -8,7 +8,7 @@ use Rattle.seg_spec.specs.Reads.{Place, count_at, start}
 use Rattle.seg_spec.proofs.BytesLaws.{number_in, number-slice}
 use Rattle.seg_spec.proofs.SliceLaws.{slice-slice}
 use Rattle.seg_value.specs.Stored.{Stored}
-use Rattle.seg_value.specs.Places.{object_at}
+use Rattle.seg_cells.specs.Places.{object_at}
 use Rattle.seg_seq.specs.Sequences.{HasText, HasItems, ShowsByte, ShowsItem}
 use Rattle.seg_seq.proofs.Rooms.{its, entries_fit, none_counted, text_is, text_counts}
 use Rattle.seg_seq.proofs.Items.{leads_to_item}

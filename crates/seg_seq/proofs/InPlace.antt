@@ -20,12 +20,13 @@ use Rattle.seg_layout.specs.declared.kind.«Type».{«Type»}
 use Rattle.seg_layout.specs.declared.kind.«Type».TheVariants as kind
 use Rattle.seg_block.specs.declared.tag.Kind.TheVariants as tag
 use Rattle.seg_value.specs.Stored.{Stored}
-use Rattle.seg_value.specs.Places.{object_at}
+use Rattle.seg_cells.specs.Places.{object_at}
 use Rattle.seg_value.specs.Buffers.{NamesBuffer}
-use Rattle.seg_value.specs.Contents.{IsEntryOf, ContentOf}
+use Rattle.seg_cells.specs.Entries.{IsEntryOf}
+use Rattle.seg_value.specs.Contents.{ContentOf}
 use Rattle.seg_value.specs.declared.content.Content.{Content}
 use Rattle.seg_value.specs.declared.content.Shape.TheVariants as shape
-use Rattle.seg_value.specs.declared.entry.Held.TheVariants as held
+use Rattle.seg_cells.specs.declared.entry.Held.TheVariants as held
 use Rattle.seg_value.proofs.Buffers.{of_form, has_room}
 use Rattle.seg_seq.specs.Buffers.{IsShort, LacksEntry, HasEntry}
 use Rattle.seg_seq.specs.declared.room.Room.{Room}

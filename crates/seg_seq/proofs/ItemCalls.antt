@@ -16,11 +16,11 @@ use Rattle.seg_spec.proofs.PlaceSteps.{place_within}
 use Rattle.seg_spec.proofs.TypesLaws.{size_large}
 use Rattle.seg_raw.specs.declared.code.Code.TheVariants.{BadAlloc}
 use Rattle.seg_value.specs.Stored.{Stored}
-use Rattle.seg_value.specs.Places.{object_at}
-use Rattle.seg_value.specs.Contents.{IsEntryOf}
+use Rattle.seg_cells.specs.Places.{object_at}
+use Rattle.seg_cells.specs.Entries.{IsEntryOf}
 use Rattle.seg_value.specs.Buffers.{NamesBuffer}
 use Rattle.seg_value.specs.declared.content.Content.{Content}
-use Rattle.seg_value.specs.declared.place.Place.{Place as Where}
+use Rattle.seg_cells.specs.declared.place.Place.{Place as Where}
 use Rattle.seg_seq.specs.Buffers.{NamesNone}
 use Rattle.seg_seq.specs.Sequences.{HasItems, IsFull, LacksRoom, CountsItem, PushesItem, PushesBack, PopsBack, push_asks}
 use Rattle.seg_seq.proofs.Rooms.{entries_fit}

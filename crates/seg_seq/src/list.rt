@@ -8,7 +8,7 @@ ghost use Rattle.seg_spec.specs.Types.{Form, form_at, size};
 ghost use Rattle.seg_spec.specs.Value.{Value, Values, Seq, Selector, nil, cons, count, append, default_of};
 ghost use Rattle.seg_spec.specs.Items.{remove_nth};
 ghost use Rattle.seg_spec.specs.Window.{KeepsHost};
-ghost use Rattle.seg_value.specs.Places.{place_of, object_at};
+ghost use Rattle.seg_cells.specs.Places.{place_of, object_at};
 ghost use Rattle.seg_seq.specs.Rings.{around};
 ghost use Rattle.seg_seq.specs.declared.ring.Way.TheVariants as way;
 ghost use Rattle.seg_seq.specs.Lists.{IsList, HasList, IsNoList, AddsItem, LosesItem};

@@ -3,7 +3,7 @@ ghost use Rattle.seg_spec.specs.Types.{Form, form_at};
 ghost use Rattle.seg_spec.specs.Value.{Values, Int};
 ghost use Rattle.seg_spec.specs.Window.{KeepsHost};
 ghost use Rattle.seg_raw.specs.declared.code.Code.TheVariants.{OtherType};
-ghost use Rattle.seg_value.specs.Places.{place_of, object_at};
+ghost use Rattle.seg_cells.specs.Places.{place_of, object_at};
 ghost use Rattle.seg_value.specs.Buffers.{NamesBuffer};
 ghost use Rattle.seg_seq.specs.Kinds.{HasNumbers};
 ghost use Rattle.seg_seq.specs.Sequences.{HasItems, LacksRoom, PushesItem, PushesNumber, push_asks};

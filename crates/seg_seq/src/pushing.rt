@@ -5,7 +5,7 @@ ghost use Rattle.seg_spec.specs.Bytes.{set_word, set_long};
 ghost use Rattle.seg_spec.specs.Types.{Form, form_at};
 ghost use Rattle.seg_spec.specs.Value.{Values, Int};
 ghost use Rattle.seg_spec.specs.Window.{KeepsHost};
-ghost use Rattle.seg_value.specs.Places.{place_of, object_at};
+ghost use Rattle.seg_cells.specs.Places.{place_of, object_at};
 ghost use Rattle.seg_seq.specs.Sequences.{HasItems, IsFull, PushesBack, PushesItem};
 
 use crate::room::Room;

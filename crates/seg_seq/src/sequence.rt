@@ -6,7 +6,7 @@ ghost use Rattle.seg_spec.specs.Types.{Form, form_at, size};
 ghost use Rattle.seg_spec.specs.Value.{Values, nil, cons, count, append, default_of, Text};
 ghost use Rattle.seg_spec.specs.Window.{KeepsHost};
 ghost use Rattle.seg_value.specs.Buffers.{NamesBuffer};
-ghost use Rattle.seg_value.specs.Places.{place_of, object_at};
+ghost use Rattle.seg_cells.specs.Places.{place_of, object_at};
 ghost use Rattle.seg_seq.specs.Kinds.{is_sequence};
 ghost use Rattle.seg_seq.specs.Lists.{HasList, AddsItem, LosesItem};
 ghost use Rattle.seg_seq.specs.Sequences.{HasText, HasItems, item_type, Declines, HasNone, ComesToHold, LacksRoom, push_asks, CountsItem, PushesBack, PopsBack, IsPast, ShowsByte, ShowsItem};

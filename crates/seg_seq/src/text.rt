@@ -2,7 +2,7 @@ ghost use Rattle.std.specs.Prelude.{◌≡◌, ◌≢◌, ℕ, ◌+◌, ◌≤�
 ghost use Rattle.seg_spec.specs.Types.{Form, form_at};
 ghost use Rattle.seg_spec.specs.Value.{Text};
 ghost use Rattle.seg_spec.specs.Window.{KeepsHost};
-ghost use Rattle.seg_value.specs.Places.{place_of};
+ghost use Rattle.seg_cells.specs.Places.{place_of};
 ghost use Rattle.seg_seq.specs.Sequences.{HasText, Declines, LacksRoom, LacksByte, ComesToHold, Rewrites, ExtendsText, text_asks};
 
 use crate::kind::Kind;

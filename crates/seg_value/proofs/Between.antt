@@ -33,7 +33,7 @@ use Rattle.seg_spec.proofs.Standing.{Frames, frames_twice, stands_after}
 use Rattle.seg_spec.proofs.Buffered.{HoldsEntries, Buffered, buffered, holds_buffered}
 use Rattle.seg_value.proofs.Inside.{changes_twice, wrote_heap, wrote_live, wrote_ownable, wrote_other, wrote_block, frames_beside, frames_around}
 use Rattle.seg_value.proofs.Runs.{Run, run_kept, run_paths, run_moved, parts, joined, alone, keys_long, the_one, insert_between, remove_between, insert_key, remove_key, ascending_after, ascending_without}
-use Rattle.seg_value.proofs.Shifts.{moved_changes}
+use Rattle.seg_cells.proofs.Shifts.{moved_changes}
 
 both : (ks ls : List ℤ) (us ws : Values) → Map ks us ≡ Map ls ws → (ks ≡ ls) × (us ≡ ws)
 both ks ls us ws e = (cc, cc)

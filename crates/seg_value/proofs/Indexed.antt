@@ -27,7 +27,7 @@ use Rattle.seg_spec.proofs.Giving.{found}
 use Rattle.seg_spec.proofs.Standing.{each_live_at, live_at, ownable_linked}
 use Rattle.seg_spec.proofs.NewBlock.{took, was_free, block_fits, new_heap, new_live, all_kept, is_block, new_length, new_front, new_back, new_link}
 use Rattle.seg_value.specs.Names.{index_cell, name_entry, FindsNames, ChangesIndex, IsSameEntry, KeepsNames, MovesIndex}
-use Rattle.seg_value.specs.Pointers.{MovesPointers}
+use Rattle.seg_cells.specs.Pointers.{MovesPointers}
 use Rattle.seg_spec.proofs.Resized.{resized_here, resized_other}
 use Rattle.seg_value.proofs.Inside.{given_counts, given_linked, given_ownable, given_front, wrote_heap, wrote_live, wrote_ownable, wrote_other, wrote_block}
 use Rattle.seg_value.proofs.Header.{header_fits, header_heap, header_live, header_ownable, header_kept}

@@ -1,5 +1,3 @@
-pub mod CellCases
-pub mod Shifts
 pub mod Owns
 pub mod NewBlocks
 pub mod Buffers
@@ -17,7 +15,6 @@ pub mod SharedCells
 pub mod Freezing
 pub mod FrozenCells
 pub mod Cutting
-pub mod Pointers
 pub mod Runs
 pub mod Inside
 pub mod Between

@@ -24,7 +24,7 @@ use Rattle.seg_spec.proofs.Composing.{kept_twice}
 use Rattle.seg_spec.proofs.LiveLaws.{live-once, times-append, times-same, times-other, there, LiesIn, live-lie}
 use Rattle.seg_spec.proofs.WriteInside.{low_kept}
 use Rattle.seg_value.specs.Names.{index_cell, FindsNames, ChangesIndex, IsSameEntry, KeepsNames, ReservesIndex, AddsName, OpensName, ClosesName, EmptiesIndex}
-use Rattle.seg_value.specs.Pointers.{MovesPointers}
+use Rattle.seg_cells.specs.Pointers.{MovesPointers}
 use Rattle.seg_value.proofs.Inside.{given_counts, given_linked, given_ownable, given_front, wrote_heap, wrote_live, wrote_ownable, wrote_other, wrote_block}
 use Rattle.seg_value.proofs.Header.{header_fits, header_heap, header_live, header_ownable, header_kept}
 

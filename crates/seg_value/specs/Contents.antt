@@ -1,11 +1,8 @@
--- Entries and contents of the program as the definitions know them.
---     IsEntryOf table before U entry      an entry with a value of the type after so many bytes
+-- Contents of the program as the definitions know them.
 --     ContentOf table T form content      what the cell of a type names, by the form of the type
 --     OfBlock table kind T content        what a block of a tag is a part of
 --     AreContents table contents          that of each type
---     cells_of form                       what the values of a form are made of
---     AreCells table cells                that of each type
---     IsDescribed table contents cells    both, of a valid table
+--     IsDescribed table contents cells    that, and what its values are made of, of a valid table
 --     GivesBlock ..                       a new block, with the default of a value
 use Rattle.std.specs.Prelude.{◌≡◌, ℕ, ◌+◌, ◌≤◌, ⊤, List, [], ◌∷◌, length, Option, Some, None, IsSomeAnd, get_or}
 use Rattle.seg_spec.specs.Header.{KeepsFront, KeepsBack}
@@ -21,19 +18,13 @@ use Rattle.seg_spec.specs.Block.{tag_of}
 use Rattle.seg_block.specs.Tags.{word_of}
 use Rattle.seg_block.specs.declared.tag.Kind.{Kind}
 use Rattle.seg_block.specs.declared.tag.Kind.TheVariants as kind
-use Rattle.seg_value.specs.declared.cells.Cells.{Cells}
-use Rattle.seg_value.specs.declared.cells.Cells.TheVariants as cells
-use Rattle.seg_value.specs.declared.entry.Entry.{Entry}
-use Rattle.seg_value.specs.declared.entry.Held.TheVariants as held
+use Rattle.seg_cells.specs.declared.cells.Cells.{Cells}
+use Rattle.seg_cells.specs.Cells.{AreCells}
+use Rattle.seg_cells.specs.Entries.{IsEntryOf}
+use Rattle.seg_cells.specs.declared.entry.Held.TheVariants as held
 use Rattle.seg_value.specs.declared.content.Content.{Content}
 use Rattle.seg_value.specs.declared.content.Shape.{Shape}
 use Rattle.seg_value.specs.declared.content.Shape.TheVariants as shape
-
--- an entry with a value of the type after so many bytes
-pub record IsEntryOf (table : Table) (before U : ℕ) (entry : Entry) : Type 0 where
-  pub size_is : entry.size ≡ before + size table U
-  pub before_is : entry.before ≡ before
-  pub held_is : entry.held ≡ held.Value U
 
 -- blocks of this shape and tag, with such entries
 pub record IsContent (table : Table) (shape : Shape) (tag before U : ℕ)
@@ -92,23 +83,6 @@ OfBlock table kind.IndexNode T content = content ≡ None
 abbrev pub AreContents : Table → List (Option Content) → Type 0
 AreContents table contents =
     (T : ℕ) → ContentOf table T (form_at table T) (get_or contents T None)
-
--- what the values of a form are made of
-abbrev pub cells_of : Option Form → Cells
-cells_of None = cells.Number
-cells_of (Some Form.i64) = cells.Number
-cells_of (Some Form.str) = cells.Pointer
-cells_of (Some (Form.vec U)) = cells.Pointer
-cells_of (Some (Form.list U)) = cells.Pointer
-cells_of (Some (Form.flat_map U)) = cells.Pointer
-cells_of (Some (Form.map U)) = cells.Pointer
-cells_of (Some (Form.own U)) = cells.Pointer
-cells_of (Some (Form.struct Us)) = cells.Fields
-cells_of (Some (Form.shared U)) = cells.Pointer
-
--- what the values of each type are made of, one after the other
-abbrev pub AreCells : Table → List Cells → Type 0
-AreCells table each = (T : ℕ) → get_or each T cells.Number ≡ cells_of (form_at table T)
 
 -- what is known of each type of a valid table: what its cells name, and what its values are made of
 pub record IsDescribed (table : Table) (contents : List (Option Content)) (each : List Cells) :

@@ -1,10 +1,8 @@
 pub mod Stored
 pub mod Contents
 pub mod Places
-pub mod Search
 pub mod Buffers
 pub mod Entries
 pub mod Names
 pub mod Waiting
-pub mod Pointers
 pub mod Nodes

@@ -34,7 +34,7 @@ use Rattle.seg_spec.specs.Sound.{times, positions}
 use Rattle.seg_block.specs.Tags.{word_of}
 use Rattle.seg_value.specs.declared.content.Content.{Content}
 use Rattle.seg_value.specs.declared.content.Shape.TheVariants as shape
-use Rattle.seg_value.specs.declared.entry.Held.TheVariants as held
+use Rattle.seg_cells.specs.declared.entry.Held.TheVariants as held
 
 -- a buffer of entries of 8 bytes, each with a pointer to an object that it doesn't own
 pub record IsIndexBuffer (content : Content) : Type 0 where

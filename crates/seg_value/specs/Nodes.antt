@@ -12,7 +12,7 @@ use Rattle.seg_spec.specs.Block as block
 use Rattle.seg_spec.specs.Block.{block_of, tag_of, IsBlock, KeepsBlock}
 use Rattle.seg_block.specs.Tags.{word_of}
 use Rattle.seg_value.specs.declared.content.Content.{Content}
-use Rattle.seg_value.specs.declared.entry.Held.TheVariants as held
+use Rattle.seg_cells.specs.declared.entry.Held.TheVariants as held
 
 -- a node of the index's tree
 pub record IsIndexNode (content : Content) : Type 0 where

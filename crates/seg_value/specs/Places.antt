@@ -1,10 +1,9 @@
--- Places of the program as the definitions know them, and what calls on owns leave.
---     LiesWithin bytes table place     a place's value lies in the bytes of a segment
+-- What calls on owns leave.
 --     TakesOwn old new table own U v blocks result     an own gave up its object, and holds nothing now
 --     SetsOwn old new table own w blocks taken theirs now final
 --                                      an own holds an object with this value; what it held went
 use Rattle.std.specs.Prelude.{◌≡◌, ℕ, ◌≤◌, List, [], ◌∷◌, ◌++◌, Option, Some}
-use Rattle.seg_spec.specs.Types.{Table, size}
+use Rattle.seg_spec.specs.Types.{Table}
 use Rattle.seg_spec.specs.Value.{Value, Empty, Full}
 use Rattle.seg_spec.specs.Heap.{live}
 use Rattle.seg_spec.specs.Block.{KeepsBlock, block_of}
@@ -14,19 +13,7 @@ use Rattle.seg_spec.specs.Calls.{IsLoose}
 use Rattle.seg_spec.specs.Clearing.{ClearsPlace}
 use Rattle.seg_spec.specs.Frozen.{Frozen}
 use Rattle.seg_spec.specs.Sound.{times}
-use Rattle.seg_spec.specs.Cells.{IsWithin}
-use Rattle.seg_value.specs.declared.place.Place.{Place}
-
-abbrev pub place_of : Place → reads.Place
-place_of place = record { at = place.at; type = place.type_id }
-
--- the place of an object's value
-abbrev pub object_at : ℕ → ℕ → reads.Place
-object_at at U = record { at = at; type = U }
-
--- the value of a place lies in the bytes of a segment
-abbrev pub LiesWithin : List ℕ → Table → Place → Type 0
-LiesWithin bytes table place = IsWithin bytes place.at (size table place.type_id)
+use Rattle.seg_cells.specs.Places.{object_at}
 
 -- the own holds nothing now; the object that it held is loose, with its value, and the live blocks are those before
 pub record TakesOwn (old new : List ℕ) (table : Table) (own : reads.Place) (U : ℕ) (v : Value)

@@ -21,14 +21,14 @@ ghost use Rattle.seg_value.specs.Buffers.{NamesBuffer, MakesRoom};
 ghost use Rattle.seg_value.specs.Contents.{IsContent, GivesBlock};
 ghost use Rattle.seg_value.specs.Names.{index_cell, FindsNames, FindsIndex, MakesIndexRoom, MovesIndex, EmptiesIndex};
 ghost use Rattle.seg_value.specs.Nodes.{IsIndexNode, GivesNode};
-ghost use Rattle.seg_value.specs.Places.{place_of, object_at as place_at};
+ghost use Rattle.seg_cells.specs.Places.{place_of, object_at as place_at};
 
 use crate::cell::room;
 use crate::content::{Content, Shape};
-use crate::entry::Entry;
+use crate::entry::need;
 use crate::heap::Heap;
-use crate::place::Place;
 use seg_block::{Fit, Grant, UNIT, block_of, preferred, request};
+use seg_cells::{Entry, Place};
 use seg_raw::Code;
 use std::alloc::Allocator;
 
@@ -63,7 +63,7 @@ impl<F: Fit, A: Allocator> Heap<F, A> {
             (λ code. Refuses F.allocator self.old.window.bytes self.new.window.bytes
             (block_for index_node_size ∷ [])) }
     {
-        let need = content.entry.need(1);
+        let need = need(content.entry, 1);
         let Some(block) = F::allocate(&mut self.window, need) else {
             return Err(Code::BadAlloc);
         };
@@ -163,8 +163,8 @@ impl<F: Fit, A: Allocator> Heap<F, A> {
         let entry = content.entry;
         let kept = self.count(cell);
         let block = self.buffer_of(cell);
-        let wanted = entry.need(preferred(kept, limit));
-        match request::<F, A>(&mut self.window, block, wanted, entry.need(limit)) {
+        let wanted = need(entry, preferred(kept, limit));
+        match request::<F, A>(&mut self.window, block, wanted, need(entry, limit)) {
             None => Err(Code::BadAlloc),
             Some(Grant::Same(_)) => Ok(()),
             Some(Grant::New(block)) => {
@@ -226,7 +226,7 @@ impl<F: Fit, A: Allocator> Heap<F, A> {
             self.free_buffer(place.at);
             return;
         }
-        F::shrink(&mut self.window, block_of(start), content.entry.need(kept));
+        F::shrink(&mut self.window, block_of(start), need(content.entry, kept));
     }
 
     /// Gives up the buffer of a cell, whose entries own nothing any more. The cell names nothing then.

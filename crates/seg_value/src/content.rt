@@ -5,9 +5,8 @@ ghost use Rattle.seg_spec.specs.Block.{tag_of};
 ghost use Rattle.seg_spec.specs.Frozen.{frozen_words};
 ghost use Rattle.seg_block.specs.Tags.{word_of};
 
-use crate::cells::{Cells, IDS};
-use crate::entry::{Entry, KEY, LIST_LINKS};
 use seg_block::{Kind, Tag};
+use seg_cells::{Cells, Entry, IDS, KEY, LIST_LINKS};
 use seg_layout::{MAX_TYPES, Type, TypeId, TypeTable};
 
 /// The bytes of a map's node before its key.
@@ -137,8 +136,9 @@ pub(crate) struct Contents {
 }
 
 impl Contents {
-    ghost use Rattle.seg_value.specs.Contents.{AreContents, AreCells};
-    ghost use Rattle.seg_value.specs.declared.cells.Cells.TheVariants as cells;
+    ghost use Rattle.seg_cells.specs.Cells.{AreCells};
+    ghost use Rattle.seg_value.specs.Contents.{AreContents};
+    ghost use Rattle.seg_cells.specs.declared.cells.Cells.TheVariants as cells;
 
     pub(crate) fn of(types: &TypeTable) -> Contents
         ensures contents { AreContents types.now result.of_types }

@@ -7,7 +7,7 @@ ghost use Rattle.seg_spec.specs.Value.{Values, Map};
 ghost use Rattle.seg_spec.specs.Window.{KeepsHost};
 ghost use Rattle.seg_value.specs.Entries.{NamesFlatMap, OpensEntry, ClosesEntry, flat_asks, flat_value};
 ghost use Rattle.seg_value.specs.Names.{FindsIndex, OpensName, ClosesName};
-ghost use Rattle.seg_value.specs.Places.{object_at as place_at};
+ghost use Rattle.seg_cells.specs.Places.{object_at as place_at};
 
 use crate::content::Content;
 use crate::heap::Heap;

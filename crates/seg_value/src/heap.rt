@@ -1,10 +1,11 @@
 ghost use Rattle.std.specs.Prelude.{◌≡◌};
 ghost use Rattle.seg_spec.specs.Types.{IsTable, form_at};
-ghost use Rattle.seg_value.specs.Contents.{ContentOf, cells_of};
+ghost use Rattle.seg_cells.specs.Cells.{cells_of};
+ghost use Rattle.seg_value.specs.Contents.{ContentOf};
 
-use crate::cells::Cells;
 use crate::content::{Content, Contents};
 use seg_block::Fit;
+use seg_cells::Cells;
 use seg_layout::{TypeId, TypeTable};
 use seg_ptr::Window;
 use std::alloc::Allocator;

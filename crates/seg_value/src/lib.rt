@@ -4,7 +4,6 @@
 
 mod buffer;
 mod cell;
-mod cells;
 mod content;
 mod destruction;
 mod entries;
@@ -13,14 +12,10 @@ mod heap;
 mod moving;
 mod owner;
 mod pending;
-mod place;
-mod search;
 mod sharing;
 
 pub use cell::{count, load, room, start};
 pub use content::{Content, Shape};
-pub use entry::{Entry, Held, KEY, LIST_LINKS, PREVIOUS};
 pub use heap::Heap;
-pub use place::Place;
-pub use search::binary_search;
 pub use seg_block::block_of;
+pub use seg_cells::{Entry, Held, KEY, LIST_LINKS, PREVIOUS, Place, binary_search};

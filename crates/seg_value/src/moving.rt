@@ -7,14 +7,13 @@ ghost use Rattle.seg_spec.specs.Reads.{items, HoldsEach};
 ghost use Rattle.seg_spec.specs.Types.{size};
 ghost use Rattle.seg_spec.specs.Value.{Values};
 ghost use Rattle.seg_spec.specs.Window.{KeepsHost};
-ghost use Rattle.seg_value.specs.Contents.{IsEntryOf};
-ghost use Rattle.seg_value.specs.Pointers.{MovesPointers};
+ghost use Rattle.seg_cells.specs.Entries.{IsEntryOf};
+ghost use Rattle.seg_cells.specs.Pointers.{MovesPointers};
 
-use crate::cells::point_each_again;
 use crate::content::Content;
-use crate::entry::{Entry, Held};
 use crate::heap::Heap;
 use seg_block::Fit;
+use seg_cells::{Entry, Held, point_each_again};
 use seg_layout::TypeId;
 use std::alloc::Allocator;
 

@@ -16,13 +16,13 @@ ghost use Rattle.seg_spec.specs.Shared.{names_in, IsBelow, raised_by, left};
 ghost use Rattle.seg_spec.specs.Types.{Form, IsTable, form_at, size};
 ghost use Rattle.seg_spec.specs.Value.{Value};
 ghost use Rattle.seg_spec.specs.Window.{with_bytes, KeepsHost};
-ghost use Rattle.seg_value.specs.Places.{place_of, object_at};
+ghost use Rattle.seg_cells.specs.Places.{place_of, object_at};
 ghost use Rattle.seg_spec.specs.Sharing.{FrozenBeside, cell_count, MovesFrozen, Freezes};
 
 use crate::content::{Content, FROZEN_WORDS};
 use crate::heap::Heap;
-use crate::place::Place;
 use seg_block::Fit;
+use seg_cells::Place;
 use seg_layout::{Type, TypeId};
 use seg_ptr::header::NEXT_NUMBER;
 use seg_raw::Code;

@@ -2,7 +2,7 @@ use Rattle.std.proofs.Common.{w64, sym, ap, ◌∙◌, subst}
 use Rattle.std.proofs.lemmas.Int.{to_z-of_z}
 use Rattle.seg_spec.specs.Calls.{Refuses}
 use Rattle.seg_value.specs.Entries.{flat_asks}
-use Rattle.seg_value.specs.Places.{object_at}
+use Rattle.seg_cells.specs.Places.{object_at}
 use Rattle.seg_value.specs.Stored.{Stored}
 use Rattle.seg_map.specs.Maps.{AddsKey}
 use Rattle.seg_map.proofs.FlatMaps.{only_err}

@@ -1,6 +1,6 @@
 use Rattle.std.proofs.Common.{w64}
 use Rattle.std.proofs.lemmas.Int.{to_z-of_z}
-use Rattle.seg_value.specs.Places.{object_at}
+use Rattle.seg_cells.specs.Places.{object_at}
 use Rattle.seg_map.proofs.FlatMaps.{read_key, read_none}
 use Rattle.seg_map.proofs.flat.key_of.Goals as goal
 

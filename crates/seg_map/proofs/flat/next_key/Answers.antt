@@ -1,7 +1,7 @@
 use Rattle.std.proofs.Common.{w64, ap, ◌∙◌}
 use Rattle.std.specs.Prelude.{slice_get}
 use Rattle.std.proofs.lemmas.Int.{to_z-of_z}
-use Rattle.seg_value.specs.Places.{object_at}
+use Rattle.seg_cells.specs.Places.{object_at}
 use Rattle.seg_map.proofs.FlatMaps.{next_read, next_read_missing}
 use Rattle.seg_map.proofs.flat.next_key.Goals as goal
 use Rattle.seg_map.proofs.flat.next_key.Goals.{in-Ok, in-Err}

@@ -5,7 +5,7 @@ use Rattle.seg_spec.specs.Owning.{Stands}
 use Rattle.seg_spec.specs.Shared.{named_in}
 use Rattle.seg_spec.specs.Value.{Value, default_of}
 use Rattle.seg_value.specs.Entries.{NamesFlatMap}
-use Rattle.seg_value.specs.Places.{place_of}
+use Rattle.seg_cells.specs.Places.{place_of}
 use Rattle.seg_value.specs.Stored.{Stored}
 use Rattle.seg_map.proofs.FlatChanges.{remove_found, remove_missing}
 use Rattle.seg_map.proofs.flat.remove.Goals as goal

@@ -1,5 +1,5 @@
 use Rattle.std.proofs.Common.{rules}
-use Rattle.seg_value.specs.Places.{object_at}
+use Rattle.seg_cells.specs.Places.{object_at}
 use Rattle.seg_map.proofs.FlatMaps.{searched, ok_then, err_then, or_then}
 use Rattle.seg_map.proofs.flat.search.Goals as goal
 

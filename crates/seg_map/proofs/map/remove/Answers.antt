@@ -1,7 +1,7 @@
 use Rattle.std.proofs.Common.{Ok, w64, subst}
 use Rattle.std.proofs.lemmas.Int.{to_z-of_z}
 use Rattle.seg_spec.specs.Types.{Form, form_at}
-use Rattle.seg_value.specs.Places.{place_of}
+use Rattle.seg_cells.specs.Places.{place_of}
 use Rattle.seg_map.specs.EitherMap.{KindOf}
 use Rattle.seg_map.proofs.MapKinds.{as_flat, as_tree, removes_by}
 use Rattle.seg_map.proofs.map.remove.Goals as goal

@@ -3,7 +3,7 @@ use Rattle.std.proofs.lemmas.Int.{to_z-of_z}
 use Rattle.seg_spec.specs.Window.{Placement}
 use Rattle.seg_spec.specs.Value.{Selector}
 use Rattle.seg_spec.specs.Reads.{Leads}
-use Rattle.seg_value.specs.Places.{object_at}
+use Rattle.seg_cells.specs.Places.{object_at}
 use Rattle.seg_map.specs.Maps.{FindsValue, value_of}
 use Rattle.seg_map.proofs.TreeMaps.{value_is, value_low}
 use Rattle.seg_map.proofs.tree.get.Goals as goal

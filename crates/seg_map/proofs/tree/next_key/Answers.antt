@@ -4,7 +4,7 @@ use Rattle.seg_spec.specs.Window.{Placement}
 use Rattle.seg_spec.specs.Bytes.{signed_long}
 use Rattle.seg_rbtree.specs.declared.path.Path.{Path}
 use Rattle.seg_rbtree.specs.Following.{LeadsInside}
-use Rattle.seg_value.specs.Places.{object_at}
+use Rattle.seg_cells.specs.Places.{object_at}
 use Rattle.seg_map.specs.Maps.{first_of, keys_above}
 use Rattle.seg_map.proofs.TreeMaps.{next_is}
 use Rattle.seg_map.proofs.tree.next_key.Goals as goal

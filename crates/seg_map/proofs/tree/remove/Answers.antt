@@ -7,8 +7,8 @@ use Rattle.seg_spec.specs.Items.{key_place}
 use Rattle.seg_spec.specs.Window.{Placement, with_bytes}
 use Rattle.seg_rbtree.specs.Paths.{node_at}
 use Rattle.seg_value.specs.Stored.{Stored}
-use Rattle.seg_value.specs.Places.{object_at}
-use Rattle.seg_value.specs.declared.place.Place.{Place}
+use Rattle.seg_cells.specs.Places.{object_at}
+use Rattle.seg_cells.specs.declared.place.Place.{Place}
 use Rattle.seg_map.specs.Maps.{RemovesKey}
 use Rattle.seg_map.specs.Trees.{KeepsOtherKeys}
 use Rattle.seg_map.proofs.Putting.{around, missing}

@@ -3,7 +3,7 @@ use Rattle.seg_spec.specs.Pointer.{target}
 use Rattle.seg_spec.specs.Reads.{Leads}
 use Rattle.seg_spec.specs.Value.{cons, nil, Selector}
 use Rattle.seg_spec.specs.Window.{Placement}
-use Rattle.seg_value.specs.Places.{place_of, object_at}
+use Rattle.seg_cells.specs.Places.{place_of, object_at}
 use Rattle.seg_seq.proofs.Fronts.{nothing_named, first_item}
 use Rattle.seg_seq.proofs.SequenceKinds.{names_list}
 use Rattle.seg_seq.proofs.list.pop_front.Goals as goal

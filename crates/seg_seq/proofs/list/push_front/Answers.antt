@@ -2,7 +2,7 @@ use Rattle.std.proofs.Common.{Some, ap, ◌∙◌}
 use Rattle.seg_spec.specs.Pointer.{set_pointer}
 use Rattle.seg_spec.specs.Value.{default_of}
 use Rattle.seg_spec.specs.Window.{Placement}
-use Rattle.seg_value.specs.Places.{place_of}
+use Rattle.seg_cells.specs.Places.{place_of}
 use Rattle.seg_seq.proofs.Fronts.{item_fronted}
 use Rattle.seg_seq.proofs.SequenceKinds.{names_list}
 use Rattle.seg_seq.proofs.Results.{refused_so}

@@ -1,7 +1,7 @@
 use Rattle.std.proofs.Common.{◌≡◌, ◌+◌, ◌*◌, ◌%◌, ◌^◌, Some, sym, ap, ◌∙◌, arith}
-use Rattle.seg_value.specs.Places.{place_of, object_at}
+use Rattle.seg_cells.specs.Places.{place_of, object_at}
 use Rattle.seg_value.specs.Stored.{Stored}
-use Rattle.seg_value.specs.declared.place.Place.{Place}
+use Rattle.seg_cells.specs.declared.place.Place.{Place}
 use Rattle.seg_seq.proofs.Listed.{value_in}
 use Rattle.seg_seq.proofs.Removed.{Clears, clears_here, item_small, item_removed}
 use Rattle.seg_seq.proofs.list.remove_node.Goals as goal

@@ -2,7 +2,7 @@ use Rattle.std.proofs.Common.{◌≡◌, pos, Some, sym, ◌∙◌, ap, subst, M
 use Rattle.seg_spec.specs.Types.{Form, form_at}
 use Rattle.seg_spec.specs.Value.{Value, Int, default_of}
 use Rattle.seg_spec.proofs.Defaults.{default-form}
-use Rattle.seg_value.specs.Places.{object_at}
+use Rattle.seg_cells.specs.Places.{object_at}
 use Rattle.seg_seq.specs.Sequences.{IsFull, PushesItem}
 use Rattle.seg_seq.proofs.InPlace.{number_form}
 use Rattle.seg_seq.proofs.pushing.push_default.Goals as goal

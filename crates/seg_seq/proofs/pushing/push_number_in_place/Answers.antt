@@ -6,7 +6,7 @@ use Rattle.seg_spec.specs.Value.{Int}
 use Rattle.seg_spec.specs.Window.{Placement, KeepsHost}
 use Rattle.seg_spec.proofs.TypesLaws.{size-form}
 use Rattle.seg_ptr.specs.Lent.{lent_to}
-use Rattle.seg_value.specs.Places.{object_at}
+use Rattle.seg_cells.specs.Places.{object_at}
 use Rattle.seg_value.specs.Stored.{Stored}
 use Rattle.seg_seq.specs.Buffers.{LacksEntry, HasEntry}
 use Rattle.seg_seq.specs.Sequences.{PushesItem}

@@ -1,5 +1,5 @@
 use Rattle.std.proofs.Common.{refl, arith}
-use Rattle.seg_value.specs.Places.{place_of}
+use Rattle.seg_cells.specs.Places.{place_of}
 use Rattle.seg_seq.proofs.TextCalls.{counted_all}
 use Rattle.seg_seq.proofs.ItemCalls.{items_counted, vector_entry}
 use Rattle.seg_seq.proofs.Found.{shows_byte, shows_item}

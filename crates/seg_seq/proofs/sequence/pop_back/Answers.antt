@@ -1,7 +1,7 @@
 use Rattle.std.proofs.Common.{rules, ◌≡◌, ◌+◌, ◌-◌, ◌≤◌, length, refl, ◌∙◌, sym, arith, Err}
 use Rattle.seg_raw.specs.declared.code.Code.TheVariants.{Null}
 use Rattle.seg_spec.specs.Value.{count}
-use Rattle.seg_value.specs.Places.{place_of}
+use Rattle.seg_cells.specs.Places.{place_of}
 use Rattle.seg_seq.proofs.TextCalls.{counted_all}
 use Rattle.seg_seq.proofs.ItemCalls.{items_counted}
 use Rattle.std.proofs.Common.{subst}

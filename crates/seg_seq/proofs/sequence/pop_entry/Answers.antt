@@ -1,9 +1,9 @@
 use Rattle.std.proofs.Common.{◌≡◌, ◌+◌, ◌*◌, ◌%◌, ◌^◌, ap, ◌∙◌, sym}
 use Rattle.seg_spec.specs.Bytes.{set_word}
 use Rattle.seg_spec.specs.Window.{with_bytes}
-use Rattle.seg_value.specs.Places.{object_at}
+use Rattle.seg_cells.specs.Places.{object_at}
 use Rattle.seg_value.specs.Stored.{Stored}
-use Rattle.seg_value.specs.declared.place.Place.{Place}
+use Rattle.seg_cells.specs.declared.place.Place.{Place}
 use Rattle.seg_seq.proofs.TextCalls.{text_entry, byte_popped}
 use Rattle.seg_seq.proofs.ItemCalls.{vector_entry, one_place, item_popped}
 use Rattle.seg_spec.proofs.Placements.{bytes_of}

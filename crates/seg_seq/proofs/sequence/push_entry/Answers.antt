@@ -2,8 +2,8 @@ use Rattle.std.proofs.Common.{rules, ◌≡◌, ◌∙◌, [], sym, ap, subst, E
 use Rattle.seg_spec.specs.Reads.{Holds}
 use Rattle.seg_spec.specs.Types.{Table}
 use Rattle.seg_spec.specs.Value.{Value, default_of}
-use Rattle.seg_value.specs.declared.entry.Held.TheVariants as held
-use Rattle.seg_value.specs.Places.{object_at}
+use Rattle.seg_cells.specs.declared.entry.Held.TheVariants as held
+use Rattle.seg_cells.specs.Places.{object_at}
 use Rattle.seg_seq.proofs.ItemCalls.{vector_entry, item_written}
 use Rattle.seg_seq.proofs.sequence.push_entry.Goals as goal
 

@@ -1,5 +1,5 @@
 use Rattle.std.proofs.Common.{◌≤◌, length, arith}
-use Rattle.seg_value.specs.Places.{place_of}
+use Rattle.seg_cells.specs.Places.{place_of}
 use Rattle.seg_seq.proofs.TextCalls.{counted_all, all_kept}
 use Rattle.seg_seq.proofs.text.append.Goals as goal
 

@@ -3,7 +3,7 @@ use Rattle.seg_spec.specs.Bytes.{set_word}
 use Rattle.seg_spec.specs.Value.{Text}
 use Rattle.seg_spec.specs.Window.{with_bytes}
 use Rattle.seg_raw.specs.declared.code.Code.TheVariants.{BadAlloc}
-use Rattle.seg_value.specs.Places.{place_of}
+use Rattle.seg_cells.specs.Places.{place_of}
 use Rattle.seg_seq.proofs.SequenceKinds.{buffer_text}
 use Rattle.seg_seq.proofs.TextCalls.{too_long, no_room_made, makes_room}
 use Rattle.seg_spec.proofs.Placements.{bytes_of}

@@ -1,5 +1,5 @@
 use Rattle.std.proofs.Common.{◌≡◌, ◌+◌, ◌++◌, ◌∷◌, [], length, IfOk, refl, subst}
-use Rattle.seg_value.specs.Places.{place_of}
+use Rattle.seg_cells.specs.Places.{place_of}
 use Rattle.seg_value.specs.Stored.{Stored}
 use Rattle.seg_seq.specs.Sequences.{HasText, Rewrites}
 use Rattle.seg_seq.proofs.InPlace.{same_stored}

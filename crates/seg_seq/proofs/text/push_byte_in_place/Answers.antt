@@ -2,7 +2,7 @@ use Rattle.std.proofs.Common.{rules, ◌≡◌, ◌+◌, ◌%◌, ◌^◌, ◌<�
 use Rattle.seg_spec.specs.Bytes.{set_byte, set_word}
 use Rattle.seg_spec.specs.Window.{Placement, with_bytes}
 use Rattle.seg_spec.proofs.Placements.{bytes_of}
-use Rattle.seg_value.specs.Places.{place_of}
+use Rattle.seg_cells.specs.Places.{place_of}
 use Rattle.seg_value.specs.Stored.{Stored}
 use Rattle.seg_seq.specs.Buffers.{LacksEntry, HasEntry}
 use Rattle.seg_seq.proofs.InPlace.{text_form, lacks_byte, byte_more, byte_at, byte_room}

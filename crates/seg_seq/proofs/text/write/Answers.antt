@@ -1,7 +1,7 @@
 use Rattle.std.proofs.Common.{rules, ◌≡◌, length, refl, ap, ◌∙◌, Err}
 use Rattle.seg_spec.specs.Bytes.{put}
 use Rattle.seg_spec.specs.Window.{Placement}
-use Rattle.seg_value.specs.Places.{place_of}
+use Rattle.seg_cells.specs.Places.{place_of}
 use Rattle.seg_seq.proofs.TextCalls.{written_to}
 use Rattle.seg_seq.proofs.text.write.Goals as goal
 

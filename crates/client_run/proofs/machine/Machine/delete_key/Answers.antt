@@ -1,6 +1,6 @@
 use Rattle.std.proofs.Common.{rules, ◌≡◌, ℕ, ℤ, ◌∙◌, ap, subst, w64, to_z, of_z}
 use Rattle.seg_spec.specs.Reads.{Place}
-use Rattle.seg_value.specs.Places.{place_of}
+use Rattle.seg_cells.specs.Places.{place_of}
 use Rattle.seg_value.specs.Stored.{Stored}
 use Rattle.client_program.specs.Paths.{number_at}
 use Rattle.client_run.proofs.ItemLaws.{TellsRemoval, place_at, delete_key_acts_on}

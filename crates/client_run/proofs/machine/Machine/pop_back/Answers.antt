@@ -1,6 +1,6 @@
 use Rattle.std.proofs.Common.{ℕ, ◌∙◌, ap, subst}
 use Rattle.seg_spec.specs.Reads.{Place}
-use Rattle.seg_value.specs.Places.{place_of}
+use Rattle.seg_cells.specs.Places.{place_of}
 use Rattle.seg_value.specs.Stored.{Stored}
 use Rattle.client_run.proofs.ItemLaws.{TellsPop, place_at, pop_back_opens}
 use Rattle.client_run.proofs.machine.Machine.pop_back.Goals as goal

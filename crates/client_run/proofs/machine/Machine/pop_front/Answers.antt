@@ -1,6 +1,6 @@
 use Rattle.std.proofs.Common.{ℕ, ◌∙◌, ap, subst}
 use Rattle.seg_spec.specs.Reads.{Place}
-use Rattle.seg_value.specs.Places.{place_of}
+use Rattle.seg_cells.specs.Places.{place_of}
 use Rattle.seg_value.specs.Stored.{Stored}
 use Rattle.client_run.proofs.ItemLaws.{TellsPopFront, place_at, pop_front_opens}
 use Rattle.client_run.proofs.machine.Machine.pop_front.Goals as goal

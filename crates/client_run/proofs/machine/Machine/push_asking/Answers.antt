@@ -1,7 +1,7 @@
 use Rattle.std.proofs.Common.{ℕ, ◌∙◌, ap, subst}
 use Rattle.seg_spec.specs.Types.{form_at}
 use Rattle.seg_spec.specs.Reads.{Place}
-use Rattle.seg_value.specs.Places.{place_of}
+use Rattle.seg_cells.specs.Places.{place_of}
 use Rattle.seg_value.specs.Stored.{Stored}
 use Rattle.client_run.specs.Worlds.{held_in}
 use Rattle.client_run.proofs.ItemLaws.{TellsPush, place_at, push_back_opens}

@@ -3,7 +3,7 @@ use Rattle.seg_spec.specs.Types.{Form, Table, form_at}
 use Rattle.seg_spec.specs.Window.{Placement}
 use Rattle.seg_spec.specs.Reads.{Place}
 use Rattle.seg_spec.specs.Value.{Values}
-use Rattle.seg_value.specs.Places.{place_of}
+use Rattle.seg_cells.specs.Places.{place_of}
 use Rattle.seg_value.specs.Stored.{Stored}
 use Rattle.seg_seq.specs.Sequences.{HasItems, PushesBack}
 use Rattle.client_spec.specs.declared.table.Operation.{Operation}

@@ -1,7 +1,7 @@
 use Rattle.std.proofs.Common.{rules, ◌≡◌, ℕ, ℤ, ◌∙◌, ap, subst, w64, to_z, of_z}
 use Rattle.seg_spec.specs.Types.{form_at}
 use Rattle.seg_spec.specs.Reads.{Place}
-use Rattle.seg_value.specs.Places.{place_of}
+use Rattle.seg_cells.specs.Places.{place_of}
 use Rattle.seg_value.specs.Stored.{Stored}
 use Rattle.client_program.specs.Paths.{number_at}
 use Rattle.client_run.specs.Worlds.{held_in}

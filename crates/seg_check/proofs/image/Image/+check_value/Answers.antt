@@ -4,7 +4,7 @@ use Rattle.std.proofs.lemmas.Result.{err_from_is_err_and}
 use Rattle.seg_spec.specs.Types.{form_at, size, fields_of}
 use Rattle.seg_spec.proofs.TypesLaws.{size_large}
 use Rattle.seg_layout.specs.Forms.{cell_of, map_option}
-use Rattle.seg_value.specs.Places.{place_of}
+use Rattle.seg_cells.specs.Places.{place_of}
 use Rattle.seg_check.specs.Marks.{Known}
 use Rattle.seg_check.specs.Turns.{parts_at}
 use Rattle.seg_check.specs.Resolving.{Advances, CanResolve}

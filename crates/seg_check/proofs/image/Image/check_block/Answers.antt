@@ -1,8 +1,8 @@
 use Rattle.std.proofs.Common.{◌≡◌, ◌+◌, take, Err, Some, None, refl, sym, ap, ◌∙◌, subst, arith}
 use Rattle.std.proofs.lemmas.Result.{err_from_is_err_and}
 use Rattle.seg_spec.specs.Block.{IsOwnable}
-use Rattle.seg_value.specs.Places.{place_of}
-use Rattle.seg_value.specs.declared.place.Place.{Place}
+use Rattle.seg_cells.specs.Places.{place_of}
+use Rattle.seg_cells.specs.declared.place.Place.{Place}
 use Rattle.seg_check.specs.Marks.{Known}
 use Rattle.seg_check.specs.Turns.{places_in}
 use Rattle.seg_check.specs.Resolving.{Advances}

@@ -5,7 +5,7 @@ use Rattle.seg_spec.specs.Bytes.{signed_long}
 use Rattle.seg_spec.specs.Pointer.{target}
 use Rattle.seg_spec.specs.Types.{size}
 use Rattle.seg_spec.specs.Reads.{count_at, keys_at, spaced}
-use Rattle.seg_value.specs.Places.{object_at}
+use Rattle.seg_cells.specs.Places.{object_at}
 use Rattle.seg_check.specs.Keys.{HasKeys}
 use Rattle.seg_check.specs.Resolving.{Steps}
 use Rattle.seg_check.proofs.StepLaws.{steps_refused}

@@ -5,7 +5,7 @@ use Rattle.std.proofs.lemmas.Result.{err_from_is_err_and}
 use Rattle.seg_spec.specs.Pointer.{target}
 use Rattle.seg_spec.specs.Reads.{count_at}
 use Rattle.seg_block.specs.Tags.{word_of}
-use Rattle.seg_value.specs.Places.{object_at}
+use Rattle.seg_cells.specs.Places.{object_at}
 use Rattle.seg_check.specs.Claiming.{AreLive, has_turns}
 use Rattle.seg_check.specs.Resolving.{Steps}
 use Rattle.seg_check.proofs.StepLaws.{steps_refused}

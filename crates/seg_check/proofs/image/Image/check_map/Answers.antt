@@ -7,7 +7,7 @@ use Rattle.seg_spec.specs.Shapes.{tree_words}
 use Rattle.seg_spec.specs.Window.{Placement}
 use Rattle.seg_spec.specs.Pointer.{target}
 use Rattle.seg_spec.specs.Reads.{count_at, keys_at}
-use Rattle.seg_value.specs.Places.{object_at}
+use Rattle.seg_cells.specs.Places.{object_at}
 use Rattle.seg_check.specs.declared.fault.ContentFault.TheVariants.{BadValue}
 use Rattle.seg_check.specs.declared.walk.Visit.TheVariants.{Enter, Pass}
 use Rattle.seg_check.specs.Keys.{HasKeys}

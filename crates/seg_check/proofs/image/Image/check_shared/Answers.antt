@@ -7,7 +7,7 @@ use Rattle.seg_spec.specs.Block.{Kind, tag_of, block_of}
 use Rattle.seg_spec.specs.Frozen.{frozen_words}
 use Rattle.seg_spec.specs.Reads.{count_at}
 use Rattle.seg_block.specs.Tags.{word_of}
-use Rattle.seg_value.specs.Places.{object_at}
+use Rattle.seg_cells.specs.Places.{object_at}
 use Rattle.seg_check.specs.Marks.{Known}
 use Rattle.seg_check.specs.Naming.{IsUnder, IsNameable, CanName, NamesBlock, number_at}
 use Rattle.seg_check.specs.Resolving.{IsReady, Steps}

@@ -1,7 +1,7 @@
 use Rattle.std.proofs.Common.{ℤ, refl, subst, w64, of_z, to_z, MatchResult}
 use Rattle.std.proofs.lemmas.Int.{to_z-of_z}
 use Rattle.seg_spec.specs.Value.{Int}
-use Rattle.seg_value.specs.Places.{place_of}
+use Rattle.seg_cells.specs.Places.{place_of}
 use Rattle.seg_value.specs.Stored.{Stored}
 use Rattle.seg_seq.specs.Sequences.{PushesItem, PushesNumber, LacksRoom, push_asks}
 use Rattle.seg_seq.proofs.InPlace.{same_stored}

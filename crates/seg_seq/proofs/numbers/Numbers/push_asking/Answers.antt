@@ -1,7 +1,7 @@
 use Rattle.std.proofs.Common.{ℤ, subst, inr, w64, MatchResult}
 use Rattle.std.proofs.lemmas.Int.{to_z-of_z}
 use Rattle.seg_spec.specs.Value.{Int}
-use Rattle.seg_value.specs.Places.{place_of}
+use Rattle.seg_cells.specs.Places.{place_of}
 use Rattle.seg_seq.specs.Sequences.{PushesItem, LacksRoom, push_asks}
 use Rattle.seg_seq.proofs.SequenceKinds.{buffer_vector}
 use Rattle.seg_seq.proofs.numbers.Numbers.push_asking.Goals as goal

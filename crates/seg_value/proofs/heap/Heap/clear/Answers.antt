@@ -1,8 +1,8 @@
 use Rattle.std.proofs.Common.{rules, ◌≡◌, ◌∙◌, sym}
 use Rattle.seg_spec.specs.Types.{form_at}
-use Rattle.seg_value.specs.declared.cells.Cells.TheVariants as cells
-use Rattle.seg_value.specs.Places.{place_of}
-use Rattle.seg_value.proofs.CellCases.{no_pointers}
+use Rattle.seg_cells.specs.declared.cells.Cells.TheVariants as cells
+use Rattle.seg_cells.specs.Places.{place_of}
+use Rattle.seg_cells.proofs.CellCases.{no_pointers}
 use Rattle.seg_value.proofs.Clearing.{cleared, number_cleared}
 use Rattle.seg_value.proofs.heap.Heap.clear.Goals as goal
 

@@ -3,8 +3,8 @@ use Rattle.seg_spec.specs.Window.{with_bytes}
 use Rattle.seg_spec.specs.Types.{IsTable, size}
 use Rattle.seg_spec.specs.Reads.{spaced}
 use Rattle.seg_spec.specs.Cells.{IsWithin, IsDefaulted, ChangesEach}
-use Rattle.seg_value.specs.declared.entry.Held.TheVariants as held
-use Rattle.seg_value.specs.Contents.{IsEntryOf}
+use Rattle.seg_cells.specs.declared.entry.Held.TheVariants as held
+use Rattle.seg_cells.specs.Entries.{IsEntryOf}
 use Rattle.seg_value.proofs.heap.Heap.default_rest.Given as goal
 
 abbrev pub invariant-loop-index : goal.invariant-loop-index

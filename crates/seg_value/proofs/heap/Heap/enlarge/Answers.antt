@@ -2,7 +2,7 @@ use Rattle.std.proofs.lemmas.Bool.{cases_lt}
 use Rattle.std.proofs.Common.{◌^◌, ⊎_elim, ◌*◌, ap, ◌∙◌, sym, subst, Some}
 use Rattle.seg_spec.specs.Calls.{Refuses}
 use Rattle.seg_spec.specs.Growing.{Reserves}
-use Rattle.seg_value.specs.Places.{object_at}
+use Rattle.seg_cells.specs.Places.{object_at}
 use Rattle.seg_value.specs.Stored.{Stored}
 use Rattle.seg_value.proofs.Buffers.{of_form, wanted_is, wanted_large, Enlarged, enlarged, enlarged_large, moved_to_new}
 use Rattle.seg_value.specs.Names.{index_cell, ReservesIndex}

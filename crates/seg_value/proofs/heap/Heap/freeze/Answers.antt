@@ -11,7 +11,7 @@ use Rattle.seg_spec.specs.Demand.{block_for}
 use Rattle.seg_spec.specs.Shared.{names_in}
 use Rattle.seg_spec.specs.Window.{with_bytes}
 use Rattle.seg_spec.proofs.Placements.{bytes_of}
-use Rattle.seg_value.specs.Places.{place_of, object_at}
+use Rattle.seg_cells.specs.Places.{place_of, object_at}
 use Rattle.seg_value.specs.Stored.{Stored}
 use Rattle.seg_spec.specs.Sharing.{Freezes}
 use Rattle.seg_value.proofs.Clearing.{typed}

@@ -5,8 +5,8 @@ use Rattle.seg_spec.specs.Reads.{Holds}
 use Rattle.seg_spec.specs.Types.{IsTable, form_at, size}
 use Rattle.seg_spec.specs.Value.{default_of}
 use Rattle.seg_spec.proofs.Defaults.{Holds-default}
-use Rattle.seg_value.specs.Contents.{cells_of}
-use Rattle.seg_value.specs.Places.{place_of}
+use Rattle.seg_cells.specs.Cells.{cells_of}
+use Rattle.seg_cells.specs.Places.{place_of}
 use Rattle.seg_value.specs.Stored.{Stored}
 use Rattle.seg_value.proofs.heap.Heap.init_default.Goals as goal
 

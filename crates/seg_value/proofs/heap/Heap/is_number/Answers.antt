@@ -4,11 +4,11 @@ use Rattle.seg_spec.specs.Heap.{tag_at}
 use Rattle.seg_spec.specs.Block.{block_of}
 use Rattle.seg_spec.specs.Shared.{named_in}
 use Rattle.seg_layout.specs.Forms.{has_cells}
-use Rattle.seg_value.specs.Contents.{cells_of}
-use Rattle.seg_value.specs.Places.{object_at}
+use Rattle.seg_cells.specs.Cells.{cells_of}
+use Rattle.seg_cells.specs.Places.{object_at}
 use Rattle.seg_value.specs.Stored.{Stored}
-use Rattle.seg_value.specs.declared.cells.Cells.TheVariants as cells
-use Rattle.seg_value.proofs.CellCases.{no_pointers}
+use Rattle.seg_cells.specs.declared.cells.Cells.TheVariants as cells
+use Rattle.seg_cells.proofs.CellCases.{no_pointers}
 use Rattle.seg_value.proofs.Nulls.{no_cells_own}
 use Rattle.seg_value.proofs.Opening.{same_object}
 use Rattle.seg_value.proofs.heap.Heap.is_number.Goals as goal

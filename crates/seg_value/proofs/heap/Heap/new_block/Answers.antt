@@ -5,7 +5,7 @@ use Rattle.seg_spec.specs.Heap.{IsHeap}
 use Rattle.seg_spec.specs.Types.{IsTable}
 use Rattle.seg_block.specs.Tags.{word_of}
 use Rattle.seg_value.specs.declared.content.Shape.{Shape}
-use Rattle.seg_value.specs.declared.place.Place.{Place}
+use Rattle.seg_cells.specs.declared.place.Place.{Place}
 use Rattle.seg_value.specs.Contents.{IsContent, GivesBlock}
 use Rattle.seg_value.specs.Stored.{Stored}
 use Rattle.seg_value.specs.Nodes.{IsIndexNode, GivesNode}

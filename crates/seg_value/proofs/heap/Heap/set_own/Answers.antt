@@ -4,7 +4,7 @@ use Rattle.seg_spec.specs.Pointer.{set_pointer}
 use Rattle.seg_spec.specs.Value.{Value, Empty, Full}
 use Rattle.seg_spec.specs.Owning.{Stands}
 use Rattle.seg_spec.specs.Window.{with_bytes}
-use Rattle.seg_value.specs.Places.{place_of}
+use Rattle.seg_cells.specs.Places.{place_of}
 use Rattle.seg_value.specs.Stored.{Stored}
 use Rattle.seg_value.proofs.Setting.{IsEmptied, own_cases, emptied_already, taken_emptied, own_set}
 use Rattle.seg_spec.proofs.Placements.{bytes_of}

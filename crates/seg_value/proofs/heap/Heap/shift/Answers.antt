@@ -1,9 +1,9 @@
 use Rattle.std.proofs.Common.{◌≡◌, ℕ, ◌+◌, ◌*◌, ◌∙◌, subst, List, zero-add}
 use Rattle.seg_spec.specs.Types.{Table, size, IsTable}
 use Rattle.seg_spec.specs.Cells.{IsWithin, Shifts}
-use Rattle.seg_value.specs.Contents.{IsEntryOf}
+use Rattle.seg_cells.specs.Entries.{IsEntryOf}
 use Rattle.seg_value.specs.Stored.{Stored}
-use Rattle.seg_value.proofs.Shifts.{moved_changes, moved_items, stands_within}
+use Rattle.seg_cells.proofs.Shifts.{moved_changes, moved_items, stands_within}
 use Rattle.seg_value.proofs.heap.Heap.shift.Goals as goal
 
 sized : (old new : List ℕ) (table : Table) (T from to n k : ℕ) → k ≡ 0 + size table T

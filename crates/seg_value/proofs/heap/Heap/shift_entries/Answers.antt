@@ -2,12 +2,12 @@ use Rattle.std.proofs.Common.{◌≡◌, ℕ, ◌+◌, ◌*◌, ◌≤◌, ap, �
 use Rattle.seg_spec.specs.Window.{with_bytes}
 use Rattle.seg_spec.specs.Bytes.{slice, put}
 use Rattle.seg_spec.specs.Cells.{IsWithin, Shifts}
-use Rattle.seg_value.specs.declared.entry.Held.TheVariants as held
-use Rattle.seg_value.specs.Contents.{IsEntryOf}
-use Rattle.seg_value.specs.Pointers.{MovesPointers}
-use Rattle.seg_value.proofs.Pointers.{pointers_moved}
+use Rattle.seg_cells.specs.declared.entry.Held.TheVariants as held
+use Rattle.seg_cells.specs.Entries.{IsEntryOf}
+use Rattle.seg_cells.specs.Pointers.{MovesPointers}
+use Rattle.seg_cells.proofs.Pointers.{pointers_moved}
 use Rattle.seg_value.specs.Stored.{Stored}
-use Rattle.seg_value.proofs.Shifts.{shifts_by, raw_within}
+use Rattle.seg_cells.proofs.Shifts.{shifts_by, raw_within}
 use Rattle.seg_spec.proofs.Placements.{bytes_of}
 use Rattle.seg_value.proofs.heap.Heap.shift_entries.Goals as goal
 

@@ -1,6 +1,6 @@
 use Rattle.std.proofs.Common.{◌≡◌, ◌≤◌, ap, ◌∙◌, sym, Some, None, arith}
 use Rattle.seg_spec.specs.Pointer.{target}
-use Rattle.seg_value.specs.Places.{place_of}
+use Rattle.seg_cells.specs.Places.{place_of}
 use Rattle.seg_value.specs.Stored.{Stored}
 use Rattle.seg_value.proofs.Cutting.{left_alone, entry_bytes, cut_at}
 use Rattle.seg_spec.proofs.Placements.{bytes_of}

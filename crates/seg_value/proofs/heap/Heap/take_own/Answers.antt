@@ -6,7 +6,8 @@ use Rattle.seg_spec.specs.Value.{Value, Empty, Full}
 use Rattle.seg_spec.specs.Owning.{Stands}
 use Rattle.seg_spec.specs.Window.{with_bytes}
 use Rattle.seg_spec.proofs.OwnSteps.{empty_own}
-use Rattle.seg_value.specs.Places.{place_of, TakesOwn}
+use Rattle.seg_cells.specs.Places.{place_of}
+use Rattle.seg_value.specs.Places.{TakesOwn}
 use Rattle.seg_value.specs.Stored.{Stored}
 use Rattle.seg_value.proofs.Owns.{full, own_taken}
 use Rattle.seg_spec.proofs.Placements.{bytes_of}

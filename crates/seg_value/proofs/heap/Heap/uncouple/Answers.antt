@@ -1,4 +1,4 @@
-use Rattle.seg_value.specs.Places.{object_at}
+use Rattle.seg_cells.specs.Places.{object_at}
 use Rattle.seg_value.proofs.Uncoupling.{single, ring, buffer}
 use Rattle.seg_spec.proofs.Placements.{bytes_of}
 use Rattle.seg_value.proofs.heap.Heap.uncouple.Goals as goal

@@ -1,0 +1,3 @@
+pub mod CellCases
+pub mod Shifts
+pub mod Pointers

@@ -1,0 +1,12 @@
+-- Entries of the program as the definitions know them.
+--     IsEntryOf table before U entry    an entry with a value of the type after so many bytes
+use Rattle.std.specs.Prelude.{◌≡◌, ℕ, ◌+◌}
+use Rattle.seg_spec.specs.Types.{Table, size}
+use Rattle.seg_cells.specs.declared.entry.Entry.{Entry}
+use Rattle.seg_cells.specs.declared.entry.Held.TheVariants as held
+
+-- an entry with a value of the type after so many bytes
+pub record IsEntryOf (table : Table) (before U : ℕ) (entry : Entry) : Type 0 where
+  pub size_is : entry.size ≡ before + size table U
+  pub before_is : entry.before ≡ before
+  pub held_is : entry.held ≡ held.Value U

@@ -1,0 +1,5 @@
+pub mod Places
+pub mod Cells
+pub mod Entries
+pub mod Pointers
+pub mod Search
