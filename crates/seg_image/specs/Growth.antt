@@ -7,7 +7,7 @@ use Rattle.seg_spec.specs.Block.{KeepsBlock}
 use Rattle.seg_spec.specs.Sound.{Picture, times, positions}
 use Rattle.seg_value.specs.Stored.{Stored}
 use Rattle.seg_manager.specs.Segments.{IsSegment}
-use Rattle.seg_manager.specs.Sizes.{used_front}
+use Rattle.seg_space.specs.Sizes.{used_front}
 
 -- the segment has so many bytes more than these, its picture and every live block; a single new unit
 -- goes to a block that ended at the end; the new bytes after the used front are 0

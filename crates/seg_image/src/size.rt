@@ -2,9 +2,9 @@ ghost use Rattle.std.specs.Prelude.{◌≡◌, ◌+◌, ◌≤◌, ◌⊎◌, �
 ghost use Rattle.seg_spec.specs.Heap.{IsHeap, live, gaps};
 ghost use Rattle.seg_spec.specs.Sound.{Picture};
 ghost use Rattle.seg_spec.specs.Window.{region_of};
-ghost use Rattle.seg_manager.specs.Gaps.{bytes_of, largest_of, ZeroesGaps};
+ghost use Rattle.seg_space.specs.Gaps.{bytes_of, largest_of, ZeroesGaps};
 ghost use Rattle.seg_manager.specs.Segments.{IsSegment};
-ghost use Rattle.seg_manager.specs.Sizes.{MayGrowTo, Shrinks};
+ghost use Rattle.seg_space.specs.Sizes.{MayGrowTo, Shrinks};
 ghost use Rattle.seg_image.specs.Images.{segment_of, allocator_of, bytes_in, types_of, IsOpen, ChangesBytes};
 ghost use Rattle.seg_image.specs.Growth.{Lengthens};
 
@@ -23,7 +23,7 @@ impl<A: Allocator> Image<A> {
         ensures { IsHeap (allocator_of self.now) (bytes_in self.now) →
             result ≡ bytes_of (gaps (bytes_in self.now)) }
     {
-        on!(self, segment => segment.free_memory())
+        on!(self, segment => seg_space::free_memory(segment))
     }
 
     /// The bytes of the largest gap, with its header.
@@ -31,7 +31,7 @@ impl<A: Allocator> Image<A> {
         ensures { IsHeap (allocator_of self.now) (bytes_in self.now) →
             result ≡ largest_of (gaps (bytes_in self.now)) }
     {
-        on!(self, segment => segment.largest_gap())
+        on!(self, segment => seg_space::largest_gap(segment))
     }
 
     /// Whether no object holds memory: one gap is the whole heap.
@@ -39,7 +39,7 @@ impl<A: Allocator> Image<A> {
         ensures { IsHeap (allocator_of self.now) (bytes_in self.now) →
             (IsTrue result ↔ (live (bytes_in self.now) ≡ [])) }
     {
-        on!(self, segment => segment.all_memory_deallocated())
+        on!(self, segment => seg_space::all_memory_deallocated(segment))
     }
 
     /// Writes 0 to the bytes of gaps that the allocator doesn't use, so that a saved image tells nothing of what was freed.
@@ -49,7 +49,7 @@ impl<A: Allocator> Image<A> {
             ZeroesGaps (allocator_of self.old) (segment_of self.old) (segment_of self.new)
             picture }
     {
-        on!(self, segment => segment.zero_free_memory())
+        on!(self, segment => seg_space::zero_free_memory(segment))
     }
 
     /// Adds `extra` bytes at the end, and returns the new size in bytes. `BadSize` where that is no size of a segment or
@@ -80,7 +80,7 @@ impl<A: Allocator> Image<A> {
             Shrinks (allocator_of self.old) (segment_of self.old) (segment_of self.new) picture
             result }
     {
-        on!(self, segment => segment.shrink_to_fit())
+        on!(self, segment => seg_space::shrink_to_fit(segment))
     }
 }
 
@@ -97,7 +97,7 @@ fn grow<F: Fit, A: Allocator>(segment: &mut Segment<F, A>, extra: u32) -> Result
         OnOk result (Lengthens F.allocator segment.old.window.bytes segment.new picture extra) }
     ensures unchanged { OnErr result (segment.new.window.bytes ≡ segment.old.window.bytes) }
 {
-    match segment.grow(extra) {
+    match seg_space::grow(segment, extra) {
         Err(Fault::NoHostRoom) => grow_memory(segment, extra),
         grown => grown,
     }
@@ -115,7 +115,7 @@ fn grow_memory<F: Fit, A: Allocator>(segment: &mut Segment<F, A>, extra: u32) ->
 {
     let size = segment.window().len() + extra;
     replace_with(segment, size, with_room)?;
-    segment.grow(extra)
+    seg_space::grow(segment, extra)
 }
 
 /// The segment at the start of its memory, which then has `room` bytes, or as many as before where more are refused.

@@ -3,15 +3,10 @@ pub mod UniqueWords
 pub mod UniqueObjects
 pub mod Answering
 pub mod NamedReads
-pub mod TileWalk
 pub mod Counting
 pub mod TableBytes
 pub mod TypesAdded
 pub mod Creating
-pub mod KeptOrder
-pub mod ZeroedGaps
-pub mod NewZeros
-pub mod Resizing
 pub mod NamedMaking
 pub mod NewNamed
 pub mod NamedEnters

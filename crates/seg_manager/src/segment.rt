@@ -143,7 +143,7 @@ impl<F: Fit, A: Allocator> Segment<F, A> {
 }
 
 /// Whether a segment may have so many bytes.
-pub(crate) fn is_size(size: u32) -> bool
+pub fn is_size(size: u32) -> bool
     ensures { IsTrue result ↔ IsImageLength size }
 {
     (MIN_LEN..=MAX_LEN).contains(&size) && size % UNIT == 0

@@ -13,6 +13,7 @@ use seg_manager::{IndexKind, Segment};
 use seg_open::save;
 use seg_raw::{Fault, Region};
 use seg_seqfit::SeqFit;
+use seg_space::{free_memory, largest_gap};
 use std::alloc::Global;
 use std::test::Fail;
 use support_data::Limited;
@@ -186,8 +187,8 @@ pub fn statistics_of(alloc: Global, image: &[u8]) -> Result<Statistics, Fail> {
     // the numbers don't depend on the allocator
     let segment = Segment::<SeqFit, Global>::new(placed, types);
     Ok(Statistics {
-        free: segment.free_memory(),
-        largest: segment.largest_gap(),
+        free: free_memory(&segment),
+        largest: largest_gap(&segment),
         named: segment.num_named(),
         unique: segment.num_unique(),
     })

@@ -6,6 +6,7 @@ use seg_manager::Segment;
 use seg_open::save;
 use seg_ptr::header;
 use seg_seqfit::SeqFit;
+use seg_space::all_memory_deallocated;
 use std::alloc::Global;
 use std::process::Abort;
 use std::test::Fail;
@@ -55,7 +56,7 @@ fn use_up<F: Fit>(rt: &(impl Abort + AllocGlobal), image: &[u8]) -> Result<bool,
     for t in 0..32 {
         let _ = segment.destroy_unique(t);
     }
-    assert!(rt; segment.all_memory_deallocated());
+    assert!(rt; all_memory_deallocated(&segment));
     Ok(true)
 }
 

@@ -14,6 +14,9 @@ use seg_layout::TypeId;
 use seg_manager::{IndexKind, Named, Segment};
 use seg_raw::{Code, Fault};
 use seg_seqfit::SeqFit;
+use seg_space::{
+    all_memory_deallocated, free_memory, grow, largest_gap, shrink_to_fit, zero_free_memory,
+};
 use std::alloc::Global;
 use std::test::Fail;
 
@@ -158,8 +161,8 @@ fn on_segment<F: Fit>(s: &mut Segment<F, Global>, verb: &str, t: &str) -> Option
         "find_unique" => Some(given(s.find_unique(type_id(t)?))),
         "find_or_make_unique" => Some(given(s.find_or_construct_unique(type_id(t)?))),
         "kill_unique" => Some(Ok(u32::from(s.destroy_unique(type_id(t)?)))),
-        "grow" => Some(grow(s, number(t)?)),
-        "shrink" => Some(Ok(s.shrink_to_fit())),
+        "grow" => Some(grown(s, number(t)?)),
+        "shrink" => Some(Ok(shrink_to_fit(s))),
         "zero_free" => Some(zero_free(s)),
         _ => size(s, verb),
     }
@@ -168,9 +171,9 @@ fn on_segment<F: Fit>(s: &mut Segment<F, Global>, verb: &str, t: &str) -> Option
 /// The number that a word is for.
 fn size<F: Fit>(s: &Segment<F, Global>, what: &str) -> Option<Answer> {
     match what {
-        "free" => Some(Ok(s.free_memory())),
-        "largest" => Some(Ok(s.largest_gap())),
-        "is_empty" => Some(Ok(u32::from(s.all_memory_deallocated()))),
+        "free" => Some(Ok(free_memory(s))),
+        "largest" => Some(Ok(largest_gap(s))),
+        "is_empty" => Some(Ok(u32::from(all_memory_deallocated(s)))),
         "size" => Some(Ok(s.window().len())),
         "named" => Some(Ok(s.num_named())),
         "unique" => Some(Ok(u32::try_from(s.num_unique()).ok()?)),
@@ -219,8 +222,8 @@ fn next_name<'s, F: Fit>(s: &'s Segment<F, Global>, name: &str) -> Option<Named<
     s.next_name(name.as_bytes())
 }
 
-fn grow<F: Fit>(s: &mut Segment<F, Global>, extra: u32) -> Answer {
-    match s.grow(extra) {
+fn grown<F: Fit>(s: &mut Segment<F, Global>, extra: u32) -> Answer {
+    match grow(s, extra) {
         Ok(size) => Ok(size),
         Err(Fault::BadSize) => Err("BadSize"),
         Err(Fault::NoHostRoom) => Err("NoHostRoom"),
@@ -229,7 +232,7 @@ fn grow<F: Fit>(s: &mut Segment<F, Global>, extra: u32) -> Answer {
 }
 
 fn zero_free<F: Fit>(s: &mut Segment<F, Global>) -> Answer {
-    s.zero_free_memory();
+    zero_free_memory(s);
     Ok(0)
 }
 

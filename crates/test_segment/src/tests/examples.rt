@@ -12,6 +12,7 @@ use seg_open::{open, save};
 use seg_ptr::Window;
 use seg_raw::{Code, Fault};
 use seg_seqfit::SeqFit;
+use seg_space::{free_memory, zero_free_memory};
 use std::alloc::Global;
 use std::process::Abort;
 use std::test::Fail;
@@ -217,8 +218,8 @@ fn shares_a_number(rt: HostRuntime) -> Result<(), Fail> {
     let mut segment = segment::<SeqFit>(rt.alloc(), 1024, IndexKind::Flat, &types)?;
     share_a_number(&mut segment)?;
     assert_eq!(rt; first_fault(rt.alloc(), segment.window()), None);
-    assert_eq!(rt; segment.free_memory(), 208);
-    segment.zero_free_memory();
+    assert_eq!(rt; free_memory(&segment), 208);
+    zero_free_memory(&mut segment);
     segment.heap_mut().window_mut().fill(760, 24, 0);
     assert_eq!(rt;
         segment.window().slice(0, 1024),
@@ -237,7 +238,7 @@ fn opens_and_saves_what_is_shared(rt: HostRuntime) -> Result<(), Fail> {
         Ok(mut segment) => {
             assert_eq!(rt; save(rt.alloc(), &segment)?.as_slice(), image.as_slice());
             assert!(rt; segment.destroy(b"b", SHARED));
-            assert_eq!(rt; segment.free_memory(), 320);
+            assert_eq!(rt; free_memory(&segment), 320);
             assert_eq!(rt; first_fault(rt.alloc(), segment.window()), None);
             Ok(())
         }

@@ -14,9 +14,9 @@ use Rattle.seg_spec.proofs.FreeLaws.{gaps-free}
 use Rattle.seg_spec.proofs.KeptLaws.{StatesSpan, live_stated, each_contained}
 use Rattle.seg_spec.proofs.LooseRoots.{each_joined}
 use Rattle.seg_spec.proofs.SliceLaws.{slice-put_same, put-changes}
-use Rattle.seg_manager.specs.Sizes.{used_front}
-use Rattle.seg_manager.proofs.KeptOrder.{KeepsOrder, order_live, order_heap}
-use Rattle.seg_manager.proofs.ZeroedGaps.{free_before, tiles_after}
+use Rattle.seg_space.specs.Sizes.{used_front}
+use Rattle.seg_space.proofs.KeptOrder.{KeepsOrder, order_live, order_heap}
+use Rattle.seg_space.proofs.ZeroedGaps.{free_before, tiles_after}
 
 -- what holds of the live tiles and of the free ones holds of each
 each_tile : (P : Span → Type 0) (ts : List Tile) → AllByRecursion P (live_of ts) → AllByRecursion P (free_of ts) → AllByRecursion (λ t. P (span_of t)) ts

@@ -1,13 +1,15 @@
+//! The free memory of a segment.
+
 ghost use Rattle.std.specs.Prelude.{◌≡◌, ℕ, ◌+◌, ◌*◌, ◌^◌, ◌<◌, ◌≤◌, ◌↔◌, max, IsTrue, [], replicate};
 ghost use Rattle.seg_spec.specs.Bytes.{put};
 ghost use Rattle.seg_spec.specs.Heap.{IsHeap, span, live, gaps};
 ghost use Rattle.seg_spec.specs.Sound.{Picture};
 ghost use Rattle.seg_spec.specs.Window.{with_bytes, KeepsHost};
-ghost use Rattle.seg_manager.specs.Gaps.{bytes_of, largest_of, spare_start, spare_size, ZeroesGaps};
+ghost use Rattle.seg_space.specs.Gaps.{bytes_of, largest_of, spare_start, spare_size, ZeroesGaps};
 ghost use Rattle.seg_manager.specs.Segments.{IsSegment};
 
-use crate::segment::Segment;
 use seg_block::{Block, Fit, HEAP_START, UNIT, block_at, is_live};
+use seg_manager::Segment;
 use seg_ptr::Window;
 use std::alloc::Allocator;
 
@@ -54,52 +56,49 @@ fn end_of(block: Block) -> u32
     block.at + UNIT * block.units
 }
 
-/// Free memory.
-impl<F: Fit, A: Allocator> Segment<F, A> {
-    /// The bytes of all gaps, with their headers.
-    pub fn free_memory(&self) -> u32
-        ensures { IsHeap F.allocator self.now.window.bytes →
-            result ≡ bytes_of (gaps self.now.window.bytes) }
-    {
-        Gaps::of(self.window()).total
-    }
+/// The bytes of all gaps, with their headers.
+pub fn free_memory<F: Fit, A: Allocator>(segment: &Segment<F, A>) -> u32
+    ensures { IsHeap F.allocator segment.now.window.bytes →
+        result ≡ bytes_of (gaps segment.now.window.bytes) }
+{
+    Gaps::of(segment.window()).total
+}
 
-    /// The bytes of the largest gap, with its header.
-    pub fn largest_gap(&self) -> u32
-        ensures { IsHeap F.allocator self.now.window.bytes →
-            result ≡ largest_of (gaps self.now.window.bytes) }
-    {
-        Gaps::of(self.window()).largest
-    }
+/// The bytes of the largest gap, with its header.
+pub fn largest_gap<F: Fit, A: Allocator>(segment: &Segment<F, A>) -> u32
+    ensures { IsHeap F.allocator segment.now.window.bytes →
+        result ≡ largest_of (gaps segment.now.window.bytes) }
+{
+    Gaps::of(segment.window()).largest
+}
 
-    /// Whether one gap is the whole heap.
-    pub fn all_memory_deallocated(&self) -> bool
-        ensures { IsHeap F.allocator self.now.window.bytes →
-            (IsTrue result ↔ (live self.now.window.bytes ≡ [])) }
-    {
-        let heap = self.window().len().saturating_sub(HEAP_START);
-        Gaps::of(self.window()).largest == heap
-    }
+/// Whether one gap is the whole heap.
+pub fn all_memory_deallocated<F: Fit, A: Allocator>(segment: &Segment<F, A>) -> bool
+    ensures { IsHeap F.allocator segment.now.window.bytes →
+        (IsTrue result ↔ (live segment.now.window.bytes ≡ [])) }
+{
+    let heap = segment.window().len().saturating_sub(HEAP_START);
+    Gaps::of(segment.window()).largest == heap
+}
 
-    /// Writes 0 to each byte of the gaps that holds no header and that the allocator doesn't use.
-    pub fn zero_free_memory(&mut self)
-        ensures window { KeepsHost self.old.window self.new.window }
-        ensures types { self.new.types ≡ self.old.types }
-        ensures zeroes { (picture : Picture) → IsSegment F.allocator self.old picture →
-            ZeroesGaps F.allocator self.old self.new picture }
-    {
-        let w = self.heap_mut().window_mut();
-        let end = w.len();
-        let mut at = HEAP_START;
-        while at < end {
-            let Some(block) = block_at(w, at) else {
-                break;
-            };
-            if !is_live(w, at) {
-                zero_payload::<F, A>(w, block);
-            }
-            at = end_of(block);
+/// Writes 0 to each byte of the gaps that holds no header and that the allocator doesn't use.
+pub fn zero_free_memory<F: Fit, A: Allocator>(segment: &mut Segment<F, A>)
+    ensures window { KeepsHost segment.old.window segment.new.window }
+    ensures types { segment.new.types ≡ segment.old.types }
+    ensures zeroes { (picture : Picture) → IsSegment F.allocator segment.old picture →
+        ZeroesGaps F.allocator segment.old segment.new picture }
+{
+    let w = segment.heap_mut().window_mut();
+    let end = w.len();
+    let mut at = HEAP_START;
+    while at < end {
+        let Some(block) = block_at(w, at) else {
+            break;
+        };
+        if !is_live(w, at) {
+            zero_payload::<F, A>(w, block);
         }
+        at = end_of(block);
     }
 }
 

@@ -7,7 +7,7 @@ use Rattle.seg_spec.proofs.TileLaws.{Fill-le}
 use Rattle.seg_spec.proofs.FreeLaws.{gaps-free}
 use Rattle.seg_block.specs.declared.block.Block.{Block}
 use Rattle.seg_block.specs.Blocks.{IsSized, Covers}
-use Rattle.seg_manager.specs.Gaps.{bytes_of, largest_of}
+use Rattle.seg_space.specs.Gaps.{bytes_of, largest_of}
 
 -- the tiles from a position on
 pub record Rest (bytes : List ℕ) (at : ℕ) (ts : List Tile) : Type 0 where

@@ -1,10 +1,10 @@
 use Rattle.std.proofs.Common.{◌≡◌, ◌≤◌, ◌+◌, ◌*◌, max, length, ap, ◌∙◌, sym, arith}
 use Rattle.seg_block.specs.declared.block.Block.{Block}
 use Rattle.seg_spec.specs.Heap.{units_at}
-use Rattle.seg_manager.specs.declared.space.Gaps.{Gaps}
-use Rattle.seg_manager.proofs.TileWalk.{passed_live, passed_free, counted_at, counted_all}
-use Rattle.seg_manager.proofs.space.Gaps.of.Goals as goal
-use Rattle.seg_manager.proofs.space.Gaps.of.Goals.{then-not-is_live, else-not-is_live}
+use Rattle.seg_space.specs.declared.space.Gaps.{Gaps}
+use Rattle.seg_space.proofs.TileWalk.{passed_live, passed_free, counted_at, counted_all}
+use Rattle.seg_space.proofs.space.Gaps.of.Goals as goal
+use Rattle.seg_space.proofs.space.Gaps.of.Goals.{then-not-is_live, else-not-is_live}
 
 pub loop-block-preserved : goal.loop-block-preserved
 loop-block-preserved g c = λ allocator heap.

@@ -3,10 +3,10 @@ use Rattle.seg_block.specs.declared.block.Block.{Block}
 use Rattle.seg_spec.specs.Heap.{IsHeap, units_at}
 use Rattle.seg_spec.specs.Window.{Placement, with_bytes}
 use Rattle.seg_manager.proofs.Answering.{host_twice}
-use Rattle.seg_manager.proofs.TileWalk.{reads_none, rest_none}
-use Rattle.seg_manager.proofs.ZeroedGaps.{stepped_live, stepped_free, zeroed_all, zeroes}
-use Rattle.seg_manager.proofs.segment.Segment.zero_free_memory.Goals as goal
-use Rattle.seg_manager.proofs.segment.Segment.zero_free_memory.Goals.{then-not-is_live, else-not-is_live}
+use Rattle.seg_space.proofs.TileWalk.{reads_none, rest_none}
+use Rattle.seg_space.proofs.ZeroedGaps.{stepped_live, stepped_free, zeroed_all, zeroes}
+use Rattle.seg_space.proofs.space.zero_free_memory.Goals as goal
+use Rattle.seg_space.proofs.space.zero_free_memory.Goals.{then-not-is_live, else-not-is_live}
 
 bytes_in : (p q : Placement) → p ≡ q → p.bytes ≡ q.bytes
 bytes_in p q e = ap (λ (r : Placement). r.bytes) e
@@ -46,7 +46,7 @@ loop-at-preserved g c =
 pub returns-after-loop-at-clause-zeroes : goal.returns-after-loop-at-clause-zeroes
 returns-after-loop-at-clause-zeroes g c = λ picture is.
     let a = g.F.Fit.allocator in
-    let old = c.args.self.now in
+    let old = c.args.segment.now in
     let window = c.window_mut-w.ensures.value ∙ ap (λ s. s.window) c.heap_mut.ensures.value in
     let heap : IsHeap a old.window.bytes = rw is.allocator_is at is.held.laid_out.heap in
     let zeroing = rw window at c.loop-at.invariant.zeroing in
@@ -58,7 +58,7 @@ returns-after-loop-at-clause-zeroes g c = λ picture is.
 pub returns-in_default-clause-zeroes : goal.returns-in_default-clause-zeroes
 returns-in_default-clause-zeroes g c = λ picture is.
     let a = g.F.Fit.allocator in
-    let old = c.args.self.now in
+    let old = c.args.segment.now in
     let window = c.window_mut-w.ensures.value ∙ ap (λ s. s.window) c.heap_mut.ensures.value in
     let heap : IsHeap a old.window.bytes = rw is.allocator_is at is.held.laid_out.heap in
     let zeroing = rw window at c.loop-at.invariant.zeroing in

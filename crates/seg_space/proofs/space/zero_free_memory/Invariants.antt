@@ -1,8 +1,8 @@
 use Rattle.std.proofs.Common.{◌≡◌, ◌-◌}
 use Rattle.seg_spec.specs.Heap.{IsHeap}
 use Rattle.seg_spec.specs.Window.{with_bytes}
-use Rattle.seg_manager.proofs.ZeroedGaps.{Zeroing}
-use Rattle.seg_manager.proofs.segment.Segment.zero_free_memory.Given as goal
+use Rattle.seg_space.proofs.ZeroedGaps.{Zeroing}
+use Rattle.seg_space.proofs.space.zero_free_memory.Given as goal
 
 abbrev pub invariant-loop-at : goal.invariant-loop-at
 invariant-loop-at g l = record {

@@ -20,13 +20,13 @@ use Rattle.seg_spec.proofs.RootFrame.{HoldsRoots-kept}
 use Rattle.seg_spec.proofs.RootLaws.{IsLaidOut-kept}
 use Rattle.seg_spec.proofs.SliceLaws.{IsSame-part, slice-put_same, put-changes}
 use Rattle.seg_value.specs.Stored.{Stored}
-use Rattle.seg_manager.specs.Gaps.{spare_start, spare_size, IsZeroed, LiesBeside, ZeroesGaps}
+use Rattle.seg_space.specs.Gaps.{spare_start, spare_size, IsZeroed, LiesBeside, ZeroesGaps}
 use Rattle.seg_manager.specs.Segments.{IsSegment}
 use Rattle.seg_spec.proofs.LooseRoots.{each_joined}
 use Rattle.seg_manager.proofs.LooseObjects.{allocator_same}
 use Rattle.seg_spec.proofs.CountedKept.{next_same, counted_still}
-use Rattle.seg_manager.proofs.KeptOrder.{KeepsOrder, order_live, order_heap}
-use Rattle.seg_manager.proofs.TileWalk.{Rest, Reads, reads_tile}
+use Rattle.seg_space.proofs.KeptOrder.{KeepsOrder, order_live, order_heap}
+use Rattle.seg_space.proofs.TileWalk.{Rest, Reads, reads_tile}
 
 -- ---- the walk
 

@@ -8,10 +8,10 @@ use Rattle.seg_spec.proofs.BytesLaws.{length-put}
 use Rattle.std.proofs.Common.{ℕ, ◌+◌, ◌-◌, ◌/◌, ◌≤◌, List, replicate}
 use Rattle.seg_spec.specs.Heap.{IsHeap, without_end}
 use Rattle.seg_spec.specs.Faulty.{IsImageLength}
-use Rattle.seg_manager.proofs.Resizing.{grown_by_none, front_is, host_then, grown}
-use Rattle.seg_manager.specs.Sizes.{used_front}
-use Rattle.seg_manager.proofs.NewZeros.{zeros_extend, zeros_there}
-use Rattle.seg_manager.proofs.segment.Segment.grow.Goals as goal
+use Rattle.seg_space.proofs.Resizing.{grown_by_none, front_is, host_then, grown}
+use Rattle.seg_space.specs.Sizes.{used_front}
+use Rattle.seg_space.proofs.NewZeros.{zeros_extend, zeros_there}
+use Rattle.seg_space.proofs.size.grow.Goals as goal
 
 holds_on_ok : {T E P : Type 0} (r : Result T E) → OnOk r P → is_err r ≡ false → P
 holds_on_ok (Ok _) p is = p
@@ -27,7 +27,7 @@ extend_end-requires g c = omega (
 
 pub returns-else-extra-gt0-clause-grows : goal.returns-else-extra-gt0-clause-grows
 returns-else-extra-gt0-clause-grows g c = λ picture is.
-    let old = c.args.self.now in
+    let old = c.args.segment.now in
     let extra = c.args.extra in
     let window = c.window_mut-w.ensures.value ∙ ap (λ s. s.window) c.heap_mut.ensures.value in
     let len = rw window at c.len-len.ensures.len in
@@ -44,7 +44,7 @@ returns-else-extra-gt0-clause-grows g c = λ picture is.
 pub returns-then-extra-gt0-clause-grows : goal.returns-then-extra-gt0-clause-grows
 returns-then-extra-gt0-clause-grows g c = λ picture is.
     let a = g.F.Fit.allocator in
-    let old = c.args.self.now in
+    let old = c.args.segment.now in
     let extra = c.args.extra in
     let q = c.resize.new.self in
     let window = c.window_mut-w.ensures.value ∙ ap (λ s. s.window) c.heap_mut.ensures.value in

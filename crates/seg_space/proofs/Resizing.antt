@@ -24,8 +24,8 @@ use Rattle.seg_spec.proofs.SliceLaws.{IsSame-part, slice-slice, region-placed}
 use Rattle.seg_spec.specs.Window.{Placement, region_of, with_bytes}
 use Rattle.seg_value.specs.Stored.{Stored}
 use Rattle.seg_manager.specs.Segments.{IsSegment}
-use Rattle.seg_manager.specs.Sizes.{used_front, Grows, Shrinks}
-use Rattle.seg_manager.proofs.ZeroedGaps.{free_before}
+use Rattle.seg_space.specs.Sizes.{used_front, Grows, Shrinks}
+use Rattle.seg_space.proofs.ZeroedGaps.{free_before}
 use Rattle.seg_spec.proofs.CountedKept.{counted_still}
 
 -- ---- bytes at the front of longer ones

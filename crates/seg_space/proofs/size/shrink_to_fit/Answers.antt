@@ -2,8 +2,8 @@ use Rattle.std.proofs.Common.{◌≡◌, ◌≤◌, ◌+◌, ◌*◌, Result, Ok
 use Rattle.std.specs.Result.{IsOk, OnOk}
 use Rattle.std.proofs.lemmas.Bool.{false≢true}
 use Rattle.seg_spec.specs.Heap.{IsHeap, Cuts}
-use Rattle.seg_manager.proofs.Resizing.{cut_fits, region_long, shrunk_to}
-use Rattle.seg_manager.proofs.segment.Segment.shrink_to_fit.Goals as goal
+use Rattle.seg_space.proofs.Resizing.{cut_fits, region_long, shrunk_to}
+use Rattle.seg_space.proofs.size.shrink_to_fit.Goals as goal
 
 on_ok : {T E P : Type 0} (r : Result T E) → IsOk r → OnOk r P → P
 on_ok (Ok x) is p = p
@@ -12,7 +12,7 @@ on_ok (Err e) is p = absurd (false≢true is)
 pub returns-clause-shrinks : goal.returns-clause-shrinks
 returns-clause-shrinks g c = λ picture is.
     let a = g.F.Fit.allocator in
-    let old = c.args.self.now in
+    let old = c.args.segment.now in
     let mid = c.cut_end-cut.new.w in
     let n = c.cut_end-cut.result in
     let size = c.saturating_sub-size.result in

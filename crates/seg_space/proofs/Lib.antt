@@ -1,0 +1,5 @@
+pub mod TileWalk
+pub mod KeptOrder
+pub mod ZeroedGaps
+pub mod NewZeros
+pub mod Resizing

@@ -1,0 +1,76 @@
+//! The size of a segment, which changes while nobody else uses it.
+
+ghost use Rattle.std.specs.Prelude.{◌≡◌, ◌+◌, ◌≤◌, ◌⊎◌, ◌↔◌, length, IsOk, IfOk, IfErr, OnOk, OnErr};
+ghost use Rattle.seg_spec.specs.Sound.{Picture};
+ghost use Rattle.seg_spec.specs.Window.{region_of};
+ghost use Rattle.seg_manager.specs.Segments.{IsSegment};
+ghost use Rattle.seg_space.specs.Sizes.{MayGrowTo, used_front, Grows, Shrinks};
+
+use seg_block::{Fit, UNIT};
+use seg_manager::{Segment, is_size};
+use seg_raw::Fault;
+use std::alloc::Allocator;
+
+/// How many bytes at the front of so many new ones the heap may write: the header of a gap, and what the allocator keeps
+/// after it. A single unit goes to the block or the gap before it.
+fn used_front<F: Fit>(extra: u32) -> u32
+    ensures { result ≡ used_front F.allocator extra }
+{
+    if extra == UNIT {
+        return 0;
+    }
+    UNIT + F::free_words()
+}
+
+/// Adds `extra` bytes after the segment's end, all of them 0 but what the heap may write at their front, and returns the
+/// new size in bytes. `BadSize` where that is no size of a segment, `NoHostRoom` where the region ends before it; then
+/// nothing changes.
+pub fn grow<F: Fit, A: Allocator>(segment: &mut Segment<F, A>, extra: u32) -> Result<u32, Fault>
+    ensures types { segment.new.types ≡ segment.old.types }
+    ensures size { IfOk result (λ size. size ≡ length segment.old.window.bytes + extra) }
+    ensures done { IsOk result ↔ (MayGrowTo extra (length segment.old.window.bytes + extra)
+        × (length segment.old.window.before + (length segment.old.window.bytes + extra)
+        ≤ length (region_of segment.old.window))) }
+    ensures fault { IfErr result (λ fault.
+        ((fault ≡ Fault.BadSize) × ¬ MayGrowTo extra (length segment.old.window.bytes + extra))
+        ⊎ ((fault ≡ Fault.NoHostRoom)
+        × MayGrowTo extra (length segment.old.window.bytes + extra))) }
+    ensures unchanged { OnErr result (segment.new ≡ segment.old) }
+    ensures grows { OnOk result ((picture : Picture) →
+        IsSegment F.allocator segment.old picture →
+        Grows F.allocator segment.old segment.new picture extra) }
+{
+    let w = segment.heap_mut().window_mut();
+    let len = w.len();
+    let size = len.saturating_add(extra);
+    if extra % UNIT != 0 || !is_size(size) {
+        return Err(Fault::BadSize);
+    }
+    if w.resize(size).is_err() {
+        return Err(Fault::NoHostRoom);
+    }
+    if extra > 0 {
+        // what the host had there doesn't get into a saved image: zeros stand first where a header may be written, and
+        // then in all that lies after it
+        let front = used_front::<F>(extra);
+        w.fill(len as usize, front as usize, 0);
+        F::extend_end(w, extra / UNIT);
+        let rest = extra.saturating_sub(front);
+        w.fill(len as usize + front as usize, rest as usize, 0);
+    }
+    Ok(size)
+}
+
+/// Cuts the gap at the end, but for two units of a heap that is one gap, and returns the new size in bytes.
+pub fn shrink_to_fit<F: Fit, A: Allocator>(segment: &mut Segment<F, A>) -> u32
+    ensures types { segment.new.types ≡ segment.old.types }
+    ensures shrinks { (picture : Picture) → IsSegment F.allocator segment.old picture →
+        Shrinks F.allocator segment.old segment.new picture result }
+{
+    let w = segment.heap_mut().window_mut();
+    let cut = F::cut_end(w);
+    let size = w.len().saturating_sub(cut.saturating_mul(UNIT));
+    // a smaller size lies where the larger one lay
+    let _ = w.resize(size);
+    size
+}
