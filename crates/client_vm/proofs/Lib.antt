@@ -1,4 +1,3 @@
 pub mod ReportLaws
-pub mod TextsLaws
 pub mod Refusing
 pub mod TogetherLaws

@@ -20,8 +20,8 @@ use Rattle.client_spec.specs.Clients.{IsVerified}
 use Rattle.client_spec.specs.OnImages.{Move}
 use Rattle.client_spec.specs.Outcome.{CanMove, IsTurnOf}
 use Rattle.client_verify.specs.Refusals.{IsRefused}
-use Rattle.client_vm.specs.declared.outcome.Refused.{Refused}
-use Rattle.client_vm.specs.Texts.{IsWrongAt, IsWrongBy, AreWrong}
+use Rattle.client_accept.specs.declared.refused.Refused.{Refused}
+use Rattle.client_accept.specs.Texts.{IsWrongAt, IsWrongBy, AreWrong}
 use Rattle.client_vm.specs.Admitted.{LiesIn, IsWrongFor, IsWrong}
 use Rattle.client_vm.specs.Outcomes.{IsBadImage, IsFault, IsFaultOfCall, IsFaultOfClient, IsRefusedFor}
 use Rattle.seg_spec.proofs.Failures.{unsound}

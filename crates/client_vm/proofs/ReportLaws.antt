@@ -1,13 +1,14 @@
 -- Reports of clients, one by one.
-use Rattle.std.proofs.Common.{◌≡◌, ℕ, ◌+◌, ◌<◌, Bool, true, false, List, [], ◌∷◌, ◌++◌, length, map, take, drop, get_or, sym, ap, ◌∙◌, subst, arith, add-one, length-append}
+use Rattle.std.proofs.Common.{◌≡◌, ℕ, ◌+◌, ◌<◌, Bool, true, false, List, [], ◌∷◌, ◌++◌, length, map, take, drop, get_or, sym, ap, ◌∙◌, subst, arith, length-append}
 use Rattle.std.specs.Prelude.{if◌then◌else◌}
-use Rattle.std.proofs.Math.Seq.{take-suc}
 use Rattle.std.proofs.lemmas.List.{map-append, length-map, length-take-le, take-append-drop}
 use Rattle.client_code.specs.Clients.{bytes_of}
+use Rattle.client_accept.specs.Texts.{texts_of}
+use Rattle.client_accept.proofs.TextsLaws.{mapped_front}
 use Rattle.client_verify.specs.Accepted.{client_of}
 use Rattle.client_verify.specs.declared.verified.Verified.{Verified}
 use Rattle.client_run.specs.declared.report.Report.{Report}
-use Rattle.client_vm.specs.Reports.{texts_of, IsReportOf, AreReportsOf}
+use Rattle.client_vm.specs.Reports.{IsReportOf, AreReportsOf}
 
 -- one report more
 one_report : (texts : List (List ℕ)) (reports : List Report) (text : List ℕ) (report : Report) → length texts ≡ length reports → AreReportsOf texts reports → IsReportOf text report
@@ -22,11 +23,6 @@ fewer_reports : (texts more : List (List ℕ)) (reports : List Report) → AreRe
 fewer_reports texts more [] h = tt
 fewer_reports [] more (r ∷ reports) h = absurd h
 fewer_reports (t ∷ texts) more (r ∷ reports) h = (h.0, fewer_reports texts more reports h.1)
-
--- one element more of a front
-pub mapped_front : {X Y : Type 0} (f : X → Y) (xs : List X) (i : ℕ) (x : X) → i < length xs → x ≡ get_or xs i x → map f (take (i + 1) xs) ≡ map f (take i xs) ++ f x ∷ []
-mapped_front f xs i x h e =
-    ap (λ n. map f (take n xs)) (add-one i) ∙ ap (map f) (take-suc xs i x h) ∙ map-append f (take i xs) (get_or xs i x ∷ []) ∙ ap (λ y. map f (take i xs) ++ f y ∷ []) (sym e)
 
 pub pushed_there : {X : Type 0} (ok : Bool) (xs ys new : List X) → new ≡ (if ok then xs else ys) → ok ≡ true → new ≡ xs
 pushed_there true xs ys new e h = e

@@ -1,23 +1,16 @@
 -- What the reports of several clients say, whatever image they ran on.
---     texts_of programs               the files of verified clients
 --     IsReportOf text report          the steps and the ending are those of a run of the client's
 --                                     code, within its bound
 --     AreReportsOf texts reports      the same of each client that ran, in order
 --     HasReportsOf texts reports ended    and all ran where no output failed
-use Rattle.std.specs.Prelude.{◌≡◌, ⊤, ℕ, ◌≤◌, List, [], ◌∷◌, length, map}
+use Rattle.std.specs.Prelude.{◌≡◌, ⊤, ℕ, ◌≤◌, List, [], ◌∷◌, length}
 use Rattle.client_spec.specs.Syntax.{Client}
 use Rattle.client_spec.specs.Grammar.{SpellsClient}
 use Rattle.client_spec.specs.Run.{bound}
-use Rattle.client_code.specs.Clients.{bytes_of}
-use Rattle.client_verify.specs.Accepted.{client_of}
-use Rattle.client_verify.specs.declared.verified.Verified.{Verified}
 use Rattle.client_run.specs.declared.report.Report.{Report}
 use Rattle.client_run.specs.declared.report.Ended.{Ended}
 use Rattle.client_run.specs.Runs.{ending_of}
 use Rattle.client_program.specs.Paths.{IsPath}
-
-abbrev pub texts_of : List Verified → List (List ℕ)
-texts_of programs = map (λ program. bytes_of (client_of program)) programs
 
 pub record IsReportOf (text : List ℕ) (report : Report) : Type 0 where
   pub path : (client : Client) → SpellsClient text client →

@@ -11,15 +11,17 @@ ghost use Rattle.client_run.specs.Moves.{moves_of};
 ghost use Rattle.client_vm.specs.Outcomes.{IsFaultOfCall, IsRefusedFor, HasOutcome};
 ghost use Rattle.client_run.specs.Runs.{ending_of, IsReady};
 ghost use Rattle.client_vm.specs.Together.{ending_if, HaveRun, HaveRunOn};
-ghost use Rattle.client_vm.specs.Texts.{AreWrong};
-ghost use Rattle.client_vm.specs.Reports.{texts_of, AreReportsOf, HasReportsOf};
+ghost use Rattle.client_accept.specs.Texts.{AreWrong};
+ghost use Rattle.client_accept.specs.Texts.{texts_of};
+ghost use Rattle.client_vm.specs.Reports.{AreReportsOf, HasReportsOf};
 
-use crate::accepting::verify_all;
-use crate::outcome::{Outcome, Refused, Schedule};
+use crate::outcome::{Outcome, Schedule};
+use client_accept::{Refused, verify_all};
 use client_run::{Ended, Move, Report, Sink, first_bad_move, is_place, run};
 use client_verify::Verified;
 use seg_bestfit::BestFit;
 use seg_block::Fit;
+use seg_layout::TypeTable;
 use seg_manager::{MIN_LEN, Segment};
 use seg_open::open;
 use seg_ptr::{MAX_LEN, Window, header};
@@ -152,7 +154,7 @@ fn run_on<F: Fit, A: Allocator + Copy, W: Sink>(
 /// Verifies the clients, and runs them on an open segment.
 fn run_opened<F: Fit, A: Allocator + Copy, W: Sink>(
     alloc: A,
-    mut segment: Segment<F, A>,
+    segment: Segment<F, A>,
     clients: &[&[u8]],
     input: &[u8],
     moves: &[Move],
@@ -174,26 +176,63 @@ fn run_opened<F: Fit, A: Allocator + Copy, W: Sink>(
     ensures reports { IfOk result (λ o. HasReportsOf (map (λ c. c.now) clients.now)
         o.reports.items o.ended) }
 {
-    let programs = verify_all(alloc, clients, segment.types())?;
-    let mut reports = Vec::with_capacity(alloc, clients.len())?;
-    run_all(
-        &mut segment,
-        programs.as_slice(),
-        input,
-        moves,
-        out,
-        &mut reports,
-    );
+    let (programs, reports) = prepared(alloc, clients, segment.types())?;
+    Ok(run_verified(segment, programs, input, moves, reports, out))
+}
+
+/// The verified clients, and room for the report of each.
+fn prepared<'a, A: Allocator + Copy>(
+    alloc: A,
+    clients: &[&'a [u8]],
+    types: &TypeTable,
+) -> Result<(Vec<Verified<'a>, A>, Vec<Report, A>), Refused>
+    ensures texts { IfOk result
+        (λ it. texts_of it.0.items ≡ map (λ c. c.now) clients.now) }
+    ensures empty { IfOk result (λ it. it.1.items ≡ []) }
+    ensures room { IfOk result (λ it. length it.0.items ≤ vec_capacity it.1) }
+    ensures accepted { OnOk result ((trees : List syntax.Client) ×
+        AreAccepted types.now (map (λ c. c.now) clients.now) trees) }
+    ensures refused { IfErr result (λ refused.
+        AreWrong types.now (map (λ c. c.now) clients.now) refused) }
+{
+    let programs = verify_all(alloc, clients, types)?;
+    let reports = Vec::with_capacity(alloc, clients.len())?;
+    Ok((programs, reports))
+}
+
+/// Runs verified clients on an open segment, and saves it; the reports have room for each.
+fn run_verified<F: Fit, A: Allocator, W: Sink>(
+    mut segment: Segment<F, A>,
+    programs: Vec<Verified, A>,
+    input: &[u8],
+    moves: &[Move],
+    mut reports: Vec<Report, A>,
+    out: &mut W,
+) -> Outcome<A>
+    requires works { W.has_failed out.old ≡ false }
+    requires empty { reports.items ≡ [] }
+    requires room { length programs.items ≤ vec_capacity reports }
+    ensures runs { (trees : List syntax.Client) →
+        AreAccepted segment.types (texts_of programs.entry.items) trees →
+        IsReady F.allocator [] segment.window segment.types (moves_of moves.now) →
+        HaveRun trees (moves_of moves.now) input.now segment.window (W.taken out.old)
+        result.image.items (W.taken out.new) result.reports.items (ending_of result.ended) }
+    ensures ended { (result.ended ≡ Ended.OutputFailed) ↔ (W.has_failed out.new ≡ true) }
+    ensures reports { HasReportsOf (texts_of programs.entry.items) result.reports.items
+        result.ended }
+{
+    let verified = programs.as_slice();
+    run_all(&mut segment, verified, input, moves, out, &mut reports);
     let ended = if out.failed() {
         Ended::OutputFailed
     } else {
         Ended::Done
     };
-    Ok(Outcome {
+    Outcome {
         image: segment.into_window().into_bytes(),
         reports,
         ended,
-    })
+    }
 }
 
 /// A region with the image of `len` bytes at its base; the image's own memory where it is the whole region.

@@ -15,7 +15,7 @@ use Rattle.client_run.specs.declared.report.Report.{Report}
 use Rattle.client_run.specs.declared.report.Ended.{Ended}
 use Rattle.client_run.specs.declared.report.Ended.TheVariants as ended
 use Rattle.client_run.specs.Runs.{ending_of, MayRun, HasRun}
-use Rattle.client_vm.specs.Texts.{IsWrongText, AreWrong}
+use Rattle.client_accept.specs.Texts.{IsWrongText, AreWrong}
 use Rattle.client_vm.specs.Together.{opened, HaveRun, HaveRunOn}
 use Rattle.client_vm.proofs.TogetherLaws.{begins, next_ran, ends, ending_failed, ran_on}
 

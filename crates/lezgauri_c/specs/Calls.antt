@@ -18,7 +18,7 @@ use Rattle.client_spec.specs.Run.{bound}
 use Rattle.client_spec.specs.Clients.{IsVerified}
 use Rattle.client_run.specs.declared.report.Report as client_run_report
 use Rattle.client_run.specs.declared.report.Ended.{Ended}
-use Rattle.client_vm.specs.declared.outcome.Refused.{Refused}
+use Rattle.client_accept.specs.declared.refused.Refused.{Refused}
 use Rattle.client_vm.specs.Admitted.{IsWrong}
 use Rattle.client_vm.specs.Reports.{IsReportOf, HasReportsOf}
 use Rattle.client_vm.specs.Outcomes.{HasOutcome, IsRefusedFor}

@@ -10,7 +10,7 @@ use Rattle.seg_raw.specs.declared.fault.Fault.TheVariants as fault
 use Rattle.seg_raw.specs.Refusals.{fault_number}
 use Rattle.client_run.specs.declared.report.Ended.{Ended}
 use Rattle.client_run.specs.declared.report.Ended.TheVariants as ended
-use Rattle.client_vm.specs.declared.outcome.Refused.{Refused}
+use Rattle.client_accept.specs.declared.refused.Refused.{Refused}
 use Rattle.client_run.specs.declared.report.Report as client_run_report
 use Rattle.lezgauri_c.specs.declared.fault.Fault.{Fault}
 use Rattle.lezgauri_c.specs.declared.fault.TheConstants.{NO_CLIENT}

@@ -1,9 +1,8 @@
 ghost use Rattle.std.specs.Prelude.{◌≡◌, false};
 
-use crate::failure::{Failure, STANDARD_OUTPUT};
-use crate::inputs::{read_input, slices};
-use client_vm::{Ended, Outcome, Refused, Schedule, Sink, run_image};
-use seg_files::{Files, read_files, read_image, write_file};
+use client_vm::{Outcome, Refused, Schedule, Sink, run_image};
+use seg_files::Files;
+use seg_host::{Failure, Inputs, read_inputs, save, slices};
 use seg_words::Run;
 use std::alloc::Global;
 
@@ -17,40 +16,24 @@ pub fn run_files<'a, F: Files, O: Sink>(
 ) -> Result<(), Failure<'a>>
     requires works { O.has_failed out.old ≡ false }
 {
-    let image = read_image(alloc, files, run.image)?;
-    let clients = read_files(alloc, files, run.clients.as_slice())?;
-    let input = read_input(alloc, files, run.input)?;
-    let outcome = outcome_of(alloc, run, image, clients.as_slice(), input.as_slice(), out)?;
-    save(files, run.out, &outcome)
-}
-
-/// Writes the saved image, and says where the output failed.
-fn save<'a, F: Files>(
-    files: &mut F,
-    name: &'a str,
-    outcome: &Outcome<Global>,
-) -> Result<(), Failure<'a>> {
-    let saved = write_file(files, name, outcome.image.as_slice());
-    match outcome.ended {
-        Ended::Done => Ok(saved?),
-        Ended::OutputFailed => Err(Failure::File(STANDARD_OUTPUT)),
-    }
+    let inputs = read_inputs(alloc, files, run)?;
+    let outcome = outcome_of(alloc, run, inputs, out)?;
+    save(files, run.out, outcome.image.as_slice(), outcome.ended)
 }
 
 /// Runs the clients on an image.
 fn outcome_of<O: Sink>(
     alloc: Global,
     run: &Run,
-    image: Vec<u8>,
-    clients: &[Vec<u8>],
-    input: &[u8],
+    inputs: Inputs,
     out: &mut O,
 ) -> Result<Outcome<Global>, Refused>
     requires works { O.has_failed out.old ≡ false }
 {
-    let clients = slices(alloc, clients)?;
-    let schedule = schedule_of(run, image.len());
-    run_image(alloc, image, clients.as_slice(), input, &schedule, out)
+    let clients = slices(alloc, inputs.clients.as_slice())?;
+    let schedule = schedule_of(run, inputs.image.len());
+    let input = inputs.input.as_slice();
+    run_image(alloc, inputs.image, clients.as_slice(), input, &schedule, out)
 }
 
 /// Where a segment of so many bytes lies: in a region that it ends, where the words say nothing else.

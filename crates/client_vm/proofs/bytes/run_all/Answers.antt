@@ -6,7 +6,8 @@ use Rattle.client_verify.specs.Accepted.{client_of}
 use Rattle.client_verify.specs.declared.verified.Verified.{Verified}
 use Rattle.client_run.specs.declared.report.Report.{Report}
 use Rattle.client_run.specs.Moves.{moves_of}
-use Rattle.client_vm.specs.Reports.{texts_of, AreReportsOf}
+use Rattle.client_accept.specs.Texts.{texts_of}
+use Rattle.client_vm.specs.Reports.{AreReportsOf}
 use Rattle.client_vm.proofs.ReportLaws.{pushed_there, program_ran, some_ran}
 use Rattle.client_vm.proofs.TogetherLaws.{Midway, begins, next_ran, stops, ends}
 use Rattle.client_vm.proofs.bytes.run_all.Goals as goal
@@ -20,7 +21,7 @@ loop-program-init g c empty room = (
       let first = begins g.F.Fit.allocator trees (moves_of c.args.moves.now) c.args.input.now c.args.segment.now.window (g.W.Sink.taken c.args.out.now) (texts_of c.args.programs.now) c.args.segment.now.types accepted ready in
       let its = λ (reports : List Report) (failed : Bool). Midway g.F.Fit.allocator trees (moves_of c.args.moves.now) c.args.input.now c.args.segment.now.window (g.W.Sink.taken c.args.out.now) (texts_of c.args.programs.now) c.args.input.now
       c.args.segment.now.window c.args.segment.now.types (g.W.Sink.taken c.args.out.now) reports failed in
-      subst (its c.args.reports.now.items) (sym works) (subst (λ reports. its reports false) (sym empty) first),
+      subst (its c.args.reports.now.items) (sym {A = Bool} works) (subst (λ reports. its reports false) (sym {A = List Report} empty) first),
 )
 
 pub loop-program-preserved : goal.loop-program-preserved

@@ -2,7 +2,8 @@ use Rattle.std.proofs.Common.{◌≡◌, ◌≤◌, List, [], false, length, tak
 use Rattle.client_spec.specs.Syntax.{Client}
 use Rattle.client_spec.specs.Clients.{AreAccepted}
 use Rattle.client_run.specs.Moves.{moves_of}
-use Rattle.client_vm.specs.Reports.{texts_of, AreReportsOf}
+use Rattle.client_accept.specs.Texts.{texts_of}
+use Rattle.client_vm.specs.Reports.{AreReportsOf}
 use Rattle.client_run.specs.Runs.{IsReady}
 use Rattle.client_vm.proofs.TogetherLaws.{Midway}
 use Rattle.client_vm.proofs.bytes.run_all.Given as goal

@@ -1,8 +1,8 @@
 use Rattle.std.proofs.Common.{◌≡◌, List, map, take}
 use Rattle.client_spec.specs.Syntax.{Client}
 use Rattle.client_spec.specs.Clients.{AreAccepted, table_after}
-use Rattle.client_vm.specs.Reports.{texts_of}
-use Rattle.client_vm.proofs.accepting.verify_all.Given as goal
+use Rattle.client_accept.specs.Texts.{texts_of}
+use Rattle.client_accept.proofs.accepting.verify_all.Given as goal
 
 abbrev pub invariant-loop-i : goal.invariant-loop-i
 invariant-loop-i g l =

@@ -1,16 +1,23 @@
 -- The files of several clients, each looked at where a segment has the types of those before it.
+--     texts_of programs                   the files of verified clients
 --     IsWrongText table text fault        the file is no client's, or the types refuse its client
 --     IsWrongAt table texts k fault       file k has this fault, and those before it were accepted
 --     AreWrong table texts refused        a file has it, or memory was refused
-use Rattle.std.specs.Prelude.{◌≡◌, ℕ, List, take, Option, Some, None, slice_get}
+use Rattle.std.specs.Prelude.{◌≡◌, ℕ, List, map, take, Option, Some, None, slice_get}
 use Rattle.seg_spec.specs.Types.{Table}
 use Rattle.seg_raw.specs.declared.fault.Fault.{Fault}
 use Rattle.seg_raw.specs.declared.fault.Fault.TheVariants as fault
 use Rattle.client_spec.specs.Syntax.{Client}
 use Rattle.client_spec.specs.Grammar.{SpellsClient}
 use Rattle.client_spec.specs.Clients.{AreAccepted, table_after}
+use Rattle.client_code.specs.Clients.{bytes_of}
+use Rattle.client_verify.specs.Accepted.{client_of}
 use Rattle.client_verify.specs.Refusals.{IsRefused}
-use Rattle.client_vm.specs.declared.outcome.Refused.{Refused}
+use Rattle.client_verify.specs.declared.verified.Verified.{Verified}
+use Rattle.client_accept.specs.declared.refused.Refused.{Refused}
+
+abbrev pub texts_of : List Verified → List (List ℕ)
+texts_of programs = map (λ program. bytes_of (client_of program)) programs
 
 abbrev pub IsWrongText : Table → List ℕ → Fault → Type 0
 IsWrongText table text (fault.BadCode at) = (client : Client) → SpellsClient text client → ⊥

@@ -1,6 +1,7 @@
 -- Files of clients, one by one.
-use Rattle.std.proofs.Common.{◌≡◌, ℕ, zero, suc, ◌+◌, ◌<◌, List, [], ◌∷◌, ◌++◌, length, map, take, get_or, Some, refl, sym, ap, ◌∙◌, subst, arith}
+use Rattle.std.proofs.Common.{◌≡◌, ℕ, zero, suc, ◌+◌, ◌<◌, List, [], ◌∷◌, ◌++◌, length, map, take, get_or, Some, refl, sym, ap, ◌∙◌, subst, arith, add-one}
 use Rattle.std.specs.Prelude.{slice_get}
+use Rattle.std.proofs.Math.Seq.{take-suc}
 use Rattle.std.proofs.lemmas.List.{map-append, take-map, get_or_default}
 use Rattle.seg_raw.specs.declared.fault.Fault.{Fault}
 use Rattle.seg_spec.specs.Types.{Table, longer}
@@ -10,9 +11,12 @@ use Rattle.client_spec.specs.Clients.{IsVerified, AreAccepted, table_after}
 use Rattle.client_code.specs.Clients.{bytes_of}
 use Rattle.client_verify.specs.Accepted.{client_of}
 use Rattle.client_verify.specs.declared.verified.Verified.{Verified}
-use Rattle.client_vm.specs.Reports.{texts_of}
-use Rattle.client_vm.specs.Texts.{IsWrongText, IsWrongAt}
-use Rattle.client_vm.proofs.ReportLaws.{mapped_front}
+use Rattle.client_accept.specs.Texts.{texts_of, IsWrongText, IsWrongAt}
+
+-- one element more of a front
+pub mapped_front : {X Y : Type 0} (f : X → Y) (xs : List X) (i : ℕ) (x : X) → i < length xs → x ≡ get_or xs i x → map f (take (i + 1) xs) ≡ map f (take i xs) ++ f x ∷ []
+mapped_front f xs i x h e =
+    ap (λ n. map f (take n xs)) (add-one i) ∙ ap (map f) (take-suc xs i x h) ∙ map-append f (take i xs) (get_or xs i x ∷ []) ∙ ap (λ y. map f (take i xs) ++ f y ∷ []) (sym e)
 
 -- one client more
 pub accepted_more : (table : Table) (texts : List (List ℕ)) (clients : List Client) (text : List ℕ) (client : Client) → AreAccepted table texts clients → SpellsClient text client → IsVerified (table_after table clients) client

@@ -1,4 +1,4 @@
-use client_vm::Refused;
+use client_accept::Refused;
 use seg_files::FileFailure;
 use seg_raw::Fault;
 use seg_words::Misread;

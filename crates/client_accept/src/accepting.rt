@@ -5,10 +5,9 @@ ghost use Rattle.client_spec.specs.Grammar.{SpellsClient};
 ghost use Rattle.client_spec.specs.Clients.{IsVerified, AreAccepted};
 ghost use Rattle.client_code.specs.Clients.{bytes_of};
 ghost use Rattle.client_verify.specs.Accepted.{client_of};
-ghost use Rattle.client_vm.specs.Reports.{texts_of};
-ghost use Rattle.client_vm.specs.Texts.{IsWrongText, AreWrong};
+ghost use Rattle.client_accept.specs.Texts.{texts_of, IsWrongText, AreWrong};
 
-use crate::outcome::Refused;
+use crate::refused::Refused;
 use client_code::parse;
 use client_verify::{Verified, verify};
 use seg_layout::TypeTable;
@@ -16,7 +15,7 @@ use seg_raw::Fault;
 use std::alloc::Allocator;
 
 /// The clients, each verified against the types as the ones before extend them.
-pub(crate) fn verify_all<'a, A: Allocator + Copy>(
+pub fn verify_all<'a, A: Allocator + Copy>(
     alloc: A,
     clients: &[&'a [u8]],
     types: &TypeTable,

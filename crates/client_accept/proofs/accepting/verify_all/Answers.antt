@@ -1,7 +1,7 @@
 use Rattle.std.proofs.Common.{[], ◌∷◌, ◌++◌, ap, ◌∙◌}
-use Rattle.client_vm.specs.Reports.{texts_of}
-use Rattle.client_vm.proofs.TextsLaws.{text_added, client_added, first_wrong}
-use Rattle.client_vm.proofs.accepting.verify_all.Goals as goal
+use Rattle.client_accept.specs.Texts.{texts_of}
+use Rattle.client_accept.proofs.TextsLaws.{text_added, client_added, first_wrong}
+use Rattle.client_accept.proofs.accepting.verify_all.Goals as goal
 
 pub returns-in-Err-clause-refused : goal.returns-in-Err-clause-refused
 returns-in-Err-clause-refused g c =
