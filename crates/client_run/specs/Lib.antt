@@ -1,5 +1,4 @@
 pub mod Moves
-pub mod Sinks
 pub mod Runs
 pub mod Machines
 pub mod Worlds

@@ -8,17 +8,13 @@ mod maps;
 mod moves;
 mod name;
 mod objects;
-mod output;
 mod perform;
 mod report;
-mod sink;
 mod stepper;
 mod values;
 mod writing;
 
 pub use interpreter::run;
 pub use moves::{first_bad_move, is_place, moves_fit};
-pub use output::{Stopped, write_all};
 pub use report::{Ended, Move, Report};
-pub use sink::{Sink, Through};
 pub use stepper::{Stepped, Stepper};

@@ -6,10 +6,9 @@ ghost use Rattle.client_sim.specs.Writes.{Took, Fails};
 ghost use Rattle.client_run.specs.Worlds.{line_of, string_at};
 
 use crate::machine::Machine;
-use crate::output::{Stopped, write_all};
-use crate::sink::Sink;
 use arrayvec::ArrayVec;
 use client_code::Instruction;
+use client_output::{Sink, Stopped, write_all};
 use itoa::Buffer;
 use seg_block::Fit;
 use seg_manager::Segment;

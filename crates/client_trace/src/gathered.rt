@@ -1,7 +1,7 @@
 ghost use Rattle.std.specs.Prelude.{false, None};
 
 use arrayvec::ArrayVec;
-use client_run::Sink;
+use client_output::Sink;
 use std::alloc::AllocError;
 use std::fmt::Write;
 

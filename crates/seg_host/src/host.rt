@@ -1,7 +1,7 @@
 ghost use Rattle.std.specs.Prelude.{◌≡◌, false};
 
 use crate::output::tell;
-use client_run::Sink;
+use client_output::Sink;
 use std::rt::Env;
 use std::{env, io};
 

@@ -2,7 +2,7 @@
 --     writer_of sink      the writer
 --     failed_of sink      its last write took nothing
 use Rattle.std.specs.Prelude.{Bool}
-use Rattle.client_run.specs.declared.sink.Through.{Through}
+use Rattle.client_output.specs.declared.sink.Through.{Through}
 
 abbrev pub writer_of : {W : Type 0} → Through W → W
 writer_of sink = sink.writer

@@ -1,5 +1,5 @@
 ghost use Rattle.std.specs.Prelude.{◌≡◌, ◌+◌, ◌<◌, ◌≤◌, ◌++◌, ◌↔◌, List, ℕ, Option, Some, Bool, true, false, length, take, IfSome, OnSome};
-ghost use Rattle.client_run.specs.Sinks.{writer_of, failed_of};
+ghost use Rattle.client_output.specs.Sinks.{writer_of, failed_of};
 
 use std::io::Write;
 
