@@ -1,7 +1,7 @@
 -- The object that a register owns, as a call finds it: loose, with its value, apart from what stands at another root's place.
 use Rattle.std.proofs.Common.{◌≡◌, ◌≢◌, ℕ, ◌+◌, ◌*◌, ◌<◌, ◌≤◌, List, [], ◌∷◌, ◌++◌, Option, Some, refl, sym, ◌∙◌, ap, subst, arith}
 use Rattle.std.proofs.lemmas.List.{append-nil}
-use Rattle.seg_spec.specs.Bytes.{slice}
+use Rattle.seg_bytes.specs.Bytes.{slice}
 use Rattle.seg_spec.specs.Types.{Table, size}
 use Rattle.seg_spec.specs.Value.{Value, nil, cons, count}
 use Rattle.seg_spec.specs.Heap.{live}

@@ -4,7 +4,7 @@ use Rattle.std.specs.Result.{IsErrAnd}
 use Rattle.std.specs.Prelude.{replicate, IfOk, IfErr}
 use Rattle.std.proofs.Math.Seq.{take-length}
 use Rattle.std.proofs.lemmas.List.{length-replicate}
-use Rattle.seg_spec.specs.Bytes.{word, slice, IsPlaced}
+use Rattle.seg_bytes.specs.Bytes.{word, slice, IsPlaced}
 use Rattle.seg_spec.specs.Window.{Placement, region_of, IsPlace}
 use Rattle.seg_spec.proofs.SliceLaws.{region-placed}
 use Rattle.seg_spec.specs.Header.{allocator_word}

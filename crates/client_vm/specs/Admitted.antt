@@ -3,7 +3,7 @@
 --     AreAcceptedOn image texts           the image is sound, and accepts the clients one by one
 --     IsWrong image texts refused         the image has the fault, or a client of a sound one has
 use Rattle.std.specs.Prelude.{ℕ, List, length, Option, Some, None}
-use Rattle.seg_spec.specs.Bytes.{IsPlaced}
+use Rattle.seg_bytes.specs.Bytes.{IsPlaced}
 use Rattle.seg_spec.specs.Window.{IsPlace}
 use Rattle.seg_spec.specs.Images.{IsSound}
 use Rattle.seg_raw.specs.declared.fault.Fault.{Fault}

@@ -1,6 +1,6 @@
 -- A client by itself: what its run leaves is what several leave, of which it is the only one.
 use Rattle.std.proofs.Common.{◌≡◌, ℕ, ◌↔◌, Bool, true, false, List, [], ◌∷◌, length, drop, Option, Some, Result, Ok, Err, refl, sym, ◌∙◌, subst, arith}
-use Rattle.seg_spec.specs.Bytes.{word}
+use Rattle.seg_bytes.specs.Bytes.{word}
 use Rattle.seg_spec.specs.Header.{allocator_word}
 use Rattle.seg_spec.specs.Types.{Table}
 use Rattle.seg_spec.specs.Images.{IsSound}

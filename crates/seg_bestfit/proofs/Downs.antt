@@ -1,9 +1,9 @@
 -- A live tile becomes one gap with the free tile after it, whose place in the tree it takes.
 use Rattle.std.proofs.Common.{◌≡◌, ◌≢◌, ℕ, ◌+◌, ◌*◌, ◌≤◌, ◌⊎◌, inl, inr, ⊎_elim, true, false, List, [], ◌∷◌, ◌++◌, length, Some, None, refl, sym, ◌∙◌, subst, arith}
-use Rattle.seg_spec.specs.Bytes.{word, set_word, Agrees, IsSame}
+use Rattle.seg_bytes.specs.Bytes.{word, set_word, Agrees, IsSame}
 use Rattle.seg_spec.specs.Pointer.{distance, set_pointer}
 use Rattle.seg_spec.specs.Heap.{Span, Tile, units_before, tag_at, link_at, Fill, AreHeaders, free_of, by_size, heap_start, IsFreeTree}
-use Rattle.seg_spec.proofs.BytesLaws.{number-set_same, number-set_other, length-set_number, Agrees-set_number, Agrees-trans}
+use Rattle.seg_bytes.proofs.BytesLaws.{number-set_same, number-set_other, length-set_number, Agrees-set_number, Agrees-trans}
 use Rattle.seg_spec.proofs.HeapFrame.{each_by_size}
 use Rattle.seg_spec.proofs.PointerLaws.{target-same, target-set_same}
 use Rattle.seg_spec.proofs.SliceLaws.{IsSame-agrees}

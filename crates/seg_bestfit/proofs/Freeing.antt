@@ -2,7 +2,7 @@
 use Rattle.std.proofs.Common.{◌≡◌, ℕ, ◌+◌, ◌*◌, ◌≤◌, Bool, true, false, List, [], ◌∷◌, ◌++◌, Option, Some, None, not, refl, sym, ap, ◌∙◌, subst, arith, ⊎_elim}
 use Rattle.std.specs.Prelude.{Contains}
 use Rattle.std.specs.Option.{is_some}
-use Rattle.seg_spec.specs.Bytes.{Agrees}
+use Rattle.seg_bytes.specs.Bytes.{Agrees}
 use Rattle.seg_spec.specs.Heap.{Span, Tile, AreApart, live_of, live, gaps, room_at, IsHeap, IsLive, Gives}
 use Rattle.seg_spec.proofs.TileLaws.{live_of-append, AreApart-append}
 use Rattle.seg_block.specs.declared.block.Block.{Block}

@@ -1,7 +1,7 @@
 -- A gap's node gives its place in the tree to that of another gap, whose header was written meanwhile.
 use Rattle.std.proofs.Common.{◌≡◌, ◌≢◌, ℕ, ◌+◌, ◌^◌, ◌≤◌, List, [], ◌∷◌, ◌++◌, length, map, true, false, cond, Some, None, refl, sym, ap, ◌∙◌, subst, arith}
 use Rattle.std.specs.List.{AllByRecursion}
-use Rattle.seg_spec.specs.Bytes.{IsSame}
+use Rattle.seg_bytes.specs.Bytes.{IsSame}
 use Rattle.seg_spec.specs.Heap.{Span, link_at, is_smaller, insert_by_size, by_size, IsFreeTree}
 use Rattle.seg_spec.specs.Pointer.{target}
 use Rattle.seg_spec.specs.Search.{IsSearchTree}

@@ -3,9 +3,9 @@ use Rattle.std.proofs.Common.{◌≡◌, ℕ, ◌+◌, ◌*◌, ◌<◌, ◌≤�
 use Rattle.std.specs.Prelude.{Contains}
 use Rattle.std.proofs.lemmas.Bool.Decides.{nat_tests}
 use Rattle.seg_spec.specs.Heap.{Span, Tile, span_of, end_of, Fill, AreHeaders, AreApart, HoldsGaps, live_of, free_of, gaps_between, heap_start, tiles, live, gaps, IsHeap, with_block, Keeps}
-use Rattle.seg_spec.specs.Bytes.{Agrees}
+use Rattle.seg_bytes.specs.Bytes.{Agrees}
 use Rattle.seg_spec.specs.Pointer.{target}
-use Rattle.seg_spec.proofs.BytesLaws.{number-agrees, Agrees-same, Agrees-trans}
+use Rattle.seg_bytes.proofs.BytesLaws.{number-agrees, Agrees-same, Agrees-trans}
 use Rattle.seg_spec.proofs.PointerLaws.{target-same}
 use Rattle.seg_spec.proofs.TileLaws.{Fill-le, tiles-unique, gaps_between-live_of}
 use Rattle.seg_block.specs.Tiling.{IsTiling, Spares}

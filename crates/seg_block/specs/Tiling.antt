@@ -1,6 +1,6 @@
 -- The tiles of a heap, whatever holds the free ones. Free tiles may be neighbours.
 use Rattle.std.specs.Prelude.{ℕ, ◌+◌, ◌-◌, ◌*◌, ◌≤◌, Bool, List, [], ◌∷◌, ◌++◌, length, Contains}
-use Rattle.seg_spec.specs.Bytes.{Agrees}
+use Rattle.seg_bytes.specs.Bytes.{Agrees}
 use Rattle.seg_spec.specs.Heap.{Span, Tile, end_of, Fill, AreHeaders, HoldsGaps, live_of, free_of, heap_start}
 use Rattle.seg_ptr.specs.declared.window.TheConstants.{MAX_LEN}
 use Rattle.seg_ptr.specs.declared.header.TheConstants.{FREE}

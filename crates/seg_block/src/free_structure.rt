@@ -1,7 +1,7 @@
 //! The structure of free blocks under changes of live ones.
 
 ghost use Rattle.std.specs.Prelude.{◌≡◌, ℕ, ◌+◌, ◌*◌, ◌≤◌, ◌⊎◌, Bool, true, false, List, [], ◌∷◌, ◌++◌, None};
-ghost use Rattle.seg_spec.specs.Bytes.{Agrees};
+ghost use Rattle.seg_bytes.specs.Bytes.{Agrees};
 ghost use Rattle.seg_spec.specs.Window.{KeepsHost};
 ghost use Rattle.seg_spec.specs.Heap.{Tile, IsHeap, link_at};
 ghost use Rattle.seg_block.specs.Blocks.{block_end, IsCut, IsLiveBlock, room_after, IsResized};

@@ -1,7 +1,7 @@
 -- What is known after the stations of the heap.
 use Rattle.std.proofs.Common.{◌≡◌, ℕ, ◌+◌, ◌-◌, ◌*◌, ◌/◌, ◌%◌, ◌≤◌, Bool, true, false, Some, List, length, refl, arith}
 use Rattle.std.proofs.lemmas.List.{length-map}
-use Rattle.seg_spec.specs.Bytes.{word}
+use Rattle.seg_bytes.specs.Bytes.{word}
 use Rattle.seg_spec.specs.Types.{Form, Table, form_at}
 use Rattle.seg_spec.specs.Header.{allocator_word}
 use Rattle.seg_spec.specs.Heap.{heap_start, Span, IsHeap, HoldsGaps, gaps, live}

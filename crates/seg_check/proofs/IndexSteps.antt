@@ -1,6 +1,6 @@
 -- The index, whose blocks were claimed, or can't be.
 use Rattle.std.proofs.Common.{◌≡◌, ℕ, zero, suc, ◌+◌, ◌-◌, ◌*◌, ◌%◌, ◌<◌, ◌≤◌, ◌⊎◌, inl, inr, ⊎_elim, Option, List, [], ◌∷◌, ◌++◌, length, map, Some, None, refl, sym, ap, ◌∙◌, subst, arith}
-use Rattle.seg_spec.specs.Bytes.{word}
+use Rattle.seg_bytes.specs.Bytes.{word}
 use Rattle.seg_spec.specs.Header.{index_kind_word, index_cell}
 use Rattle.seg_spec.specs.Pointer.{target}
 use Rattle.seg_spec.specs.Types.{Table}

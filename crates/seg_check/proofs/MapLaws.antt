@@ -5,7 +5,7 @@ use Rattle.std.specs.Result.{IsErrAnd}
 use Rattle.std.proofs.lemmas.Result.{err_from_is_err_and}
 use Rattle.std.proofs.lemmas.List.{map-append}
 use Rattle.seg_spec.specs.Pointer.{target}
-use Rattle.seg_spec.specs.Bytes.{signed_long}
+use Rattle.seg_bytes.specs.Bytes.{signed_long}
 use Rattle.seg_spec.specs.Types.{Form, Table, form_at, size}
 use Rattle.seg_spec.specs.Block.{Kind, tag_of, block_of, IsBlock}
 use Rattle.seg_spec.specs.Shapes.{Tree, leaf, fork, nodes_of, IsTree, tree_words}

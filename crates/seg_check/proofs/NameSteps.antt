@@ -1,6 +1,6 @@
 -- An entry of the index and its object, which was claimed, or can't be.
 use Rattle.std.proofs.Common.{◌≡◌, ℕ, zero, suc, ◌+◌, ◌*◌, ◌%◌, ◌<◌, ◌≤◌, Bool, true, false, List, [], ◌∷◌, ◌++◌, length, map, Option, Some, refl, sym, ap, ◌∙◌, subst, arith}
-use Rattle.seg_spec.specs.Bytes.{slice, half, byte}
+use Rattle.seg_bytes.specs.Bytes.{slice, half, byte}
 use Rattle.seg_spec.specs.Pointer.{target}
 use Rattle.seg_spec.specs.Types.{Table, form_at, size}
 use Rattle.seg_spec.specs.Value.{Values, count}
@@ -15,7 +15,7 @@ use Rattle.seg_spec.proofs.CellOwed.{items_entries}
 use Rattle.seg_spec.proofs.LiveLaws.{times-append, times-same}
 use Rattle.seg_spec.proofs.MoreTypes.{below_length}
 use Rattle.seg_spec.proofs.RootLaws.{HoldsRoots-split, HoldsRoots-only}
-use Rattle.seg_spec.proofs.BytesLaws.{length-slice}
+use Rattle.seg_bytes.proofs.BytesLaws.{length-slice}
 use Rattle.seg_layout.specs.Forms.{has_cells}
 use Rattle.seg_check.specs.Claiming.{CanClaim, ClaimsBlock, turns_where}
 use Rattle.seg_check.specs.declared.marks.Turn.{Turn}

@@ -1,7 +1,7 @@
 -- The walks through a tree index: its nodes are claimed, and then its entries looked at.
 use Rattle.std.proofs.Common.{◌≡◌, ℕ, ◌+◌, ◌*◌, ◌<◌, ◌≤◌, List, [], ◌∷◌, ◌++◌, length, map, Some, None, refl, sym, ap, ◌∙◌, subst, arith}
 use Rattle.std.proofs.lemmas.List.{append_assoc, append-nil, map-append, length-map}
-use Rattle.seg_spec.specs.Bytes.{word}
+use Rattle.seg_bytes.specs.Bytes.{word}
 use Rattle.seg_spec.specs.Header.{index_kind_word, index_cell}
 use Rattle.seg_spec.specs.Pointer.{target}
 use Rattle.seg_spec.specs.Types.{Table}

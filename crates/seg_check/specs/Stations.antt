@@ -5,7 +5,7 @@
 --     KnowsOwners bytes table known          its content is right, but for live blocks that nothing owns
 --     FindsOwners bytes table new result     that is so, or the image isn't sound
 use Rattle.std.specs.Prelude.{◌≡◌, ℕ, ◌+◌, ◌-◌, ◌*◌, ◌/◌, ◌≤◌, List, [], length, Some, Result, Ok, Err}
-use Rattle.seg_spec.specs.Bytes.{word}
+use Rattle.seg_bytes.specs.Bytes.{word}
 use Rattle.seg_spec.specs.Types.{Form, Table, form_at}
 use Rattle.seg_spec.specs.Header.{allocator_word}
 use Rattle.seg_spec.specs.Heap.{HoldsGaps, gaps, heap_start}

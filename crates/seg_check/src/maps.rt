@@ -1,5 +1,5 @@
 ghost use Rattle.std.specs.Prelude.{◌≡◌, ℕ, ◌-◌, ◌≤◌, ◌∷◌, []};
-ghost use Rattle.seg_spec.specs.Bytes.{signed_long};
+ghost use Rattle.seg_bytes.specs.Bytes.{signed_long};
 ghost use Rattle.seg_spec.specs.Types.{Form};
 ghost use Rattle.seg_cells.specs.Places.{object_at};
 ghost use Rattle.seg_check.specs.Resolving.{IsReady, Steps};

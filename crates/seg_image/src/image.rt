@@ -1,5 +1,5 @@
 ghost use Rattle.std.specs.Prelude.{◌≡◌, ◌↔◌, ℕ, [], length, IsOk, IfOk, IfErr, OnOk, OnErr, IsOkUnless};
-ghost use Rattle.seg_spec.specs.Bytes.{word};
+ghost use Rattle.seg_bytes.specs.Bytes.{word};
 ghost use Rattle.seg_spec.specs.Header.{version_word};
 ghost use Rattle.seg_spec.specs.Images.{IsSound};
 ghost use Rattle.seg_spec.specs.Sound.{Picture};

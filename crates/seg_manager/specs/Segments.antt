@@ -13,7 +13,7 @@
 --     AddsTypes                           the table becomes a longer one
 --     unique_at picture T                 where the unique object of a type begins
 use Rattle.std.specs.Prelude.{◌≡◌, ℕ, ◌+◌, ◌≤◌, take, drop, List, [], ◌∷◌, ◌++◌, length, ◌⊎◌, Option, Some, None, IsSome, option_map}
-use Rattle.seg_spec.specs.Bytes.{word, ChangesOnly}
+use Rattle.seg_bytes.specs.Bytes.{word, ChangesOnly}
 use Rattle.seg_spec.specs.Header.{version_word, allocator_word, next_word, index_kind_word, types_start, types_size, sharing_version, KeepsFront}
 use Rattle.seg_spec.specs.Types.{Table, size, longer}
 use Rattle.seg_spec.specs.Value.{copies, default_of}

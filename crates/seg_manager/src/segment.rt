@@ -1,5 +1,5 @@
 ghost use Rattle.std.specs.Prelude.{◌≡◌, ℕ, ◌+◌, ◌≤◌, ◌↔◌, ◌⊎◌, [], length, IsTrue, IsOk, IfOk, IfErr, OnOk, OnErr};
-ghost use Rattle.seg_spec.specs.Bytes.{word, ChangesOnly};
+ghost use Rattle.seg_bytes.specs.Bytes.{word, ChangesOnly};
 ghost use Rattle.seg_spec.specs.Faulty.{IsImageLength};
 ghost use Rattle.seg_spec.specs.Header.{version_word, allocator_word, index_kind_word, types_start, types_size, sharing_version};
 ghost use Rattle.seg_spec.specs.Heap.{live};

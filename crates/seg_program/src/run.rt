@@ -33,7 +33,14 @@ fn outcome_of<O: Sink>(
     let clients = slices(alloc, inputs.clients.as_slice())?;
     let schedule = schedule_of(run, inputs.image.len());
     let input = inputs.input.as_slice();
-    run_image(alloc, inputs.image, clients.as_slice(), input, &schedule, out)
+    run_image(
+        alloc,
+        inputs.image,
+        clients.as_slice(),
+        input,
+        &schedule,
+        out,
+    )
 }
 
 /// Where a segment of so many bytes lies: in a region that it ends, where the words say nothing else.

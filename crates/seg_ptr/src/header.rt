@@ -1,6 +1,6 @@
 //! Where the fields of an image's header stand, in bytes from the start of the segment, and what each image has alike.
 ghost use Rattle.std.specs.Prelude.{◌≡◌, ◌↔◌, IsTrue, codes, replicate};
-ghost use Rattle.seg_spec.specs.Bytes.{slice, put, word, set_word};
+ghost use Rattle.seg_bytes.specs.Bytes.{slice, put, word, set_word};
 ghost use Rattle.seg_spec.specs.Header.{IsVersion};
 ghost use Rattle.seg_spec.specs.Images.{upgraded};
 ghost use Rattle.seg_spec.specs.Window.{with_bytes};

@@ -2,7 +2,7 @@
 // Where they lie and how many there are stays in registers, which a window that a reference leads to doesn't where its bytes are written.
 
 ghost use Rattle.std.specs.Prelude.{◌≡◌, ◌+◌, ◌≤◌, length};
-ghost use Rattle.seg_spec.specs.Bytes.{set_word};
+ghost use Rattle.seg_bytes.specs.Bytes.{set_word};
 ghost use Rattle.seg_spec.specs.Pointer.{set_pointer};
 
 use crate::pointer::distance;

@@ -7,7 +7,7 @@
 --     straightened bytes word grandparent way parent turn      the bytes after two reds in a row below a black node were straightened
 --     rotated bytes word node side          the bytes after the node at a pointer word and its child on the other side changed places
 use Rattle.std.specs.Prelude.{ℕ, Bool, true, false, ◌+◌, ◌==◌, if◌then◌else◌, List, Option, None, Some}
-use Rattle.seg_spec.specs.Bytes.{word, set_word}
+use Rattle.seg_bytes.specs.Bytes.{word, set_word}
 use Rattle.seg_spec.specs.Pointer.{target, set_pointer}
 use Rattle.seg_spec.specs.Shapes
 use Rattle.seg_spec.specs.Shapes.{black, red}

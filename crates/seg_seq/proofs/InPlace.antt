@@ -1,6 +1,6 @@
 -- Entries that a buffer has room for, from what the calls below them return.
 use Rattle.std.proofs.Common.{◌≡◌, ℕ, ◌+◌, ◌-◌, ◌*◌, ◌%◌, ◌^◌, ◌<◌, ◌≤◌, ◌⊎◌, inl, inr, min, List, [], length, Option, Some, refl, sym, ◌∙◌, ap, subst, arith, zero-add}
-use Rattle.seg_spec.specs.Bytes.{long, signed, signed_long, set_word, set_long, ChangesOnly}
+use Rattle.seg_bytes.specs.Bytes.{long, signed, signed_long, set_word, set_long, ChangesOnly}
 use Rattle.seg_spec.specs.Heap.{units_at}
 use Rattle.seg_spec.specs.Block.{block_of}
 use Rattle.seg_spec.specs.Pointer.{target}
@@ -11,7 +11,7 @@ use Rattle.seg_spec.specs.Reads.{Place, Holds, holds, holds_none, count_at, star
 use Rattle.seg_spec.specs.Growing.{Reserves}
 use Rattle.seg_spec.specs.Spending.{buffer_asks, units_named}
 use Rattle.seg_spec.proofs.TypesLaws.{size_large, size-form}
-use Rattle.seg_spec.proofs.BytesLaws.{number-set_same}
+use Rattle.seg_bytes.proofs.BytesLaws.{number-set_same}
 use Rattle.seg_spec.proofs.Writing.{set_number-changes}
 use Rattle.seg_ptr.specs.Lent.{lent_to}
 use Rattle.seg_ptr.proofs.Lent.{lent_same}

@@ -5,7 +5,7 @@
 --     IsZeroed, LiesBeside, ZeroesGaps    they are 0; bytes beside them; a call that makes them 0
 use Rattle.std.specs.Prelude.{◌≡◌, ℕ, ◌+◌, ◌-◌, ◌*◌, max, List, [], ◌∷◌, length, replicate}
 use Rattle.std.specs.List.{AllByRecursion}
-use Rattle.seg_spec.specs.Bytes.{slice, IsSame}
+use Rattle.seg_bytes.specs.Bytes.{slice, IsSame}
 use Rattle.seg_spec.specs.Heap.{Span, live, gaps}
 use Rattle.seg_spec.specs.Apart.{Separate}
 use Rattle.seg_spec.specs.Sound.{Picture}

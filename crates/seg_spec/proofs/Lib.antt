@@ -1,4 +1,3 @@
-pub mod BytesLaws
 pub mod SliceLaws
 pub mod PointerLaws
 pub mod TileLaws

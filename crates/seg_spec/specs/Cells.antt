@@ -12,7 +12,7 @@
 --                                        n, unless it names nothing
 use Rattle.std.specs.Prelude.{◌≡◌, ℕ, ◌+◌, ◌*◌, ◌%◌, ◌^◌, ◌==◌, ◌≤◌, ◌⊎◌, if◌then◌else◌, List, length, map, Option, Some}
 use Rattle.std.specs.List.{AllByRecursion}
-use Rattle.seg_spec.specs.Bytes.{slice, put, word, long, IsSame, ChangesOnly}
+use Rattle.seg_bytes.specs.Bytes.{slice, put, word, long, IsSame, ChangesOnly}
 use Rattle.seg_spec.specs.Pointer.{target}
 use Rattle.seg_spec.specs.Types.{Form, Table, form_at, size, cells}
 use Rattle.seg_spec.specs.Reads.{count_at, spaced}

@@ -9,7 +9,7 @@
 --     back_start, back_size          what stands between the free structure's word and the heap
 --     KeepsFront, KeepsBack          all before that word is kept; all after it, to the heap
 use Rattle.std.specs.Prelude.{◌≡◌, ◌⊎◌, ℕ, ◌+◌, ◌-◌, ◌*◌, ◌^◌, List}
-use Rattle.seg_spec.specs.Bytes.{IsSame}
+use Rattle.seg_bytes.specs.Bytes.{IsSame}
 
 -- where the table of types begins, right after the header
 abbrev pub types_start : ℕ

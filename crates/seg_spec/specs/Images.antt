@@ -2,7 +2,7 @@
 --     IsSound bytes      a segment that owns all its objects, and counts those that cells share
 --     upgraded bytes     an image as it is opened
 use Rattle.std.specs.Prelude.{◌≡◌, ℕ, List, []}
-use Rattle.seg_spec.specs.Bytes.{word, set_word}
+use Rattle.seg_bytes.specs.Bytes.{word, set_word}
 use Rattle.seg_spec.specs.Header.{next_word, version_word, sharing_version}
 use Rattle.seg_spec.specs.Sound.{Picture, IsHeld}
 use Rattle.seg_spec.specs.Counting.{AreCounted}

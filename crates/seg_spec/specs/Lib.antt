@@ -1,4 +1,3 @@
-pub mod Bytes
 pub mod Header
 pub mod Pointer
 pub mod Window

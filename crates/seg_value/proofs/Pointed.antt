@@ -1,6 +1,6 @@
 -- Cells that share an object with others: what they hold, and what they come to name once they are empty.
 use Rattle.std.proofs.Common.{◌≡◌, ℕ, ◌+◌, ◌^◌, ◌<◌, ◌≤◌, List, [], ◌∷◌, ◌++◌, length, Option, Some, None, option_to_list, option_map, refl, sym, ap, ◌∙◌, subst, arith}
-use Rattle.seg_spec.specs.Bytes.{set_word, ChangesOnly}
+use Rattle.seg_bytes.specs.Bytes.{set_word, ChangesOnly}
 use Rattle.seg_spec.specs.Pointer.{target, distance, set_pointer}
 use Rattle.seg_spec.specs.Types.{Form, Table, form_at, size}
 use Rattle.seg_spec.specs.Value.{Value, Values, nil, Empty, node}

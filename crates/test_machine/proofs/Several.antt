@@ -1,7 +1,7 @@
 -- Several clients, one after the other: each stays within its bound, and the image after the last is one again.
 use Rattle.std.proofs.Common.{◌≡◌, ◌≢◌, ℕ, ◌≤◌, List, [], ◌∷◌, sym, ap, ◌∙◌, subst}
 use Rattle.seg_spec.specs.Types.{Table, Agree, longer}
-use Rattle.seg_spec.specs.Bytes.{word}
+use Rattle.seg_bytes.specs.Bytes.{word}
 use Rattle.seg_spec.specs.Header.{next_word}
 use Rattle.seg_spec.specs.Sound.{Picture, IsHeld}
 use Rattle.seg_spec.specs.Counting.{AreCounted}

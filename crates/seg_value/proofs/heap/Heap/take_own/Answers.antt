@@ -1,5 +1,5 @@
 use Rattle.std.proofs.Common.{◌≡◌, ℕ, ◌+◌, ap, ◌∙◌, sym, List, Some, None, subst}
-use Rattle.seg_spec.specs.Bytes.{set_word}
+use Rattle.seg_bytes.specs.Bytes.{set_word}
 use Rattle.seg_spec.specs.Pointer.{set_pointer}
 use Rattle.seg_spec.specs.Types.{Form, form_at}
 use Rattle.seg_spec.specs.Value.{Value, Empty, Full}
