@@ -1,5 +1,5 @@
 -- What is known after the stations of the heap.
-use Rattle.std.proofs.Common.{◌≡◌, ℕ, ◌+◌, ◌-◌, ◌*◌, ◌/◌, ◌%◌, ◌≤◌, Bool, true, false, Some, List, length, refl, arith}
+use Rattle.std.proofs.Common.{◌≡◌, ℕ, ◌+◌, ◌*◌, ◌≤◌, Some, List, length, arith}
 use Rattle.std.proofs.lemmas.List.{length-map}
 use Rattle.seg_spec.specs.Bytes.{word}
 use Rattle.seg_spec.specs.Types.{Form, Table, form_at}
@@ -11,7 +11,7 @@ use Rattle.seg_spec.specs.Faulty.{HasFront, HasTiles}
 use Rattle.seg_spec.proofs.Frame.{each_map}
 use Rattle.seg_spec.proofs.LiveLaws.{LiesIn, live-lie, there}
 use Rattle.seg_spec.proofs.FewBlocks.{few_live}
-use Rattle.seg_check.specs.Marks.{Known, KnowsTiles, slots_in}
+use Rattle.seg_check.specs.Marks.{Known, KnowsTiles}
 use Rattle.seg_check.specs.Turns.{AreBlocks}
 use Rattle.seg_check.specs.Resolving.{IsReady}
 use Rattle.seg_check.proofs.SameLength.{same_length}
@@ -43,9 +43,3 @@ module _ (bytes : List ℕ) (table : Table) (front : HasFront bytes table) (tile
     frozen = (λ h f. omega (arith, knows.unclaimed h, knows.none_named h));
     slots = room;
   }
-
--- each block has a count where cells share objects
-pub has_slots : (bytes : List ℕ) (table : Table) (known : Known) (shares : Bool) → length bytes % 16 ≡ 0 → heap_start ≤ length bytes → (shares ≡ false → (T U : ℕ) → form_at table T ≡ Some (Form.shared U) → ⊥)
-    → length known.naming.counts ≡ slots_in shares ((length bytes - heap_start) / 16) → (T U : ℕ) → form_at table T ≡ Some (Form.shared U) → length bytes ≤ heap_start + 32 * length known.naming.counts
-has_slots bytes table known true whole large none slots T U f = omega (arith, slots)
-has_slots bytes table known false whole large none slots T U f = absurd (none refl T U f)
