@@ -30,10 +30,21 @@ fn outcome_of<O: Sink>(
 ) -> Result<Outcome<Global>, Refused>
     requires works { O.has_failed out.old ≡ false }
 {
-    let clients = slices(alloc, inputs.clients.as_slice())?;
-    let schedule = schedule_of(run, inputs.image.len());
-    let input = inputs.input.as_slice();
-    run_image(alloc, inputs.image, clients.as_slice(), input, &schedule, out)
+    let Inputs {
+        image,
+        clients,
+        input,
+    } = inputs;
+    let clients = slices(alloc, clients.as_slice())?;
+    let schedule = schedule_of(run, image.len());
+    run_image(
+        alloc,
+        image,
+        clients.as_slice(),
+        input.as_slice(),
+        &schedule,
+        out,
+    )
 }
 
 /// Where a segment of so many bytes lies: in a region that it ends, where the words say nothing else.
