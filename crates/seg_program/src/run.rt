@@ -30,14 +30,18 @@ fn outcome_of<O: Sink>(
 ) -> Result<Outcome<Global>, Refused>
     requires works { O.has_failed out.old ≡ false }
 {
-    let clients = slices(alloc, inputs.clients.as_slice())?;
-    let schedule = schedule_of(run, inputs.image.len());
-    let input = inputs.input.as_slice();
+    let Inputs {
+        image,
+        clients,
+        input,
+    } = inputs;
+    let clients = slices(alloc, clients.as_slice())?;
+    let schedule = schedule_of(run, image.len());
     run_image(
         alloc,
-        inputs.image,
+        image,
         clients.as_slice(),
-        input,
+        input.as_slice(),
         &schedule,
         out,
     )
