@@ -9,12 +9,10 @@ mod moves;
 mod name;
 mod objects;
 mod perform;
-mod report;
 mod stepper;
 mod values;
 mod writing;
 
 pub use interpreter::run;
-pub use moves::{first_bad_move, is_place, moves_fit};
-pub use report::{Ended, Move, Report};
+pub use moves::{Move, first_bad_move, is_place, moves_fit};
 pub use stepper::{Stepped, Stepper};

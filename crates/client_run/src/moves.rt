@@ -4,11 +4,17 @@ ghost use Rattle.client_spec.specs.Clients.{AreMoves, IsFirstBadMove};
 ghost use Rattle.client_stages.specs.Moving.{first_step, MakesNext, MakesDue, Waits};
 ghost use Rattle.client_run.specs.Moves.{moves_of};
 
-use crate::report::Move;
 use seg_block::Fit;
 use seg_manager::Segment;
 use seg_ptr::Window;
 use std::alloc::Allocator;
+
+/// A move of the segment to another base of its region, right before a step. Steps are counted from 1.
+#[derive(Debug, Clone, Copy, PartialEq, Eq)]
+pub struct Move {
+    pub step: u64,
+    pub base: u32,
+}
 
 /// The index of the first move that can't be made on a segment: its step is 0 or not above the one before, or the segment
 /// may not lie at its base.

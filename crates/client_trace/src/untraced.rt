@@ -1,7 +1,7 @@
 ghost use Rattle.std.specs.Prelude.{◌≡◌};
 ghost use Rattle.client_trace.specs.declared.untraced.Untraced.TheVariants.{Memory, OutputFailed};
 
-use client_run::Stopped;
+use client_output::Stopped;
 use seg_raw::Fault;
 use std::alloc::AllocError;
 

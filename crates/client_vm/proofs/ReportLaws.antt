@@ -7,7 +7,7 @@ use Rattle.client_accept.specs.Texts.{texts_of}
 use Rattle.client_accept.proofs.TextsLaws.{mapped_front}
 use Rattle.client_verify.specs.Accepted.{client_of}
 use Rattle.client_verify.specs.declared.verified.Verified.{Verified}
-use Rattle.client_run.specs.declared.report.Report.{Report}
+use Rattle.client_output.specs.declared.report.Report.{Report}
 use Rattle.client_vm.specs.Reports.{IsReportOf, AreReportsOf}
 
 -- one report more

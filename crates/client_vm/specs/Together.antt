@@ -11,7 +11,7 @@ use Rattle.client_spec.specs.Run.{Ending, finished, stopped}
 use Rattle.client_spec.specs.OnImages.{Move, Left}
 use Rattle.client_spec.specs.Clients.{AreMoves, RunClients, StayWithin, outputs, image_after, ending_after}
 use Rattle.client_sim.specs.Writes.{Took}
-use Rattle.client_run.specs.declared.report.Report.{Report}
+use Rattle.client_output.specs.declared.report.Report.{Report}
 use Rattle.client_run.specs.Runs.{given_of}
 use Rattle.client_vm.specs.Admitted.{AreAcceptedOn}
 use Rattle.client_vm.specs.Outcomes.{AreReports}

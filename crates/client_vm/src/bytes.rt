@@ -17,8 +17,8 @@ ghost use Rattle.client_vm.specs.Reports.{AreReportsOf, HasReportsOf};
 
 use crate::outcome::{Outcome, Schedule};
 use client_accept::{Refused, verify_all};
-use client_output::Sink;
-use client_run::{Ended, Move, Report, first_bad_move, is_place, run};
+use client_output::{Ended, Report, Sink};
+use client_run::{Move, first_bad_move, is_place, run};
 use client_verify::Verified;
 use seg_bestfit::BestFit;
 use seg_block::Fit;

@@ -1,4 +1,5 @@
-use client_run::{Ended, Move, Report};
+use client_output::{Ended, Report};
+use client_run::Move;
 use std::alloc::Allocator;
 
 /// Where the segment lies and when it moves: the bytes of the region, the segment's base in it, and the moves, which each client

@@ -16,8 +16,8 @@ use Rattle.client_spec.specs.Syntax.{Client}
 use Rattle.client_spec.specs.Grammar.{SpellsClient}
 use Rattle.client_spec.specs.Run.{bound}
 use Rattle.client_spec.specs.Clients.{IsVerified}
-use Rattle.client_run.specs.declared.report.Report as client_run_report
-use Rattle.client_run.specs.declared.report.Ended.{Ended}
+use Rattle.client_output.specs.declared.report.Report as client_run_report
+use Rattle.client_output.specs.declared.report.Ended.{Ended}
 use Rattle.client_accept.specs.declared.refused.Refused.{Refused}
 use Rattle.client_vm.specs.Admitted.{IsWrong}
 use Rattle.client_vm.specs.Reports.{IsReportOf, HasReportsOf}

@@ -8,10 +8,10 @@ use Rattle.std.specs.Prelude.{ℕ, List, ◌++◌, length, take, drop, Option, S
 use Rattle.seg_raw.specs.declared.fault.Fault as seg_raw_fault
 use Rattle.seg_raw.specs.declared.fault.Fault.TheVariants as fault
 use Rattle.seg_raw.specs.Refusals.{fault_number}
-use Rattle.client_run.specs.declared.report.Ended.{Ended}
-use Rattle.client_run.specs.declared.report.Ended.TheVariants as ended
+use Rattle.client_output.specs.declared.report.Ended.{Ended}
+use Rattle.client_output.specs.declared.report.Ended.TheVariants as ended
 use Rattle.client_accept.specs.declared.refused.Refused.{Refused}
-use Rattle.client_run.specs.declared.report.Report as client_run_report
+use Rattle.client_output.specs.declared.report.Report as client_run_report
 use Rattle.lezgauri_c.specs.declared.fault.Fault.{Fault}
 use Rattle.lezgauri_c.specs.declared.fault.TheConstants.{NO_CLIENT}
 use Rattle.lezgauri_c.specs.declared.report.Report.{Report}

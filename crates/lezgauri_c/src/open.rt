@@ -9,7 +9,7 @@ ghost use Rattle.client_spec.specs.Syntax as syntax;
 ghost use Rattle.client_spec.specs.Clients.{IsVerified};
 ghost use Rattle.client_code.specs.Clients.{OfTree, bytes_of};
 ghost use Rattle.client_verify.specs.Accepted.{client_of};
-ghost use Rattle.client_run.specs.declared.report.Ended.{Ended};
+ghost use Rattle.client_output.specs.declared.report.Ended.{Ended};
 ghost use Rattle.client_vm.specs.Admitted.{IsWrong};
 ghost use Rattle.client_vm.specs.Reports.{IsReportOf};
 ghost use Rattle.client_run.specs.Runs.{ending_of};

@@ -1,5 +1,5 @@
 use crate::failure::{Failure, STANDARD_OUTPUT};
-use client_run::Ended;
+use client_output::Ended;
 use seg_files::{Files, write_file};
 
 /// Writes the saved image, also where the clients' output failed, which is the failure then.

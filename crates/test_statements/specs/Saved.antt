@@ -10,8 +10,8 @@ use Rattle.seg_spec.specs.Sound.{Picture}
 use Rattle.seg_spec.specs.Counting.{cells_in, owners_in}
 use Rattle.seg_spec.specs.Images.{IsSound}
 use Rattle.client_spec.specs.OnImages.{Move}
-use Rattle.client_run.specs.declared.report.Report.{Report}
-use Rattle.client_run.specs.declared.report.Ended.{Ended}
+use Rattle.client_output.specs.declared.report.Report.{Report}
+use Rattle.client_output.specs.declared.report.Ended.{Ended}
 use Rattle.client_vm.specs.Outcomes.{HasOutcome}
 
 abbrev pub OfSaved : ((saved : List ℕ) → IsSound saved → Type 0) → Type 0

@@ -4,7 +4,7 @@ use Rattle.std.proofs.lemmas.List.{drop_all}
 use Rattle.client_code.specs.Clients.{bytes_of}
 use Rattle.client_verify.specs.Accepted.{client_of}
 use Rattle.client_verify.specs.declared.verified.Verified.{Verified}
-use Rattle.client_run.specs.declared.report.Report.{Report}
+use Rattle.client_output.specs.declared.report.Report.{Report}
 use Rattle.client_run.specs.Moves.{moves_of}
 use Rattle.client_accept.specs.Texts.{texts_of}
 use Rattle.client_vm.specs.Reports.{AreReportsOf}

@@ -13,10 +13,3 @@ pub struct Report {
     pub read: usize,
     pub ended: Ended,
 }
-
-/// A move of the segment to another base of its region, right before a step. Steps are counted from 1.
-#[derive(Debug, Clone, Copy, PartialEq, Eq)]
-pub struct Move {
-    pub step: u64,
-    pub base: u32,
-}
