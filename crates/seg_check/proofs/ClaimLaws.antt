@@ -1,8 +1,9 @@
 -- What the marks say of a claim.
-use Rattle.std.proofs.Common.{◌≡◌, ◌≢◌, ℕ, ◌+◌, ◌^◌, ◌<◌, ◌≤◌, inl, inr, List, [], ◌∷◌, length, get_or, Option, Some, None, sym, ap, ◌∙◌, subst, arith}
+use Rattle.std.proofs.Common.{◌≡◌, ◌≢◌, ℕ, ◌+◌, ◌^◌, ◌<◌, ◌≤◌, inl, inr, ◌*◌, Bool, true, false, List, [], ◌∷◌, length, get_or, Option, Some, None, sym, ap, ◌∙◌, subst, arith}
+use Rattle.std.specs.Prelude.{◌↔◌}
 use Rattle.seg_spec.specs.Bytes.{word}
 use Rattle.seg_spec.specs.Pointer.{target}
-use Rattle.seg_spec.specs.Heap.{heap_start}
+use Rattle.seg_spec.specs.Heap.{heap_start, tag_at, units_at}
 use Rattle.seg_spec.specs.Block.{block_of, IsBlock}
 use Rattle.seg_spec.specs.Sound.{times}
 use Rattle.seg_spec.proofs.LiveLaws.{times-same}
@@ -17,6 +18,20 @@ claimed_before bytes known pointer tag size start names none can =
     let same : can.start ≡ start = cc (can.names, names) in
     let some : 1 ≤ times (block_of start) known.unclaimed = subst (λ s. 1 ≤ times (block_of s) known.unclaimed) same can.unclaimed in
     omega arith
+
+-- a block without the tag or the room can't be claimed
+pub claimed_elsewhere : (bytes : List ℕ) (known : Known) (pointer tag size start block has : ℕ) (fits : Bool) → AreLive bytes known.unclaimed → target bytes pointer ≡ Some start → block ≡ block_of start → has ≡ tag → fits ≡ false
+    → (block + 16 ≤ length bytes → (fits ≡ true) ↔ HasPayload bytes block has size) → CanClaim bytes known pointer tag size → ⊥
+claimed_elsewhere bytes known pointer tag size start block has fits live names at_is tag_is wrong reads can =
+    let same : can.start ≡ start = cc (can.names, names) in
+    let lies = live (block_of start) (subst (λ s. 1 ≤ times (block_of s) known.unclaimed) same can.unclaimed) in
+    let inside = lies.inside in
+    let large = lies.size in
+    let here = subst (λ s. IsBlock bytes s tag size) same can.is_block in
+    let room = here.room in
+    let high = here.after_header in
+    let right : fits ≡ true = (reads (omega arith)).1 (record { tag_is = ap (tag_at bytes) at_is ∙ here.has_tag ∙ sym tag_is; fits = subst (λ b. size + 16 ≤ 16 * units_at bytes b) (sym at_is) (omega arith) }) in
+    cc
 
 -- a block that a claim takes was live, with its header in the segment
 pub claims_live : (bytes : List ℕ) (old new : Known) (block : ℕ) → AreLive bytes old.unclaimed → ClaimsAll old new (block ∷ []) [] → IsLiveBlock bytes block
