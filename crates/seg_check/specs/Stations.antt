@@ -1,9 +1,9 @@
 -- What is known of an image at the stations of its check.
---     KnowsNothing bytes table known         no block is known, and there are counts where cells share objects
---     KnowsHeap bytes table known            its blocks and its free structure are right, and nothing is claimed
---     FindsHeap bytes table new result       that is so, or what is wrong
---     KnowsOwners bytes table known          its content is right, but for live blocks that nothing owns
---     FindsOwners bytes table new result     that is so, or the image isn't sound
+--     KnowsNothing bytes table known       no block is known; there are counts where cells share objects
+--     KnowsHeap bytes table known          its blocks and free structure are right, nothing is claimed
+--     FindsHeap bytes table new result     that is so, or what is wrong
+--     KnowsOwners bytes table known        its content is right, but for live blocks that nothing owns
+--     FindsOwners bytes table new result   that is so, or the image isn't sound
 use Rattle.std.specs.Prelude.{◌≡◌, ℕ, ◌+◌, ◌-◌, ◌*◌, ◌/◌, ◌≤◌, List, [], length, Some, Result, Ok, Err}
 use Rattle.seg_spec.specs.Bytes.{word}
 use Rattle.seg_spec.specs.Types.{Form, Table, form_at}
