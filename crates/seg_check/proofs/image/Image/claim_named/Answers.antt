@@ -92,18 +92,24 @@ returns-in_default-clause-refused g c = λ ready is can.
 
 pub returns-in_err-start-clause-refused : goal.returns-in_err-start-clause-refused
 returns-in_err-start-clause-refused g c = λ ready is.
+    let bytes = c.args.self.now.w.now.bytes in
+    let table = c.args.self.now.types.now in
     let n = c.args.entry.now.count in
     let T = c.in-Some.type_id in
-    named_refused c.args.self.now.w.now.bytes c.args.self.now.bytes.bytes.now c.args.self.now.types.now c.args.claims.now c.args.at n c.args.entry.now.name_len T (word_of c.named_tag.result) (c.values_len.result + c.from.result) c.args.self.now.same
-    (tag_named c.named_tag.result T (ap kind_of c.named_tag.ensures.kind) c.named_tag.ensures.type_id) (ap (λ l. l + c.from.result) (c.values_len.ensures.len ∙ ap (λ k. n * k) c.size.ensures.value) ∙ ap (λ l. n * size c.args.self.now.types.now T + l) c.from.ensures)
+    let tag_is = tag_named c.named_tag.result T (ap kind_of c.named_tag.ensures.kind) c.named_tag.ensures.type_id in
+    let room_is = ap (λ l. l + c.from.result) (c.values_len.ensures.len ∙ ap (λ k. n * k) c.size.ensures.value) ∙ ap (λ l. n * size table T + l) c.from.ensures in
+    named_refused bytes c.args.self.now.bytes.bytes.now table c.args.claims.now c.args.at n c.args.entry.now.name_len T (word_of c.named_tag.result) (c.values_len.result + c.from.result) c.args.self.now.same tag_is room_is
     ready c.args.entry.now.object is (sym c.type_id.ensures ∙ c.in-Some.is) c.in_err-start.field-0.0 c.from_residual.result c.in_err-start.ensures.refused (err_from_is_err_and c.from_residual.result c.from_residual.ensures.1)
 
 pub returns-clause-claimed : goal.returns-clause-claimed
 returns-clause-claimed g c = λ ready is.
+    let bytes = c.args.self.now.w.now.bytes in
+    let table = c.args.self.now.types.now in
     let n = c.args.entry.now.count in
     let T = c.in-Some.type_id in
-    named_claimed c.args.self.now.w.now.bytes c.args.self.now.bytes.bytes.now c.args.self.now.types.now c.args.claims.now c.args.at n c.args.entry.now.name_len T (word_of c.named_tag.result) (c.values_len.result + c.from.result) c.args.self.now.same
-    (tag_named c.named_tag.result T (ap kind_of c.named_tag.ensures.kind) c.named_tag.ensures.type_id) (ap (λ l. l + c.from.result) (c.values_len.ensures.len ∙ ap (λ k. n * k) c.size.ensures.value) ∙ ap (λ l. n * size c.args.self.now.types.now T + l) c.from.ensures)
+    let tag_is = tag_named c.named_tag.result T (ap kind_of c.named_tag.ensures.kind) c.named_tag.ensures.type_id in
+    let room_is = ap (λ l. l + c.from.result) (c.values_len.ensures.len ∙ ap (λ k. n * k) c.size.ensures.value) ∙ ap (λ l. n * size table T + l) c.from.ensures in
+    named_claimed bytes c.args.self.now.bytes.bytes.now table c.args.claims.now c.args.at n c.args.entry.now.name_len T (word_of c.named_tag.result) (c.values_len.result + c.from.result) c.args.self.now.same tag_is room_is
     ready c.claim.new.self c.await_values.new.claims c.in_ok-start.start c.from-count.result c.from-count.ensures c.await_values.result c.in_ok-start.ensures.claimed c.await_values.ensures.waits
 
 pub returns-clause-refused : goal.returns-clause-refused
