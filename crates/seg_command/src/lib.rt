@@ -8,5 +8,7 @@ mod images;
 mod listing;
 mod made;
 mod program;
+mod runner;
 
 pub use program::command;
+pub use runner::ImageRunner;

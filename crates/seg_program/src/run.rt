@@ -1,6 +1,8 @@
 ghost use Rattle.std.specs.Prelude.{◌≡◌, false};
 
-use client_vm::{Outcome, Refused, Schedule, Sink, run_image};
+use crate::runner::{Asked, Runner, Saved};
+use client_accept::Refused;
+use client_output::Sink;
 use seg_files::Files;
 use seg_host::{Failure, Inputs, read_inputs, save, slices};
 use seg_words::Run;
@@ -8,8 +10,9 @@ use std::alloc::Global;
 
 /// `run IMAGE OUT CLIENT.. [--base N] [--room N] [--input FILE]`: runs the clients, and writes the saved image also where
 /// their output failed.
-pub fn run_files<'a, F: Files, O: Sink>(
+pub fn run_files<'a, R: Runner, F: Files, O: Sink>(
     alloc: Global,
+    runner: &R,
     run: &Run<'a>,
     files: &mut F,
     out: &mut O,
@@ -17,17 +20,18 @@ pub fn run_files<'a, F: Files, O: Sink>(
     requires works { O.has_failed out.old ≡ false }
 {
     let inputs = read_inputs(alloc, files, run)?;
-    let outcome = outcome_of(alloc, run, inputs, out)?;
-    save(files, run.out, outcome.image.as_slice(), outcome.ended)
+    let saved = saved_of(alloc, runner, run, inputs, out)?;
+    save(files, run.out, saved.image.as_slice(), saved.ended)
 }
 
 /// Runs the clients on an image.
-fn outcome_of<O: Sink>(
+fn saved_of<R: Runner, O: Sink>(
     alloc: Global,
+    runner: &R,
     run: &Run,
     inputs: Inputs,
     out: &mut O,
-) -> Result<Outcome<Global>, Refused>
+) -> Result<Saved, Refused>
     requires works { O.has_failed out.old ≡ false }
 {
     let Inputs {
@@ -36,23 +40,17 @@ fn outcome_of<O: Sink>(
         input,
     } = inputs;
     let clients = slices(alloc, clients.as_slice())?;
-    let schedule = schedule_of(run, image.len());
-    run_image(
-        alloc,
-        image,
-        clients.as_slice(),
-        input.as_slice(),
-        &schedule,
-        out,
-    )
+    let asked = Asked {
+        clients: clients.as_slice(),
+        input: input.as_slice(),
+        room: room_of(run, image.len()),
+        base: run.base,
+    };
+    runner.run(alloc, image, &asked, out)
 }
 
-/// Where a segment of so many bytes lies: in a region that it ends, where the words say nothing else.
-fn schedule_of(run: &Run, len: usize) -> Schedule<'static> {
+/// The bytes of the region of an image of so many: the image ends it, where the words say nothing else.
+fn room_of(run: &Run, len: usize) -> u32 {
     let len = u32::try_from(len).unwrap_or(u32::MAX);
-    Schedule {
-        room: run.room.unwrap_or(run.base.saturating_add(len)),
-        base: run.base,
-        moves: &[],
-    }
+    run.room.unwrap_or(run.base.saturating_add(len))
 }

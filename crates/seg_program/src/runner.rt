@@ -1,41 +1,34 @@
 ghost use Rattle.std.specs.Prelude.{◌≡◌, false};
 
-use crate::run::run_files;
-use client_vm::Sink;
-use seg_files::Files;
-use seg_host::{Failure, print, report};
-use seg_words::RunRequest;
+use client_accept::Refused;
+use client_output::{Ended, Sink};
 use std::alloc::Global;
-use std::convert::AsStr;
 
-/// Runs the clients that the words of `segrun` name, the program's name first, and returns the status: 0 success, 1 a fault of
-/// the library, 2 a wrong command line, 3 a file or an output that failed.
-pub fn run_command<S: AsStr, F: Files, O: Sink, E: Sink>(
-    alloc: Global,
-    words: &[S],
-    files: &mut F,
-    out: &mut O,
-    err: &mut E,
-) -> u8
-    requires out_works { O.has_failed out.old ≡ false }
-    requires err_works { E.has_failed err.old ≡ false }
-{
-    match answer(alloc, words, files, out) {
-        Ok(()) => 0,
-        Err(failure) => report(alloc, &failure, err),
-    }
+/// The call that runs clients on an image. A program puts it under the command, as it puts the files and the outputs.
+pub trait Runner {
+    /// Runs the clients, and gives the saved image. Nothing was written where they are refused.
+    fn run<O: Sink>(
+        &self,
+        alloc: Global,
+        image: Vec<u8>,
+        asked: &Asked,
+        out: &mut O,
+    ) -> Result<Saved, Refused>
+        requires { O.has_failed out.old ≡ false };
 }
 
-fn answer<'a, S: AsStr, F: Files, O: Sink>(
-    alloc: Global,
-    words: &'a [S],
-    files: &mut F,
-    out: &mut O,
-) -> Result<(), Failure<'a>>
-    requires works { O.has_failed out.old ≡ false }
-{
-    match seg_words::read_run(alloc, words)? {
-        RunRequest::Run(run) => run_files(alloc, &run, files, out),
-        RunRequest::Help(text) => print(out, text.as_bytes()),
-    }
+/// The clients that are to run, what they read, the bytes of the image's region and its base there.
+#[derive(Clone, Copy)]
+pub struct Asked<'a> {
+    pub clients: &'a [&'a [u8]],
+    pub input: &'a [u8],
+    pub room: u32,
+    pub base: u32,
+}
+
+/// The saved image, and how the last client ended.
+#[derive(Drop)]
+pub struct Saved {
+    pub image: Vec<u8>,
+    pub ended: Ended,
 }

@@ -2,6 +2,7 @@
 
 use crate::tests::files::{Printed, Stored, counter_files, is};
 use client_vm::Through;
+use seg_command::ImageRunner;
 use seg_program::run_command;
 use std::alloc::Global;
 use std::test::Fail;
@@ -10,7 +11,7 @@ use support_data::{Limited, counter_saved};
 fn run(alloc: Global, words: &[&str], files: &mut Stored) -> Printed {
     let mut out = Through::new(Limited::unlimited(alloc));
     let mut err = Through::new(Limited::unlimited(alloc));
-    let status = run_command(alloc, words, files, &mut out, &mut err);
+    let status = run_command(alloc, &ImageRunner, words, files, &mut out, &mut err);
     Printed {
         status,
         out: out.into_inner().bytes,
