@@ -11,8 +11,7 @@ ghost use Rattle.client_run.specs.Moves.{moves_of};
 ghost use Rattle.client_vm.specs.Outcomes.{IsFaultOfCall, IsRefusedFor, HasOutcome};
 ghost use Rattle.client_run.specs.Runs.{ending_of, IsReady};
 ghost use Rattle.client_vm.specs.Together.{ending_if, HaveRun, HaveRunOn};
-ghost use Rattle.client_accept.specs.Texts.{AreWrong};
-ghost use Rattle.client_accept.specs.Texts.{texts_of};
+ghost use Rattle.client_accept.specs.Texts.{AreWrong, texts_of};
 ghost use Rattle.client_vm.specs.Reports.{AreReportsOf, HasReportsOf};
 
 use crate::outcome::{Outcome, Schedule};
