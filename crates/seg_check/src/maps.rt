@@ -71,7 +71,7 @@ impl<A: Allocator> Image<'_, A> {
     }
 
     /// The key that stands right before the value at a position.
-    #[tactic(auto, unfolding(seg_spec::specs::Bytes::signed))]
+    #[tactic(auto, unfolding(seg_bytes::specs::Bytes::signed))]
     fn key(&self, value: u32) -> i64
         ensures { KEY ≤ value → result ≡ signed_long self.now.w.now.bytes (value - KEY) }
     {

@@ -52,7 +52,7 @@ impl<A: Allocator> Image<A> {
     }
 
     /// The bytes of the image.
-    #[tactic(auto, unfolding(seg_spec::specs::Bytes::slice))]
+    #[tactic(auto, unfolding(seg_bytes::specs::Bytes::slice))]
     pub fn bytes(&self) -> &[u8]
         ensures { result.now ≡ (segment_of self.now).window.bytes }
     {

@@ -73,7 +73,7 @@ fn key_place(node: u32) -> u32
     node.wrapping_add(TREE_WORDS)
 }
 
-#[tactic(auto, unfolding(seg_spec::specs::Bytes::signed))]
+#[tactic(auto, unfolding(seg_bytes::specs::Bytes::signed))]
 fn key_of(view: View, node: u32) -> i64
     ensures { result ≡ signed_long view.entry.bytes.now ((node + 16) % 2 ^ 32) }
 {

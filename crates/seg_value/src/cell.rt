@@ -31,7 +31,7 @@ pub fn room<A: Allocator>(w: &Window<A>, at: u32) -> u64
 }
 
 /// The number at a position.
-#[tactic(auto, unfolding(seg_spec::specs::Bytes::signed))]
+#[tactic(auto, unfolding(seg_bytes::specs::Bytes::signed))]
 pub fn load<A: Allocator>(w: &Window<A>, at: u32) -> i64
     ensures { result ≡ signed_long w.now.bytes at }
 {
