@@ -8,6 +8,7 @@ use seg_layout::{ENTRY, Type, TypeId, TypeTable};
 use seg_manager::{IndexKind, Segment};
 use seg_raw::{Code, Fault, Region};
 use seg_seq::Numbers;
+use seg_space::create;
 use seg_value::{Heap, Place};
 use std::alloc::{Allocator, Global};
 use std::env;
@@ -56,7 +57,7 @@ fn push_calls(alloc: Global, calls: u32) -> Option<()> {
 /// A segment in memory that knows the types.
 fn segment(alloc: Global) -> Option<Segment<BestFit, Global>> {
     let region = Region::new(alloc, SIZE).ok()?;
-    let mut segment = Segment::create(region, 0, SIZE, IndexKind::Tree).ok()?;
+    let mut segment = create(region, 0, SIZE, IndexKind::Tree).ok()?;
     segment.add_types(&types().ok()?).ok()?;
     Some(segment)
 }

@@ -7,8 +7,8 @@ ghost use Rattle.client_code.specs.Clients.{bytes_of};
 ghost use Rattle.client_verify.specs.Accepted.{client_of};
 ghost use Rattle.client_accept.specs.Texts.{texts_of, IsWrongText, AreWrong};
 
-use crate::refused::Refused;
 use client_code::parse;
+use client_output::Refused;
 use client_verify::{Verified, verify};
 use seg_layout::TypeTable;
 use seg_raw::Fault;

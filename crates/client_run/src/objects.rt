@@ -19,6 +19,7 @@ use client_program::Jump;
 use seg_block::Fit;
 use seg_layout::{Type, TypeId};
 use seg_manager::Segment;
+use seg_owner::{freeze, frozen, set_own, share, take_own};
 use seg_raw::Code;
 use seg_value::Place;
 use std::alloc::Allocator;
@@ -268,7 +269,7 @@ impl Machine<'_> {
             segment.old segment.new }
     {
         let object = self.take(i.c);
-        segment.heap_mut().set_own(self.place(i.b), object.at);
+        set_own(segment.heap_mut(), self.place(i.b), object.at);
     }
 
     #[inline(never)]
@@ -284,7 +285,7 @@ impl Machine<'_> {
             segment.old segment.new }
     {
         let own = self.place(i.b);
-        let at = segment.heap_mut().take_own(own).ok_or(Code::Null);
+        let at = take_own(segment.heap_mut(), own).ok_or(Code::Null);
         self.try_own(i, at, held_type(segment, own))
     }
 
@@ -310,7 +311,7 @@ fn held_object<F: Fit, A: Allocator>(segment: &Segment<F, A>, holder: Place) -> 
         (target segment.now.window.bytes holder.at) }
 {
     match segment.types().kind(holder.type_id) {
-        Some(Type::Shared(_)) => segment.heap().frozen(holder),
+        Some(Type::Shared(_)) => frozen(segment.heap(), holder),
         Some(_) | None => segment.window().target(holder.at as usize),
     }
 }
@@ -330,7 +331,7 @@ impl Machine<'_> {
             segment.old segment.new }
     {
         let cell = self.place(i.b);
-        match segment.heap_mut().freeze(cell, self.place(i.c).at) {
+        match freeze(segment.heap_mut(), cell, self.place(i.c).at) {
             Ok(()) => {
                 self.take(i.c);
                 self.give(i, 1);
@@ -347,6 +348,6 @@ impl Machine<'_> {
         ensures does { Acts Operation.Share F.allocator i.now self.now self.now
             segment.old segment.new }
     {
-        segment.heap_mut().share(self.place(i.b), self.place(i.c));
+        share(segment.heap_mut(), self.place(i.b), self.place(i.c));
     }
 }

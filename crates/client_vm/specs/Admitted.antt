@@ -10,7 +10,7 @@ use Rattle.seg_raw.specs.declared.fault.Fault.{Fault}
 use Rattle.seg_check.specs.Faults.{IsFaultOf}
 use Rattle.client_spec.specs.Syntax.{Client}
 use Rattle.client_spec.specs.Clients.{AreAccepted}
-use Rattle.client_accept.specs.declared.refused.Refused.{Refused}
+use Rattle.client_output.specs.declared.refused.Refused.{Refused}
 use Rattle.client_accept.specs.Texts.{IsWrongAt}
 
 abbrev pub LiesIn : List ℕ → ℕ → List ℕ → Type 0

@@ -17,7 +17,7 @@ use Rattle.client_spec.specs.Outcome.{CanRun, IsOutcome, Refusal, IsTurnOf, IsRe
 use Rattle.client_verify.specs.Refusals.{IsRefused}
 use Rattle.client_output.specs.declared.report.Report.{Report}
 use Rattle.client_output.specs.declared.report.Ended.{Ended}
-use Rattle.client_accept.specs.declared.refused.Refused.{Refused}
+use Rattle.client_output.specs.declared.refused.Refused.{Refused}
 use Rattle.client_sim.specs.Writes.{Took}
 use Rattle.client_run.specs.Runs.{ending_of}
 

@@ -15,8 +15,8 @@ ghost use Rattle.client_accept.specs.Texts.{AreWrong, texts_of};
 ghost use Rattle.client_vm.specs.Reports.{AreReportsOf, HasReportsOf};
 
 use crate::outcome::{Outcome, Schedule};
-use client_accept::{Refused, verify_all};
-use client_output::{Ended, Report, Sink};
+use client_accept::verify_all;
+use client_output::{Ended, Refused, Report, Sink};
 use client_run::{Move, first_bad_move, is_place, run};
 use client_verify::Verified;
 use seg_bestfit::BestFit;
@@ -126,7 +126,7 @@ fn run_in<A: Allocator + Copy, W: Sink>(
 /// Runs clients on the image in a window, with the allocator that it names.
 fn run_on<F: Fit, A: Allocator + Copy, W: Sink>(
     alloc: A,
-    window: Window<A>,
+    mut window: Window<A>,
     clients: &[&[u8]],
     input: &[u8],
     moves: &[Move],
@@ -145,9 +145,12 @@ fn run_on<F: Fit, A: Allocator + Copy, W: Sink>(
     ensures reports { IfOk result (λ o. HasReportsOf (map (λ c. c.now) clients.now)
         o.reports.items o.ended) }
 {
-    match open::<F, A, A>(alloc, window) {
-        Ok(segment) => run_opened(alloc, segment, clients, input, moves, out),
-        Err((fault, _)) => Err(Refused::from(fault)),
+    match open::<F, A, A>(alloc, &mut window) {
+        Ok(types) => {
+            let segment = Segment::<F, A>::new(window, types);
+            run_opened(alloc, segment, clients, input, moves, out)
+        }
+        Err(fault) => Err(Refused::from(fault)),
     }
 }
 

@@ -2,11 +2,13 @@
 //! by halves. A value is named by its position and its type.
 #![tactic(auto)]
 
+mod cell;
 mod cells;
 mod entry;
 mod place;
 mod search;
 
+pub use cell::{count, load, start};
 pub use cells::{Cells, IDS, point_each_again, set_default};
 pub use entry::{Entry, Held, KEY, LIST_LINKS, PREVIOUS};
 pub use place::Place;

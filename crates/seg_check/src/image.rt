@@ -11,9 +11,10 @@ use crate::fault::ContentFault;
 use crate::free_list::FreeList;
 use crate::marks::Turn;
 use seg_block::Tag;
+use seg_cells::{Entry, Held};
+use seg_content::Content;
 use seg_layout::TypeTable;
 use seg_ptr::{View, Window, header};
-use seg_value::{Content, Entry, Held};
 use std::alloc::Allocator;
 
 /// An image whose header and types are right.

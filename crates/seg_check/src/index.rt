@@ -17,10 +17,10 @@ use crate::fault::ContentFault;
 use crate::image::Image;
 use crate::marks::Turn;
 use crate::walk::{Tree, Visit};
-use seg_index::{ENTRY, IndexKind, MAX_NAME, NameEntry, name_count, named_tag, node_content};
+use seg_content::Content;
+use seg_entry::{ENTRY, IndexKind, MAX_NAME, NameEntry, name_count, named_tag};
 use seg_layout::TypeId;
 use seg_ptr::header;
-use seg_value::Content;
 use std::alloc::Allocator;
 
 /// The pointer to the entries, or to the root node.
@@ -111,7 +111,7 @@ impl<'w, A: Allocator> Image<'w, A> {
             IfErr result (λ fault. Refuses fault
             (CanClaimTree self.now.w.now.bytes claims.old.unclaimed)) }
     {
-        let content = node_content();
+        let content = Content::index_node();
         let mut walk = tree.walk(self.w);
         while let Some(visit) = walk.next().map_err(ContentFault::BadIndex)? {
             if let Visit::Enter(pointer) = visit {
@@ -204,7 +204,7 @@ impl<'w, A: Allocator> Image<'w, A> {
 fn entry_in(node: u32) -> u32
     ensures { node + index_node_size ≤ 2 ^ 32 → result ≡ node + tree_words }
 {
-    node.wrapping_add(node_content().entry.size - ENTRY)
+    node.wrapping_add(Content::index_node().entry.size - ENTRY)
 }
 
 /// Whether a name comes before another.

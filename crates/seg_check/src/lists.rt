@@ -8,8 +8,9 @@ ghost use Rattle.seg_check.specs.Cells.{NamesBy};
 use crate::claims::Claims;
 use crate::fault::ContentFault;
 use crate::image::Image;
+use seg_cells::PREVIOUS;
+use seg_content::Content;
 use seg_ptr::View;
-use seg_value::{Content, PREVIOUS};
 use std::alloc::Allocator;
 
 impl<A: Allocator> Image<'_, A> {

@@ -9,7 +9,8 @@ use crate::claims::Claims;
 use crate::fault::ContentFault;
 use crate::image::Image;
 use crate::walk::{Tree, Visit};
-use seg_value::{Content, KEY};
+use seg_cells::KEY;
+use seg_content::Content;
 use std::alloc::Allocator;
 
 impl<A: Allocator> Image<'_, A> {

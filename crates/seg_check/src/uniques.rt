@@ -4,9 +4,9 @@ ghost use Rattle.seg_check.specs.Roots.{StepsUniques};
 use crate::claims::Claims;
 use crate::fault::ContentFault;
 use crate::image::Image;
-use seg_index::{unique, unique_word};
+use seg_content::Content;
+use seg_entry::{unique, unique_word};
 use seg_layout::{MAX_TYPES, TypeId};
-use seg_value::Content;
 use std::alloc::Allocator;
 
 impl<A: Allocator> Image<'_, A> {

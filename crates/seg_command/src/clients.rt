@@ -7,7 +7,7 @@ use client_trace::{Untraced, trace};
 use lezgauri::{Fault, Image, Sink, Verified};
 use seg_files::{Files, read_file, read_image, write_file};
 use seg_program::{Failure, STANDARD_OUTPUT, print, read_input};
-use seg_words::Trace;
+use seg_request::Trace;
 use std::alloc::Global;
 
 /// `verify FILE CLIENT`: prints the steps that the client takes at most on the image.

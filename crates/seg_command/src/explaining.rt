@@ -4,7 +4,7 @@ use lezgauri::{Refused, Sink};
 use seg_explain::{Sources, explain};
 use seg_files::{Files, read_file, read_files, read_image};
 use seg_program::{Failure, STANDARD_OUTPUT, slices, tell};
-use seg_words::Request;
+use seg_request::Request;
 use std::alloc::{AllocError, Global};
 
 /// Writes in words why a command failed. The files that it worked on are read again for that; one that can't be read any more

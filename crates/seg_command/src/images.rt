@@ -6,7 +6,7 @@ use crate::made::{Made, made_of, new_image};
 use lezgauri::Sink;
 use seg_files::{Files, read_image, write_file};
 use seg_program::{Failure, print};
-use seg_words::{ImageTask, NewImage};
+use seg_request::{ImageTask, NewImage};
 use std::alloc::Global;
 
 /// `new FILE SIZE ALG INDEX`: writes the image of an empty segment.

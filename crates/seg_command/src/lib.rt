@@ -8,7 +8,5 @@ mod images;
 mod listing;
 mod made;
 mod program;
-mod runner;
 
 pub use program::command;
-pub use runner::ImageRunner;

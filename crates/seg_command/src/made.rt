@@ -2,7 +2,7 @@ use crate::door::{created, grown, opened, shrunk};
 use crate::listing::{blocks, objects, pictured, shown, size, statistics};
 use lezgauri::{AllocatorKind, Fault, Image, IndexKind};
 use seg_program::Failure;
-use seg_words::{Allocator, ImageTask, Index, NewImage};
+use seg_request::{Allocator, ImageTask, Index, NewImage};
 use std::alloc::{AllocError, Global};
 
 /// What is made of an image: a text, and the image that is saved where it changes.

@@ -3,11 +3,11 @@ ghost use Rattle.std.specs.Prelude.{◌≡◌, false};
 use crate::clients::{assemble_file, print_file, trace_file, verify_file};
 use crate::explaining::explain_failure;
 use crate::images::{image_file, new_file};
-use crate::runner::ImageRunner;
+use client_vm::ImageRunner;
 use lezgauri::Sink;
 use seg_files::Files;
 use seg_program::{Failure, print, report, run_files};
-use seg_words::{Asked, Request};
+use seg_request::{Asked, Request};
 use std::alloc::Global;
 use std::convert::AsStr;
 
@@ -23,7 +23,7 @@ pub fn command<S: AsStr, F: Files, O: Sink, E: Sink>(
     requires out_works { O.has_failed out.old ≡ false }
     requires err_works { E.has_failed err.old ≡ false }
 {
-    match seg_words::read(alloc, words) {
+    match seg_request::read(alloc, words) {
         Ok(asked) => answer(alloc, &asked, files, out, err),
         Err(misread) => report(alloc, &Failure::from(misread), err),
     }

@@ -1,6 +1,6 @@
 ghost use Rattle.std.specs.Prelude.{◌≡◌, ◌⊎◌, ◌≤◌, replicate, IfOk, IfErr};
 ghost use Rattle.seg_spec.specs.Faulty.{IsImageLength};
-ghost use Rattle.seg_manager.specs.Segments.{IsNew};
+ghost use Rattle.seg_space.specs.NewSegments.{IsNew};
 ghost use Rattle.seg_image.specs.Images.{segment_of, allocator_of, number_of};
 
 use crate::image::Image;
@@ -56,7 +56,7 @@ fn empty<F: Fit, A: Allocator>(
         return Err(Fault::BadSize);
     }
     let region = Region::new(alloc, size)?;
-    match Segment::create(region, 0, size, index) {
+    match seg_space::create(region, 0, size, index) {
         Ok(segment) => Ok(segment),
         Err((fault, _)) => Err(fault),
     }

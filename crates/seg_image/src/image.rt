@@ -93,7 +93,7 @@ impl<A: Allocator> Image<A> {
             IfOk result (λ saved. IsSound saved.items) }
         ensures refused { IsOkUnless result Fault.Memory }
     {
-        on!(self, segment => save(alloc, segment))
+        on!(self, segment => save(alloc, segment.window()))
     }
 
     /// The image's bytes in their own memory, which isn't copied.

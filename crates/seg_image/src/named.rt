@@ -12,7 +12,8 @@ ghost use Rattle.seg_image.specs.Places.{position_of, first_place, item_place, v
 use crate::image::{Image, on};
 use crate::places::placed;
 use seg_layout::{MAX_TYPES, TypeId};
-use seg_manager::{Found, Named};
+use seg_manager::Found;
+use seg_names::{Named, first_name, next_name, num_named};
 use seg_raw::Code;
 use seg_value::Place;
 use std::alloc::Allocator;
@@ -138,7 +139,7 @@ impl<A: Allocator> Image<A> {
         ensures { (picture : Picture) → IsOpen self.now picture →
             result ≡ length picture.names }
     {
-        on!(self, segment => segment.num_named())
+        on!(self, segment => num_named(segment))
     }
 
     /// The least name, with the type and the number of values of its object.
@@ -148,7 +149,7 @@ impl<A: Allocator> Image<A> {
             (λ it. IsSomeAnd (slice_get picture.names 0)
             (Says it.name.now it.type_id it.count)) }
     {
-        on!(self, segment => segment.first_name())
+        on!(self, segment => first_name(segment))
     }
 
     /// The least name above another one, which need not be there.
@@ -158,7 +159,7 @@ impl<A: Allocator> Image<A> {
             (λ it. IsSomeAnd (root_after picture.names after.now)
             (Says it.name.now it.type_id it.count)) }
     {
-        on!(self, segment => segment.next_name(after))
+        on!(self, segment => next_name(segment, after))
     }
 
     /// Whether the image has a type, or `OtherType`.

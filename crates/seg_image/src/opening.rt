@@ -66,7 +66,7 @@ impl<A: Allocator + Copy> Image<A> {
 /// The segment of an image, on one allocator.
 fn open_on<F: Fit, A: Allocator + Copy>(
     alloc: A,
-    window: Window<A>,
+    mut window: Window<A>,
 ) -> Result<Segment<F, A>, Unopened<A>>
     ensures opened { IfOk result (λ segment.
         segment.window.bytes ≡ upgraded window.bytes) }
@@ -77,9 +77,9 @@ fn open_on<F: Fit, A: Allocator + Copy>(
         IfErr result (λ unopened. IsFaultOf window.bytes unopened.fault) }
     ensures refused { IfErr result (λ unopened. unopened.bytes.items ≡ window.bytes) }
 {
-    match seg_open::open(alloc, window) {
-        Ok(segment) => Ok(segment),
-        Err((fault, window)) => Err(Unopened {
+    match seg_open::open::<F, A, A>(alloc, &mut window) {
+        Ok(types) => Ok(Segment::new(window, types)),
+        Err(fault) => Err(Unopened {
             fault,
             bytes: window.into_bytes(),
         }),

@@ -17,6 +17,7 @@ use crate::image::{Image, on};
 use crate::places::placed;
 use seg_block::Fit;
 use seg_layout::TypeId;
+use seg_owner::set_own;
 use seg_raw::Code;
 use seg_value::{Content, Heap, Place};
 use std::alloc::Allocator;
@@ -77,6 +78,6 @@ fn put_new<F: Fit, A: Allocator>(
 {
     let content = Content::object(heap.types(), object);
     let at = heap.new_block(&content)?;
-    heap.set_own(own, at);
+    set_own(heap, own, at);
     Ok(at)
 }

@@ -16,11 +16,11 @@ use Rattle.seg_spec.proofs.Writing.{set_number-changes}
 use Rattle.seg_spec.proofs.CellSteps.{ChangesOnly-trans, ChangesOnly-wider}
 use Rattle.seg_spec.proofs.PointerLaws.{target-set_same, target-same}
 use Rattle.seg_value.specs.Names.{IsSameEntry}
-use Rattle.seg_index.specs.Names.{type_at, name_after, name_of, name_at}
-use Rattle.seg_index.proofs.NamedTags.{is_named, in_block}
-use Rattle.seg_index.specs.Entries.{entry_read, rest_of, write_entry}
+use Rattle.seg_entry.specs.Names.{type_at, name_after, name_of, name_at}
+use Rattle.seg_entry.proofs.NamedTags.{is_named, in_block}
+use Rattle.seg_entry.specs.Entries.{entry_read, rest_of, write_entry}
 use Rattle.seg_index.specs.Lists.{entry_of, IsNamed}
-use Rattle.seg_index.specs.declared.entry.NameEntry.{NameEntry}
+use Rattle.seg_entry.specs.declared.entry.NameEntry.{NameEntry}
 
 -- ---- the parts of a word
 

@@ -1,6 +1,3 @@
-pub mod NameOrder
-pub mod NamedTags
-pub mod Precedes
 pub mod EntryLaws
 pub mod RootOrder
 pub mod FlatEntries

@@ -1,4 +1,2 @@
-pub mod Names
 pub mod NameParts
 pub mod Lists
-pub mod Entries

@@ -1,15 +1,30 @@
 -- A name is read from its parts alone.
-use Rattle.std.proofs.Common.{◌≡◌, ℕ, ◌+◌, ◌-◌, ◌%◌, ◌^◌, ◌≤◌, List, Option, Some, None, refl, ap, ◌∙◌, arith}
+--     parts_at types bytes entry       the bytes that the name of an entry is read from
+use Rattle.std.proofs.Common.{◌≡◌, ℕ, ◌+◌, ◌-◌, ◌*◌, ◌%◌, ◌^◌, ◌≤◌, List, [], ◌∷◌, Option, Some, None, refl, ap, ◌∙◌, arith}
 use Rattle.std.specs.Prelude.{◌==◌, nat_le, if◌then◌else◌}
 use Rattle.std.specs.List.{AllByRecursion}
 use Rattle.seg_bytes.specs.Bytes.{IsSame}
 use Rattle.seg_spec.specs.Pointer.{target}
-use Rattle.seg_spec.specs.Types.{Table}
+use Rattle.seg_spec.specs.Types.{Table, size}
 use Rattle.seg_bytes.proofs.BytesLaws.{number-slice}
 use Rattle.seg_spec.proofs.SliceLaws.{IsSame-part}
-use Rattle.seg_rbtree.specs.Parts.{Part}
-use Rattle.seg_index.specs.Names.{named_type, type_at, values_at, len_at}
-use Rattle.seg_index.specs.Names.{name_after, name_of, name_at, parts_after, parts_of, parts_at}
+use Rattle.seg_rbtree.specs.Parts.{Part, part}
+use Rattle.seg_entry.specs.Names.{named_type, type_at, values_at, len_at}
+use Rattle.seg_entry.specs.Names.{name_after, name_of, name_at}
+
+-- the bytes that a name is read from
+abbrev pub parts_after : Table → ℕ → ℕ → ℕ → Option ℕ → List Part
+parts_after types object count len None = []
+parts_after types object count len (Some T) = part (object + count * size types T) len ∷ []
+
+abbrev pub parts_of : Table → List ℕ → Option ℕ → ℕ → ℕ → List Part
+parts_of types bytes None count len = []
+parts_of types bytes (Some object) count len =
+    part (object - 16 + 8) 4 ∷ parts_after types object count len (type_at bytes object)
+
+abbrev pub parts_at : Table → List ℕ → ℕ → List Part
+parts_at types bytes entry = part entry 4 ∷ part (entry + 4) 4
+    ∷ parts_of types bytes (target bytes entry) (values_at bytes entry) (len_at bytes entry)
 
 -- what a pointer names
 target_same : (old new : List ℕ) (at : ℕ) → IsSame old new at 4 → target new at ≡ target old at

@@ -3,10 +3,9 @@ ghost use Rattle.seg_spec.specs.Index.{Root};
 ghost use Rattle.seg_spec.specs.Window.{KeepsHost};
 ghost use Rattle.seg_index.specs.Lists.{WhereNames, IsOccupied, IsVacant, IsRootOf, MayEnter, EntersOrNot, LeavesName};
 
-use crate::entry::NameEntry;
-use crate::kind::IndexKind;
 use crate::{flat, tree};
 use seg_block::Fit;
+use seg_entry::{IndexKind, NameEntry};
 use seg_raw::Code;
 use seg_rbtree::Path;
 use seg_value::Heap;

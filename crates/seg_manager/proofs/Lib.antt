@@ -3,10 +3,8 @@ pub mod UniqueWords
 pub mod UniqueObjects
 pub mod Answering
 pub mod NamedReads
-pub mod Counting
 pub mod TableBytes
 pub mod TypesAdded
-pub mod Creating
 pub mod NamedMaking
 pub mod NewNamed
 pub mod NamedEnters

@@ -6,15 +6,14 @@
 --     Spends allocator old new asks gives
 --                                         the requests were granted, and these blocks given back
 --     new_root table name T n at          an object of n default values
---     nothing, IsNew                      the empty picture, and a segment with it
 --     MakesLoose, LosesLoose              a loose object comes, and goes
 --     MakesUnique, FindsOrMakes, RefusesUnique, LosesUnique
 --                                         a unique object comes, is found or refused, and goes
 --     AddsTypes                           the table becomes a longer one
 --     unique_at picture T                 where the unique object of a type begins
-use Rattle.std.specs.Prelude.{◌≡◌, ℕ, ◌+◌, ◌≤◌, take, drop, List, [], ◌∷◌, ◌++◌, length, ◌⊎◌, Option, Some, None, IsSome, option_map}
+use Rattle.std.specs.Prelude.{◌≡◌, ℕ, ◌+◌, ◌≤◌, List, [], ◌∷◌, ◌++◌, length, ◌⊎◌, Option, Some, None, IsSome, option_map}
 use Rattle.seg_bytes.specs.Bytes.{word, ChangesOnly}
-use Rattle.seg_spec.specs.Header.{version_word, allocator_word, next_word, index_kind_word, types_start, types_size, sharing_version, KeepsFront}
+use Rattle.seg_spec.specs.Header.{allocator_word, next_word, types_start, types_size, KeepsFront}
 use Rattle.seg_spec.specs.Types.{Table, size, longer}
 use Rattle.seg_spec.specs.Value.{copies, default_of}
 use Rattle.seg_spec.specs.Heap.{live}
@@ -29,8 +28,6 @@ use Rattle.seg_spec.specs.Frozen.{blocks_by}
 use Rattle.seg_spec.specs.Shared.{names_each, left, freed}
 use Rattle.seg_spec.specs.Spending.{spent}
 use Rattle.seg_spec.specs.Calls.{Refuses}
-use Rattle.seg_index.specs.declared.kind.IndexKind.{IndexKind}
-use Rattle.seg_index.specs.declared.kind.IndexKind.TheVariants as kind
 use Rattle.seg_raw.specs.declared.code.Code.{Code}
 use Rattle.seg_raw.specs.declared.code.Code.TheVariants as code
 use Rattle.seg_value.specs.Stored.{Stored}
@@ -67,29 +64,6 @@ new_root table name T n at = plain_root name at T (copies n (default_of table T)
 -- the request for an object of one value of a type
 abbrev pub one_value : Table → ℕ → List Ask
 one_value table T = block_for (size table T) ∷ []
-
--- ---- a new segment
-
--- no types and no roots
-abbrev pub nothing : Picture
-nothing = record { table = []; names = []; uniques = []; loose = []; frozen = [] }
-
--- what the image's word for the index says of a kind
-abbrev pub word_of_kind : IndexKind → ℕ
-word_of_kind kind.Flat = 0
-word_of_kind kind.Tree = 1
-
--- a segment of this length, at a base of a region that is kept around it, with nothing in it; its
--- version may have frozen objects
-pub record IsNew (allocator : ℕ) (s : Stored) (region : List ℕ) (base len : ℕ)
-    (index : IndexKind) : Type 0 where
-  pub segment : IsSegment allocator s nothing
-  pub version_is : word s.window.bytes version_word ≡ sharing_version
-  pub kind_is : word s.window.bytes index_kind_word ≡ word_of_kind index
-  pub length_is : length s.window.bytes ≡ len
-  pub no_block : live s.window.bytes ≡ []
-  pub before_is : s.window.before ≡ take base region
-  pub after_is : s.window.after ≡ drop (base + len) region
 
 -- ---- loose objects
 

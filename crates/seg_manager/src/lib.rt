@@ -7,7 +7,7 @@ mod names;
 mod segment;
 mod uniques;
 
-pub use names::{Found, Named};
+pub use names::Found;
 pub use seg_index::{IndexKind, MAX_NAME};
 pub use seg_ptr::MIN_LEN;
-pub use segment::{Segment, is_size};
+pub use segment::Segment;

@@ -1,4 +1,4 @@
-ghost use Rattle.std.specs.Prelude.{◌≡◌, ◌+◌, ◌*◌, ◌%◌, ◌^◌, ◌<◌, ◌≤◌, false, [], ◌++◌, length, None, Some, Err, MatchOption, IsSomeAnd, IfOk, IfSome, IfNone, MatchResult, IsOkUnless, slice_get, is_ok, ℕ, List, IsTrue};
+ghost use Rattle.std.specs.Prelude.{◌≡◌, ◌+◌, ◌*◌, ◌%◌, ◌^◌, ◌<◌, ◌≤◌, false, [], ◌++◌, length, None, Some, Err, IfOk, IfSome, IfNone, MatchResult, IsOkUnless, is_ok, ℕ, List, IsTrue};
 ghost use Rattle.seg_bytes.specs.Bytes.{ChangesOnly};
 ghost use Rattle.seg_spec.specs.Calls.{Refuses};
 ghost use Rattle.seg_spec.specs.Clearing.{BesideShared};
@@ -13,15 +13,15 @@ ghost use Rattle.seg_spec.specs.Spending.{object_asks};
 ghost use Rattle.seg_spec.specs.Types.{IsTable, size};
 ghost use Rattle.seg_spec.specs.Value.{copies, default_of};
 ghost use Rattle.seg_spec.specs.Window.{KeepsHost};
-ghost use Rattle.seg_index.specs.Lists.{IsNamed, IsVacant, entry_of, root_after};
-ghost use Rattle.seg_manager.specs.NamedObjects.{found_as, Says, IsMissing, IsCount, RefusesName, FindsOrMakesNamed, RefusesToFind, found_of};
+ghost use Rattle.seg_index.specs.Lists.{IsNamed, IsVacant, entry_of};
+ghost use Rattle.seg_manager.specs.NamedObjects.{found_as, IsMissing, IsCount, RefusesName, FindsOrMakesNamed, RefusesToFind, found_of};
 ghost use Rattle.seg_manager.specs.NewNamed.{HasValuesRoom, GivesNamed, MakesNamed, FindsNoRoom, root_asks};
 ghost use Rattle.seg_manager.specs.LeavingNamed.{IsUnlisted, LosesNamed};
 ghost use Rattle.seg_manager.specs.Segments.{IsSegment, new_root};
 
 use crate::segment::Segment;
 use seg_block::{Fit, Kind, Tag, UNIT, need};
-use seg_index::{MAX_NAME, NameEntry, Vacant, find, first_name, look_up, name_count, next_name};
+use seg_index::{MAX_NAME, NameEntry, Vacant, find, look_up};
 use seg_layout::TypeId;
 use seg_raw::Code;
 use seg_value::Place;
@@ -31,14 +31,6 @@ use std::alloc::Allocator;
 #[derive(Debug, Clone, Copy, PartialEq, Eq)]
 pub struct Found {
     pub at: u32,
-    pub count: u16,
-}
-
-/// A name of a segment, with the type and the number of values of its object.
-#[derive(Debug, Clone, Copy, PartialEq, Eq)]
-pub struct Named<'a> {
-    pub name: &'a [u8],
-    pub type_id: TypeId,
     pub count: u16,
 }
 
@@ -280,47 +272,6 @@ impl<F: Fit, A: Allocator> Segment<F, A> {
             self.heap_mut().clear(value);
         }
         self.heap_mut().free_block(found.at);
-    }
-
-    /// How many names there are.
-    pub fn num_named(&self) -> u32
-        ensures { (picture : Picture) → IsSegment F.allocator self.now picture →
-            result ≡ length picture.names }
-    {
-        name_count(self.window())
-    }
-
-    /// The least name.
-    pub fn first_name(&self) -> Option<Named<'_>>
-        ensures { (picture : Picture) → IsSegment F.allocator self.now picture →
-            MatchOption result (slice_get picture.names 0 ≡ None)
-            (λ it. IsSomeAnd (slice_get picture.names 0)
-            (Says it.name.now it.type_id it.count)) }
-    {
-        self.named(first_name(self.heap())?)
-    }
-
-    /// The least name above another one, which need not be there.
-    pub fn next_name(&self, after: &[u8]) -> Option<Named<'_>>
-        ensures { (picture : Picture) → IsSegment F.allocator self.now picture →
-            MatchOption result (root_after picture.names after.now ≡ None)
-            (λ it. IsSomeAnd (root_after picture.names after.now)
-            (Says it.name.now it.type_id it.count)) }
-    {
-        self.named(next_name(self.heap(), after)?)
-    }
-
-    /// What an entry says.
-    fn named(&self, entry: NameEntry) -> Option<Named<'_>>
-        ensures { (root : Root) → IsNamed self.now.window.bytes self.now.types root →
-            root.type < 32 → entry ≡ entry_of root →
-            IsSomeAnd result (λ it. Says it.name.now it.type_id it.count root) }
-    {
-        Some(Named {
-            name: entry.name(self.window(), self.types()),
-            type_id: entry.type_id(self.window())?,
-            count: entry.count,
-        })
     }
 }
 

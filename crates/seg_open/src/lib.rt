@@ -1,4 +1,4 @@
-//! Opens an image as a segment where it is sound, and saves a segment as an image.
+//! Opens the image in a window where it is sound, and saves it.
 #![tactic(auto)]
 
 mod opening;

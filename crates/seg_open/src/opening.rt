@@ -1,4 +1,4 @@
-ghost use Rattle.std.specs.Prelude.{◌≡◌, IfErr, IfOk, OnOk};
+ghost use Rattle.std.specs.Prelude.{◌≡◌, IfErr, IfOk, OnErr, OnOk};
 ghost use Rattle.seg_bytes.specs.Bytes.{word};
 ghost use Rattle.seg_spec.specs.Header.{allocator_word};
 ghost use Rattle.seg_spec.specs.Images.{upgraded};
@@ -8,32 +8,30 @@ ghost use Rattle.seg_check.specs.Faults.{IsImageOf, IsFaultOfOpening, IsFrontRig
 
 use seg_block::Fit;
 use seg_check::check;
-use seg_manager::Segment;
+use seg_layout::TypeTable;
 use seg_ptr::{Window, header};
 use seg_raw::Fault;
 use std::alloc::Allocator;
 
-/// The segment of an image, whose heap this allocator keeps, as one of the version that may have frozen objects. The window
-/// comes back with the image's first fault, and with `BadHeader` where the image names the other allocator.
+/// The types of an image, whose heap this allocator keeps; the image is one of the version that may have frozen objects
+/// from then on. Refused for the image's first fault, and with `BadHeader` where it names the other allocator; then nothing
+/// changes.
 pub fn open<F: Fit, A: Allocator, B: Allocator>(
     alloc: B,
-    mut window: Window<A>,
-) -> Result<Segment<F, A>, (Fault, Window<A>)>
-    ensures opened { IfOk result (λ segment.
-        segment.window ≡ with_bytes window (upgraded window.bytes)) }
-    ensures image { IfOk result (λ segment. IsImageOf window.bytes segment.types) }
-    ensures allocator { OnOk result (word window.bytes allocator_word ≡ F.allocator) }
-    ensures fault { IfErr result (λ refused.
-        IsFaultOfOpening F.allocator window.bytes refused.0) }
-    ensures memory { IfErr result (λ refused. refused.0 ≡ Memory → IsFrontRight window.bytes) }
-    ensures refused { IfErr result (λ refused. refused.1 ≡ window) }
+    window: &mut Window<A>,
+) -> Result<TypeTable, Fault>
+    ensures opened { OnOk result
+        (window.new ≡ with_bytes window.old (upgraded window.old.bytes)) }
+    ensures image { IfOk result (IsImageOf window.old.bytes) }
+    ensures allocator { OnOk result (word window.old.bytes allocator_word ≡ F.allocator) }
+    ensures fault { IfErr result (IsFaultOfOpening F.allocator window.old.bytes) }
+    ensures memory { IfErr result (λ fault. fault ≡ Memory → IsFrontRight window.old.bytes) }
+    ensures unchanged { OnErr result (window.new ≡ window.old) }
 {
-    match check(alloc, &window) {
-        Err(fault) => Err((fault, window)),
-        Ok(_) if window.get32(header::ALLOCATOR) != F::word() => Err((Fault::BadHeader, window)),
-        Ok(types) => {
-            header::upgrade(&mut window);
-            Ok(Segment::new(window, types))
-        }
+    let types = check(alloc, window)?;
+    if window.get32(header::ALLOCATOR) != F::word() {
+        return Err(Fault::BadHeader);
     }
+    header::upgrade(window);
+    Ok(types)
 }

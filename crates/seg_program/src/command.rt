@@ -1,10 +1,11 @@
 ghost use Rattle.std.specs.Prelude.{◌≡◌, false};
 
+use crate::failure::Failure;
+use crate::output::{print, report};
 use crate::run::run_files;
-use crate::runner::Runner;
 use client_output::Sink;
+use client_runner::Runner;
 use seg_files::Files;
-use seg_host::{Failure, print, report};
 use seg_words::RunRequest;
 use std::alloc::Global;
 use std::convert::AsStr;

@@ -1,16 +1,19 @@
 //! The command that runs clients, which is the whole of the program `segrun` but for the call that runs them, with what the
-//! programs share.
+//! programs share: the host's words, the files that a run reads and writes, why a command failed, and what is printed.
 #![tactic(auto)]
 
 mod command;
+mod failure;
+mod host;
+mod inputs;
+mod output;
 mod run;
-mod runner;
+mod saving;
 
-pub use client_accept::Refused;
-pub use client_output::{Ended, Sink, Through};
+pub use client_output::Through;
 pub use command::run_command;
+pub use failure::{Failure, STANDARD_OUTPUT};
+pub use host::{refuse, words};
+pub use inputs::{read_input, slices};
+pub use output::{print, report, tell};
 pub use run::run_files;
-pub use runner::{Asked, Runner, Saved};
-pub use seg_host::{
-    Failure, STANDARD_OUTPUT, print, read_input, refuse, report, slices, tell, words,
-};

@@ -1,10 +1,11 @@
 ghost use Rattle.std.specs.Prelude.{◌≡◌, false};
 
-use crate::runner::{Asked, Runner, Saved};
-use client_accept::Refused;
-use client_output::Sink;
+use crate::failure::Failure;
+use crate::inputs::{Inputs, read_inputs, slices};
+use crate::saving::save;
+use client_output::{Refused, Sink};
+use client_runner::{Batch, Runner, Saved};
 use seg_files::Files;
-use seg_host::{Failure, Inputs, read_inputs, save, slices};
 use seg_words::Run;
 use std::alloc::Global;
 
@@ -40,13 +41,13 @@ fn saved_of<R: Runner, O: Sink>(
         input,
     } = inputs;
     let clients = slices(alloc, clients.as_slice())?;
-    let asked = Asked {
+    let batch = Batch {
         clients: clients.as_slice(),
         input: input.as_slice(),
         room: room_of(run, image.len()),
         base: run.base,
     };
-    runner.run(alloc, image, &asked, out)
+    runner.run(alloc, image, &batch, out)
 }
 
 /// The bytes of the region of an image of so many: the image ends it, where the words say nothing else.

@@ -8,6 +8,7 @@ use crate::walk::{Met, Walk, most_turns};
 use seg_block::{Fit, UNIT};
 use seg_layout::Type;
 use seg_manager::Segment;
+use seg_owner::frozen;
 use seg_value::{Heap, Place};
 use std::alloc::{AllocError, Global};
 
@@ -138,7 +139,7 @@ impl<'h, F: Fit> Shown<'h, F> {
 
     /// Adds which frozen object a cell names, by its number.
     fn add_shared(&mut self, cell: Place) -> Result<(), AllocError> {
-        match self.heap.frozen(cell) {
+        match frozen(self.heap, cell) {
             Some(value) => {
                 if let Some(named) = self.named.get_mut((value / UNIT) as usize) {
                     *named = true;

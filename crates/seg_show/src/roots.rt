@@ -1,7 +1,8 @@
 use crate::blocks::{blocks, live_tag};
 use seg_block::{Fit, Kind, UNIT};
 use seg_layout::{MAX_TYPES, TypeId};
-use seg_manager::{Named, Segment};
+use seg_manager::Segment;
+use seg_names::{Named, first_name, next_name, num_named};
 use seg_ptr::Window;
 use seg_value::{Content, Heap, Place};
 use std::alloc::{AllocError, Global};
@@ -129,15 +130,15 @@ fn named_roots<F: Fit>(
     segment: &Segment<F, Global>,
 ) -> Result<Vec<Root<'_>>, AllocError> {
     let mut roots = Vec::new(alloc);
-    let mut next = segment.first_name();
-    for _ in 0..segment.num_named() {
+    let mut next = first_name(segment);
+    for _ in 0..num_named(segment) {
         let Some(named) = next else {
             break;
         };
         if let Some(root) = named_root(segment, named) {
             roots.push(root)?;
         }
-        next = segment.next_name(named.name);
+        next = next_name(segment, named.name);
     }
     Ok(roots)
 }

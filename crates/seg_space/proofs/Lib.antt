@@ -1,3 +1,4 @@
+pub mod EmptyImages
 pub mod TileWalk
 pub mod KeptOrder
 pub mod ZeroedGaps

@@ -1,4 +1,3 @@
-pub mod Owns
 pub mod NewBlocks
 pub mod Buffers
 pub mod Nulls
@@ -9,11 +8,6 @@ pub mod Joining
 pub mod Opening
 pub mod Turns
 pub mod Clearing
-pub mod Setting
-pub mod Pointed
-pub mod SharedCells
-pub mod Freezing
-pub mod FrozenCells
 pub mod Cutting
 pub mod Runs
 pub mod Inside

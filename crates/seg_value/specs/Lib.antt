@@ -1,6 +1,5 @@
 pub mod Stored
 pub mod Contents
-pub mod Places
 pub mod Buffers
 pub mod Entries
 pub mod Names

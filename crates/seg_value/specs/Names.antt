@@ -1,6 +1,5 @@
 -- The buffer of the flat index, as calls on it find and leave it.
 --     index_cell                          where the index's cell stands
---     IsIndexBuffer content               entries of 8 bytes that begin with a pointer
 --     name_entry bytes i                  the position of an entry
 --     FindsNames allocator bytes table    the heap is in order, and the cell names a buffer of entries
 --     FindsIndex allocator bytes table content cell    the call is on the index, with its content
@@ -31,18 +30,8 @@ use Rattle.seg_spec.specs.Calls.{Refuses}
 use Rattle.seg_spec.specs.Spending.{buffer_asks, entry_asks, spent}
 use Rattle.seg_spec.specs.Reads.{count_at, named, start, NamesRoom}
 use Rattle.seg_spec.specs.Sound.{times, positions}
-use Rattle.seg_block.specs.Tags.{word_of}
-use Rattle.seg_value.specs.declared.content.Content.{Content}
-use Rattle.seg_value.specs.declared.content.Shape.TheVariants as shape
-use Rattle.seg_cells.specs.declared.entry.Held.TheVariants as held
-
--- a buffer of entries of 8 bytes, each with a pointer to an object that it doesn't own
-pub record IsIndexBuffer (content : Content) : Type 0 where
-  pub shape_is : content.shape ≡ shape.Buffer
-  pub tag_is : word_of content.tag ≡ tag_of block.Kind.index_buffer 0
-  pub size_is : content.entry.size ≡ 8
-  pub before_is : content.entry.before ≡ 0
-  pub held_is : content.entry.held ≡ held.Pointer
+use Rattle.seg_content.specs.Contents.{IsIndexBuffer}
+use Rattle.seg_content.specs.declared.content.Content.{Content}
 
 -- the position of an entry
 abbrev pub name_entry : List ℕ → ℕ → ℕ

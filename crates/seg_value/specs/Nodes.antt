@@ -1,6 +1,4 @@
 -- Nodes of the index's tree, which hold no values of their own.
---     IsIndexNode content                    an entry with the bytes of such a node, and a pointer
---                                            to an object that it doesn't own
 --     GivesNode allocator old new payload    the block of a new node
 use Rattle.std.specs.Prelude.{◌≡◌, ℕ, ◌≤◌, List, [], ◌∷◌, length, Some, None}
 use Rattle.seg_spec.specs.Heap.{IsHeap, live, link_at}
@@ -10,15 +8,6 @@ use Rattle.seg_spec.specs.Sound.{times, positions}
 use Rattle.seg_spec.specs.Demand.{after_asks, block_for}
 use Rattle.seg_spec.specs.Block as block
 use Rattle.seg_spec.specs.Block.{block_of, tag_of, IsBlock, KeepsBlock}
-use Rattle.seg_block.specs.Tags.{word_of}
-use Rattle.seg_value.specs.declared.content.Content.{Content}
-use Rattle.seg_cells.specs.declared.entry.Held.TheVariants as held
-
--- a node of the index's tree
-pub record IsIndexNode (content : Content) : Type 0 where
-  pub tag_is : word_of content.tag ≡ tag_of block.Kind.index_node 0
-  pub size_is : content.entry.size ≡ index_node_size
-  pub held_is : content.entry.held ≡ held.Pointer
 
 -- a new block with the tag of such a node and room for it; all other live blocks are kept
 pub record GivesNode (allocator : ℕ) (old new : List ℕ) (payload : ℕ) : Type 0 where

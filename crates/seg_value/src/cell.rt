@@ -6,22 +6,9 @@ ghost use Rattle.seg_block.specs.Blocks.{payload_at};
 
 use crate::heap::Heap;
 use seg_block::{Fit, block_of, payload};
+use seg_cells::{count, load, start};
 use seg_ptr::Window;
 use std::alloc::Allocator;
-
-/// The number in a cell after its pointer: how many bytes, items or nodes it has.
-pub fn count<A: Allocator>(w: &Window<A>, cell: u32) -> u32
-    ensures { result ≡ count_at w.now.bytes cell }
-{
-    w.get32(cell as usize + 4)
-}
-
-/// Where the payload begins that a cell names: 0 where it names none.
-pub fn start<A: Allocator>(w: &Window<A>, cell: u32) -> u32
-    ensures { result ≡ start w.now.bytes cell }
-{
-    w.target(cell as usize).unwrap_or(0)
-}
 
 /// The bytes of the payload that begins at a position, as its block's header states.
 pub fn room<A: Allocator>(w: &Window<A>, at: u32) -> u64
@@ -30,17 +17,9 @@ pub fn room<A: Allocator>(w: &Window<A>, at: u32) -> u64
     payload(w, block_of(at))
 }
 
-/// The number at a position.
-#[tactic(auto, unfolding(seg_bytes::specs::Bytes::signed))]
-pub fn load<A: Allocator>(w: &Window<A>, at: u32) -> i64
-    ensures { result ≡ signed_long w.now.bytes at }
-{
-    w.get64(at as usize).cast_signed()
-}
-
 /// The cells of values: a number, or a pointer and then a count.
 impl<F: Fit, A: Allocator> Heap<F, A> {
-    /// As [`count`](crate::count) in the heap's window.
+    /// As [`count`] in the heap's window.
     pub fn count(&self, cell: u32) -> u32
         ensures { result ≡ count_at self.now.window.bytes cell }
     {

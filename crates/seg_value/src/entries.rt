@@ -9,9 +9,9 @@ ghost use Rattle.seg_value.specs.Entries.{NamesFlatMap, OpensEntry, ClosesEntry,
 ghost use Rattle.seg_value.specs.Names.{FindsIndex, OpensName, ClosesName};
 ghost use Rattle.seg_cells.specs.Places.{object_at as place_at};
 
-use crate::content::Content;
 use crate::heap::Heap;
 use seg_block::Fit;
+use seg_content::Content;
 use seg_raw::Code;
 use std::alloc::Allocator;
 

@@ -4,18 +4,18 @@
 
 mod buffer;
 mod cell;
-mod content;
+mod contents;
 mod destruction;
 mod entries;
 mod entry;
 mod heap;
 mod moving;
-mod owner;
 mod pending;
-mod sharing;
 
-pub use cell::{count, load, room, start};
-pub use content::{Content, Shape};
+pub use cell::room;
 pub use heap::Heap;
 pub use seg_block::block_of;
-pub use seg_cells::{Entry, Held, KEY, LIST_LINKS, PREVIOUS, Place, binary_search};
+pub use seg_cells::{
+    Entry, Held, KEY, LIST_LINKS, PREVIOUS, Place, binary_search, count, load, start,
+};
+pub use seg_content::{Content, FROZEN_WORDS, Shape};

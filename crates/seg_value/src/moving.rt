@@ -10,10 +10,10 @@ ghost use Rattle.seg_spec.specs.Window.{KeepsHost};
 ghost use Rattle.seg_cells.specs.Entries.{IsEntryOf};
 ghost use Rattle.seg_cells.specs.Pointers.{MovesPointers};
 
-use crate::content::Content;
 use crate::heap::Heap;
 use seg_block::Fit;
 use seg_cells::{Entry, Held, point_each_again};
+use seg_content::Content;
 use seg_layout::TypeId;
 use std::alloc::Allocator;
 

@@ -1,11 +1,10 @@
-//! The words of the programs' command lines, and what they ask for.
+//! The words of a command line: what a command takes, how it is read, and what the words of `segrun` ask for.
 #![tactic(auto)]
 
-mod command_line;
+mod line;
 mod misread;
-mod reading;
-mod request;
+mod run;
 
+pub use line::{Argument, Line, Takes, number, parser, parser_of, word};
 pub use misread::Misread;
-pub use reading::{read, read_run};
-pub use request::{Allocator, Asked, ImageTask, Index, NewImage, Request, Run, RunRequest, Trace};
+pub use run::{INPUT, RUN, Run, RunRequest, read_run, run_of};

@@ -11,7 +11,7 @@ pub enum Misread {
 }
 
 impl Misread {
-    pub(crate) fn of(alloc: Global, error: &clap::Error) -> Misread {
+    pub fn of(alloc: Global, error: &clap::Error) -> Misread {
         if error.kind() == ErrorKind::OutOfMemory {
             return Misread::Memory;
         }

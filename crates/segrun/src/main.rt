@@ -2,9 +2,7 @@
 //! outputs, and the call that runs clients, are put after the command.
 #![tactic(auto)]
 
-mod runner;
-
-use crate::runner::ImageRunner;
+use client_vm::ImageRunner;
 use seg_files::HostFiles;
 use seg_program::{Through, refuse, run_command, words};
 use std::process::ExitCode;

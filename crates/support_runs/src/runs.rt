@@ -10,10 +10,11 @@ use seg_block::Fit;
 use seg_check::check;
 use seg_layout::TypeTable;
 use seg_manager::{IndexKind, Segment};
+use seg_names::num_named;
 use seg_open::save;
 use seg_raw::{Fault, Region};
 use seg_seqfit::SeqFit;
-use seg_space::{free_memory, largest_gap};
+use seg_space::{create, free_memory, largest_gap};
 use std::alloc::Global;
 use std::test::Fail;
 use support_data::Limited;
@@ -57,7 +58,7 @@ pub fn empty(alloc: Global, size: u32, kind: Kind) -> Result<Vec<u8>, Fail> {
 }
 
 fn empty_on<F: Fit>(alloc: Global, size: u32, index: IndexKind) -> Result<Vec<u8>, Fail> {
-    Ok(save(alloc, &created::<F>(alloc, size, index)?)?)
+    Ok(save(alloc, created::<F>(alloc, size, index)?.window())?)
 }
 
 /// An empty segment.
@@ -67,7 +68,7 @@ pub fn created<F: Fit>(
     index: IndexKind,
 ) -> Result<Segment<F, Global>, Fault> {
     let region = Region::new(alloc, size.min(1 << 21))?;
-    match Segment::<F, Global>::create(region, 0, size, index) {
+    match create(region, 0, size, index) {
         Ok(segment) => Ok(segment),
         Err((fault, _region)) => Err(fault),
     }
@@ -189,7 +190,7 @@ pub fn statistics_of(alloc: Global, image: &[u8]) -> Result<Statistics, Fail> {
     Ok(Statistics {
         free: free_memory(&segment),
         largest: largest_gap(&segment),
-        named: segment.num_named(),
+        named: num_named(&segment),
         unique: segment.num_unique(),
     })
 }

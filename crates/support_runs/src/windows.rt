@@ -26,9 +26,10 @@ pub fn window(alloc: Global, image: &[u8]) -> Result<Window<Global>, Fault> {
 }
 
 /// The segment in a window, if it is sound and on this allocator.
-pub fn opened<F: Fit>(alloc: Global, window: Window<Global>) -> Result<Segment<F, Global>, Fault> {
-    match open::<F, Global, Global>(alloc, window) {
-        Ok(segment) => Ok(segment),
-        Err((fault, _window)) => Err(fault),
-    }
+pub fn opened<F: Fit>(
+    alloc: Global,
+    mut window: Window<Global>,
+) -> Result<Segment<F, Global>, Fault> {
+    let types = open::<F, Global, Global>(alloc, &mut window)?;
+    Ok(Segment::new(window, types))
 }

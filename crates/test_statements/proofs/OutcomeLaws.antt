@@ -24,7 +24,7 @@ use Rattle.client_spec.proofs.OneClient.{one_client}
 use Rattle.test_machine.proofs.Worked.{increment_spelled}
 use Rattle.test_machine.proofs.Whole as whole
 use Rattle.client_output.specs.declared.report.Report.{Report}
-use Rattle.client_accept.specs.declared.refused.Refused.{Refused}
+use Rattle.client_output.specs.declared.refused.Refused.{Refused}
 use Rattle.client_output.specs.declared.report.Ended.{Ended}
 use Rattle.client_output.specs.declared.report.Ended.TheVariants as ended
 use Rattle.client_vm.specs.Outcomes.{AreReports, AreLeftByRuns, HasOutcome, IsFault, IsRefusedFor}

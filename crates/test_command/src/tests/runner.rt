@@ -1,8 +1,7 @@
 //! The program `segrun`, on files in memory.
 
 use crate::tests::files::{Printed, Stored, counter_files, is};
-use client_vm::Through;
-use seg_command::ImageRunner;
+use client_vm::{ImageRunner, Through};
 use seg_program::run_command;
 use std::alloc::Global;
 use std::test::Fail;

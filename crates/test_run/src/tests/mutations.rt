@@ -3,6 +3,7 @@ use arrayvec::ArrayVec;
 use seg_bestfit::BestFit;
 use seg_block::Fit;
 use seg_manager::Segment;
+use seg_names::{first_name, num_named};
 use seg_open::save;
 use seg_ptr::header;
 use seg_seqfit::SeqFit;
@@ -18,8 +19,8 @@ const CHANGES: [u8; 11] = [1, 2, 4, 8, 16, 32, 64, 128, 0xff, 0x55, 0xaa];
 
 /// Destroys each named object of a segment.
 fn destroy_named<F: Fit>(rt: &impl Abort, segment: &mut Segment<F, Global>) -> Result<(), Fail> {
-    for _ in 0..segment.num_named() {
-        let Some(named) = segment.first_name() else {
+    for _ in 0..num_named(segment) {
+        let Some(named) = first_name(segment) else {
             return Err(Fail::from("a name is missing"));
         };
         let (t, count) = (named.type_id, named.count);
@@ -39,7 +40,7 @@ fn saves_as_opened<F: Fit>(
     segment: &Segment<F, Global>,
     image: &[u8],
 ) -> Result<(), Fail> {
-    let saved = save(rt.alloc(), segment)?;
+    let saved = save(rt.alloc(), segment.window())?;
     let mut upgraded = Vec::from_slice(rt.alloc(), image)?;
     write_words(upgraded.as_mut_slice(), 8, &[2]);
     assert_eq!(rt; saved.as_slice(), upgraded.as_slice());

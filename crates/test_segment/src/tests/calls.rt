@@ -11,7 +11,8 @@ use crate::tests::support::{I64, INDEXES, first_fault, given, map_of, pair, segm
 use seg_bestfit::BestFit;
 use seg_block::Fit;
 use seg_layout::TypeId;
-use seg_manager::{IndexKind, Named, Segment};
+use seg_manager::{IndexKind, Segment};
+use seg_names::{Named, first_name, next_name, num_named};
 use seg_raw::{Code, Fault};
 use seg_seqfit::SeqFit;
 use seg_space::{
@@ -149,8 +150,8 @@ fn answer<F: Fit>(
         "count" => Some(given(count(s, first, type_id(second)?))),
         "find_or_make" => Some(given(find_or_make(s, first, type_id(second)?))),
         "kill" => Some(Ok(kill(s, first, type_id(second)?))),
-        "first" => Some(Ok(u32::from(is_number(s.first_name(), first)))),
-        "next" => Some(Ok(u32::from(is_number(next_name(s, first), second)))),
+        "first" => Some(Ok(u32::from(is_number(first_name(s), first)))),
+        "next" => Some(Ok(u32::from(is_number(next_name(s, first.as_bytes()), second)))),
         _ => on_segment(s, verb, first).or(on_bytes(s, verb, first, second)),
     }
 }
@@ -175,7 +176,7 @@ fn size<F: Fit>(s: &Segment<F, Global>, what: &str) -> Option<Answer> {
         "largest" => Some(Ok(largest_gap(s))),
         "is_empty" => Some(Ok(u32::from(all_memory_deallocated(s)))),
         "size" => Some(Ok(s.window().len())),
-        "named" => Some(Ok(s.num_named())),
+        "named" => Some(Ok(num_named(s))),
         "unique" => Some(Ok(u32::try_from(s.num_unique()).ok()?)),
         _ => None,
     }
@@ -216,10 +217,6 @@ fn find_or_make<F: Fit>(s: &mut Segment<F, Global>, name: &str, t: TypeId) -> Re
 
 fn kill<F: Fit>(s: &mut Segment<F, Global>, name: &str, t: TypeId) -> u32 {
     u32::from(s.destroy(name.as_bytes(), t))
-}
-
-fn next_name<'s, F: Fit>(s: &'s Segment<F, Global>, name: &str) -> Option<Named<'s>> {
-    s.next_name(name.as_bytes())
 }
 
 fn grown<F: Fit>(s: &mut Segment<F, Global>, extra: u32) -> Answer {

@@ -8,11 +8,13 @@ use crate::tests::support::{
 use seg_bestfit::BestFit;
 use seg_layout::TypeId;
 use seg_manager::{Found, IndexKind, Segment};
+use seg_names::num_named;
 use seg_open::{open, save};
+use seg_owner::{freeze, share};
 use seg_ptr::Window;
 use seg_raw::{Code, Fault};
 use seg_seqfit::SeqFit;
-use seg_space::{free_memory, zero_free_memory};
+use seg_space::{create, free_memory, zero_free_memory};
 use std::alloc::Global;
 use std::process::Abort;
 use std::test::Fail;
@@ -73,7 +75,7 @@ fn names_have_limits(rt: HostRuntime) -> Result<(), Fail> {
         assert!(rt; is_refused(&mut segment, b"") && is_refused(&mut segment, b"a b"));
         assert!(rt; is_refused(&mut segment, b"\x7f") && is_refused(&mut segment, &[b'a'; 64]));
         construct_number(&mut segment, &[b'a'; 63])?;
-        assert_eq!(rt; segment.num_named(), 1);
+        assert_eq!(rt; num_named(&segment), 1);
     }
     Ok(())
 }
@@ -106,7 +108,7 @@ fn makes_none(
     fault: Fault,
 ) -> Result<(), Fail> {
     let region = used_region(rt.alloc(), 1024)?;
-    match Segment::<SeqFit, Global>::create(region, base, size, IndexKind::Flat) {
+    match create::<SeqFit, Global>(region, base, size, IndexKind::Flat) {
         Ok(_) => Err(Fail::from("made")),
         Err((refused, region)) => {
             assert_eq!(rt; refused, fault);
@@ -182,18 +184,22 @@ fn counter_window(alloc: Global) -> Result<Window<Global>, Fail> {
     Ok(w)
 }
 
+fn opened(alloc: Global, mut window: Window<Global>) -> Result<Segment<SeqFit, Global>, Fault> {
+    let types = open::<SeqFit, Global, Global>(alloc, &mut window)?;
+    Ok(Segment::new(window, types))
+}
+
 /// The counter's image opened: x at 720, one value; saved, it is the same bytes in version 2.
 #[test]
 fn opens_and_saves_the_counter(rt: HostRuntime) -> Result<(), Fail> {
-    match open::<SeqFit, Global, Global>(rt.alloc(), counter_window(rt.alloc())?) {
-        Ok(segment) => {
-            assert_eq!(rt; segment.find(b"x", NUMBER)?, Found { at: 720, count: 1 });
-            let image = counter_saved(rt.alloc(), 41)?;
-            assert_eq!(rt; save(rt.alloc(), &segment)?.as_slice(), image.as_slice());
-            Ok(())
-        }
-        Err((fault, _)) => Err(Fail::from(fault)),
-    }
+    let segment = opened(rt.alloc(), counter_window(rt.alloc())?)?;
+    assert_eq!(rt; segment.find(b"x", NUMBER)?, Found { at: 720, count: 1 });
+    let image = counter_saved(rt.alloc(), 41)?;
+    assert_eq!(rt;
+        save(rt.alloc(), segment.window())?.as_slice(),
+        image.as_slice()
+    );
+    Ok(())
 }
 
 /// Cells that share a number.
@@ -205,8 +211,8 @@ fn share_a_number(segment: &mut Segment<SeqFit, Global>) -> Result<(), Code> {
     let b = place_of(SHARED, segment.construct(b"b", SHARED, 1)?);
     let number = segment.new_anonymous(NUMBER)?;
     segment.heap_mut().store(number, 7);
-    segment.heap_mut().freeze(a, number)?;
-    segment.heap_mut().share(b, a);
+    freeze(segment.heap_mut(), a, number)?;
+    share(segment.heap_mut(), b, a);
     let _ = segment.destroy(b"a", SHARED);
     Ok(())
 }
@@ -234,27 +240,23 @@ fn opens_and_saves_what_is_shared(rt: HostRuntime) -> Result<(), Fail> {
     let image = sharing(rt.alloc())?;
     let mut w = window(rt.alloc(), 1024, 1024)?;
     w.copy_in(0, image.as_slice());
-    match open::<SeqFit, Global, Global>(rt.alloc(), w) {
-        Ok(mut segment) => {
-            assert_eq!(rt; save(rt.alloc(), &segment)?.as_slice(), image.as_slice());
-            assert!(rt; segment.destroy(b"b", SHARED));
-            assert_eq!(rt; free_memory(&segment), 320);
-            assert_eq!(rt; first_fault(rt.alloc(), segment.window()), None);
-            Ok(())
-        }
-        Err((fault, _)) => Err(Fail::from(fault)),
-    }
+    let mut segment = opened(rt.alloc(), w)?;
+    assert_eq!(rt;
+        save(rt.alloc(), segment.window())?.as_slice(),
+        image.as_slice()
+    );
+    assert!(rt; segment.destroy(b"b", SHARED));
+    assert_eq!(rt; free_memory(&segment), 320);
+    assert_eq!(rt; first_fault(rt.alloc(), segment.window()), None);
+    Ok(())
 }
 
-/// The counter's image isn't one of best fit. Its window comes back as it was.
+/// The counter's image isn't one of best fit. It stays as it was.
 #[test]
 fn opens_no_image_of_another_allocator(rt: HostRuntime) -> Result<(), Fail> {
-    match open::<BestFit, Global, Global>(rt.alloc(), counter_window(rt.alloc())?) {
-        Ok(_) => Err(Fail::from("opened")),
-        Err((fault, window)) => {
-            assert_eq!(rt; fault, Fault::BadHeader);
-            assert_eq!(rt; window.slice(0, 784), counter(rt.alloc())?.as_slice());
-            Ok(())
-        }
-    }
+    let mut window = counter_window(rt.alloc())?;
+    let opened = open::<BestFit, Global, Global>(rt.alloc(), &mut window);
+    assert_eq!(rt; opened.err(), Some(Fault::BadHeader));
+    assert_eq!(rt; window.slice(0, 784), counter(rt.alloc())?.as_slice());
+    Ok(())
 }

@@ -4,6 +4,7 @@ use crate::tests::heaps::calls_on;
 use crate::tests::rooted::{ROOT, Rooted, with_root};
 use crate::tests::support::{I64, STR, own_of, pair, place_of, vec_of};
 use crate::tests::tiles::{is_one_gap, live_are, tiles};
+use seg_owner::{set_own, take_own};
 use seg_seq::{assign, push_back};
 use seg_seqfit::SeqFit;
 use seg_value::Content;
@@ -91,10 +92,10 @@ fn push_owned(s: &mut Rooted<SeqFit>, number: i64) -> Result<(), Fail> {
     let object = Content::object(s.heap.types(), 2);
     let node = s.heap.new_block(&object)?;
     s.heap.store(node, number);
-    if let Some(rest) = s.heap.take_own(place_of(1, ROOT)) {
-        s.heap.set_own(place_of(1, node.wrapping_add(8)), rest);
+    if let Some(rest) = take_own(&mut s.heap, place_of(1, ROOT)) {
+        set_own(&mut s.heap, place_of(1, node.wrapping_add(8)), rest);
     }
-    s.heap.set_own(place_of(1, ROOT), node);
+    set_own(&mut s.heap, place_of(1, ROOT), node);
     Ok(())
 }
 

@@ -15,6 +15,7 @@ use crate::tests::support::{I64, STR, flat_map_of, given, list_of, map_of, own_o
 use crate::tests::tiles::{are_live, have_tags};
 use seg_block::Fit;
 use seg_layout::TypeId;
+use seg_owner::{set_own, take_own};
 use seg_raw::Code;
 use seg_value::Content;
 use std::alloc::Global;
@@ -285,10 +286,10 @@ fn new<F: Fit>(s: &mut Rooted<F>) -> Result<i64, Code> {
 fn own<F: Fit>(s: &mut Rooted<F>) -> Result<i64, Code> {
     let number = Content::object(s.heap.types(), 0);
     let object = s.heap.new_block(&number)?;
-    s.heap.set_own(s.root, object);
+    set_own(&mut s.heap, s.root, object);
     Ok(i64::from(object))
 }
 
 fn take<F: Fit>(s: &mut Rooted<F>) -> Result<i64, Code> {
-    Ok(i64::from(s.heap.take_own(s.root).ok_or(Code::Null)?))
+    Ok(i64::from(take_own(&mut s.heap, s.root).ok_or(Code::Null)?))
 }

@@ -8,6 +8,7 @@ use seg_bestfit::BestFit;
 use seg_block::Fit;
 use seg_layout::TypeId;
 use seg_manager::IndexKind;
+use seg_owner::{set_own, take_own};
 use seg_raw::{Code, Fault};
 use seg_seq::{assign, pop_back, pop_front, push_back, push_front};
 use seg_seqfit::SeqFit;
@@ -94,10 +95,10 @@ fn some_key(random: &mut Random) -> i64 {
 fn push_link<F: Fit>(heap: &mut Heap<F, Global>, own: Place) -> Result<u32, Code> {
     let content = Content::object(heap.types(), LINK);
     let link = heap.new_block(&content)?;
-    if let Some(rest) = heap.take_own(own) {
-        heap.set_own(place_of(OWN, link.wrapping_add(16)), rest);
+    if let Some(rest) = take_own(heap, own) {
+        set_own(heap, place_of(OWN, link.wrapping_add(16)), rest);
     }
-    heap.set_own(own, link);
+    set_own(heap, own, link);
     Ok(link)
 }
 
@@ -117,7 +118,7 @@ fn add_link<F: Fit>(
 
 /// Destroys the chain that an own holds.
 fn drop_links<F: Fit>(heap: &mut Heap<F, Global>, own: Place) {
-    if let Some(link) = heap.take_own(own) {
+    if let Some(link) = take_own(heap, own) {
         heap.destroy(link);
     }
 }

@@ -16,6 +16,7 @@ use crate::tests::tiles::are_live;
 use seg_bestfit::BestFit;
 use seg_block::Fit;
 use seg_layout::TypeId;
+use seg_owner::frozen;
 use seg_raw::Code;
 use seg_seqfit::SeqFit;
 use seg_value::{Content, Place};
@@ -68,7 +69,7 @@ fn answer<F: Fit>(s: &mut Rooted<F>, words: &[&str]) -> Option<Answer> {
         ["new"] => Some(given(new(s))),
         ["freeze", object] => Some(given(freeze(s, object.parse().ok()?))),
         ["share", to, from] => Some(share(s, cell(to)?, cell(from)?)),
-        ["frozen", at] => Some(Ok(i64::from(s.heap.frozen(cell(at)?)?))),
+        ["frozen", at] => Some(Ok(i64::from(frozen(&s.heap, cell(at)?)?))),
         ["word", at] => Some(Ok(i64::from(s.heap.window().get32(at.parse().ok()?)))),
         ["set", at, word] => Some(set(s, at.parse().ok()?, word.parse().ok()?)),
         ["clear"] => Some(clear(s)),
@@ -86,12 +87,12 @@ fn new<F: Fit>(s: &mut Rooted<F>) -> Result<i64, Code> {
 }
 
 fn freeze<F: Fit>(s: &mut Rooted<F>, object: u32) -> Result<i64, Code> {
-    s.heap.freeze(s.root, object)?;
+    seg_owner::freeze(&mut s.heap, s.root, object)?;
     Ok(0)
 }
 
 fn share<F: Fit>(s: &mut Rooted<F>, to: Place, from: Place) -> Answer {
-    s.heap.share(to, from);
+    seg_owner::share(&mut s.heap, to, from);
     Ok(0)
 }
 
@@ -164,9 +165,9 @@ fn refuses_to_freeze(rt: HostRuntime) -> Result<(), Fail> {
 /// A new pair names what the root names, and the root names the pair.
 fn freeze_on_top<F: Fit>(s: &mut Rooted<F>) -> Result<(), Fail> {
     let object = s.heap.new_block(&Content::object(s.heap.types(), PAIR))?;
-    s.heap
-        .share(place_of(SHARED, object.wrapping_add(8)), s.root);
-    s.heap.freeze(s.root, object)?;
+    let field = place_of(SHARED, object.wrapping_add(8));
+    seg_owner::share(&mut s.heap, field, s.root);
+    seg_owner::freeze(&mut s.heap, s.root, object)?;
     Ok(())
 }
 
@@ -177,7 +178,7 @@ fn a_chain_goes_with_its_cell(rt: HostRuntime) -> Result<(), Fail> {
     for _ in 0..20_000 {
         freeze_on_top(&mut s)?;
     }
-    assert_eq!(rt; s.heap.frozen(place_of(SHARED, ROOT)), Some(960_712));
+    assert_eq!(rt; frozen(&s.heap, place_of(SHARED, ROOT)), Some(960_712));
     s.heap.clear(s.root);
     assert!(rt; are_live(rt.alloc(), s.heap.window(), &[])?);
     Ok(())

@@ -4,6 +4,7 @@ use seg_layout::{TypeId, TypeTable};
 use seg_manager::{IndexKind, Segment};
 use seg_ptr::Window;
 use seg_raw::{Code, Fault, Region};
+use seg_space::create;
 use seg_value::Place;
 use std::alloc::{AllocError, Global};
 use std::test::Fail;
@@ -112,7 +113,7 @@ pub(crate) fn segment_in<F: Fit>(
     types: &[Spelled],
 ) -> Result<Segment<F, Global>, Fail> {
     let region = used_region(alloc, room)?;
-    match Segment::<F, Global>::create(region, 0, size, index) {
+    match create::<F, Global>(region, 0, size, index) {
         Ok(mut segment) => {
             segment.add_types(&table(alloc, types)?)?;
             Ok(segment)

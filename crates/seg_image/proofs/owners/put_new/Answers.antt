@@ -2,7 +2,7 @@ use Rattle.std.proofs.Common.{rules, ◌≡◌, ◌+◌, ◌^◌, ◌<◌, Err, 
 use Rattle.seg_spec.specs.Types.{Form, size}
 use Rattle.seg_spec.specs.Block.{Kind, tag_of}
 use Rattle.seg_cells.specs.Places.{place_of}
-use Rattle.seg_value.specs.declared.content.Shape.TheVariants as shape
+use Rattle.seg_content.specs.declared.content.Shape.TheVariants as shape
 use Rattle.seg_image.proofs.PutContent.{holds_new}
 use Rattle.seg_image.proofs.owners.put_new.Goals as goal
 
@@ -27,5 +27,5 @@ returns-clause-puts g c = λ v blocks form s.
     let small : tag_of Kind.object U < 2 ^ 32 = let few = c.ranges.object in omega arith in
     let given = c.in_ok-at.ensures.given 0 U (tag_of Kind.object U) shape.Object content (omega arith) small s.is_table (s.is_table.forms c.args.own.type_id (Form.own U) form) s.heap in
     let sets = rw c.in_ok-at.ensures.types at c.set_own.ensures.set in
-    holds_new g.F.Fit.allocator c.args.heap.now.window.bytes c.new_block.new.self.window.bytes c.set_own.new.self.window.bytes table (place_of c.args.own) U c.in_ok-at.at v blocks form s given
+    holds_new g.F.Fit.allocator c.args.heap.now.window.bytes c.new_block.new.self.window.bytes c.set_own.new.heap.window.bytes table (place_of c.args.own) U c.in_ok-at.at v blocks form s given
     (λ w x bs inside t loose. sets U x w bs inside form t loose)

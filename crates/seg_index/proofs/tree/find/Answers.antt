@@ -1,6 +1,6 @@
 use Rattle.std.proofs.Common.{ℕ, List, ◌+◌, ap, ◌∙◌, Some, None}
 use Rattle.seg_spec.specs.Window.{Placement}
-use Rattle.seg_index.specs.Entries.{entry_read}
+use Rattle.seg_entry.specs.Entries.{entry_read}
 use Rattle.seg_index.proofs.TreeLists.{found_is}
 use Rattle.seg_index.proofs.tree.find.Goals as goal
 

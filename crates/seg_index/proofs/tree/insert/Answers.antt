@@ -5,7 +5,7 @@ use Rattle.seg_spec.specs.Header.{index_cell}
 use Rattle.seg_spec.specs.Window.{Placement, with_bytes}
 use Rattle.seg_spec.specs.Calls.{Refuses}
 use Rattle.seg_spec.specs.Spending.{entry_asks}
-use Rattle.seg_index.specs.Entries.{write_entry}
+use Rattle.seg_entry.specs.Entries.{write_entry}
 use Rattle.seg_index.proofs.TreeEnters.{AddsFrom, node_fits, enters}
 use Rattle.seg_index.proofs.tree.insert.Goals as goal
 
@@ -14,7 +14,7 @@ bytes_are p q e = ap (λ (r : Placement). r.bytes) e
 
 pub returns-in_err-node-clause-enters : goal.returns-in_err-node-clause-enters
 returns-in_err-node-clause-enters g c = λ names blocks s kind root may entry_is missing way.
-    let refused = c.in_err-node.ensures.given_node c.node_content.ensures s.heap in
+    let refused = c.in_err-node.ensures.given_node c.index_node.ensures s.heap in
     let p = err_from_is_err_and c.from_residual.result c.from_residual.ensures.1 in
     rw p.1 (subst (λ k. Refuses g.F.Fit.allocator c.args.heap.now.window.bytes c.new_block.new.self.window.bytes (entry_asks k c.args.heap.now.window.bytes)) (sym kind) refused)
 
@@ -22,7 +22,7 @@ pub returns-clause-enters : goal.returns-clause-enters
 returns-clause-enters g c = λ names blocks s kind root may entry_is missing way.
     let path = c.args.path.now in
     let node = c.in_ok-node.node in
-    let given = c.in_ok-node.ensures.given_node c.node_content.ensures s.heap in
+    let given = c.in_ok-node.ensures.given_node c.index_node.ensures s.heap in
     let at : c.entry_place.result ≡ node + 16 = c.entry_place.ensures in
     let fits = node_fits g.F.Fit.allocator c.args.heap.now.window.bytes c.new_block.new.self.window.bytes node given in
     let written = bytes_are c.write.new.w (with_bytes c.window_mut.result.now (write_entry c.window_mut.result.now.bytes c.entry_place.result c.args.entry)) (c.write.ensures.written (omega arith)) in

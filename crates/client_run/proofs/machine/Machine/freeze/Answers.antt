@@ -12,7 +12,7 @@ returns-in-Ok-clause-does g c =
     let call = c.in-Ok.ensures in
     let types = call.types ∙ ap (λ (s : Stored). s.types) c.heap_mut.ensures.value in
     let cell = place_read machine i.b c.place-cell.result c.place-cell.ensures.at c.place-cell.ensures.type_id in
-    frozen_opens g.F.Fit.allocator i machine c.args.segment.now c.freeze.new.self types c.heap_mut.result.now c.heap_mut.ensures.value c.place-cell.result cell
+    frozen_opens g.F.Fit.allocator i machine c.args.segment.now c.freeze.new.heap types c.heap_mut.result.now c.heap_mut.ensures.value c.place-cell.result cell
     c.place.result.at c.place.ensures.at (record { next = call.next; used_up = call.used_up; code = call.code; frozen = call.frozen })
     c.take.new.self c.give.new.self c.take.ensures.taken c.give.ensures.rest
 
@@ -23,6 +23,6 @@ returns-in-Err-clause-does g c is =
     let call = c.in-Err.ensures in
     let types = call.types ∙ ap (λ (s : Stored). s.types) c.heap_mut.ensures.value in
     let cell = place_read machine i.b c.place-cell.result c.place-cell.ensures.at c.place-cell.ensures.type_id in
-    subst (λ (jump : Jump). OpensOn g.F.Fit.allocator i jump machine c.fail.new.self c.args.segment.now c.freeze.new.self) (sym c.fail.ensures.refused)
-    (refused_opens g.F.Fit.allocator i machine c.args.segment.now c.freeze.new.self types c.heap_mut.result.now c.heap_mut.ensures.value c.place-cell.result cell
+    subst (λ (jump : Jump). OpensOn g.F.Fit.allocator i jump machine c.fail.new.self c.args.segment.now c.freeze.new.heap) (sym c.fail.ensures.refused)
+    (refused_opens g.F.Fit.allocator i machine c.args.segment.now c.freeze.new.heap types c.heap_mut.result.now c.heap_mut.ensures.value c.place-cell.result cell
     c.in-Err.code c.place.result.at c.place.ensures.at (record { next = call.next; used_up = call.used_up; code = call.code; frozen = call.frozen }) c.fail.new.self c.fail.ensures.code is)

@@ -4,8 +4,8 @@ use Rattle.std.proofs.lemmas.Result.{err_from_is_err_and}
 use Rattle.seg_bytes.specs.Bytes.{half, byte}
 use Rattle.seg_spec.specs.Index.{IsName}
 use Rattle.seg_spec.specs.Pointer.{target}
-use Rattle.seg_index.specs.Entries.{entry_read}
-use Rattle.seg_index.specs.declared.entry.NameEntry.{NameEntry}
+use Rattle.seg_entry.specs.Entries.{entry_read}
+use Rattle.seg_entry.specs.declared.entry.NameEntry.{NameEntry}
 use Rattle.seg_check.specs.Claiming.{Refuses}
 use Rattle.seg_check.specs.Roots.{CanResolveRoots, CanClaimNamed, names_ahead}
 use Rattle.seg_check.proofs.StepLaws.{refuses_map}

@@ -56,13 +56,13 @@ loop-visit-preserved-in_ok-claim_entries g c = record {
       let walk = c.loop-visit.walk in
       let new = c.next.new.self in
       let t = c.loop-visit.invariant.traced root nodes ready in
-      let said = c.node_content-content.ensures in
+      let said = c.index_node-content.ensures in
       let was = ok_was c.next.result c.map_err.result _ c.in_ok-visit.field-0 c.in_ok-visit.was c.map_err.ensures.cases in
       let is : c.in_ok-visit.field-0 ≡ Some (Enter c.in-Enter.pointer) = c.in-Some.is ∙ ap Some c.in-Enter.is in
       let stepped = steps_on bytes walk.w.now new.w.now c.args.self.now.w.now walk.stage new.stage walk.turns new.turns c.next.result (Enter c.in-Enter.pointer) (was ∙ ap Ok is) refl c.next.ensures.window
       c.loop-visit.invariant.same t.followed.steady c.next.ensures.fewer c.next.ensures.steady c.next.ensures.goes_on in
       traced_enter bytes table old ready mid walk.stage walk.turns t new.stage new.turns stepped.0 stepped.1 c.claim_entries.new.claims c.in-Enter.pointer c.in_ok-claim_entries.field-0 stepped.2
-      (index_node_claimed bytes table old ready mid c.claim_entries.new.claims c.in-Enter.pointer c.in_ok-claim_entries.field-0 c.node_content-content.result said.tag_is said.size_is said.held_is
+      (index_node_claimed bytes table old ready mid c.claim_entries.new.claims c.in-Enter.pointer c.in_ok-claim_entries.field-0 c.index_node-content.result said.tag_is said.size_is said.held_is
       (c.in_ok-claim_entries.ensures.claimed (traced_live bytes table old ready mid walk.stage walk.turns t))));
 }
 
@@ -75,8 +75,8 @@ returns-in_err-claim_entries-clause-refused g c = λ root nodes ready.
     let walk = c.loop-visit.walk in
     let new = c.next.new.self in
     let t = c.loop-visit.invariant.traced root nodes ready in
-    let said = c.node_content-content.ensures in
-    let content = c.node_content-content.result in
+    let said = c.index_node-content.ensures in
+    let content = c.index_node-content.result in
     let P = CanClaimTree bytes old.unclaimed in
     let e = c.in_err-claim_entries.field-0.0 in
     let failed = err_from_is_err_and c.from_residual-in_err-claim_entries.result c.from_residual-in_err-claim_entries.ensures.1 in

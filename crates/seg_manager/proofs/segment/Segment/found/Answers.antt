@@ -1,6 +1,6 @@
 use Rattle.std.proofs.Common.{ap, ◌∙◌, sym}
 use Rattle.seg_spec.specs.Window.{Placement}
-use Rattle.seg_index.specs.Names.{type_of}
+use Rattle.seg_entry.specs.Names.{type_of}
 use Rattle.seg_manager.proofs.NamedReads.{found_other, found_same}
 use Rattle.seg_manager.proofs.segment.Segment.found.Goals as goal
 

@@ -1,0 +1,30 @@
+//! A cell: a number, or a pointer and then a count.
+
+ghost use Rattle.std.specs.Prelude.{◌≡◌};
+ghost use Rattle.seg_bytes.specs.Bytes.{signed_long};
+ghost use Rattle.seg_spec.specs.Reads.{count_at, start};
+
+use seg_ptr::Window;
+use std::alloc::Allocator;
+
+/// The number in a cell after its pointer: how many bytes, items or nodes it has.
+pub fn count<A: Allocator>(w: &Window<A>, cell: u32) -> u32
+    ensures { result ≡ count_at w.now.bytes cell }
+{
+    w.get32(cell as usize + 4)
+}
+
+/// Where the payload begins that a cell names: 0 where it names none.
+pub fn start<A: Allocator>(w: &Window<A>, cell: u32) -> u32
+    ensures { result ≡ start w.now.bytes cell }
+{
+    w.target(cell as usize).unwrap_or(0)
+}
+
+/// The number at a position.
+#[tactic(auto, unfolding(seg_bytes::specs::Bytes::signed))]
+pub fn load<A: Allocator>(w: &Window<A>, at: u32) -> i64
+    ensures { result ≡ signed_long w.now.bytes at }
+{
+    w.get64(at as usize).cast_signed()
+}

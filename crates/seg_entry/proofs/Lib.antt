@@ -1,0 +1,3 @@
+pub mod NameOrder
+pub mod NamedTags
+pub mod Precedes

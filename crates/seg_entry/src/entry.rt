@@ -1,0 +1,152 @@
+ghost use Rattle.std.specs.Prelude.{◌≡◌, ◌+◌, ◌*◌, ◌<◌, ◌≤◌, ◌^◌, Some};
+ghost use Rattle.seg_spec.specs.Window.{KeepsHost, with_bytes};
+ghost use Rattle.seg_entry.specs.Names.{named_type, type_of, name_of};
+ghost use Rattle.seg_entry.specs.Entries.{entry_read, write_entry};
+
+use seg_block::{Kind, TAG, Tag, UNIT};
+use seg_layout::{TypeId, TypeTable};
+use seg_ptr::{View, Window};
+use std::alloc::Allocator;
+
+/// The most bytes of a name.
+pub const MAX_NAME: u8 = 63;
+
+/// The bytes of an entry.
+pub const ENTRY: u32 = 8;
+
+/// The tag of a named object's block.
+pub fn named_tag(type_id: TypeId) -> Tag
+    ensures kind { result.kind ≡ Kind.Named }
+    ensures type_id { result.type_id ≡ type_id }
+{
+    Tag {
+        kind: Kind::Named,
+        type_id,
+    }
+}
+
+/// The type of the object of a named object's block, by the word of its tag.
+fn named_type(word: u32) -> Option<TypeId>
+    ensures { result ≡ named_type word }
+{
+    let Tag { kind, type_id } = Tag::read(word)?;
+    match kind {
+        Kind::Named => Some(type_id),
+        Kind::Object
+        | Kind::Buffer
+        | Kind::Node
+        | Kind::IndexBuffer
+        | Kind::IndexNode
+        | Kind::Frozen => None,
+    }
+}
+
+/// What the index has of a name.
+#[derive(Debug, Clone, Copy, PartialEq, Eq)]
+pub struct NameEntry {
+    /// The first payload byte of the named object's block, if the entry names one.
+    pub object: Option<u32>,
+    /// How many values the object has.
+    pub count: u16,
+    /// The bytes of its name.
+    pub name_len: u8,
+    /// The last byte, which is 0 in every image.
+    pub zero: u8,
+}
+
+impl NameEntry {
+    /// The entry of an object of `count` values, whose name has `name_len` bytes.
+    pub fn new(object: u32, count: u16, name_len: u8) -> NameEntry
+        ensures { result ≡ record {
+          object = Some object;
+          count = count;
+          name_len = name_len;
+          zero = 0;
+        } }
+    {
+        NameEntry {
+            object: Some(object),
+            count,
+            name_len,
+            zero: 0,
+        }
+    }
+
+    /// The entry at a position.
+    pub fn read<A: Allocator>(w: &Window<A>, at: usize) -> NameEntry
+        ensures { at + ENTRY ≤ 2 ^ 64 → result ≡ entry_read w.now.bytes at }
+    {
+        NameEntry::read_in(w.view(), at)
+    }
+
+    /// The same, of the segment's bytes.
+    pub fn read_in(view: View, at: usize) -> NameEntry
+        ensures { at + ENTRY ≤ 2 ^ 64 → result ≡ entry_read view.entry.bytes.now at }
+    {
+        NameEntry {
+            object: view.target(at),
+            count: view.get16(at.saturating_add(4)),
+            name_len: view.get8(at.saturating_add(6)),
+            zero: view.get8(at.saturating_add(7)),
+        }
+    }
+
+    /// Writes the entry at a position.
+    pub fn write<A: Allocator>(self, w: &mut Window<A>, at: usize)
+        ensures host { KeepsHost w.old w.new }
+        ensures written { at + 4 < 2 ^ 64 →
+            w.new ≡ with_bytes w.old (write_entry w.old.bytes at self) }
+    {
+        let rest = u32::from(self.count)
+            + (1 << 16) * u32::from(self.name_len)
+            + (1 << 24) * u32::from(self.zero);
+        w.point(at, self.object);
+        w.put32(at.saturating_add(4), rest);
+    }
+
+    /// The type of the object, where its block is that of a named object.
+    pub fn type_id<A: Allocator>(&self, w: &Window<A>) -> Option<TypeId>
+        ensures { result ≡ type_of w.now.bytes self.now.object }
+    {
+        self.type_in(w.view())
+    }
+
+    /// The same, of the segment's bytes.
+    fn type_in(&self, view: View) -> Option<TypeId>
+        ensures { result ≡ type_of view.entry.bytes.now self.now.object }
+    {
+        let block = self.object?.checked_sub(UNIT)?;
+        named_type(view.get32(block as usize + TAG))
+    }
+
+    /// The bytes of the object's values, where each has `size` bytes. The name stands after them.
+    pub fn values_len(&self, size: u32) -> usize
+        ensures len { result ≡ self.now.count * size }
+        ensures small { result < 2 ^ 48 }
+    {
+        self.count as usize * size as usize
+    }
+
+    /// The name: empty where the entry names no object.
+    pub fn name<'a, A: Allocator>(&self, w: &'a Window<A>, types: &TypeTable) -> &'a [u8]
+        ensures { result.now ≡ name_of types.now w.now.bytes self.now.object
+            self.now.count self.now.name_len }
+    {
+        self.name_in(w.view(), types)
+    }
+
+    /// The same, of the segment's bytes.
+    pub fn name_in<'a>(&self, view: View<'a>, types: &TypeTable) -> &'a [u8]
+        ensures { result.now ≡ name_of types.now view.entry.bytes.now self.now.object
+            self.now.count self.now.name_len }
+    {
+        let Some(object) = self.object else {
+            return &[];
+        };
+        let Some(type_id) = self.type_in(view) else {
+            return &[];
+        };
+        let values = self.values_len(types.size(type_id));
+        view.slice(object as usize + values, self.name_len as usize)
+    }
+}

@@ -1,0 +1,35 @@
+-- A new segment.
+--     nothing                             the empty picture
+--     word_of_kind index                  what the image's word for the index says of a kind
+--     IsNew allocator s region base len index
+--                                         a segment with nothing in it, at a base of a region
+use Rattle.std.specs.Prelude.{◌≡◌, ℕ, ◌+◌, take, drop, List, [], length}
+use Rattle.seg_bytes.specs.Bytes.{word}
+use Rattle.seg_spec.specs.Header.{version_word, index_kind_word, sharing_version}
+use Rattle.seg_spec.specs.Heap.{live}
+use Rattle.seg_spec.specs.Sound.{Picture}
+use Rattle.seg_value.specs.Stored.{Stored}
+use Rattle.seg_entry.specs.declared.kind.IndexKind.{IndexKind}
+use Rattle.seg_entry.specs.declared.kind.IndexKind.TheVariants as kind
+use Rattle.seg_manager.specs.Segments.{IsSegment}
+
+-- no types and no roots
+abbrev pub nothing : Picture
+nothing = record { table = []; names = []; uniques = []; loose = []; frozen = [] }
+
+-- what the image's word for the index says of a kind
+abbrev pub word_of_kind : IndexKind → ℕ
+word_of_kind kind.Flat = 0
+word_of_kind kind.Tree = 1
+
+-- a segment of this length, at a base of a region that is kept around it, with nothing in it; its
+-- version may have frozen objects
+pub record IsNew (allocator : ℕ) (s : Stored) (region : List ℕ) (base len : ℕ)
+    (index : IndexKind) : Type 0 where
+  pub segment : IsSegment allocator s nothing
+  pub version_is : word s.window.bytes version_word ≡ sharing_version
+  pub kind_is : word s.window.bytes index_kind_word ≡ word_of_kind index
+  pub length_is : length s.window.bytes ≡ len
+  pub no_block : live s.window.bytes ≡ []
+  pub before_is : s.window.before ≡ take base region
+  pub after_is : s.window.after ≡ drop (base + len) region

@@ -1,0 +1,71 @@
+//! New segments.
+
+ghost use Rattle.std.specs.Prelude.{◌≡◌, ◌↔◌, ◌⊎◌, [], length, IsTrue, IsOk, IfOk, IfErr};
+ghost use Rattle.seg_bytes.specs.Bytes.{word};
+ghost use Rattle.seg_spec.specs.Faulty.{IsImageLength};
+ghost use Rattle.seg_spec.specs.Header.{version_word, allocator_word, index_kind_word, sharing_version};
+ghost use Rattle.seg_spec.specs.Heap.{live};
+ghost use Rattle.seg_spec.specs.Sound.{IsHeld};
+ghost use Rattle.seg_spec.specs.Window.{IsPlace, KeepsHost};
+ghost use Rattle.seg_space.specs.NewSegments.{nothing, word_of_kind, IsNew};
+
+use seg_block::{Fit, UNIT};
+use seg_index::set_unique;
+use seg_layout::{MAX_TYPES, TypeId, TypeTable};
+use seg_manager::{IndexKind, MIN_LEN, Segment};
+use seg_ptr::{MAX_LEN, Window, header};
+use seg_raw::{Fault, Region};
+use std::alloc::Allocator;
+
+/// An empty segment of `size` bytes at a base of a region: all zero but for its header and a heap of one gap. The region
+/// comes back with `BadSize` where the size isn't a multiple of 16 that a segment may have, and with `Misplaced` where
+/// it may not lie there.
+pub fn create<F: Fit, A: Allocator>(
+    region: Region<A>,
+    base: u32,
+    size: u32,
+    index: IndexKind,
+) -> Result<Segment<F, A>, (Fault, Region<A>)>
+    ensures empty { IfOk result
+        (λ segment. IsNew F.allocator segment region base size index) }
+    ensures placed { IsOk result ↔ (IsImageLength size × IsPlace (length region) base size) }
+    ensures size { IfErr result (λ refused. (refused.0 ≡ Fault.BadSize × ¬ IsImageLength size)
+        ⊎ (refused.0 ≡ Fault.Misplaced × IsImageLength size)) }
+    ensures region { IfErr result (λ refused. refused.1 ≡ region) }
+{
+    if !is_size(size) {
+        return Err((Fault::BadSize, region));
+    }
+    let mut window = Window::place(region, base, size)?;
+    write_empty::<F, A>(&mut window, size, index);
+    Ok(Segment::new(window, TypeTable::new()))
+}
+
+/// Whether a segment may have so many bytes.
+pub(crate) fn is_size(size: u32) -> bool
+    ensures { IsTrue result ↔ IsImageLength size }
+{
+    (MIN_LEN..=MAX_LEN).contains(&size) && size % UNIT == 0
+}
+
+/// Writes the image of an empty segment.
+fn write_empty<F: Fit, A: Allocator>(w: &mut Window<A>, size: u32, index: IndexKind)
+    ensures host { KeepsHost w.old w.new }
+    ensures empty { IsImageLength size → length w.old.bytes ≡ size →
+        IsHeld w.new.bytes nothing × (live w.new.bytes ≡ [])
+        × (length w.new.bytes ≡ size)
+        × (word w.new.bytes allocator_word ≡ F.allocator)
+        × (word w.new.bytes index_kind_word ≡ word_of_kind index)
+        × (word w.new.bytes version_word ≡ sharing_version) }
+{
+    w.fill(0, size as usize, 0);
+    header::begin(w);
+    w.put32(header::SIZE, size / UNIT);
+    w.put32(header::ALLOCATOR, F::word());
+    w.put32(header::INDEX_KIND, index.word());
+    w.point(header::INDEX, None);
+    for t in 0..MAX_TYPES {
+        set_unique(w, t as TypeId, None);
+    }
+    F::init(w);
+}

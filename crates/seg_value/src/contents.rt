@@ -1,0 +1,49 @@
+ghost use Rattle.std.specs.Prelude.{◌≡◌, get_or, None};
+ghost use Rattle.seg_spec.specs.Types.{IsTable};
+
+use seg_cells::{Cells, IDS};
+use seg_content::Content;
+use seg_layout::{MAX_TYPES, TypeId, TypeTable};
+
+/// What the cells of each type of a table name, and what its values are made of, worked out once.
+#[derive(Drop)]
+pub(crate) struct Contents {
+    of_types: [Option<Content>; MAX_TYPES],
+    cells: [Cells; IDS],
+}
+
+impl Contents {
+    ghost use Rattle.seg_cells.specs.Cells.{AreCells};
+    ghost use Rattle.seg_value.specs.Contents.{AreContents};
+    ghost use Rattle.seg_cells.specs.declared.cells.Cells.TheVariants as cells;
+
+    pub(crate) fn of(types: &TypeTable) -> Contents
+        ensures contents { AreContents types.now result.of_types }
+        ensures cells { AreCells types.now result.cells }
+        ensures table { IsTable types.now }
+    {
+        let mut of_types = [None; MAX_TYPES];
+        for t in 0..types.len() {
+            of_types[t] = Content::of(types, t as TypeId);
+        }
+        let cells = Cells::of_each(types);
+        Contents { of_types, cells }
+    }
+
+    /// As [`Content::of`] a type of the table.
+    pub(crate) fn get(&self, t: TypeId) -> Option<Content>
+        ensures { result ≡ get_or self.now.of_types t None }
+    {
+        self.of_types.get(t as usize).copied().flatten()
+    }
+
+    /// What the values of a type are made of.
+    pub(crate) fn cells(&self, t: TypeId) -> Cells
+        ensures { result ≡ get_or self.now.cells t cells.Number }
+    {
+        self.cells
+            .get(usize::from(t))
+            .copied()
+            .unwrap_or(Cells::Number)
+    }
+}

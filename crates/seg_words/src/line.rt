@@ -1,0 +1,74 @@
+use clap::builder::{ValueParser, ValueRange};
+use clap::{Arg, ArgAction, ArgMatches, Command, value_parser};
+use std::alloc::{AllocError, Global};
+
+/// A command with its arguments, in the order in which they come.
+pub struct Line {
+    pub name: &'static str,
+    pub about: &'static str,
+    pub arguments: &'static [Argument],
+    /// What help shows last.
+    pub examples: &'static str,
+}
+
+/// An argument: what it is read back by, which is also what help calls it, what it takes, and what help says of it.
+pub struct Argument {
+    pub id: &'static str,
+    pub takes: Takes,
+    pub help: &'static str,
+}
+
+/// What an argument takes. All but options and `Optional` are required.
+pub enum Takes {
+    Word,
+    /// A word that may be left out.
+    Optional,
+    Words,
+    OneOf(&'static [&'static str]),
+    Bytes,
+    /// An option alone.
+    Flag,
+    /// An option, with a file.
+    File,
+    /// An option, with a number of bytes.
+    Number,
+}
+
+/// The parser of a command.
+pub fn parser<'a>(alloc: Global, line: &'static Line) -> Result<Command<'a>, AllocError> {
+    let mut command = Command::new(alloc, line.name)
+        .about(line.about)
+        .after_help(line.examples);
+    for argument in line.arguments {
+        command = command.arg(parser_of(alloc, argument))?;
+    }
+    Ok(command)
+}
+
+/// The parser of an argument.
+pub fn parser_of<'a>(alloc: Global, argument: &'static Argument) -> Arg<'a> {
+    let plain = Arg::new(alloc, argument.id).help(argument.help);
+    match argument.takes {
+        Takes::Word => plain.required(true),
+        Takes::Optional => plain,
+        Takes::Words => plain.required(true).num_args(ValueRange::new(1..)),
+        Takes::OneOf(words) => plain.required(true).value_parser(ValueParser::Names(words)),
+        Takes::Bytes => plain.required(true).value_parser(value_parser!(u32)),
+        Takes::Flag => plain.long(argument.id).action(ArgAction::SetTrue),
+        Takes::File => plain.long(argument.id).value_name("FILE"),
+        Takes::Number => plain
+            .long(argument.id)
+            .value_name("N")
+            .value_parser(value_parser!(u32)),
+    }
+}
+
+/// The word with this id, which the command line requires of the commands that have it.
+pub fn word<'a>(arguments: &ArgMatches<'a>, id: &str) -> &'a str {
+    arguments.get_str(id).unwrap_or("")
+}
+
+/// The number with this id, 0 where it is left out.
+pub fn number(arguments: &ArgMatches, id: &str) -> u32 {
+    arguments.get_one(id).unwrap_or(0)
+}
