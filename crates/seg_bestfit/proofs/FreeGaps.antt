@@ -64,6 +64,10 @@ module _ (bytes : List ℕ) where
   free_drop from [] g ys a = free_from from (end_of g) ys (omega (arith, a.0)) a.2
   free_drop from (x ∷ xs) g ys a = (a.0, a.1, free_drop (end_of x) xs g ys a.2)
 
+  pub free_drops : (from : ℕ) (xs gs ys : List Span) → AreFreeBlocks bytes from (xs ++ (gs ++ ys)) → AreFreeBlocks bytes from (xs ++ ys)
+  free_drops from xs [] ys a = a
+  free_drops from xs (g ∷ gs) ys a = free_drops from xs gs ys (free_drop from xs g (gs ++ ys) a)
+
 -- ---- one of them put to the front
 
 pub to_front : (xs : List Span) (g : Span) (ys : List Span) → GapsApart (xs ++ g ∷ ys) → GapsApart (g ∷ (xs ++ ys))
@@ -80,6 +84,10 @@ to_front (x ∷ xs) g ys a =
 pub each_drop : (P : Span → Type 0) (xs : List Span) (g : Span) (ys : List Span) → AllByRecursion P (xs ++ g ∷ ys) → AllByRecursion P (xs ++ ys)
 each_drop P [] g ys a = a.1
 each_drop P (x ∷ xs) g ys a = (a.0, each_drop P xs g ys a.1)
+
+pub each_drops : (P : Span → Type 0) (xs gs ys : List Span) → AllByRecursion P (xs ++ (gs ++ ys)) → AllByRecursion P (xs ++ ys)
+each_drops P xs [] ys a = a
+each_drops P xs (g ∷ gs) ys a = each_drops P xs gs ys (each_drop P xs g (gs ++ ys) a)
 
 pub each_pick : (P : Span → Type 0) (xs : List Span) (g : Span) (ys : List Span) → AllByRecursion P (xs ++ g ∷ ys) → P g
 each_pick P [] g ys a = a.0

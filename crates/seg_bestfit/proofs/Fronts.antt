@@ -1,23 +1,21 @@
 -- The front of a free tile is taken, and the rest gets its place in the tree.
 use Rattle.std.proofs.Common.{◌≡◌, ◌≢◌, ℕ, ◌+◌, ◌-◌, ◌*◌, ◌≤◌, ◌⊎◌, inl, inr, ⊎_elim, true, false, List, [], ◌∷◌, ◌++◌, length, Some, None, refl, sym, ap, ◌∙◌, subst, arith}
-use Rattle.std.proofs.lemmas.List.{append_assoc}
 use Rattle.seg_bytes.specs.Bytes.{word, set_word, Agrees, IsSame}
 use Rattle.seg_spec.specs.Pointer.{distance, set_pointer}
-use Rattle.seg_spec.specs.Heap.{Span, Tile, IsHeader, units_before, link_at, Fill, AreHeaders, live_of, free_of, by_size, AreBySize, first_fit, best_fit, heap_start, IsFreeTree}
+use Rattle.seg_spec.specs.Heap.{Span, Tile, IsHeader, units_before, link_at, Fill, AreHeaders, free_of, by_size, AreBySize, first_fit, best_fit, heap_start, IsFreeTree}
 use Rattle.seg_bytes.proofs.BytesLaws.{number-set_same, number-set_other, length-set_number, Agrees-set_number, Agrees-trans}
 use Rattle.seg_spec.proofs.FreeLaws.{by_size-middle, best_fit-first}
 use Rattle.seg_spec.proofs.HeapFrame.{each_by_size}
 use Rattle.seg_spec.proofs.HeaderLaws.{AreHeaders-after}
 use Rattle.seg_spec.proofs.PointerLaws.{target-set_same, target-same}
 use Rattle.seg_spec.proofs.SliceLaws.{IsSame-agrees}
-use Rattle.seg_spec.proofs.TileLaws.{Fill-le, AreHeaders-back, units_after, live_of-append, free_of-append}
+use Rattle.seg_spec.proofs.TileLaws.{Fill-le, AreHeaders-back, units_after, free_of-append}
 use Rattle.seg_block.specs.FreeBlocks.{AreFreeBlocks}
 use Rattle.seg_block.specs.Sizes.{size_word, set_size}
 use Rattle.seg_block.specs.Tiling.{tile, IsTiling, Retiles, Replaces}
 use Rattle.seg_block.proofs.FreeKept.{KeepsGaps, KeepsGaps-append, free_kept}
 use Rattle.seg_block.proofs.FreeTiles.{free_blocks}
-use Rattle.seg_block.proofs.Heaps.{Spares-trans, Spares-same, target-agrees}
-use Rattle.seg_block.proofs.Resizing.{others}
+use Rattle.seg_block.proofs.Heaps.{target-agrees}
 use Rattle.seg_block.proofs.SizeLaws.{IsHeader-set_size, Agrees-set_size, length-set_size}
 use Rattle.seg_block.proofs.Tiled.{around, replaces}
 use Rattle.seg_rbtree.specs.declared.path.Path.{Path}
@@ -28,7 +26,7 @@ use Rattle.seg_bestfit.proofs.Listing.{room_of}
 use Rattle.seg_bestfit.proofs.Replacing.{replaced}
 use Rattle.seg_bestfit.proofs.SizeOrder.{rest_keeps}
 use Rattle.seg_bestfit.proofs.Taking.{blocks_around, tree_around}
-use Rattle.seg_bestfit.proofs.TreeFrame.{tiled_kept, spares_kept, link_kept}
+use Rattle.seg_bestfit.proofs.TreeFrame.{link_kept, retiles_before}
 
 module _ (old : List ℕ) (xs ys : List Tile) (at n u r : ℕ) (was : IsTiling 1 old (xs ++ tile at n false ∷ ys)) (whole : n ≡ u + r) (front_large : 2 ≤ u) (rest_large : 2 ≤ r) where
   abbrev rest : ℕ
@@ -192,15 +190,7 @@ module _ (old : List ℕ) (xs ys : List Tile) (at n u r : ℕ) (was : IsTiling 1
     now_kept = subst (λ gs. KeepsBesideNodes cut new gs) (sym gaps_now) joined.kept
 
     pub front-retiles : Retiles 1 old new xs halves ys
-    front-retiles = record {
-      tiling = record {
-        tiled = tiled_kept cut new now cut_replaces.tiled now_kept;
-        free = subst (λ gs. IsFreeTree new gs) (sym gaps_now) joined.tree;
-      };
-      spared = Spares-trans old cut new (xs ++ ys) cut_replaces.spared (others cut new xs ys (tile at u true)
-          (Spares-same cut new now ((xs ++ tile at u true ∷ []) ++ ys) (ap live_of (append_assoc xs (tile at u true ∷ []) ys) ∙ live_of-append xs (tile at u true ∷ ys) ∙ sym (live_of-append xs (halves ++ ys)))
-          (spares_kept cut new now (length cut) cut_replaces.tiled.filled now_kept)));
-    }
+    front-retiles = retiles_before old cut new xs halves ys at 0 cut_replaces now_kept (subst (λ gs. IsFreeTree new gs) (sym gaps_now) joined.tree)
 
     pub link_at-front : link_at new at ≡ None
     link_at-front = link_kept cut new xs (tile rest r false ∷ ys) (tile at u true) at (length cut) parts.0 (refl, front_large, fill_rest) now_kept ∙ front_link

@@ -5,7 +5,6 @@ pub mod TreeFrame
 pub mod Taking
 pub mod Releasing
 pub mod Searching
-pub mod JoiningBefore
 pub mod Freeing
 pub mod Beginning
 pub mod Enlarging

@@ -76,11 +76,8 @@ module _ (old new : List ℕ) (xs : List Span) (g : Span) (ys : List Span) (low 
 
   -- ---- a gap leaves
 
-  pub leaves : (holds : IsFreeTree old all)
-      → ((shape : Tree) → IsSearchTree old 24 shape → Ascend (by_units old) (nodes_of shape) → StandApart (length old) 24 (nodes_of shape) → tree.Leaves old new 24 (nodes_of shape) (without_node (node_of g) (nodes_of shape)))
-      → LeavesTree old new xs g ys
-  leaves holds removed =
-      let r = removed holds.tree (search_tree old all low small free holds) (tree_ascends old all low small free holds) (tree_stands old all low small free holds) in
+  pub leaves : (holds : IsFreeTree old all) → tree.Leaves old new 24 (nodes_of holds.tree) (without_node (node_of g) (nodes_of holds.tree)) → LeavesTree old new xs g ys
+  leaves holds r =
       let kept = kept_by old new all (nodes_of holds.tree) (λ P a. rw holds.nodes_are (each_map P node_of (by_size all) (each_by_size (λ h. P (node_of h)) all a))) r.kept in
       let middle : nodes_of holds.tree ≡ map node_of (by_size all) = holds.nodes_are in
       record {
@@ -164,9 +161,11 @@ pub leaves_at : (old new : List ℕ) (xs : List Span) (g : Span) (ys : List Span
     → ((shape : Tree) → IsSearchTree old root shape → Ascend (by_units old) (nodes_of shape) → StandApart (length old) root (nodes_of shape) → tree.Leaves old new root (nodes_of shape) (without_node (node_of g) (nodes_of shape)))
     → LeavesTree old new xs g ys
 leaves_at old new xs g ys root root_is small free holds removed =
-    leaves old new xs g ys (room_of old xs g ys free) small free holds
+    let low = room_of old xs g ys free in
+    let all = xs ++ g ∷ ys in
+    leaves old new xs g ys low small free holds
     (subst (λ r. (shape : Tree) → IsSearchTree old r shape → Ascend (by_units old) (nodes_of shape) → StandApart (length old) r (nodes_of shape) → tree.Leaves old new r (nodes_of shape) (without_node (node_of g) (nodes_of shape)))
-    root_is removed)
+    root_is removed holds.tree (search_tree old all low small free holds) (tree_ascends old all low small free holds) (tree_stands old all low small free holds))
 
 pub joins_at : (old new : List ℕ) (xs : List Span) (g : Span) (ys : List Span) (root : ℕ) → root ≡ 24 → length old ≤ 2 ^ 30 → AreFreeBlocks old 704 (xs ++ g ∷ ys) → IsFreeTree old (xs ++ ys) → link_at old g.at ≡ None
     → ((shape : Tree) → IsSearchTree old root shape → Ascend (by_units old) (nodes_of shape) → IsNew (by_units old) (node_of g) (nodes_of shape)

@@ -1,4 +1,4 @@
--- A gap's node gives its place in the tree to that of another gap, whose header was written meanwhile.
+-- The gap that a path leads to leaves the tree, or its node gives its place to that of another gap, whose header was written meanwhile.
 use Rattle.std.proofs.Common.{◌≡◌, ◌≢◌, ℕ, ◌+◌, ◌^◌, ◌≤◌, List, [], ◌∷◌, ◌++◌, length, map, true, false, cond, Some, None, refl, sym, ap, ◌∙◌, subst, arith}
 use Rattle.std.specs.List.{AllByRecursion}
 use Rattle.seg_bytes.specs.Bytes.{IsSame}
@@ -13,13 +13,13 @@ use Rattle.seg_spec.proofs.SliceLaws.{IsSame-part}
 use Rattle.seg_block.specs.FreeBlocks.{AreFreeBlocks}
 use Rattle.seg_block.proofs.FreeKept.{KeepsGaps}
 use Rattle.seg_rbtree.specs.declared.path.Path.{Path}
-use Rattle.seg_rbtree.specs.Changes.{StandApart, renamed, Leaves}
-use Rattle.seg_rbtree.specs.Paths.{IsAmong, IsLast, IsLastAt, RenamesAt, node_at}
+use Rattle.seg_rbtree.specs.Changes.{StandApart, without_node, renamed, Leaves}
+use Rattle.seg_rbtree.specs.Paths.{IsAmong, IsLast, IsLastAt, TakesOutAt, RenamesAt, node_at}
 use Rattle.seg_rbtree.specs.Ways.{LeadsTo}
 use Rattle.seg_rbtree.proofs.Leading.{named_still}
-use Rattle.seg_bestfit.specs.FreeTree.{by_units, KeepsPlace, LeadsToGap, JoinsTree}
+use Rattle.seg_bestfit.specs.FreeTree.{by_units, KeepsPlace, LeadsToGap, LeavesTree, JoinsTree}
 use Rattle.seg_bestfit.proofs.FreeGaps.{each_drop, each_put, others_elsewhere}
-use Rattle.seg_bestfit.proofs.Listing.{room_of, search_tree, tree_ascends, tree_stands, renamed_stands, takes_place}
+use Rattle.seg_bestfit.proofs.Listing.{room_of, search_tree, tree_ascends, tree_stands, leaves, renamed_stands, takes_place}
 use Rattle.seg_bestfit.proofs.SizeOrder.{node_of}
 
 picked : (P : Span → Type 0) (g : Span) (hs : List Span) → AllByRecursion P (insert_by_size g hs) → P g
@@ -52,6 +52,14 @@ module _ (old : List ℕ) (xs : List Span) (g : Span) (ys : List Span) (path : P
   last_here last =
       subst (λ ns. IsLast (node_of g) ns) (holds.nodes_are ∙ ap (map node_of) (by_size-middle xs g ys))
       (last (by_units old (node_of g)) (node_of g) holds.tree (subst (λ w. IsSearchTree old w holds.tree) (sym way.root_is) was_tree) lead found)
+
+  -- the gap leaves
+  pub left_here : (new : List ℕ) → TakesOutAt old new path → LeavesTree old new xs g ys
+  left_here new takes =
+      leaves old new xs g ys low small was_free holds
+      (subst (λ w. Leaves old new w (nodes_of holds.tree) (without_node (node_of g) (nodes_of holds.tree))) way.root_is
+      (takes (by_units old (node_of g)) (node_of g) holds.tree (subst (λ w. IsSearchTree old w holds.tree) (sym way.root_is) was_tree) lead found
+      (subst (λ w. StandApart (length old) w (nodes_of holds.tree)) (sym way.root_is) (tree_stands old (xs ++ g ∷ ys) low small was_free holds))))
 
 module _ (old mid new : List ℕ) (xs : List Span) (g r : Span) (ys : List Span) (path : Path) (small : length old ≤ 2 ^ 30) (was_free : AreFreeBlocks old 704 (xs ++ g ∷ ys))
     (holds : IsFreeTree old (xs ++ g ∷ ys)) (way : LeadsToGap old path (node_of g))

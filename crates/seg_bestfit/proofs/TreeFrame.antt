@@ -6,14 +6,16 @@ use Rattle.std.proofs.lemmas.List.{append_assoc}
 use Rattle.seg_spec.specs.Header.{free_word, back_start, back_size}
 use Rattle.seg_spec.specs.Apart.{Separate}
 use Rattle.seg_bytes.specs.Bytes.{Agrees, IsSame}
-use Rattle.seg_spec.specs.Heap.{Span, Tile, span_of, end_of, link_at, Fill, AreHeaders, live_of, free_of, heap_start}
+use Rattle.seg_spec.specs.Heap.{Span, Tile, span_of, end_of, link_at, Fill, AreHeaders, live_of, free_of, heap_start, IsFreeTree}
 use Rattle.seg_spec.proofs.Frame.{word-same, target-same, each_weaker}
 use Rattle.seg_spec.proofs.SliceLaws.{IsSame-part, Agrees-same_slice}
 use Rattle.seg_spec.proofs.TileLaws.{Fill-le, Fill-append, free_of-append}
 use Rattle.seg_spec.proofs.HeaderLaws.{IsHeader-same}
-use Rattle.seg_block.specs.Tiling.{IsTiled, Spares}
+use Rattle.seg_block.specs.Tiling.{IsTiled, Spares, Replaces, Retiles}
+use Rattle.seg_block.proofs.Heaps.{Spares-trans, Spares-without}
 use Rattle.seg_block.proofs.LiveTiles.{cons_cases, live_within}
 use Rattle.seg_bestfit.specs.FreeTree.{Beside, KeepsBesideNodes}
+use Rattle.seg_bestfit.proofs.FreeGaps.{each_drops}
 
 pub each_append : (P : Span → Type 0) (xs ys : List Span) → AllByRecursion P xs → AllByRecursion P ys → AllByRecursion P (xs ++ ys)
 each_append P [] ys a b = b
@@ -114,3 +116,31 @@ module _ (old new : List ℕ) where
   link_kept xs ys t mid to front back k =
       let low = Fill-le xs heap_start mid front in
       target-same old new (t.at + 12) (k.others (t.at + 12) 4 (inr (omega (arith, back.0))) (head_beside xs (t ∷ ys) heap_start mid to (t.at + 12) 4 front back (omega (arith, back.0)) (omega (arith, back.0))))
+
+-- ---- some of the free tiles aren't in the tree
+
+pub gaps_beside : (xs ms ys : List Tile) → free_of (xs ++ (ms ++ ys)) ≡ free_of xs ++ (free_of ms ++ free_of ys)
+gaps_beside xs ms ys = free_of-append xs (ms ++ ys) ∙ ap (λ gs. free_of xs ++ gs) (free_of-append ms ys)
+
+-- what is kept beside the nodes of fewer gaps
+pub kept_among : (old new : List ℕ) (xs ms ys : List Tile) → KeepsBesideNodes old new (free_of xs ++ free_of ys) → KeepsBesideNodes old new (free_of (xs ++ (ms ++ ys)))
+kept_among old new xs ms ys k = subst (λ gs. KeepsBesideNodes old new gs) (sym (gaps_beside xs ms ys)) (record {
+  length_kept = k.length_kept;
+  others = λ p n root beside. k.others p n root (each_drops (λ g. Separate p n (g.at + 16) 16) (free_of xs) (free_of ms) (free_of ys) beside);
+})
+
+-- ---- tiles are replaced
+
+spared_beside : (old new : List ℕ) (xs ms ys : List Tile) → IsTiled old (xs ++ (ms ++ ys)) → KeepsBesideNodes old new (free_of (xs ++ (ms ++ ys))) → Spares old new (xs ++ ys)
+spared_beside old new xs ms ys was k = Spares-without old new xs ms ys (spares_kept old new (xs ++ (ms ++ ys)) (length old) was.filled k)
+
+-- after the tree changed
+pub retiles_after : (old mid new : List ℕ) (xs ms ns ys : List Tile) → IsTiled old (xs ++ (ms ++ ys)) → KeepsBesideNodes old mid (free_of (xs ++ (ms ++ ys))) → Retiles 1 mid new xs ns ys → Retiles 1 old new xs ns ys
+retiles_after old mid new xs ms ns ys was k r = record { tiling = r.tiling; spared = Spares-trans old mid new (xs ++ ys) (spared_beside old mid xs ms ys was k) r.spared }
+
+-- and before it does
+pub retiles_before : (old mid new : List ℕ) (xs ns ys : List Tile) (at n : ℕ) → Replaces old mid xs ns ys at n → KeepsBesideNodes mid new (free_of (xs ++ (ns ++ ys))) → IsFreeTree new (free_of (xs ++ (ns ++ ys))) → Retiles 1 old new xs ns ys
+retiles_before old mid new xs ns ys at n r k tree = record {
+  tiling = record { tiled = tiled_kept mid new (xs ++ (ns ++ ys)) r.tiled k; free = tree };
+  spared = Spares-trans old mid new (xs ++ ys) r.spared (spared_beside mid new xs ns ys r.tiled k);
+}

@@ -1,17 +1,18 @@
 -- The tree of gaps and the bytes around it. A gap's node is the first unit of its payload.
-use Rattle.std.specs.Prelude.{◌≡◌, ℕ, ◌+◌, ◌-◌, false, List, ◌∷◌, ◌++◌, length, Some, None}
+use Rattle.std.specs.Prelude.{◌≡◌, ◌≢◌, ℕ, ◌+◌, ◌-◌, ◌*◌, false, List, [], ◌∷◌, ◌++◌, length, Some, None}
 use Rattle.std.specs.List.{AllByRecursion}
 use Rattle.std.specs.Ordering.{nat_cmp, ordering_then}
 use Rattle.std.specs.declared.cmp.Ordering.{Ordering}
 use Rattle.seg_spec.specs.Apart.{Separate}
 use Rattle.seg_bytes.specs.Bytes.{set_word, IsSame}
-use Rattle.seg_spec.specs.Heap.{Span, heap_start, units_at, is_smaller, IsFreeTree}
+use Rattle.seg_spec.specs.Heap.{Span, Tile, Fill, heap_start, units_at, free_of, is_smaller, IsFreeTree}
 use Rattle.seg_spec.specs.Pointer.{set_pointer}
 use Rattle.seg_spec.specs.Search.{Ascend, IsSearchTree}
 use Rattle.seg_spec.specs.Shapes.{Tree, nodes_of}
 use Rattle.seg_ptr.specs.declared.header.TheConstants.{FREE}
 use Rattle.seg_block.specs.FreeBlocks.{AreFreeBlocks}
 use Rattle.seg_block.specs.Sizes.{set_size}
+use Rattle.seg_block.specs.Tiling.{tile, IsTiled, Retiles}
 use Rattle.seg_rbtree.specs.declared.path.Path.{Path}
 use Rattle.seg_rbtree.specs.Paths.{IsAmong, node_at}
 use Rattle.seg_rbtree.specs.Roots.{path_root}
@@ -57,6 +58,23 @@ KeepsPlace others gap another =
 abbrev pub set_free : List ℕ → ℕ → ℕ → List ℕ
 set_free bytes at units =
     set_size (set_pointer (set_word bytes (at + 8) 0) (at + 12) None) at units false
+
+-- The tiles that n units at a position cover are one gap now. The tree held none of them.
+abbrev pub MakesGap : List ℕ → List ℕ → ℕ → ℕ → Type 0
+MakesGap old new at n = (xs ms ys : List Tile) (t : Tile) → IsTiled old (xs ++ ((t ∷ ms) ++ ys))
+    → IsFreeTree old (free_of xs ++ free_of ys) → Fill at (t ∷ ms) (at + 16 * n)
+    → Retiles 1 old new xs (tile at n false ∷ []) ys
+
+-- a gap of so many units at a position as tiles, none where they are 0
+abbrev pub IsGapAt : ℕ → ℕ → List Tile → Type 0
+IsGapAt at n gap = (n ≡ 0 → gap ≡ []) × (n ≢ 0 → gap ≡ tile at n false ∷ [])
+
+-- those tiles, and the gap of `more` units right after them, which the tree held
+abbrev pub MakesGapWith : List ℕ → List ℕ → ℕ → ℕ → ℕ → Type 0
+MakesGapWith old new at n more = (xs ms gap ys : List Tile) (t : Tile)
+    → IsGapAt (at + 16 * n) more gap → IsTiled old (xs ++ ((t ∷ ms) ++ (gap ++ ys)))
+    → IsFreeTree old (free_of xs ++ free_of (gap ++ ys)) → Fill at (t ∷ ms) (at + 16 * n)
+    → Retiles 1 old new xs (tile at (n + more) false ∷ []) ys
 
 -- a path leads to this node of a gap from the root of the tree
 pub record LeadsToGap (bytes : List ℕ) (path : Path) (node : ℕ) : Type 0 where

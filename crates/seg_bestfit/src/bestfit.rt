@@ -1,20 +1,16 @@
-ghost use Rattle.std.specs.Prelude.{◌≡◌, ◌+◌, ◌^◌, ◌≤◌, nat_le, true, List, ◌∷◌, ◌++◌, length};
+ghost use Rattle.std.specs.Prelude.{◌≡◌, ◌+◌, ◌^◌, ◌≤◌, nat_le, length};
 ghost use Rattle.std.specs.Option.{option_map};
-ghost use Rattle.seg_spec.specs.Heap.{Tile, AreApart, IsHeap, gaps, best_fit};
-ghost use Rattle.seg_spec.specs.Window.{KeepsHost};
+ghost use Rattle.seg_spec.specs.Heap.{IsHeap, gaps, best_fit};
 ghost use Rattle.seg_spec.specs.Search.{looks};
-ghost use Rattle.seg_block.specs.Blocks.{block_end};
-ghost use Rattle.seg_block.specs.Joining.{JoinsBefore};
-ghost use Rattle.seg_block.specs.Tiling.{tile_of, IsTiling};
 ghost use Rattle.seg_bestfit.specs.FreeTree.{node_units};
 
 use crate::free_tree::{BySize, best_fit, free_tree, put_in, release_joined, take_front, take_out};
 use seg_block::{
-    Block, Fit, FreeStructure, HEAP_START, UNIT, UNITS_BEFORE, absorb, block_at, block_of, cut,
-    free_before, granted, is_live, join, last_block, resize, room_after, set_size,
+    Block, Fit, FreeStructure, HEAP_START, UNIT, UNITS_BEFORE, block_at, block_of, cut,
+    free_before, granted, is_live, last_block, resize, room_after, set_size,
 };
+use seg_ptr::Window;
 use seg_ptr::header::{FREE, SIZE};
-use seg_ptr::{MAX_LEN, Window};
 use seg_rbtree::{Looked, TREE_WORDS};
 use std::alloc::Allocator;
 
@@ -74,14 +70,13 @@ impl Fit for BestFit {
             return;
         };
         let room = room_after(w, block);
-        if room > 0 && free_before(w, block).is_none() {
+        let Some(gap) = free_before(w, block) else {
             release_joined(w, block, room);
             return;
-        }
-        absorb::<Self, A>(w, (), block, room);
-        let units = block.units + room;
-        let whole = join_before(w, Block { units, ..block });
-        Self::release(w, (), whole);
+        };
+        take_out(w, gap);
+        let units = gap.units + block.units;
+        release_joined(w, Block { units, ..gap }, room);
     }
 
     fn resize<A: Allocator>(w: &mut Window<A>, block: Block, room: u32, units: u32) {
@@ -117,25 +112,5 @@ impl Fit for BestFit {
         }
         w.put32(SIZE, last.at / UNIT);
         last.units
-    }
-}
-
-/// Joins a live block with the gap right before it, where there is one. Returns the two as one live block.
-fn join_before<A: Allocator>(w: &mut Window<A>, block: Block) -> Block
-    requires { block_end block ≤ MAX_LEN }
-    ensures bounds { block_end result ≡ block_end block }
-    ensures host { KeepsHost w.old w.new }
-    ensures joins { (xs ys : List Tile)
-        → IsTiling 1 w.old.bytes (xs ++ tile_of block true ∷ ys) → AreApart true xs
-        → JoinsBefore 1 true w.old.bytes w.new.bytes xs result.at result.units ys }
-{
-    let Some(gap) = free_before(w, block) else {
-        return block;
-    };
-    BestFit::take(w, (), gap);
-    join(w, gap, block);
-    Block {
-        at: gap.at,
-        units: gap.units + block.units,
     }
 }

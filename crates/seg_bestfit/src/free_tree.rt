@@ -9,13 +9,11 @@ ghost use Rattle.seg_spec.proofs.OrderSteps.{then_steps_up};
 ghost use Rattle.seg_rbtree.specs.Parts.{part};
 ghost use Rattle.seg_rbtree.specs.Roots.{root_word};
 ghost use Rattle.seg_block.specs.Blocks.{block_end, Covers, LiesIn, IsSized};
-ghost use Rattle.seg_block.specs.Tiling.{tile_of, tile_after, grown, halves, IsTiling, Retiles};
-ghost use Rattle.seg_bestfit.specs.FreeTree.{node_units, by_units, AreGaps, KeepsPlace, LeadsToGap, LeavesTree, JoinsTree, set_free};
+ghost use Rattle.seg_block.specs.Tiling.{tile_of, halves, IsTiling, Retiles};
+ghost use Rattle.seg_bestfit.specs.FreeTree.{node_units, by_units, AreGaps, KeepsPlace, LeadsToGap, LeavesTree, JoinsTree, MakesGap, MakesGapWith, set_free};
 
 use crate::bestfit::BestFit;
-use seg_block::{
-    Block, FreeStructure, HEAP_START, LINK, TAG, UNIT, absorb, block_at, set_size, units_in,
-};
+use seg_block::{Block, FreeStructure, HEAP_START, LINK, TAG, UNIT, block_at, set_size, units_in};
 use seg_ptr::header::FREE;
 use seg_ptr::{MAX_LEN, View, Window};
 use seg_rbtree::{NodeOrder, Path, Tree};
@@ -169,15 +167,27 @@ pub(crate) fn take_front<A: Allocator>(w: &mut Window<A>, gap: Block, units: u32
     path.replace(w, rest.at + UNIT);
 }
 
-/// Makes a live block and the gap of `more` units right after it one gap. Where that gap is the last in the order, the node of
-/// the two takes its place in the tree.
+/// Makes the tiles that a block covers one gap, where the tree holds none of them.
+fn make_gap<A: Allocator>(w: &mut Window<A>, block: Block)
+    requires { block_end block ≤ MAX_LEN }
+    ensures host { KeepsHost w.old w.new }
+    ensures tiles { MakesGap w.old.bytes w.new.bytes block.at block.units }
+{
+    set_free(w, block);
+    put_in(w, block);
+}
+
+/// Makes the tiles that a block covers, where the tree holds none of them, one gap with the gap of `more` units right after it
+/// (0 where there is none). Where that gap is the last in the order, the node of the two takes its place in the tree.
 pub(crate) fn release_joined<A: Allocator>(w: &mut Window<A>, block: Block, more: u32)
     requires { block_end block + UNIT * more ≤ MAX_LEN }
     ensures host { KeepsHost w.old w.new }
-    ensures tiles { (xs ys : List Tile)
-        → IsTiling 1 w.old.bytes (xs ++ (tile_of block true ∷ tile_after block more false ∷ ys))
-        → Retiles 1 w.old.bytes w.new.bytes xs (grown block more false ∷ []) ys }
+    ensures tiles { MakesGapWith w.old.bytes w.new.bytes block.at block.units more }
 {
+    if more == 0 {
+        make_gap(w, block);
+        return;
+    }
     let gap = Block {
         at: block.at + UNIT * block.units,
         units: more,
@@ -192,8 +202,8 @@ pub(crate) fn release_joined<A: Allocator>(w: &mut Window<A>, block: Block, more
         set_free(w, whole);
         path.replace(w, whole.at + UNIT);
     } else {
-        absorb::<BestFit, A>(w, (), block, more);
-        BestFit::release(w, (), whole);
+        path.remove(w);
+        make_gap(w, whole);
     }
 }
 
@@ -213,8 +223,7 @@ impl FreeStructure for BestFit {
     }
 
     fn release<A: Allocator>(w: &mut Window<A>, _predecessor: (), block: Block) {
-        set_free(w, block);
-        put_in(w, block);
+        make_gap(w, block);
     }
 
     ghost leads_past = { λ _ _ _ _ _. tt };

@@ -1,13 +1,14 @@
 -- A heap as its tiles, its live blocks and its gaps, whatever the allocator is.
-use Rattle.std.proofs.Common.{◌≡◌, ℕ, ◌+◌, ◌*◌, ◌<◌, ◌≤◌, Bool, true, false, List, [], ◌∷◌, ◌++◌, length, min, cond, ltb, refl, sym, ap, ◌∙◌, subst, arith}
+use Rattle.std.proofs.Common.{◌≡◌, ℕ, ◌+◌, ◌*◌, ◌<◌, ◌≤◌, Bool, true, false, List, [], ◌∷◌, ◌++◌, length, min, cond, ltb, refl, sym, ap, ◌∙◌, subst, arith, ⊎_elim}
 use Rattle.std.specs.Prelude.{Contains}
 use Rattle.std.proofs.lemmas.Bool.Decides.{nat_tests}
+use Rattle.std.proofs.lemmas.List.Elements.{Contains-append_left, Contains-append_right, Contains-append_cases}
 use Rattle.seg_spec.specs.Heap.{Span, Tile, span_of, end_of, Fill, AreHeaders, AreApart, HoldsGaps, live_of, free_of, gaps_between, heap_start, tiles, live, gaps, IsHeap, with_block, Keeps}
 use Rattle.seg_bytes.specs.Bytes.{Agrees}
 use Rattle.seg_spec.specs.Pointer.{target}
 use Rattle.seg_bytes.proofs.BytesLaws.{number-agrees, Agrees-same, Agrees-trans}
 use Rattle.seg_spec.proofs.PointerLaws.{target-same}
-use Rattle.seg_spec.proofs.TileLaws.{Fill-le, tiles-unique, gaps_between-live_of}
+use Rattle.seg_spec.proofs.TileLaws.{Fill-le, tiles-unique, gaps_between-live_of, live_of-append}
 use Rattle.seg_block.specs.Tiling.{IsTiling, Spares}
 
 -- ---- between the two views
@@ -110,6 +111,17 @@ Spares-same a b ts us e s = record {
   front_kept = s.front_kept;
   back_kept = s.back_kept;
   tiles_kept = λ x h. s.tiles_kept x (subst (λ l. Contains l x) e h);
+}
+
+-- tiles in the middle left out
+pub Spares-without : (a b : List ℕ) (xs ms ys : List Tile) → Spares a b (xs ++ (ms ++ ys)) → Spares a b (xs ++ ys)
+Spares-without a b xs ms ys s = record {
+  front_kept = s.front_kept;
+  back_kept = s.back_kept;
+  tiles_kept = λ x h. s.tiles_kept x (subst (λ l. Contains l x) (sym (live_of-append xs (ms ++ ys)))
+      (⊎_elim (λ k. Contains-append_left (live_of xs) (live_of (ms ++ ys)) x k)
+      (λ k. Contains-append_right (live_of xs) (live_of (ms ++ ys)) x (subst (λ l. Contains l x) (sym (live_of-append ms ys)) (Contains-append_right (live_of ms) (live_of ys) x k)))
+      (Contains-append_cases (live_of xs) (live_of ys) x (subst (λ l. Contains l x) (live_of-append xs ys) h))));
 }
 
 -- the pointers in bytes that are kept

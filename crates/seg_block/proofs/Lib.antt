@@ -21,3 +21,4 @@ pub mod ReadFree
 pub mod Cuttings
 pub mod Enlarging
 pub mod JoiningBefore
+pub mod Freeing

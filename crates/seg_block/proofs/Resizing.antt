@@ -1,10 +1,10 @@
 -- A live tile takes in the gap after it, or gives its end back. `Place` is what an allocator has to know of the tiles in front.
-use Rattle.std.proofs.Common.{◌≡◌, ℕ, suc, ◌+◌, ◌*◌, ◌≤◌, true, false, List, [], ◌∷◌, ◌++◌, length, cond, refl, sym, ap, ◌∙◌, subst, arith, ⊎_elim}
+use Rattle.std.proofs.Common.{◌≡◌, ℕ, ◌+◌, ◌*◌, ◌≤◌, true, false, List, [], ◌∷◌, ◌++◌, length, refl, sym, ap, ◌∙◌, subst, arith}
 use Rattle.std.specs.Prelude.{Contains}
 use Rattle.std.proofs.lemmas.List.{append_assoc}
-use Rattle.std.proofs.lemmas.List.Elements.{Contains-append_left, Contains-append_right, Contains-append_cases}
+use Rattle.std.proofs.lemmas.List.Elements.{Contains-append_right}
 use Rattle.seg_bytes.specs.Bytes.{Agrees}
-use Rattle.seg_spec.specs.Heap.{Span, Tile, span_of, is_live_at, live_of, heap_start}
+use Rattle.seg_spec.specs.Heap.{Tile, is_live_at, live_of, heap_start}
 use Rattle.seg_bytes.proofs.BytesLaws.{Agrees-trans}
 use Rattle.seg_spec.proofs.TileLaws.{live_of-append}
 use Rattle.seg_block.specs.Sizes.{set_size, set_split}
@@ -13,7 +13,7 @@ use Rattle.seg_block.proofs.Tiled.{around, header_of}
 use Rattle.seg_block.proofs.Joining.{join-replaces}
 use Rattle.seg_block.proofs.Splitting.{split-replaces}
 use Rattle.seg_block.proofs.LiveChanges.{join-retiles, split-retiles}
-use Rattle.seg_block.proofs.Heaps.{Spares-trans}
+use Rattle.seg_block.proofs.Heaps.{Spares-trans, Spares-without}
 
 -- the same tiles, with one of them put to those in front
 abbrev pub put_front : List Tile → Tile → List Tile
@@ -29,20 +29,8 @@ own old new xs ys at u s =
     (subst (λ l. Contains l (record { at = at; units = u })) (sym (ap live_of (put_front-append xs ys (tile at u true)) ∙ live_of-append xs (tile at u true ∷ ys)))
     (Contains-append_right (live_of xs) (record { at = at; units = u } ∷ live_of ys) (record { at = at; units = u }) (0, omega arith, refl)))
 
-pub others : (old new : List ℕ) (xs ys : List Tile) (t : Tile) → Spares old new (put_front xs t ++ ys) → Spares old new (xs ++ ys)
-others old new xs ys t s = record {
-  front_kept = s.front_kept;
-  back_kept = s.back_kept;
-  tiles_kept = λ b c. s.tiles_kept b (subst (λ l. Contains l b) (sym (ap live_of (put_front-append xs ys t) ∙ live_of-append xs (t ∷ ys)))
-      (⊎_elim (λ h. Contains-append_left (live_of xs) (live_of (t ∷ ys)) b h) (λ h. Contains-append_right (live_of xs) (live_of (t ∷ ys)) b (following t ys b h))
-      (Contains-append_cases (live_of xs) (live_of ys) b (subst (λ l. Contains l b) (live_of-append xs ys) c))));
-}
-  where
-    later : (x b : Span) (l : List Span) → Contains l b → Contains (x ∷ l) b
-    later x b l (n, k, e) = (suc n, omega arith, e)
-
-    following : (t : Tile) (ys : List Tile) (b : Span) → Contains (live_of ys) b → Contains (live_of (t ∷ ys)) b
-    following t ys b c = elim t.live as (λ l. Contains (cond l (span_of t ∷ live_of ys) (live_of ys)) b) [ true ↦ later (span_of t) b (live_of ys) c | false ↦ c ]
+others : (old new : List ℕ) (xs ys : List Tile) (t : Tile) → Spares old new (put_front xs t ++ ys) → Spares old new (xs ++ ys)
+others old new xs ys t s = Spares-without old new xs (t ∷ []) ys (subst (λ ts. Spares old new ts) (put_front-append xs ys t) s)
 
 -- a gap has two units
 pub absorbs_large : {allocator : ℕ} (old : List ℕ) (xs ys : List Tile) (at u v : ℕ) → IsTiling allocator old (xs ++ (tile at u true ∷ tile (at + 16 * u) v false ∷ ys)) → 2 ≤ v

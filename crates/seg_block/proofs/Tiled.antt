@@ -5,7 +5,7 @@ use Rattle.std.proofs.lemmas.List.Elements.{Contains-append_cases}
 use Rattle.seg_bytes.specs.Bytes.{word, Agrees}
 use Rattle.seg_spec.specs.Heap.{Span, Tile, IsHeader, end_of, Fill, AreHeaders, live_of, heap_start}
 use Rattle.seg_bytes.proofs.BytesLaws.{number-agrees}
-use Rattle.seg_spec.proofs.TileLaws.{Fill-le, Fill-append, Fill-front, Fill-back, AreHeaders-append, AreHeaders-front, AreHeaders-back, units_after, live_of-append}
+use Rattle.seg_spec.proofs.TileLaws.{Fill-le, Fill-append, Fill-front, Fill-back, AreHeaders-append, AreHeaders-front, AreHeaders-back, end_after, units_after, live_of-append}
 use Rattle.seg_spec.proofs.HeaderLaws.{IsHeader-same}
 use Rattle.seg_block.specs.Tiling.{tile, IsTiled, Replaces}
 use Rattle.seg_block.proofs.LiveTiles.{live_within}
@@ -74,6 +74,19 @@ around xs ys from to at u live f =
     let back = Fill-back xs (tile at u live ∷ ys) from to f in
     let front = Fill-front xs (tile at u live ∷ ys) from to f in
     (subst (λ p. Fill from xs p) (sym back.0) front, back.1, subst (λ p. Fill (p + 16 * u) ys to) (sym back.0) back.2)
+
+end_is : (ts : List Tile) (from to : ℕ) → Fill from ts to → end_after from ts ≡ to
+end_is [] from to f = f
+end_is (t ∷ ts) from to f = end_is ts (from + 16 * t.units) to f.2
+
+-- the tiles beside some that fill a place
+pub beside : (xs ms ys : List Tile) (t : Tile) (from to lo hi : ℕ) → Fill from (xs ++ ((t ∷ ms) ++ ys)) to → Fill lo (t ∷ ms) hi → Fill from xs lo × Fill hi ys to
+beside xs ms ys t from to lo hi all middle =
+    let back = Fill-back xs ((t ∷ ms) ++ ys) from to all in
+    let start : end_after from xs ≡ lo = sym back.0 ∙ middle.0 in (
+      subst (λ p. Fill from xs p) start (Fill-front xs ((t ∷ ms) ++ ys) from to all),
+      subst (λ p. Fill p ys to) (end_is (t ∷ ms) lo hi middle) (Fill-back (t ∷ ms) ys lo to (subst (λ p. Fill p ((t ∷ ms) ++ ys) to) start back)),
+    )
 
 pub aligned_end : (xs : List Tile) (from to : ℕ) → from % 16 ≡ 0 → Fill from xs to → to % 16 ≡ 0
 aligned_end [] from to aligned f = ap (λ p. p % 16) (sym f) ∙ aligned

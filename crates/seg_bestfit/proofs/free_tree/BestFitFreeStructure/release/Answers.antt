@@ -1,21 +1,6 @@
-use Rattle.std.proofs.Common.{arith, length, ◌∷◌, ◌++◌, List, ℕ, sym, ap, ◌∙◌, subst}
-use Rattle.seg_spec.specs.Window.{Placement}
-use Rattle.seg_spec.specs.Heap.{free_of, link_at, IsFreeTree}
-use Rattle.seg_block.specs.FreeBlocks.{AreFreeBlocks}
-use Rattle.seg_bestfit.specs.FreeTree.{JoinsTree}
-use Rattle.seg_bestfit.proofs.Releasing.{freed_blocks, freed_tree, freed_link, freed_length, released-retiles}
+use Rattle.seg_bestfit.proofs.Freeing.{lone-retiles}
 use Rattle.seg_bestfit.proofs.free_tree.BestFitFreeStructure.release.Goals as goal
 
 pub returns-clause-tiles : goal.returns-clause-tiles
 returns-clause-tiles g c = λ xs ys _ was.
-    let old = c.args.w.now.bytes in
-    let at = c.args.block.at in
-    let u = c.args.block.units in
-    let bytes = λ (p : Placement). p.bytes in
-    let freed_is = ap bytes c.set_free.ensures in
-    released-retiles old xs ys at u was c.put_in.new.w.bytes
-    (subst (λ (b : List ℕ). JoinsTree b c.put_in.new.w.bytes (free_of xs) (record { at = at; units = u }) (free_of ys)) freed_is
-    (c.put_in.ensures.joins (omega (arith, was.tiled.small, freed_length old xs ys at u was, ap length freed_is)) (free_of xs) (free_of ys)
-    (subst (λ (b : List ℕ). AreFreeBlocks b 704 (free_of xs ++ record { at = at; units = u } ∷ free_of ys)) (sym freed_is) (freed_blocks old xs ys at u was))
-    (subst (λ (b : List ℕ). IsFreeTree b (free_of xs ++ free_of ys)) (sym freed_is) (freed_tree old xs ys at u was))
-    (ap (λ b. link_at b at) freed_is ∙ freed_link old xs ys at u was)))
+    lone-retiles c.args.w.now.bytes c.make_gap.new.w.bytes xs ys c.args.block.at c.args.block.units was c.make_gap.ensures.tiles
