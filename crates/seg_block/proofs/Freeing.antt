@@ -60,7 +60,7 @@ module _ {allocator : ℕ} (old : List ℕ) (at u room : ℕ) (h : IsHeap alloca
     rest_live : live_of (xs ++ b.rest) ≡ live_of (xs ++ ys)
     rest_live = live_of-append xs b.rest ∙ ap (λ l. live_of xs ++ l) b.live_is ∙ sym (live_of-append xs ys)
 
-    freed : (place n : ℕ) → JoinsBefore allocator false old new xs place n b.rest → Gives allocator old new at
+    freed : (place n : ℕ) → JoinsBefore allocator old new xs place n b.rest → Gives allocator old new at
     freed place n j =
         gives old at u h held new (j.front ++ tile place n false ∷ b.rest) j.tiling
         (AreApart-append j.front (tile place n false ∷ b.rest) true j.apart ((λ e. absurd (never (sym j.after_live ∙ e))), b.apart))
@@ -74,7 +74,7 @@ module _ {allocator : ℕ} (old : List ℕ) (at u room : ℕ) (h : IsHeap alloca
     pub freed_alone : ((zs vs : List Tile) (l : Bool) (t : Tile) → IsTiled old (zs ++ (t ∷ tile at u l ∷ vs)) → IsReadFree t None)
         → Retiles allocator old new xs (tile at (u + room) false ∷ []) b.rest → Gives allocator old new at
     freed_alone read r =
-        freed at (u + room) (joined_none old xs b.ms b.rest at u b.tiling (block_front old at u h held) read false new (u + room) r.tiling r.spared)
+        freed at (u + room) (joined_none old xs b.ms b.rest at u b.tiling (block_front old at u h held) read new (u + room) r.tiling r.spared)
 
     -- this one is
     pub freed_joined : (f : Block) → ((zs vs : List Tile) (l : Bool) (t : Tile) → IsTiled old (zs ++ (t ∷ tile at u l ∷ vs)) → IsReadFree t (Some f))
@@ -84,4 +84,4 @@ module _ {allocator : ℕ} (old : List ℕ) (at u room : ℕ) (h : IsHeap alloca
         → Gives allocator old new at
     freed_joined f read none place joins =
         freed f.at (f.units + u + room)
-        (joined_some old xs b.ms b.rest at u b.tiling (block_front old at u h held) f read none place false new (f.units + u + room) joins)
+        (joined_some old xs b.ms b.rest at u b.tiling (block_front old at u h held) f read none place new (f.units + u + room) joins)

@@ -91,13 +91,6 @@ Keeps-same bytes = record {
   blocks_kept = λ b c _ _ _. Agrees-same bytes (b.at + 8) (b.at + 16 * min b.units c.units);
 }
 
-pub Spares-none : (bytes : List ℕ) (ts : List Tile) → Spares bytes bytes ts
-Spares-none bytes ts = record {
-  front_kept = Agrees-same bytes 0 24;
-  back_kept = Agrees-same bytes 28 heap_start;
-  tiles_kept = λ s _. Agrees-same bytes (s.at + 8) (end_of s);
-}
-
 pub Spares-trans : (a b c : List ℕ) (ts : List Tile) → Spares a b ts → Spares b c ts → Spares a c ts
 Spares-trans a b c ts x y = record {
   front_kept = Agrees-trans a b c 0 24 x.front_kept y.front_kept;

@@ -1,4 +1,4 @@
--- A live tile takes in the free tile before it, where there is one, and some tiles after it.
+-- A live tile becomes free, with the free tile before it, where there is one, and some tiles after it.
 use Rattle.std.proofs.Common.{◌≡◌, ℕ, ◌+◌, ◌*◌, Bool, true, false, List, [], ◌∷◌, ◌++◌, Some, None, refl, sym, ap, ◌∙◌, subst, ⊎_elim}
 use Rattle.std.proofs.lemmas.List.{append_assoc, append-nil}
 use Rattle.seg_spec.specs.Heap.{Tile, AreApart, live_of}
@@ -16,8 +16,8 @@ module _ {allocator : ℕ} (old : List ℕ) (xs ms ys : List Tile) (at u : ℕ) 
 
   -- no free tile is there
   pub joined_none : ((zs vs : List Tile) (l : Bool) (t : Tile) → IsTiled old (zs ++ (t ∷ tile at u l ∷ vs)) → IsReadFree t None)
-      → (live : Bool) (new : List ℕ) (n : ℕ) → IsTiling allocator new (xs ++ tile at n live ∷ ys) → Spares old new (xs ++ ys) → JoinsBefore allocator live old new xs at n ys
-  joined_none read live new n tiling spared = record {
+      → (new : List ℕ) (n : ℕ) → IsTiling allocator new (xs ++ tile at n false ∷ ys) → Spares old new (xs ++ ys) → JoinsBefore allocator old new xs at n ys
+  joined_none read new n tiling spared = record {
     front = xs;
     tiling = tiling;
     apart = apart;
@@ -29,7 +29,7 @@ module _ {allocator : ℕ} (old : List ℕ) (xs ms ys : List Tile) (at u : ℕ) 
   }
 
   -- this one is there
-  module _ (live : Bool) (new : List ℕ) (f : Block) (n : ℕ) (l : HasLast xs) (same : l.last ≡ tile f.at f.units false) (r : Retiles allocator old new l.front (tile f.at n live ∷ []) ys) where
+  module _ (new : List ℕ) (f : Block) (n : ℕ) (l : HasLast xs) (same : l.last ≡ tile f.at f.units false) (r : Retiles allocator old new l.front (tile f.at n false ∷ []) ys) where
     front_parts : xs ≡ l.front ++ tile f.at f.units false ∷ []
     front_parts = l.parts ∙ ap (λ (t : Tile). l.front ++ t ∷ []) same
 
@@ -43,7 +43,7 @@ module _ {allocator : ℕ} (old : List ℕ) (xs ms ys : List Tile) (at u : ℕ) 
     not_free true e = refl
     not_free false e = e refl
 
-    joins_last : JoinsBefore allocator live old new xs f.at n ys
+    joins_last : JoinsBefore allocator old new xs f.at n ys
     joins_last = record {
       front = l.front;
       tiling = r.tiling;
@@ -54,13 +54,13 @@ module _ {allocator : ℕ} (old : List ℕ) (xs ms ys : List Tile) (at u : ℕ) 
     }
 
   pub joined_some : (f : Block) → ((zs vs : List Tile) (l : Bool) (t : Tile) → IsTiled old (zs ++ (t ∷ tile at u l ∷ vs)) → IsReadFree t (Some f))
-      → ((vs : List Tile) (l : Bool) → IsTiled old (tile at u l ∷ vs) → Some f ≡ None) → f.at + 16 * f.units ≡ at → (live : Bool) (new : List ℕ) (n : ℕ)
-      → ((zs : List Tile) → IsTiling allocator old (zs ++ (tile f.at f.units false ∷ tile (f.at + 16 * f.units) u true ∷ (ms ++ ys))) → Retiles allocator old new zs (tile f.at n live ∷ []) ys)
-      → JoinsBefore allocator live old new xs f.at n ys
-  joined_some f read none place live new n takes_in =
+      → ((vs : List Tile) (l : Bool) → IsTiled old (tile at u l ∷ vs) → Some f ≡ None) → f.at + 16 * f.units ≡ at → (new : List ℕ) (n : ℕ)
+      → ((zs : List Tile) → IsTiling allocator old (zs ++ (tile f.at f.units false ∷ tile (f.at + 16 * f.units) u true ∷ (ms ++ ys))) → Retiles allocator old new zs (tile f.at n false ∷ []) ys)
+      → JoinsBefore allocator old new xs f.at n ys
+  joined_some f read none place new n takes_in =
       ⊎_elim (λ e. absurd (found_never f (none (ms ++ ys) true (subst (λ ts. IsTiled old (ts ++ tile at u true ∷ (ms ++ ys))) e was.tiled))))
       (λ (l : HasLast xs).
       let is = read_is_free l.last f (read l.front (ms ++ ys) true l.last (around_last l).tiled) in
       let same : l.last ≡ tile f.at f.units false = λ i. record { at = sym is.1.0 i; units = sym is.1.1 i; live = is.0 i } in
-      joins_last live new f n l same (takes_in l.front (subst (λ (p : Tile × ℕ). IsTiling allocator old (l.front ++ (p.0 ∷ tile p.1 u true ∷ (ms ++ ys)))) (λ i. (same i, sym place i)) (around_last l))))
+      joins_last new f n l same (takes_in l.front (subst (λ (p : Tile × ℕ). IsTiling allocator old (l.front ++ (p.0 ∷ tile p.1 u true ∷ (ms ++ ys)))) (λ i. (same i, sym place i)) (around_last l))))
       (last_cases xs)

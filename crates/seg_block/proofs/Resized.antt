@@ -1,5 +1,5 @@
 -- A live block of another size, and what is left of the gap after it.
-use Rattle.std.proofs.Common.{◌≡◌, ◌≢◌, ℕ, ◌+◌, ◌-◌, ◌*◌, ◌<◌, ◌≤◌, true, false, Bool, List, [], ◌∷◌, ◌++◌, length, min, cond, eqb, ltb, leb, Some, None, refl, sym, ap, ◌∙◌, subst, arith, inl, inr, ◌⊎◌, ⊎_elim, le-leb}
+use Rattle.std.proofs.Common.{◌≡◌, ◌≢◌, ℕ, ◌+◌, ◌-◌, ◌*◌, ◌<◌, ◌≤◌, true, false, Bool, List, [], ◌∷◌, ◌++◌, length, min, cond, eqb, Some, None, refl, sym, ap, ◌∙◌, subst, arith, inl, inr, ◌⊎◌, ⊎_elim, le-leb}
 use Rattle.std.specs.Prelude.{Contains}
 use Rattle.std.proofs.lemmas.Bool.Decides.{nat_tests}
 use Rattle.std.proofs.lemmas.List.Elements.{Contains-append_cases, Contains-append_left, Contains-append_right}
@@ -204,12 +204,6 @@ module _ {allocator : ℕ} (old : List ℕ) (at u : ℕ) (h : IsHeap allocator o
   }
 
 -- ---- the sizes that are given
-
-leb_no : (a b : ℕ) → b < a → leb a b ≡ false
-leb_no a b h = grind (arith, nat_tests)
-
-ltb_yes : (a b : ℕ) → a < b → ltb a b ≡ true
-ltb_yes a b h = grind (arith, nat_tests)
 
 pub granted_all : (n u : ℕ) → u ≤ n → n < u + 2 → granted n u ≡ n
 granted_all n u low high = grind (arith, nat_tests)

@@ -188,7 +188,7 @@ pub fn split<A: Allocator>(w: &mut Window<A>, block: Block, units: u32)
 }
 
 /// Joins a block with the block right after it. It stays live or free as it was.
-pub fn join<A: Allocator>(w: &mut Window<A>, block: Block, following: Block)
+pub(crate) fn join<A: Allocator>(w: &mut Window<A>, block: Block, following: Block)
     requires { block_end block + UNIT * following.units ≤ MAX_LEN }
     ensures bytes { w.new ≡ with_bytes w.old (set_size w.old.bytes block.at
         (block.units + following.units) (is_live_at w.old.bytes block.at)) }

@@ -77,7 +77,7 @@ pub fn resize<S: FreeStructure, A: Allocator>(
 }
 
 /// Joins a live block with the gap of `more` units right after it. Nothing where they are 0.
-pub fn absorb<S: FreeStructure, A: Allocator>(
+pub(crate) fn absorb<S: FreeStructure, A: Allocator>(
     w: &mut Window<A>,
     predecessor: S::Predecessor,
     block: Block,

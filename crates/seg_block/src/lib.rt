@@ -11,11 +11,11 @@ mod rules;
 mod tag;
 
 pub use block::{
-    Block, block_at, block_within, capacity, free_after, free_before, join, last_block, need, next,
+    Block, block_at, block_within, capacity, free_after, free_before, last_block, need, next,
     previous, room_after, set_size, size_word, split,
 };
 pub use fit::Fit;
-pub use free_structure::{FreeStructure, absorb, cut, resize};
+pub use free_structure::{FreeStructure, cut, resize};
 pub use grant::{Grant, request, request_at, request_new};
 pub use header::{
     HEAP_START, Header, LINK, TAG, UNIT, UNITS_BEFORE, block_of, is_live, link, payload, tag_word,

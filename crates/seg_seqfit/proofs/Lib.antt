@@ -1,7 +1,6 @@
 pub mod Walks
 pub mod LinkLaws
 pub mod Retile
-pub mod Middles
 pub mod Taking
 pub mod Wholes
 pub mod Fronts

@@ -11,8 +11,7 @@ use Rattle.seg_block.specs.Tiling.{tile, IsTiling, Retiles}
 use Rattle.seg_seqfit.specs.Retiling.{link_past}
 use Rattle.seg_block.proofs.SizeLaws.{IsHeader-set_size}
 use Rattle.seg_seqfit.proofs.LinkLaws.{Links-after, link_past-low, names_tile}
-use Rattle.seg_block.proofs.Tiled.{aligned_end}
-use Rattle.seg_seqfit.proofs.Middles.{beside}
+use Rattle.seg_block.proofs.Tiled.{aligned_end, beside}
 use Rattle.seg_seqfit.proofs.Retile.{IsLocal, retile, spares, IsLocal-trans, IsLocal-word, IsLocal-set_size, target-local}
 
 module _ (old : List ℕ) (xs ms ys : List Tile) (t : Tile) (at u : ℕ) (free : t.live ≡ false) (was : IsTiling 0 old (xs ++ ((t ∷ ms) ++ ys))) (fill : Fill at (t ∷ ms) (at + 16 * u)) where

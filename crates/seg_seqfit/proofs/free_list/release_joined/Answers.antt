@@ -2,8 +2,9 @@ use Rattle.std.proofs.Common.{◌+◌, ◌*◌, true, false, ◌∷◌, List, �
 use Rattle.seg_spec.specs.Heap.{Gives}
 use Rattle.seg_spec.specs.Pointer.{target}
 use Rattle.seg_block.specs.Tiling.{tile}
+use Rattle.seg_block.proofs.Freeing.{has_following, freed_alone, freed_joined}
 use Rattle.seg_block.proofs.Resized.{before, following, was}
-use Rattle.seg_seqfit.proofs.Freeing.{has_following, fill_from, freed_alone, freed_joined}
+use Rattle.seg_seqfit.proofs.Freeing.{fill_from, link_is}
 use Rattle.seg_seqfit.proofs.Lending.{lent_bytes, lent_keeps, PutsIn, Widens}
 use Rattle.seg_seqfit.proofs.free_list.release_joined.Goals as goal
 
@@ -22,7 +23,7 @@ returns-in_default-clause-gives g c = λ h held.
     let room_is = c.room_after-room.ensures.room 0 h held in
     let b = has_following old at u room h held room_is in
     let link = c.link_before-link.result in
-    let next = c.target-next.ensures ∙ ap (target old) (b.link_is link c.link_after.result c.link_after.ensures.alone c.link_after.ensures.following) in
+    let next = c.target-next.ensures ∙ ap (target old) (link_is old at u room h held room_is b link c.link_after.result c.link_after.ensures.alone c.link_after.ensures.following) in
     let new = c.put_in.new.bytes in
     let written = lent_bytes c.args.w.now c.bytes_mut.result.now new c.put_in.ensures.length c.bytes_mut.ensures.value in
     let puts = subst (λ (bs : List ℕ). PutsIn bs new link at (u + room) c.target-next.result) c.bytes_mut.ensures.value c.put_in.ensures.tiles in
@@ -42,7 +43,7 @@ returns-clause-gives g c = λ h held.
     let room = c.room_after-room.result in
     let room_is = c.room_after-room.ensures.room 0 h held in
     let b = has_following old at u room h held room_is in
-    let next = c.target-next-2.ensures ∙ ap (target old) (b.link_is (gap.at + 12) c.link_after-2.result c.link_after-2.ensures.alone c.link_after-2.ensures.following) in
+    let next = c.target-next-2.ensures ∙ ap (target old) (link_is old at u room h held room_is b (gap.at + 12) c.link_after-2.result c.link_after-2.ensures.alone c.link_after-2.ensures.following) in
     let new = c.widen.new.bytes in
     let written = lent_bytes c.args.w.now c.bytes_mut-2.result.now new c.widen.ensures.length c.bytes_mut-2.ensures.value in
     let widens = subst (λ (bs : List ℕ). Widens bs new gap.at (gap.units + u + room) c.target-next-2.result) c.bytes_mut-2.ensures.value c.widen.ensures.tiles in
