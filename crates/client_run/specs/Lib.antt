@@ -6,3 +6,4 @@ pub mod Named
 pub mod Positions
 pub mod Courses
 pub mod Owners
+pub mod Stepping

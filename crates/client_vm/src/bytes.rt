@@ -22,9 +22,9 @@ use client_verify::Verified;
 use seg_bestfit::BestFit;
 use seg_block::Fit;
 use seg_layout::TypeTable;
-use seg_manager::{MIN_LEN, Segment};
+use seg_manager::Segment;
 use seg_open::open;
-use seg_ptr::{MAX_LEN, Window, header};
+use seg_ptr::{Window, header, is_size};
 use seg_raw::{Fault, Region};
 use seg_seqfit::SeqFit;
 use std::alloc::Allocator;
@@ -296,7 +296,7 @@ fn image_len(image: &[u8]) -> Result<u32, Fault>
         (IsImageLength (length image.now) → ⊥)) }
 {
     match u32::try_from(image.len()) {
-        Ok(len) if (MIN_LEN..=MAX_LEN).contains(&len) && len % 16 == 0 => Ok(len),
+        Ok(len) if is_size(len) => Ok(len),
         _ => Err(Fault::BadHeader),
     }
 }

@@ -170,7 +170,7 @@ pub fn room_after<A: Allocator>(w: &Window<A>, block: Block) -> u32
 }
 
 /// Cuts a block in two, both of them live or free as it was. The front keeps `units`; the rest has tag 0.
-pub fn split<A: Allocator>(w: &mut Window<A>, block: Block, units: u32)
+pub(crate) fn split<A: Allocator>(w: &mut Window<A>, block: Block, units: u32)
     requires inside { block_end block ≤ MAX_LEN }
     requires front { 2 ≤ units }
     requires rest { units + 2 ≤ block.units }

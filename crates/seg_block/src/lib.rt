@@ -12,7 +12,7 @@ mod tag;
 
 pub use block::{
     Block, block_at, block_within, capacity, free_after, free_before, last_block, need, next,
-    previous, room_after, set_size, size_word, split,
+    previous, room_after, set_size, size_word,
 };
 pub use fit::Fit;
 pub use free_structure::{FreeStructure, cut, resize};

@@ -11,6 +11,7 @@ use Rattle.std.specs.Prelude.{◌≡◌, ℕ, ⊤, Option, Some, None, IsSomeAnd
 use Rattle.seg_spec.specs.Types.{Form, Table, form_at}
 use Rattle.seg_spec.specs.Frozen.{frozen_words}
 use Rattle.seg_spec.specs.Index.{index_node_size}
+use Rattle.seg_spec.specs.Shapes.{tree_words}
 use Rattle.seg_spec.specs.Block as block
 use Rattle.seg_spec.specs.Block.{tag_of}
 use Rattle.seg_block.specs.Tags.{word_of}
@@ -83,8 +84,10 @@ pub record IsIndexBuffer (content : Content) : Type 0 where
   pub before_is : content.entry.before ≡ 0
   pub held_is : content.entry.held ≡ held.Pointer
 
--- a node of the index's tree
+-- a node of the index's tree: its tree words, then an entry as a buffer of them has it
 pub record IsIndexNode (content : Content) : Type 0 where
+  pub shape_is : content.shape ≡ shape.Tree
   pub tag_is : word_of content.tag ≡ tag_of block.Kind.index_node 0
   pub size_is : content.entry.size ≡ index_node_size
+  pub before_is : content.entry.before ≡ tree_words
   pub held_is : content.entry.held ≡ held.Pointer

@@ -5,7 +5,7 @@ use crate::field::entry_flaw;
 use crate::image::Image;
 use crate::sources::type_bytes;
 use seg_layout::ENTRY;
-use seg_ptr::{MAX_LEN, MIN_LEN, header};
+use seg_ptr::{MAX_LEN, MIN_LEN, header, is_size};
 use std::alloc::{AllocError, Global};
 use std::fmt::Write;
 
@@ -35,7 +35,7 @@ pub(crate) fn add_bad_header(text: &mut String, image: Option<&[u8]>) -> Result<
     if !image.starts_with(b"SEGIMAGE") {
         return text.push_str("the first 8 bytes should be `SEGIMAGE`: the file is no image\n");
     }
-    if len < MIN_LEN as usize || len > MAX_LEN as usize || !len.is_multiple_of(16) {
+    if !u32::try_from(len).is_ok_and(|len| is_size(len)) {
         return write!(
             text,
             "the image has {len} bytes, and should have {MIN_LEN} to {MAX_LEN}, a multiple of 16\n"

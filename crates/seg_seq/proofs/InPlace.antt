@@ -6,13 +6,13 @@ use Rattle.seg_spec.specs.Block.{block_of}
 use Rattle.seg_spec.specs.Pointer.{target}
 use Rattle.seg_spec.specs.Types.{Form, Table, form_at, size}
 use Rattle.seg_spec.specs.Window.{Placement, with_bytes, KeepsHost}
-use Rattle.seg_spec.specs.Value.{Values, nil, Int, Seq, Text}
-use Rattle.seg_spec.specs.Reads.{Place, Holds, holds, holds_none, count_at, start}
+use Rattle.seg_spec.specs.Value.{Values, Int, Seq, Text}
+use Rattle.seg_spec.specs.Reads.{Place, Holds, count_at, start}
 use Rattle.seg_spec.specs.Growing.{Reserves}
 use Rattle.seg_spec.specs.Spending.{buffer_asks, units_named}
 use Rattle.seg_spec.proofs.TypesLaws.{size_large, size-form}
 use Rattle.seg_bytes.proofs.BytesLaws.{number-set_same}
-use Rattle.seg_spec.proofs.Writing.{set_number-changes}
+use Rattle.seg_spec.proofs.Writing.{number_held, set_number-changes}
 use Rattle.seg_ptr.specs.Lent.{lent_to}
 use Rattle.seg_ptr.proofs.Lent.{lent_same}
 use Rattle.seg_layout.specs.Forms.{form_of, map_option}
@@ -46,9 +46,6 @@ lent_keeps old lent xs same is =
     let written = lent_same old xs (same ∙ ap length is) in
     written ∙ ap (λ (p : Placement). with_bytes old p.bytes) (sym written)
 
-pub same_stored : (a b : Stored) → a.window ≡ b.window → a.types ≡ b.types → a ≡ b
-same_stored a b w t = ap (λ (x : Placement). record { window = x; types = a.types }) w ∙ ap (λ (x : Table). record { window = b.window; types = x }) t
-
 -- ---- what the program reads in the table
 
 pub number_form : (table : Table) (T : ℕ) (o : Option «Type») (k : «Type») → form_at table T ≡ map_option form_of o → o ≡ Some k → k ≡ kind.I64 → form_at table T ≡ Some Form.i64
@@ -63,10 +60,6 @@ pub text_form : (table : Table) (T : ℕ) (o : Option «Type») (k : «Type») �
 text_form table T o k read is text = read ∙ ap (map_option form_of) (is ∙ ap (λ t. Some t) text)
 
 -- ---- the items of a vector
-
--- a number is there, whatever the bytes are
-pub number_held : (bytes : List ℕ) (table : Table) (place : Place) → form_at table place.type ≡ Some Form.i64 → Holds bytes table place (Int (signed_long bytes place.at)) []
-number_held bytes table place is = holds {place = place} Form.i64 _ nil [] is refl holds_none refl refl
 
 -- what the cells of a vector's type name
 abbrev content_of : (table : Table) (T U : ℕ) → 1 ≤ size table U → Content

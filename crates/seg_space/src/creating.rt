@@ -1,6 +1,6 @@
 //! New segments.
 
-ghost use Rattle.std.specs.Prelude.{◌≡◌, ◌↔◌, ◌⊎◌, [], length, IsTrue, IsOk, IfOk, IfErr};
+ghost use Rattle.std.specs.Prelude.{◌≡◌, ◌↔◌, ◌⊎◌, [], length, IsOk, IfOk, IfErr};
 ghost use Rattle.seg_bytes.specs.Bytes.{word};
 ghost use Rattle.seg_spec.specs.Faulty.{IsImageLength};
 ghost use Rattle.seg_spec.specs.Header.{version_word, allocator_word, index_kind_word, sharing_version};
@@ -12,8 +12,8 @@ ghost use Rattle.seg_space.specs.NewSegments.{nothing, word_of_kind, IsNew};
 use seg_block::{Fit, UNIT};
 use seg_index::set_unique;
 use seg_layout::{MAX_TYPES, TypeId, TypeTable};
-use seg_manager::{IndexKind, MIN_LEN, Segment};
-use seg_ptr::{MAX_LEN, Window, header};
+use seg_manager::{IndexKind, Segment};
+use seg_ptr::{Window, header, is_size};
 use seg_raw::{Fault, Region};
 use std::alloc::Allocator;
 
@@ -39,13 +39,6 @@ pub fn create<F: Fit, A: Allocator>(
     let mut window = Window::place(region, base, size)?;
     write_empty::<F, A>(&mut window, size, index);
     Ok(Segment::new(window, TypeTable::new()))
-}
-
-/// Whether a segment may have so many bytes.
-pub(crate) fn is_size(size: u32) -> bool
-    ensures { IsTrue result ↔ IsImageLength size }
-{
-    (MIN_LEN..=MAX_LEN).contains(&size) && size % UNIT == 0
 }
 
 /// Writes the image of an empty segment.

@@ -6,9 +6,9 @@ ghost use Rattle.seg_spec.specs.Window.{region_of};
 ghost use Rattle.seg_manager.specs.Segments.{IsSegment};
 ghost use Rattle.seg_space.specs.Sizes.{MayGrowTo, used_front, Grows, Shrinks};
 
-use crate::creating::is_size;
 use seg_block::{Fit, UNIT};
 use seg_manager::Segment;
+use seg_ptr::is_size;
 use seg_raw::Fault;
 use std::alloc::Allocator;
 

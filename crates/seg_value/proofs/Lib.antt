@@ -18,3 +18,4 @@ pub mod Indexed
 pub mod IndexGrows
 pub mod NewNodes
 pub mod Enlarging
+pub mod Stores

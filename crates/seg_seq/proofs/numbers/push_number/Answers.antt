@@ -6,7 +6,7 @@ use Rattle.seg_spec.specs.Types.{Form, Table, form_at, size}
 use Rattle.seg_spec.specs.Value.{Int}
 use Rattle.seg_spec.proofs.TypesLaws.{size-form}
 use Rattle.seg_cells.specs.Places.{object_at}
-use Rattle.seg_seq.proofs.InPlace.{number_held}
+use Rattle.seg_spec.proofs.Writing.{number_held}
 use Rattle.seg_seq.proofs.ItemCalls.{item_written}
 use Rattle.seg_seq.proofs.numbers.push_number.Goals as goal
 

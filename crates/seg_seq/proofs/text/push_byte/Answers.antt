@@ -2,7 +2,7 @@ use Rattle.std.proofs.Common.{◌≡◌, ◌+◌, ◌++◌, ◌∷◌, [], lengt
 use Rattle.seg_cells.specs.Places.{place_of}
 use Rattle.seg_value.specs.Stored.{Stored}
 use Rattle.seg_seq.specs.Sequences.{HasText, Rewrites}
-use Rattle.seg_seq.proofs.InPlace.{same_stored}
+use Rattle.seg_value.proofs.Stores.{same_stored}
 use Rattle.seg_seq.proofs.text.push_byte.Goals as goal
 
 pub returns-in-Some-clause-length : goal.returns-in-Some-clause-length

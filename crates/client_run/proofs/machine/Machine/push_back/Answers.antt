@@ -1,19 +1,16 @@
 use Rattle.std.proofs.Common.{◌≡◌, ℕ, List, Some, Ok, refl, sym, ◌∙◌, ap, subst}
 use Rattle.seg_spec.specs.Types.{Form, Table, form_at}
-use Rattle.seg_spec.specs.Window.{Placement}
 use Rattle.seg_spec.specs.Reads.{Place}
 use Rattle.seg_spec.specs.Value.{Values}
 use Rattle.seg_cells.specs.Places.{place_of}
 use Rattle.seg_value.specs.Stored.{Stored}
+use Rattle.seg_value.proofs.Stores.{same_stored}
 use Rattle.seg_seq.specs.Sequences.{HasItems, PushesBack}
 use Rattle.client_spec.specs.declared.table.Operation.{Operation}
 use Rattle.client_program.specs.declared.jump.Jump.TheVariants.{Next}
 use Rattle.client_run.specs.Worlds.{Opens, held_in}
 use Rattle.client_run.proofs.ItemLaws.{TellsPush, place_at, push_back_opens}
 use Rattle.client_run.proofs.machine.Machine.push_back.Goals as goal
-
-same_stored : (a b : Stored) → a.window ≡ b.window → a.types ≡ b.types → a ≡ b
-same_stored a b w t = ap (λ (x : Placement). record { window = x; types = a.types }) w ∙ ap (λ (x : Table). record { window = b.window; types = x }) t
 
 -- an item that a vector had room for
 in_place : (allocator : ℕ) (before after : Stored) (place : Place) (p U : ℕ) → form_at before.types place.type ≡ Some (Form.vec U)

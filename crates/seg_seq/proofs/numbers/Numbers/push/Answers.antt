@@ -4,7 +4,7 @@ use Rattle.seg_spec.specs.Value.{Int}
 use Rattle.seg_cells.specs.Places.{place_of}
 use Rattle.seg_value.specs.Stored.{Stored}
 use Rattle.seg_seq.specs.Sequences.{PushesItem, PushesNumber, LacksRoom, push_asks}
-use Rattle.seg_seq.proofs.InPlace.{same_stored}
+use Rattle.seg_value.proofs.Stores.{same_stored}
 use Rattle.seg_seq.proofs.numbers.Numbers.push.Goals as goal
 
 pub returns-in-Some-clause-vector : goal.returns-in-Some-clause-vector

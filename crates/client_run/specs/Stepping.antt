@@ -1,0 +1,27 @@
+-- A client's run that goes on one instruction at a time.
+--     EndsAt stepper                   it stands at the end of the code
+--     StepsOn allocator old new ..     the instruction of the line where it stood was performed, with
+--                                      the segment and the output before and after
+use Rattle.std.specs.Prelude.{◌≡◌, ◌≤◌, ℕ, List, length, Option, Some, slice_get}
+use Rattle.seg_value.specs.Stored.{Stored}
+use Rattle.client_program.specs.declared.line.Line.{Line}
+use Rattle.client_program.specs.Programs.{lines_in}
+use Rattle.client_stages.specs.Stages.{TellsStep}
+use Rattle.client_run.specs.declared.stepper.Stepper.{Stepper}
+use Rattle.client_run.specs.declared.stepper.Stepped.{Stepped}
+use Rattle.client_run.specs.Machines.{control_of}
+use Rattle.client_run.specs.Worlds.{DoesOn}
+
+-- it stands at the end of the code
+abbrev pub EndsAt : Stepper → Type 0
+EndsAt stepper = length (lines_in stepper.program) ≤ stepper.at
+
+-- the instruction of the line where it stood was performed, and it stands where the run goes on
+pub record StepsOn (allocator : ℕ) (old new : Stepper) (stepped : Stepped) (before after : Stored)
+    (taken taken_then : Option (List ℕ)) : Type 0 where
+  pub line : Line
+  pub line_is : slice_get (lines_in old.program) old.at ≡ Some line
+  pub instruction_is : stepped.instruction ≡ old.at
+  pub tells_step : TellsStep line (control_of old.machine) stepped.is_step
+  pub program_kept : new.program ≡ old.program
+  pub does : DoesOn allocator line new.at old.machine new.machine before after taken taken_then
