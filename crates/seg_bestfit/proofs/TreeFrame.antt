@@ -139,7 +139,8 @@ pub retiles_after : (old mid new : List ℕ) (xs ms ns ys : List Tile) → IsTil
 retiles_after old mid new xs ms ns ys was k r = record { tiling = r.tiling; spared = Spares-trans old mid new (xs ++ ys) (spared_beside old mid xs ms ys was k) r.spared }
 
 -- and before it does
-pub retiles_before : (old mid new : List ℕ) (xs ns ys : List Tile) (at n : ℕ) → Replaces old mid xs ns ys at n → KeepsBesideNodes mid new (free_of (xs ++ (ns ++ ys))) → IsFreeTree new (free_of (xs ++ (ns ++ ys))) → Retiles 1 old new xs ns ys
+pub retiles_before : (old mid new : List ℕ) (xs ns ys : List Tile) (at n : ℕ) → Replaces old mid xs ns ys at n → KeepsBesideNodes mid new (free_of (xs ++ (ns ++ ys)))
+    → IsFreeTree new (free_of (xs ++ (ns ++ ys))) → Retiles 1 old new xs ns ys
 retiles_before old mid new xs ns ys at n r k tree = record {
   tiling = record { tiled = tiled_kept mid new (xs ++ (ns ++ ys)) r.tiled k; free = tree };
   spared = Spares-trans old mid new (xs ++ ys) r.spared (spared_beside mid new xs ns ys r.tiled k);

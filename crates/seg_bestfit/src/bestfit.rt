@@ -70,13 +70,17 @@ impl Fit for BestFit {
             return;
         };
         let room = room_after(w, block);
-        let Some(gap) = free_before(w, block) else {
-            release_joined(w, block, room);
-            return;
+        let whole = match free_before(w, block) {
+            Some(gap) => {
+                take_out(w, gap);
+                Block {
+                    units: gap.units + block.units,
+                    ..gap
+                }
+            }
+            None => block,
         };
-        take_out(w, gap);
-        let units = gap.units + block.units;
-        release_joined(w, Block { units, ..gap }, room);
+        release_joined(w, whole, room);
     }
 
     fn resize<A: Allocator>(w: &mut Window<A>, block: Block, room: u32, units: u32) {
