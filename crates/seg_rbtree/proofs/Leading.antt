@@ -11,7 +11,7 @@ use Rattle.seg_spec.specs.Shapes.{Tree, leaf, nodes_of, IsTree}
 use Rattle.seg_spec.proofs.Frame.{each_left, each_right}
 use Rattle.seg_rbtree.specs.declared.node.Side.TheVariants.{Left, Right}
 use Rattle.seg_rbtree.specs.declared.path.Path.{Path}
-use Rattle.seg_rbtree.specs.declared.path.Step.{Step}
+use Rattle.seg_rbtree.specs.declared.step.Step.{Step}
 use Rattle.seg_rbtree.specs.Following.{AreRight}
 use Rattle.seg_rbtree.specs.Paths.{node_at, IsAmong, IsLast}
 use Rattle.seg_rbtree.specs.Ways.{Layer, plug, step_of, steps_of, LeadsTo, before, following}
