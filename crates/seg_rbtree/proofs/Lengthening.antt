@@ -16,7 +16,7 @@ use Rattle.seg_rbtree.specs.Turns.{Turns}
 use Rattle.seg_rbtree.specs.Removing.{layer_at, StandsAt, ComesUp, Lowers, IsShort, Lengthens}
 use Rattle.seg_rbtree.proofs.Steps.{last_word-steps}
 use Rattle.seg_rbtree.proofs.Apartness.{parts-apart, apart-down}
-use Rattle.seg_rbtree.proofs.Branches.{branch-parts, nodes-rotated, nodes-branch, nodes-plug, tree-down}
+use Rattle.seg_rbtree.proofs.Branches.{branch-parts, fork_at, nodes-rotated, nodes-branch, nodes-plug, tree-down}
 use Rattle.seg_rbtree.proofs.LowNodes.{root_low}
 use Rattle.seg_rbtree.proofs.Turning.{turns-none, turns-then, turns-room, turns-up, turns-whole, turns-painted, turns-rotated}
 use Rattle.seg_rbtree.proofs.ShortSide.{above_red, lowered, lowered_sooner, shortened, shortened_sooner, inner_came_up, outer_came_up, painted_black, short_root, sibling_stands, few_above}
@@ -67,21 +67,6 @@ black_root bytes (Some p) (fork l a red r) h e =
     let same : shade (colour_at bytes (Some p)) ≡ red = colour_read bytes p red h.1 in
     let is_black : black ≡ red = sym (ap shade e) ∙ same in
     cc
-
--- a tree that hangs at a node, seen from a side
-pub record IsFork (side : Side) (at : ℕ) (tree : Tree) : Type 0 where
-  pub colour : Colour
-  pub near : Tree
-  pub far : Tree
-  pub tree_is : tree ≡ branch side at colour near far
-
-pub fork_at : (bytes : List ℕ) (side : Side) (at : ℕ) (to : Option ℕ) (tree : Tree) → to ≡ Some at → IsTree bytes to tree → IsFork side at tree
-fork_at bytes side at to tree e h = go side tree (subst (λ o. IsTree bytes o tree) e h)
-  where
-    go : (side : Side) (tree : Tree) → IsTree bytes (Some at) tree → IsFork side at tree
-    go side leaf h = absurd h
-    go Left (fork l a c r) h = record { colour = c; near = l; far = r; tree_is = ap (λ p. fork l p c r) h.0 }
-    go Right (fork l a c r) h = record { colour = c; near = r; far = l; tree_is = ap (λ p. fork l p c r) h.0 }
 
 pub no_tree : (bytes : List ℕ) (tree : Tree) → IsTree bytes None tree → tree ≡ leaf
 no_tree bytes leaf h = refl

@@ -200,7 +200,8 @@ by_next b b1 b2 b3 path one two node read depth gone result d r1 r2 er eg e1 e2 
     let same : read ≡ to.next = named_alike result read to.next er to.result_is in
     let law = at_next b b1 b2 b3 path one two node depth gone layers to.lower left to.only colour to.tint to.next d r1 r2 (eg ∙ ap (λ p. colour_at b (Some p)) same)
     (e1 ∙ ap (λ p. set_pointer b (last_word one.root one.steps.items) (target b (p + 4))) same) (e2 ∙ ap (λ p. in_place_of b1 node p) same)
-    (λ step inside low at. replaced step inside (subst (λ p. p < 2 ^ 31) (sym same) low) at ∙ ap (λ p. set one.steps.items depth (record { node = p; side = step.side })) same) (λ low. e3 low ∙ ap (λ p. set_pointer b2 (last_word two.root (take depth two.steps.items)) (Some p)) same)
+    (λ step inside low at. replaced step inside (subst (λ p. p < 2 ^ 31) (sym same) low) at ∙ ap (λ p. set one.steps.items depth (record { node = p; side = step.side })) same)
+    (λ low. e3 low ∙ ap (λ p. set_pointer b2 (last_word two.root (take depth two.steps.items)) (Some p)) same)
     to.leftward to.steps_are in
     (subst (λ t. StandsAt b path layers (fork left node colour t) → IsRedBlack (plug (fork left node colour t) layers) → length (nodes_of (plug (fork left node colour t) layers)) < 2 ^ 32
     → Unlinks b b3 two layers (fork left node colour t) node gone) (sym to.tree_is) law) s r few

@@ -18,14 +18,14 @@ use Rattle.seg_rbtree.specs.Following.{IsPartAt}
 use Rattle.seg_rbtree.specs.Turns.{Turns}
 use Rattle.seg_rbtree.specs.Removing.{layer_at, StandsAt, IsLeft, Loses, AreLeft, Unlinks, Descends}
 use Rattle.seg_rbtree.proofs.Apartness.{parts-apart}
-use Rattle.seg_rbtree.proofs.Branches.{branch-parts, tree-down}
+use Rattle.seg_rbtree.proofs.Branches.{branch-parts, fork_at, tree-down}
 use Rattle.seg_rbtree.proofs.LowNodes.{root_low}
 use Rattle.seg_rbtree.proofs.Turning.{turns-hung}
 use Rattle.seg_rbtree.proofs.Depth.{deep-64, layers-deep}
 use Rattle.seg_rbtree.proofs.Unlinking.{lone_lost, red_unlinked, black_unlinked}
 use Rattle.seg_rbtree.proofs.Walking.{length-steps}
 use Rattle.seg_rbtree.proofs.Steps.{last_word-steps}
-use Rattle.seg_rbtree.proofs.Lengthening.{path_word, turned_at, here, here_apart, no_tree, painted_fork, fork_at}
+use Rattle.seg_rbtree.proofs.Lengthening.{path_word, turned_at, here, here_apart, no_tree, painted_fork}
 
 -- ---- ways one after the other
 

@@ -1,17 +1,16 @@
 -- A walk down a tree to a node's place.
-use Rattle.std.proofs.Common.{◌≡◌, ℕ, ◌+◌, ◌^◌, ◌<◌, ◌≤◌, List, [], ◌∷◌, ◌++◌, length, Option, Some, None, refl, sym, ap, ◌∙◌, subst, length-append, arith}
+use Rattle.std.proofs.Common.{◌≡◌, ℕ, ◌+◌, ◌^◌, ◌<◌, ◌≤◌, List, [], ◌∷◌, ◌++◌, length, Some, None, refl, sym, ap, ◌∙◌, subst, length-append, arith}
 use Rattle.std.specs.declared.cmp.Ordering.{Ordering}
 use Rattle.std.specs.declared.cmp.Ordering.TheVariants.{Equal}
 use Rattle.seg_spec.specs.Pointer.{target}
 use Rattle.seg_spec.specs.Shapes.{Tree, leaf, fork, IsTree}
 use Rattle.seg_spec.specs.Search.{IsSearchTree}
 use Rattle.seg_rbtree.specs.declared.node.Side.{Side}
-use Rattle.seg_rbtree.specs.declared.node.Side.TheVariants.{Left, Right}
 use Rattle.seg_rbtree.specs.declared.step.Step.{Step}
 use Rattle.seg_rbtree.specs.declared.path.Path.{Path}
 use Rattle.seg_rbtree.specs.Nodes.{side_word}
 use Rattle.seg_rbtree.specs.Ways.{Layer, plug, place, step_of, steps_of, last_word, turn_of, LeadBy, EndsAt, LeadsTo}
-use Rattle.seg_rbtree.proofs.Branches.{tree-down}
+use Rattle.seg_rbtree.proofs.Branches.{fork_at, tree-down}
 use Rattle.seg_rbtree.proofs.LowNodes.{root_low}
 use Rattle.seg_rbtree.proofs.Depth.{tall, deep-64, layers-deep}
 
@@ -38,44 +37,23 @@ module _ (bytes : List ℕ) (root : ℕ) (turn : ℕ → Ordering) (shape : Tree
   walking_hangs steps word count s t =
       subst (λ q. IsTree bytes (target bytes q) s.rest) (sym s.word_is) (tree-down bytes root s.rest s.layers (subst (IsTree bytes (target bytes root)) (sym s.shape_is) t))
 
-  -- the step down to a side of the node at the word
-  step_on : (layers : List Layer) (rest : Tree) (steps next : List Step) (word below count other : ℕ) (side : Side) → plug rest layers ≡ shape → steps ≡ steps_of layers → LeadBy turn layers → length layers ≡ count
-      → length bytes ≤ 2 ^ 30 → target bytes word ≡ Some other → IsTree bytes (target bytes word) rest
-      → turn other ≡ turn_of side → (other < 2 ^ 31 → next ≡ steps ++ record { node = other; side = side } ∷ []) → below ≡ side_word other side → IsWalking root turn shape next below (count + 1)
-  step_on layers leaf steps next word below count other side e s l k small is t o n w = absurd (subst (λ p. IsTree bytes p leaf) is t)
-  step_on layers (fork left at colour right) steps next word below count other side e s l k small is t o n w = go side o n w
-    where
-      same : at ≡ other
-      same = (subst (λ p. IsTree bytes p (fork left at colour right)) is t).0
-
-      low : other < 2 ^ 31
-      low = subst (λ q. q < 2 ^ 31) same (root_low bytes word Left at colour left right small t)
-
-      go : (side : Side) → turn other ≡ turn_of side → (other < 2 ^ 31 → next ≡ steps ++ record { node = other; side = side } ∷ []) → below ≡ side_word other side → IsWalking root turn shape next below (count + 1)
-      go Left o n w = record {
-        layers = record { side = Left; at = at; colour = colour; other = right } ∷ layers;
-        rest = left;
-        shape_is = e;
-        steps_are = n low ∙ ap (λ ss. ss ++ record { node = other; side = Left } ∷ []) s ∙ ap (λ q. steps_of layers ++ record { node = q; side = Left } ∷ []) (sym same);
-        leads = (ap turn same ∙ o, l);
-        count_is = omega arith;
-        word_is = w ∙ sym same;
-      }
-      go Right o n w = record {
-        layers = record { side = Right; at = at; colour = colour; other = left } ∷ layers;
-        rest = right;
-        shape_is = e;
-        steps_are = n low ∙ ap (λ ss. ss ++ record { node = other; side = Right } ∷ []) s ∙ ap (λ q. steps_of layers ++ record { node = q; side = Right } ∷ []) (sym same);
-        leads = (ap turn same ∙ o, l);
-        count_is = omega arith;
-        word_is = w ∙ ap (λ q. q + 4) (sym same);
-      }
-
+  -- the walk goes down to a side of the node at the word
   pub walked : (steps next : List Step) (word below count other : ℕ) (side : Side) → length bytes ≤ 2 ^ 30 → target bytes word ≡ Some other → turn other ≡ turn_of side
       → (other < 2 ^ 31 → next ≡ steps ++ record { node = other; side = side } ∷ []) → below ≡ side_word other side
       → IsTree bytes (target bytes root) shape → IsWalking root turn shape steps word count → IsWalking root turn shape next below (count + 1)
   walked steps next word below count other side small is o n w t s =
-      step_on s.layers s.rest steps next word below count other side s.shape_is s.steps_are s.leads s.count_is small is (walking_hangs steps word count s t) o n w
+      let hung = walking_hangs steps word count s t in
+      let f = fork_at bytes side other (target bytes word) s.rest is hung in
+      let low = root_low bytes word side other f.colour f.near f.far small (subst (λ r. IsTree bytes (target bytes word) r) f.tree_is hung) in
+      record {
+        layers = record { side = side; at = other; colour = f.colour; other = f.far } ∷ s.layers;
+        rest = f.near;
+        shape_is = ap (λ r. plug r s.layers) (sym f.tree_is) ∙ s.shape_is;
+        steps_are = n low ∙ ap (λ ss. ss ++ record { node = other; side = side } ∷ []) s.steps_are;
+        leads = (o, s.leads);
+        count_is = omega (arith, s.count_is);
+        word_is = w;
+      }
 
   ended : (path : Path) (word count : ℕ) (s : IsWalking root turn shape path.steps.items word count) → EndsAt turn s.rest → LeadsTo turn shape path
   ended path word count s e = record { layers = s.layers; rest = s.rest; shape_is = s.shape_is; steps_are = s.steps_are; leads = s.leads; ends = e }

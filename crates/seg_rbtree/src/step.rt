@@ -3,8 +3,8 @@ ghost use Rattle.std.specs.Prelude.{◌≡◌, ◌<◌, ◌^◌};
 use crate::node::Side;
 use std::marker::Model;
 
-/// A node, and the side on which the way goes on, in one word: the node's position above the side's bit. A segment has fewer
-/// than 2^31 bytes, so the position of each of its nodes leaves a bit.
+/// A node, and the side on which the way goes on, in one word: the side is its lowest bit, and the node's position stands above.
+/// That drops the position's highest bit, which is 0 in a segment.
 #[derive(Debug, Clone, Copy, Default)]
 pub(crate) struct Step {
     word: u32,
@@ -22,6 +22,7 @@ impl Model for Step {
 }
 
 impl Step {
+    /// The step from a node to a side of it.
     #[inline]
     pub(crate) fn new(node: u32, side: Side) -> Step
         ensures { node < 2 ^ 31 → result ≡ record { node = node; side = side } }
