@@ -1,6 +1,7 @@
 ghost use Rattle.std.specs.Prelude.{◌≡◌, ◌+◌, ◌<◌, ◌≤◌, ◌↔◌, [], length, IsTrue};
 ghost use Rattle.seg_bytes.specs.Bytes.{slice, byte, half, word, long};
 ghost use Rattle.seg_spec.specs.Pointer.{target};
+ghost use Rattle.seg_ptr.specs.declared.window.TheConstants.{MAX_LEN};
 
 use crate::pointer::named;
 
@@ -10,10 +11,12 @@ use crate::pointer::named;
 #[derive(Debug, Clone, Copy)]
 pub struct View<'a> {
     bytes: &'a [u8],
+    pub ghost small: { length bytes.now ≤ MAX_LEN },
 }
 
 impl<'a> View<'a> {
     pub(crate) fn new(bytes: &'a [u8]) -> View<'a>
+        requires { length bytes.now ≤ MAX_LEN }
         ensures { result.bytes.now ≡ bytes.now }
     {
         View { bytes }

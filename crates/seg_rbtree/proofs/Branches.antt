@@ -1,7 +1,7 @@
 -- The parts of a tree, seen from a side.
 use Rattle.std.proofs.Common.{◌≡◌, ℕ, ◌+◌, List, [], ◌∷◌, ◌++◌, Option, Some, None, refl, sym, ap, subst, append_assoc}
 use Rattle.seg_spec.specs.Pointer.{target}
-use Rattle.seg_spec.specs.Shapes.{Colour, Tree, nodes_of, HasColour, IsTree}
+use Rattle.seg_spec.specs.Shapes.{Colour, Tree, leaf, fork, nodes_of, HasColour, IsTree}
 use Rattle.seg_rbtree.specs.declared.node.Side.{Side}
 use Rattle.seg_rbtree.specs.declared.node.Side.TheVariants.{Left, Right}
 use Rattle.seg_rbtree.specs.Nodes.{side_word, opposite}
@@ -33,6 +33,21 @@ pub branch-whole : (bytes : List ℕ) (side : Side) (at : ℕ) (colour : Colour)
     → IsTree bytes (target bytes (side_word at (opposite side))) far → IsTree bytes (Some at) (branch side at colour near far)
 branch-whole bytes Left at colour near far c n f = (refl, c, n, f)
 branch-whole bytes Right at colour near far c n f = (refl, c, f, n)
+
+-- a tree that hangs at a node, seen from a side
+pub record IsFork (side : Side) (at : ℕ) (tree : Tree) : Type 0 where
+  pub colour : Colour
+  pub near : Tree
+  pub far : Tree
+  pub tree_is : tree ≡ branch side at colour near far
+
+pub fork_at : (bytes : List ℕ) (side : Side) (at : ℕ) (to : Option ℕ) (tree : Tree) → to ≡ Some at → IsTree bytes to tree → IsFork side at tree
+fork_at bytes side at to tree e h = go side tree (subst (λ o. IsTree bytes o tree) e h)
+  where
+    go : (side : Side) (tree : Tree) → IsTree bytes (Some at) tree → IsFork side at tree
+    go side leaf h = absurd h
+    go Left (fork l a c r) h = record { colour = c; near = l; far = r; tree_is = ap (λ p. fork l p c r) h.0 }
+    go Right (fork l a c r) h = record { colour = c; near = r; far = l; tree_is = ap (λ p. fork l p c r) h.0 }
 
 -- from the other side
 pub branch-flip : (side : Side) (at : ℕ) (colour : Colour) (near far : Tree) → branch (opposite side) at colour near far ≡ branch side at colour far near

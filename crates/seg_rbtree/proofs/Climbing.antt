@@ -14,7 +14,7 @@ use Rattle.seg_spec.proofs.Frame.{each_left, each_right, each_weaker}
 use Rattle.seg_rbtree.specs.declared.node.Side.{Side}
 use Rattle.seg_rbtree.specs.declared.node.Side.TheVariants.{Left, Right}
 use Rattle.seg_rbtree.specs.declared.path.Path.{Path}
-use Rattle.seg_rbtree.specs.declared.path.Step.{Step}
+use Rattle.seg_rbtree.specs.declared.step.Step.{Step}
 use Rattle.seg_rbtree.specs.Ways.{Layer, branch, grow, plug, place, step_of, steps_of, last_word, turn_of, LeadBy, EndsAt, LeadsTo, IsWayIn, before, following, nodes_before, nodes_after, after_root}
 use Rattle.seg_rbtree.specs.Paths.{node_at}
 use Rattle.seg_rbtree.specs.Removing.{layer_at, AreLeft, Descends}

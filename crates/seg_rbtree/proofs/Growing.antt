@@ -11,7 +11,7 @@ use Rattle.seg_spec.specs.Search.{Ascend, IsSearchTree}
 use Rattle.seg_spec.proofs.Frame.{each_left, each_right}
 use Rattle.seg_rbtree.specs.declared.node.Side.{Side}
 use Rattle.seg_rbtree.specs.declared.node.Side.TheVariants.{Left, Right}
-use Rattle.seg_rbtree.specs.declared.path.Step.{Step}
+use Rattle.seg_rbtree.specs.declared.step.Step.{Step}
 use Rattle.seg_rbtree.specs.declared.path.Path.{Path}
 use Rattle.seg_rbtree.specs.Nodes.{with_new_node}
 use Rattle.seg_rbtree.specs.Ways.{Layer, branch, grow, plug, place, steps_of, last_word, LeadBy, EndsAt, LeadsTo}

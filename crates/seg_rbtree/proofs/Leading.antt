@@ -11,13 +11,13 @@ use Rattle.seg_spec.specs.Shapes.{Tree, leaf, nodes_of, IsTree}
 use Rattle.seg_spec.proofs.Frame.{each_left, each_right}
 use Rattle.seg_rbtree.specs.declared.node.Side.TheVariants.{Left, Right}
 use Rattle.seg_rbtree.specs.declared.path.Path.{Path}
-use Rattle.seg_rbtree.specs.declared.path.Step.{Step}
+use Rattle.seg_rbtree.specs.declared.step.Step.{Step}
 use Rattle.seg_rbtree.specs.Following.{AreRight}
 use Rattle.seg_rbtree.specs.Paths.{node_at, IsAmong, IsLast}
 use Rattle.seg_rbtree.specs.Ways.{Layer, plug, step_of, steps_of, LeadsTo, before, following}
-use Rattle.seg_rbtree.proofs.Branches.{branch-parts}
+use Rattle.seg_rbtree.proofs.Branches.{branch-parts, fork_at}
 use Rattle.seg_rbtree.proofs.Climbing.{following_none}
-use Rattle.seg_rbtree.proofs.Lengthening.{fork_at, no_tree}
+use Rattle.seg_rbtree.proofs.Lengthening.{no_tree}
 use Rattle.seg_rbtree.proofs.Orders.{ascend-down}
 use Rattle.seg_rbtree.proofs.Removed.{not_aside, not_at_end, rest_hangs}
 use Rattle.seg_rbtree.proofs.Unlinking.{nodes_plug}

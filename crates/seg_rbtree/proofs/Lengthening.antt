@@ -1,5 +1,5 @@
 -- What the steps that make a short part longer do to the bytes.
-use Rattle.std.proofs.Common.{◌≡◌, ℕ, suc, ◌+◌, ◌<◌, ◌↔◌, Bool, IsTrue, true, false, List, [], ◌∷◌, ◌++◌, length, Option, Some, None, refl, sym, ap, ◌∙◌, subst, arith}
+use Rattle.std.proofs.Common.{◌≡◌, ℕ, suc, ◌+◌, ◌^◌, ◌<◌, ◌↔◌, Bool, IsTrue, true, false, List, [], ◌∷◌, ◌++◌, length, Option, Some, None, refl, sym, ap, ◌∙◌, subst, arith}
 use Rattle.std.proofs.lemmas.List.{length-append}
 use Rattle.seg_spec.specs.Pointer.{target}
 use Rattle.seg_spec.specs.Shapes.{Colour, black, red, Tree, leaf, fork, nodes_of, HasColour, IsTree, IsBlack}
@@ -8,7 +8,7 @@ use Rattle.seg_rbtree.specs.declared.node.Side.TheVariants.{Left, Right}
 use Rattle.seg_rbtree.specs.declared.node.Colour.{Colour as Paint}
 use Rattle.seg_rbtree.specs.declared.node.Colour.TheVariants.{Black, Red}
 use Rattle.seg_rbtree.specs.declared.path.Path.{Path}
-use Rattle.seg_rbtree.specs.declared.path.Step.{Step}
+use Rattle.seg_rbtree.specs.declared.step.Step.{Step}
 use Rattle.seg_rbtree.specs.Nodes.{side_word, opposite, shade, colour_at, with_colour, rotated}
 use Rattle.seg_rbtree.specs.Ways.{Layer, branch, plug, place, step_of, steps_of, last_word}
 use Rattle.seg_rbtree.specs.Changes.{StandApart}
@@ -16,7 +16,8 @@ use Rattle.seg_rbtree.specs.Turns.{Turns}
 use Rattle.seg_rbtree.specs.Removing.{layer_at, StandsAt, ComesUp, Lowers, IsShort, Lengthens}
 use Rattle.seg_rbtree.proofs.Steps.{last_word-steps}
 use Rattle.seg_rbtree.proofs.Apartness.{parts-apart, apart-down}
-use Rattle.seg_rbtree.proofs.Branches.{branch-parts, nodes-rotated, nodes-branch, nodes-plug, tree-down}
+use Rattle.seg_rbtree.proofs.Branches.{branch-parts, fork_at, nodes-rotated, nodes-branch, nodes-plug, tree-down}
+use Rattle.seg_rbtree.proofs.LowNodes.{root_low}
 use Rattle.seg_rbtree.proofs.Turning.{turns-none, turns-then, turns-room, turns-up, turns-whole, turns-painted, turns-rotated}
 use Rattle.seg_rbtree.proofs.ShortSide.{above_red, lowered, lowered_sooner, shortened, shortened_sooner, inner_came_up, outer_came_up, painted_black, short_root, sibling_stands, few_above}
 use Rattle.seg_rbtree.proofs.Walking.{length-steps}
@@ -66,21 +67,6 @@ black_root bytes (Some p) (fork l a red r) h e =
     let same : shade (colour_at bytes (Some p)) ≡ red = colour_read bytes p red h.1 in
     let is_black : black ≡ red = sym (ap shade e) ∙ same in
     cc
-
--- a tree that hangs at a node, seen from a side
-pub record IsFork (side : Side) (at : ℕ) (tree : Tree) : Type 0 where
-  pub colour : Colour
-  pub near : Tree
-  pub far : Tree
-  pub tree_is : tree ≡ branch side at colour near far
-
-pub fork_at : (bytes : List ℕ) (side : Side) (at : ℕ) (to : Option ℕ) (tree : Tree) → to ≡ Some at → IsTree bytes to tree → IsFork side at tree
-fork_at bytes side at to tree e h = go side tree (subst (λ o. IsTree bytes o tree) e h)
-  where
-    go : (side : Side) (tree : Tree) → IsTree bytes (Some at) tree → IsFork side at tree
-    go side leaf h = absurd h
-    go Left (fork l a c r) h = record { colour = c; near = l; far = r; tree_is = ap (λ p. fork l p c r) h.0 }
-    go Right (fork l a c r) h = record { colour = c; near = r; far = l; tree_is = ap (λ p. fork l p c r) h.0 }
 
 pub no_tree : (bytes : List ℕ) (tree : Tree) → IsTree bytes None tree → tree ≡ leaf
 no_tree bytes leaf h = refl
@@ -194,15 +180,19 @@ sibling_named bytes path layers side node up colour other x m d s =
 
 pub lowered_whole : (bytes one two new : List ℕ) (path next last : Path) (side : Side) (node sibling : ℕ) (r q : Bool) → one ≡ rotated bytes (last_word path.root path.steps.items) node side → two ≡ with_colour one sibling Black
     → new ≡ with_colour two node Red
-    → next.root ≡ path.root → (length path.steps.items < 64 → IsTrue r) → (IsTrue r → next.steps.items ≡ path.steps.items ++ record { node = sibling; side = side } ∷ [])
-    → last.root ≡ next.root → (length next.steps.items < 64 → IsTrue q) → (IsTrue q → last.steps.items ≡ next.steps.items ++ record { node = node; side = side } ∷ [])
+    → next.root ≡ path.root → (length path.steps.items < 64 → IsTrue r) → (IsTrue r → sibling < 2 ^ 31 → next.steps.items ≡ path.steps.items ++ record { node = sibling; side = side } ∷ [])
+    → last.root ≡ next.root → (length next.steps.items < 64 → IsTrue q) → (IsTrue q → node < 2 ^ 31 → last.steps.items ≡ next.steps.items ++ record { node = node; side = side } ∷ [])
     → (layers : List Layer) (x m d : Tree) (colour other : Colour) → StandsAt bytes path layers (branch side node colour x (branch side sibling other m d)) → length layers < 63
     → Lowers bytes new last side node sibling colour other layers x m d
 lowered_whole bytes one two new path next last side node sibling r q e1 e2 e3 r1 room1 push1 r2 room2 push2 layers x m d colour other s few =
+    let below = branch side sibling other m d in
+    let hung = here bytes path layers (branch side node colour x below) s in
+    let node_low = root_low bytes (place path.root layers) side node colour x below s.apart.small hung in
+    let sibling_low = root_low bytes (side_word node (opposite side)) side sibling other m d s.apart.small (branch-parts bytes (target bytes (place path.root layers)) side node colour x below hung).far_hangs in
     let long : length path.steps.items ≡ length layers = ap length s.steps_are ∙ length-steps layers in
-    let first : next.steps.items ≡ path.steps.items ++ record { node = sibling; side = side } ∷ [] = push1 (room1 (omega arith)) in
+    let first : next.steps.items ≡ path.steps.items ++ record { node = sibling; side = side } ∷ [] = push1 (room1 (omega arith)) sibling_low in
     let longer : length next.steps.items ≡ length path.steps.items + 1 = ap length first ∙ omega (arith, length-append path.steps.items (record { node = sibling; side = side } ∷ [])) in
-    let second : last.steps.items ≡ next.steps.items ++ record { node = node; side = side } ∷ [] = push2 (room2 (omega arith)) in
+    let second : last.steps.items ≡ next.steps.items ++ record { node = node; side = side } ∷ [] = push2 (room2 (omega arith)) node_low in
     record {
       turned = subst (λ root. Turns bytes new root (plug (branch side node colour x (branch side sibling other m d)) layers) (plug (branch side sibling black (branch side node red x m) d) layers)) (sym (r2 ∙ r1))
           (both_painted bytes one two new path side node sibling colour other layers x m d Black Red s sibling (sibling_named bytes path layers side node sibling colour other x m d s) e1 e2 e3);

@@ -2,6 +2,7 @@ pub mod Searching
 pub mod Steps
 pub mod Apartness
 pub mod Branches
+pub mod LowNodes
 pub mod Keeping
 pub mod Turning
 pub mod Depth

@@ -10,7 +10,7 @@ use Rattle.seg_rbtree.specs.declared.node.Side.TheVariants.{Left, Right}
 use Rattle.seg_rbtree.specs.declared.node.Colour.{Colour as Paint}
 use Rattle.seg_rbtree.specs.declared.node.Colour.TheVariants.{Black, Red}
 use Rattle.seg_rbtree.specs.declared.path.Path.{Path}
-use Rattle.seg_rbtree.specs.declared.path.Step.{Step}
+use Rattle.seg_rbtree.specs.declared.step.Step.{Step}
 use Rattle.seg_rbtree.specs.Nodes.{shade, colour_at, colour_number, with_child}
 use Rattle.seg_rbtree.specs.Ways.{Layer, plug, place, step_of, steps_of, last_word}
 use Rattle.seg_rbtree.specs.Changes.{StandApart}
@@ -18,6 +18,7 @@ use Rattle.seg_rbtree.specs.Turns.{Turns}
 use Rattle.seg_rbtree.specs.Removing.{layer_at, in_place_of, StandsAt, IsLeft, Loses, AreLeft, Unlinks, Descends}
 use Rattle.seg_rbtree.proofs.Apartness.{Clear, parts-apart, apart-down, separate-swap, separate-part, clear-part}
 use Rattle.seg_rbtree.proofs.Branches.{branch-parts, tree-down}
+use Rattle.seg_rbtree.proofs.LowNodes.{root_low}
 use Rattle.seg_rbtree.proofs.Keeping.{keeps-trans, keeps-inside, colour-word, target-word, tree-word}
 use Rattle.seg_rbtree.proofs.Turning.{turns-up, turns-whole, turns-hung, relink, recolour, clear-parts}
 use Rattle.seg_rbtree.proofs.Steps.{last_word-steps}
@@ -139,7 +140,7 @@ module _ (b b1 b2 b3 : List ℕ) (path one two : Path) (node depth : ℕ) (gone 
 
   at_next : depth ≡ length path.steps.items → one.root ≡ path.root → two.root ≡ one.root → gone ≡ colour_at b (Some next)
       → b1 ≡ set_pointer b (last_word one.root one.steps.items) (target b (next + 4)) → b2 ≡ in_place_of b1 node next
-      → ((step : Step) → depth < length one.steps.items → step ≡ slice_index_or one.steps.items depth step → two.steps.items ≡ slice_set one.steps.items depth (record { node = next; side = step.side }))
+      → ((step : Step) → depth < length one.steps.items → next < 2 ^ 31 → step ≡ slice_index_or one.steps.items depth step → two.steps.items ≡ slice_set one.steps.items depth (record { node = next; side = step.side }))
       → (depth ≤ length two.steps.items → b3 ≡ set_pointer b2 (last_word two.root (take depth two.steps.items)) (Some next))
       → AreLeft lower → one.steps.items ≡ steps_of (lower ++ layer_at Right node colour left ∷ layers) → StandsAt b path layers whole → IsRedBlack (plug whole layers) → length (nodes_of (plug whole layers)) < 2 ^ 32
       → Unlinks b b3 two layers whole node gone
@@ -152,7 +153,7 @@ module _ (b b1 b2 b3 : List ℕ) (path one two : Path) (node depth : ℕ) (gone 
       let ys = steps_of lower in
       let items : one.steps.items ≡ xs ++ step_of N ∷ ys = steps ∙ steps_on lower (N ∷ layers) ∙ append_assoc xs (step_of N ∷ []) ys in
       let deep : depth ≡ length xs = d ∙ ap length s.steps_are in
-      let renamed : two.steps.items ≡ xs ++ step_of M ∷ ys = path_renamed xs ys [] depth node next one.steps.items two.steps.items items deep replaced in
+      let renamed : two.steps.items ≡ xs ++ step_of M ∷ ys = path_renamed xs ys [] depth node next one.steps.items two.steps.items items deep (λ step inside. replaced step inside next_low) in
       let long : length two.steps.items ≡ length xs + length (step_of M ∷ ys) = ap length renamed ∙ length-append xs (step_of M ∷ ys) in
       let word1 : last_word one.root one.steps.items ≡ place (node + 4) lower = ap (last_word one.root) steps ∙ last_word-steps one.root (lower ++ N ∷ layers) ∙ place_on one.root lower (N ∷ layers) in
       let front : take depth two.steps.items ≡ xs = ap (λ k. take k two.steps.items) deep ∙ ap (λ ss. take (length xs) ss) renamed ∙ take-append_seam xs (step_of M ∷ ys) in
@@ -164,7 +165,7 @@ module _ (b b1 b2 b3 : List ℕ) (path one two : Path) (node depth : ℕ) (gone 
       let local : Turns b b3 at whole after = subst (λ x. Turns b x at whole after) (sym is3) (gives_place b at node next colour tint left only lower leftward (here b path layers whole s) (here_apart b path layers whole s)) in
       let shape0 : plug F (lower ++ N ∷ layers) ≡ plug whole layers = plug_on F lower (N ∷ layers) in
       let shape1 : plug only (lower ++ M ∷ layers) ≡ plug after layers = plug_on only lower (M ∷ layers) in
-      let tinted : tint ≡ shade gone = sym (ap shade eg ∙ colour_read b next tint (next_coloured s)) in
+      let tinted : tint ≡ shade gone = sym (ap shade eg ∙ colour_read b next tint next_coloured) in
       record {
         above = lower ++ M ∷ layers;
         part = only;
@@ -176,15 +177,21 @@ module _ (b b1 b2 b3 : List ℕ) (path one two : Path) (node depth : ℕ) (gone 
             (subst (λ c. length (nodes_of (plug (fork leaf next c only) (lower ++ N ∷ layers))) < 2 ^ 32) tinted (subst (λ t. length (nodes_of t) < 2 ^ 32) (sym shape0) few));
       }
     where
-      next_coloured : StandsAt b path layers whole → HasColour b next tint
-      next_coloured s =
+      next_hangs : IsTree b (target b (place (node + 4) lower)) (fork leaf next tint only)
+      next_hangs =
           let parts = branch-parts b (target b (place path.root layers)) Right node colour (plug (fork leaf next tint only) lower) left (here b path layers whole s) in
-          (branch-parts b (target b (place (node + 4) lower)) Left next tint leaf only (tree-down b (node + 4) (fork leaf next tint only) lower parts.near_hangs)).coloured
+          tree-down b (node + 4) (fork leaf next tint only) lower parts.near_hangs
+
+      next_coloured : HasColour b next tint
+      next_coloured = (branch-parts b (target b (place (node + 4) lower)) Left next tint leaf only next_hangs).coloured
+
+      next_low : next < 2 ^ 31
+      next_low = root_low b (place (node + 4) lower) Left next tint leaf only s.apart.small next_hangs
 
 pub by_next : (b b1 b2 b3 : List ℕ) (path one two : Path) (node read depth : ℕ) (gone : Paint) (result : Option ℕ) → depth ≡ length path.steps.items → one.root ≡ path.root → two.root ≡ one.root → result ≡ Some read
     → gone ≡ colour_at b (Some read)
     → b1 ≡ set_pointer b (last_word one.root one.steps.items) (target b (read + 4)) → b2 ≡ in_place_of b1 node read
-    → ((step : Step) → depth < length one.steps.items → step ≡ slice_index_or one.steps.items depth step → two.steps.items ≡ slice_set one.steps.items depth (record { node = read; side = step.side }))
+    → ((step : Step) → depth < length one.steps.items → read < 2 ^ 31 → step ≡ slice_index_or one.steps.items depth step → two.steps.items ≡ slice_set one.steps.items depth (record { node = read; side = step.side }))
     → (depth ≤ length two.steps.items → b3 ≡ set_pointer b2 (last_word two.root (take depth two.steps.items)) (Some read))
     → (layers : List Layer) (left right : Tree) (colour : Colour) → StandsAt b path layers (fork left node colour right) → IsRedBlack (plug (fork left node colour right) layers)
     → length (nodes_of (plug (fork left node colour right) layers)) < 2 ^ 32
@@ -193,7 +200,8 @@ by_next b b1 b2 b3 path one two node read depth gone result d r1 r2 er eg e1 e2 
     let same : read ≡ to.next = named_alike result read to.next er to.result_is in
     let law = at_next b b1 b2 b3 path one two node depth gone layers to.lower left to.only colour to.tint to.next d r1 r2 (eg ∙ ap (λ p. colour_at b (Some p)) same)
     (e1 ∙ ap (λ p. set_pointer b (last_word one.root one.steps.items) (target b (p + 4))) same) (e2 ∙ ap (λ p. in_place_of b1 node p) same)
-    (λ step low at. replaced step low at ∙ ap (λ p. set one.steps.items depth (record { node = p; side = step.side })) same) (λ low. e3 low ∙ ap (λ p. set_pointer b2 (last_word two.root (take depth two.steps.items)) (Some p)) same)
+    (λ step inside low at. replaced step inside (subst (λ p. p < 2 ^ 31) (sym same) low) at ∙ ap (λ p. set one.steps.items depth (record { node = p; side = step.side })) same)
+    (λ low. e3 low ∙ ap (λ p. set_pointer b2 (last_word two.root (take depth two.steps.items)) (Some p)) same)
     to.leftward to.steps_are in
     (subst (λ t. StandsAt b path layers (fork left node colour t) → IsRedBlack (plug (fork left node colour t) layers) → length (nodes_of (plug (fork left node colour t) layers)) < 2 ^ 32
     → Unlinks b b3 two layers (fork left node colour t) node gone) (sym to.tree_is) law) s r few

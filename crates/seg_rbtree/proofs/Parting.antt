@@ -6,7 +6,7 @@ use Rattle.seg_spec.specs.Shapes.{black, red, Tree, leaf, fork, nodes_of, HasCol
 use Rattle.seg_rbtree.specs.declared.node.Side.{Side}
 use Rattle.seg_rbtree.specs.declared.node.Side.TheVariants.{Left, Right}
 use Rattle.seg_rbtree.specs.declared.node.Colour.TheVariants.{Black, Red}
-use Rattle.seg_rbtree.specs.declared.path.Step.{Step}
+use Rattle.seg_rbtree.specs.declared.step.Step.{Step}
 use Rattle.seg_rbtree.specs.Nodes.{side_word, opposite, colour_at, with_colour, straightened}
 use Rattle.seg_rbtree.specs.Ways.{Layer, branch, plug, place, steps_of, last_word}
 use Rattle.seg_rbtree.specs.Changes.{StandApart}

@@ -19,9 +19,9 @@ use Rattle.seg_rbtree.specs.Turns.{Turns}
 use Rattle.seg_rbtree.specs.Removing.{as_another}
 use Rattle.seg_rbtree.proofs.Apartness.{Clear, parts-apart, apart-down, separate-swap, separate-part, clear-part}
 use Rattle.seg_rbtree.proofs.Balancing.{balanced-down, balanced-up}
-use Rattle.seg_rbtree.proofs.Branches.{branch-parts}
+use Rattle.seg_rbtree.proofs.Branches.{branch-parts, fork_at}
 use Rattle.seg_rbtree.proofs.Keeping.{keeps-trans, keeps-inside, target-word, tree-word, tree-hung}
-use Rattle.seg_rbtree.proofs.Lengthening.{colour_read, fork_at, here, path_word}
+use Rattle.seg_rbtree.proofs.Lengthening.{colour_read, here, path_word}
 use Rattle.seg_rbtree.proofs.Removed.{begins, named_there}
 use Rattle.seg_rbtree.proofs.Turning.{small_colour, same_colour, turns-whole, turns-hung, clear-parts}
 use Rattle.seg_rbtree.proofs.Unlinking.{nodes_plug}

@@ -7,7 +7,7 @@ use Rattle.seg_spec.specs.Shapes.{black, red, Tree, leaf, fork, nodes_of, HasCol
 use Rattle.seg_rbtree.specs.declared.node.Side.{Side}
 use Rattle.seg_rbtree.specs.declared.node.Side.TheVariants.{Left}
 use Rattle.seg_rbtree.specs.declared.node.Colour.TheVariants.{Black, Red}
-use Rattle.seg_rbtree.specs.declared.path.Step.{Step}
+use Rattle.seg_rbtree.specs.declared.step.Step.{Step}
 use Rattle.seg_rbtree.specs.Nodes.{colour_at, with_colour}
 use Rattle.seg_rbtree.specs.Ways.{Layer, branch, grow, plug, place, step_of, steps_of}
 use Rattle.seg_rbtree.specs.Changes.{StandApart, KeepsBeside}

@@ -1,5 +1,5 @@
 -- What taking a node out of a tree does to the bytes.
-use Rattle.std.proofs.Common.{◌≡◌, ◌≢◌, ℕ, ◌+◌, ◌^◌, ◌<◌, Bool, not, true, false, List, [], ◌∷◌, ◌++◌, length, Option, Some, None, refl, sym, ap, ◌∙◌, subst, arith, append_assoc}
+use Rattle.std.proofs.Common.{◌≡◌, ◌≢◌, ℕ, ◌+◌, ◌^◌, ◌<◌, ◌≤◌, Bool, not, true, false, List, [], ◌∷◌, ◌++◌, length, Option, Some, None, refl, sym, ap, ◌∙◌, subst, arith, append_assoc}
 use Rattle.std.proofs.lemmas.List.{length-append, append-nil}
 use Rattle.std.specs.List.{AllByRecursion}
 use Rattle.std.specs.Option.{is_some}
@@ -18,13 +18,14 @@ use Rattle.seg_rbtree.specs.Following.{IsPartAt}
 use Rattle.seg_rbtree.specs.Turns.{Turns}
 use Rattle.seg_rbtree.specs.Removing.{layer_at, StandsAt, IsLeft, Loses, AreLeft, Unlinks, Descends}
 use Rattle.seg_rbtree.proofs.Apartness.{parts-apart}
-use Rattle.seg_rbtree.proofs.Branches.{branch-parts, tree-down}
+use Rattle.seg_rbtree.proofs.Branches.{branch-parts, fork_at, tree-down}
+use Rattle.seg_rbtree.proofs.LowNodes.{root_low}
 use Rattle.seg_rbtree.proofs.Turning.{turns-hung}
 use Rattle.seg_rbtree.proofs.Depth.{deep-64, layers-deep}
 use Rattle.seg_rbtree.proofs.Unlinking.{lone_lost, red_unlinked, black_unlinked}
 use Rattle.seg_rbtree.proofs.Walking.{length-steps}
 use Rattle.seg_rbtree.proofs.Steps.{last_word-steps}
-use Rattle.seg_rbtree.proofs.Lengthening.{path_word, turned_at, here, here_apart, no_tree, painted_fork, fork_at}
+use Rattle.seg_rbtree.proofs.Lengthening.{path_word, turned_at, here, here_apart, no_tree, painted_fork}
 
 -- ---- ways one after the other
 
@@ -187,6 +188,13 @@ descended bytes path layers tree first count to e n d =
       steps_are = d.steps_are;
     }
 
+-- the node that the way goes on from is low
+pub descending_low : (bytes : List ℕ) (path now : Path) (layers : List Layer) (tree : Tree) (first count : ℕ) → length bytes ≤ 2 ^ 30 → IsPartAt bytes path layers tree → IsDescending bytes now layers tree first count → first < 2 ^ 31
+descending_low bytes path now layers tree first count small s d =
+    let at = place path.root layers in
+    let part = fork d.left first d.tint d.right in
+    root_low bytes (place at d.lower) Left first d.tint d.left d.right small (tree-down bytes at part d.lower (subst (λ t. IsTree bytes (target bytes at) t) d.tree_is (part_here bytes path layers tree s)))
+
 -- there is room for the step
 pub descending_room : (bytes : List ℕ) (path : Path) (layers : List Layer) (tree : Tree) (first count : ℕ) → IsRedBlack (plug tree layers) → length (nodes_of (plug tree layers)) < 2 ^ 32 → IsDescending bytes path layers tree first count
     → length path.steps.items < 64
@@ -203,11 +211,11 @@ descending_few bytes path layers tree first count r few d =
     omega (arith, descending_room bytes path layers tree first count r few d, length-append d.lower layers, d.count_is)
 
 -- one step to the right
-pub stepped : (bytes : List ℕ) (path next : Path) (layers : List Layer) (left right : Tree) (node : ℕ) (colour : Colour) → IsPartAt bytes path layers (fork left node colour right) → next.root ≡ path.root
-    → next.steps.items ≡ path.steps.items ++ record { node = node; side = Right } ∷ []
+pub stepped : (bytes : List ℕ) (path next : Path) (layers : List Layer) (left right : Tree) (node : ℕ) (colour : Colour) → length bytes ≤ 2 ^ 30 → IsPartAt bytes path layers (fork left node colour right) → next.root ≡ path.root
+    → (node < 2 ^ 31 → next.steps.items ≡ path.steps.items ++ record { node = node; side = Right } ∷ [])
     → IsPartAt bytes next (layer_at Right node colour left ∷ layers) right
-stepped bytes path next layers left right node colour s r p = record {
-  steps_are = p ∙ ap (λ ss. ss ++ record { node = node; side = Right } ∷ []) s.steps_are;
+stepped bytes path next layers left right node colour small s r p = record {
+  steps_are = p (root_low bytes (place path.root layers) Left node colour left right small (part_here bytes path layers (fork left node colour right) s)) ∙ ap (λ ss. ss ++ record { node = node; side = Right } ∷ []) s.steps_are;
   whole = subst (λ root. IsSearchTree bytes root (plug (fork left node colour right) layers)) (sym r) s.whole;
 }
 

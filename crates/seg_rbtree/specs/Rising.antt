@@ -5,7 +5,7 @@
 use Rattle.std.specs.Prelude.{◌≡◌, ℕ, ◌+◌, ◌≤◌, List, length, Option, MatchOption}
 use Rattle.seg_spec.specs.Pointer.{target}
 use Rattle.seg_spec.specs.Shapes.{red, Tree, fork, nodes_of, IsTree, IsBalanced, IsRedBlack}
-use Rattle.seg_rbtree.specs.declared.path.Step.{Step}
+use Rattle.seg_rbtree.specs.declared.step.Step.{Step}
 use Rattle.seg_rbtree.specs.Ways.{Layer, plug, steps_of}
 use Rattle.seg_rbtree.specs.Changes.{StandApart, KeepsBeside}
 use Rattle.seg_rbtree.specs.Balance.{Wants}

@@ -9,7 +9,8 @@ ghost use Rattle.seg_rbtree.specs.Roots.{root_word};
 
 use crate::node::{Colour, Side, child, child_word, init, is_red, paint, rotate};
 use crate::order::{NodeOrder, Sought};
-use crate::path::{DEPTH, Path, Step};
+use crate::path::{DEPTH, Path};
+use crate::step::Step;
 use crate::tree::Tree;
 use seg_ptr::Window;
 use std::alloc::Allocator;
@@ -68,16 +69,16 @@ fn settle<A: Allocator>(w: &mut Window<A>, path: &mut Path, node: u32) -> Option
         paint(w, node, Colour::Black);
         return None;
     };
-    if !is_red(w, Some(parent.node)) {
+    if !is_red(w, Some(parent.node())) {
         return None;
     }
     // a red node isn't the root
     let grandparent = path.pop()?;
-    let uncle = child(w, grandparent.node, grandparent.side.other());
+    let uncle = child(w, grandparent.node(), grandparent.side().other());
     match uncle {
         Some(uncle) if is_red(w, Some(uncle)) => {
-            push_red_up(w, grandparent.node, parent.node, uncle);
-            Some(grandparent.node)
+            push_red_up(w, grandparent.node(), parent.node(), uncle);
+            Some(grandparent.node())
         }
         _ => {
             straighten(w, path.word(), grandparent, parent);
@@ -102,11 +103,11 @@ fn straighten<A: Allocator>(w: &mut Window<A>, word: usize, grandparent: Step, p
     ensures { w.new ≡ with_bytes w.old
         (straightened w.old.bytes word grandparent.node grandparent.side parent.node parent.side) }
 {
-    let side = grandparent.side;
-    if parent.side != side {
-        let _ = rotate(w, child_word(grandparent.node, side), parent.node, side);
+    let side = grandparent.side();
+    if parent.side() != side {
+        let _ = rotate(w, child_word(grandparent.node(), side), parent.node(), side);
     }
-    raise(w, word, grandparent.node, side.other());
+    raise(w, word, grandparent.node(), side.other());
 }
 
 /// Moves the node at a pointer word down to a side, red, and its child on the other side up, black.

@@ -13,6 +13,7 @@ mod path;
 mod remove;
 mod replace;
 mod search;
+mod step;
 mod tree;
 
 pub use node::{Colour, Side, child, child_word, node_colour};

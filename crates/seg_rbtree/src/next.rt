@@ -148,8 +148,8 @@ impl Path {
             (Climbs layers self.new) }
     {
         while let Some(step) = self.pop() {
-            match step.side {
-                Side::Left => return Some(step.node),
+            match step.side() {
+                Side::Left => return Some(step.node()),
                 Side::Right => {}
             }
         }

@@ -18,9 +18,8 @@ const COLOUR: usize = 8;
 const ZERO: usize = 12;
 
 /// One of a node's two children.
-#[derive(Debug, Clone, Copy, PartialEq, Eq, Default)]
+#[derive(Debug, Clone, Copy, PartialEq, Eq)]
 pub enum Side {
-    #[default]
     Left,
     Right,
 }

@@ -1,4 +1,4 @@
-ghost use Rattle.std.specs.Prelude.{slice_set, slice_index_or, ◌≡◌, ◌<◌, ◌≤◌, IsTrue, ℕ, List, [], ◌∷◌, ◌++◌, length, Option, Some, MatchOption, IfNone};
+ghost use Rattle.std.specs.Prelude.{slice_set, slice_index_or, ◌≡◌, ◌^◌, ◌<◌, ◌≤◌, IsTrue, ℕ, List, [], ◌∷◌, ◌++◌, length, Option, Some, MatchOption, IfNone};
 ghost use Rattle.std.specs.List.{AllByRecursion};
 ghost use Rattle.seg_spec.specs.Pointer.{target, set_pointer};
 ghost use Rattle.seg_spec.specs.Window.{with_bytes, KeepsHost};
@@ -8,6 +8,7 @@ ghost use Rattle.seg_rbtree.specs.Following.{LeadsInside};
 ghost use Rattle.seg_rbtree.specs.declared.path.TheConstants.{DEPTH};
 
 use crate::node::{Side, child_word, rotate};
+use crate::step::Step;
 use arrayvec::ArrayVec;
 use seg_ptr::{View, Window};
 use std::alloc::Allocator;
@@ -15,13 +16,6 @@ use std::alloc::Allocator;
 /// The most nodes on a way down a tree. A red-black tree of fewer than 2^32 nodes has no more, and a segment has room for
 /// fewer than 2^26: with these it has at most 52.
 pub const DEPTH: usize = 64;
-
-/// A node, and the side on which the way goes on.
-#[derive(Debug, Clone, Copy, Default)]
-pub(crate) struct Step {
-    pub(crate) node: u32,
-    pub(crate) side: Side,
-}
 
 /// A way down from the root of a tree: the nodes above a place, where a node stands or none. It holds no part of the window, so
 /// other bytes may change before a node is added or removed at its end; with another change of the tree it is out of date.
@@ -58,10 +52,10 @@ impl Path {
     pub(crate) fn push(&mut self, node: u32, side: Side) -> bool
         ensures root { self.new.root ≡ self.old.root }
         ensures room { length self.old.steps.items < DEPTH → IsTrue result }
-        ensures pushed { IsTrue result → self.new.steps.items
+        ensures pushed { IsTrue result → node < 2 ^ 31 → self.new.steps.items
             ≡ self.old.steps.items ++ record { node = node; side = side } ∷ [] }
     {
-        self.steps.try_push(Step { node, side }).is_ok()
+        self.steps.try_push(Step::new(node, side)).is_ok()
     }
 
     /// One step up: the node above the place, and the place's side of it.
@@ -88,7 +82,7 @@ impl Path {
             self.now.steps.items }
     {
         for step in self.steps.as_slice() {
-            match step.side {
+            match step.side() {
                 Side::Left => return false,
                 Side::Right => {}
             }
@@ -99,13 +93,13 @@ impl Path {
     /// Puts another node at step `i` of the way.
     pub(crate) fn set_step(&mut self, i: usize, node: u32)
         ensures root { self.new.root ≡ self.old.root }
-        ensures replaced { (step : _) → i < length self.old.steps.items
+        ensures replaced { (step : _) → i < length self.old.steps.items → node < 2 ^ 31
             → step ≡ slice_index_or self.old.steps.items i step
             → self.new.steps.items
             ≡ slice_set self.old.steps.items i (record { node = node; side = step.side }) }
     {
         if let Some(step) = self.steps.get_mut(i) {
-            step.node = node;
+            *step = Step::new(node, step.side());
         }
     }
 
@@ -118,7 +112,7 @@ impl Path {
             return self.root;
         }
         match self.steps.get(steps - 1) {
-            Some(step) => child_word(step.node, step.side),
+            Some(step) => child_word(step.node(), step.side()),
             None => self.root,
         }
     }

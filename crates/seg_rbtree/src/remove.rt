@@ -13,7 +13,8 @@ ghost use Rattle.seg_rbtree.specs.Roots.{root_word};
 use crate::next::descend_to_next;
 use crate::node::{Colour, Side, child, child_word, colour_of, is_red, paint, rotate, take_place};
 use crate::order::{NodeOrder, Sought};
-use crate::path::{DEPTH, Path, Step};
+use crate::path::{DEPTH, Path};
+use crate::step::Step;
 use crate::tree::Tree;
 use seg_ptr::Window;
 use std::alloc::Allocator;
@@ -158,7 +159,7 @@ fn lengthen_beside<A: Allocator>(w: &mut Window<A>, path: &mut Path, short: Step
         → Lengthens w.old.bytes w.new.bytes path.new
         (layer_at short.side short.node colour other ∷ layers) tree result }
 {
-    let Some(sibling) = child(w, short.node, short.side.other()) else {
+    let Some(sibling) = child(w, short.node(), short.side().other()) else {
         return false;
     };
     if is_red(w, Some(sibling)) {
@@ -180,11 +181,12 @@ fn lower<A: Allocator>(w: &mut Window<A>, path: &mut Path, short: Step, sibling:
         → Lowers w.old.bytes w.new.bytes path.new short.side short.node sibling
         colour other layers tree inner outer }
 {
-    let _ = path.rotate(w, short.node, short.side);
+    let (node, side) = (short.node(), short.side());
+    let _ = path.rotate(w, node, side);
     paint(w, sibling, Colour::Black);
-    paint(w, short.node, Colour::Red);
-    let _ = path.push(sibling, short.side);
-    let _ = path.push(short.node, short.side);
+    paint(w, node, Colour::Red);
+    let _ = path.push(sibling, side);
+    let _ = path.push(node, side);
 }
 
 /// Takes a black node for the short part from a red child of its black sibling. Where it has none, the sibling's part is
@@ -201,14 +203,15 @@ fn borrow<A: Allocator>(w: &mut Window<A>, path: &mut Path, short: Step, sibling
         → Lengthens w.old.bytes w.new.bytes path.new (layer_at short.side short.node colour
         (branch short.side sibling black inner outer) ∷ layers) tree result }
 {
-    let far = short.side.other();
+    let side = short.side();
+    let far = side.other();
     if let Some(outer) = red_child(w, sibling, far) {
         paint(w, outer, Colour::Black);
         come_up(w, path, short);
         return false;
     }
-    if is_red(w, child(w, sibling, short.side)) {
-        let _ = rotate(w, child_word(short.node, far), sibling, far);
+    if is_red(w, child(w, sibling, side)) {
+        let _ = rotate(w, child_word(short.node(), far), sibling, far);
         come_up(w, path, short);
         return false;
     }
@@ -238,9 +241,10 @@ fn come_up<A: Allocator>(w: &mut Window<A>, path: &Path, short: Step)
         → ComesUp w.old.bytes w.new.bytes path.now.root short.side short.node up
         colour other layers tree inner outer }
 {
-    let top = colour_of(w, Some(short.node));
-    if let Some(up) = path.rotate(w, short.node, short.side) {
+    let node = short.node();
+    let top = colour_of(w, Some(node));
+    if let Some(up) = path.rotate(w, node, short.side()) {
         paint(w, up, top);
-        paint(w, short.node, Colour::Black);
+        paint(w, node, Colour::Black);
     }
 }

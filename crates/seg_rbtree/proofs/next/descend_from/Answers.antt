@@ -1,5 +1,5 @@
 use Rattle.std.proofs.Common.{refl, ◌∙◌, arith}
-use Rattle.seg_rbtree.proofs.TakingOut.{descending_start, descending_on, descended, descending_room, descending_few}
+use Rattle.seg_rbtree.proofs.TakingOut.{descending_start, descending_on, descended, descending_low, descending_room, descending_few}
 use Rattle.seg_rbtree.proofs.next.descend_from.Goals as goal
 
 pub loop-init : goal.loop-init
@@ -12,7 +12,8 @@ pub loop-preserved : goal.loop-preserved
 loop-preserved c = record {
   root = c.push.ensures.root ∙ c.loop.invariant.root;
   descending = λ layers tree s named.
-      descending_on c.args.view.bytes.now c.loop.path c.push.new.self layers tree c.loop.first c.in-Some.left c.loop.counter c.child_in.result c.child_in.ensures c.in-Some.is (c.push.ensures.pushed c.if-not-push.false)
+      descending_on c.args.view.bytes.now c.loop.path c.push.new.self layers tree c.loop.first c.in-Some.left c.loop.counter c.child_in.result c.child_in.ensures c.in-Some.is
+      (c.push.ensures.pushed c.if-not-push.false (descending_low c.args.view.bytes.now c.args.path.now c.loop.path layers tree c.loop.first c.loop.counter c.args.view.small s (c.loop.invariant.descending layers tree s named)))
       (c.loop.invariant.descending layers tree s named);
 }
 

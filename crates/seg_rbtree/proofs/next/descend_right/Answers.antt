@@ -12,5 +12,5 @@ returns-else-push-clause-descended c = λ layers left tree colour s named.
 
 pub returns-then-push-clause-descended : goal.returns-then-push-clause-descended
 returns-then-push-clause-descended c = λ layers left tree colour s named.
-    let stands = stepped c.args.view.bytes.now c.args.path.now c.push.new.self layers left tree c.args.node colour s c.push.ensures.root (c.push.ensures.pushed c.if-push.true) in
+    let stands = stepped c.args.view.bytes.now c.args.path.now c.push.new.self layers left tree c.args.node colour c.args.view.small s c.push.ensures.root (c.push.ensures.pushed c.if-push.true) in
     c.descend_from.ensures.descended (layer_at Right c.args.node colour left ∷ layers) tree stands named

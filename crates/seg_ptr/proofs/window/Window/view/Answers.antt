@@ -1,8 +1,13 @@
-use Rattle.std.proofs.Common.{◌≤◌, length, ◌∙◌, arith}
-use Rattle.std.proofs.lemmas.List.{take_all}
+use Rattle.std.proofs.Common.{◌≤◌, length, ◌∙◌, ap, arith}
+use Rattle.std.proofs.lemmas.List.{take_all, length-take}
 use Rattle.seg_bytes.specs.Bytes.{slice}
 use Rattle.seg_ptr.proofs.Places.{length_bytes}
 use Rattle.seg_ptr.proofs.window.Window.view.Goals as goal
+
+pub new-requires : goal.new-requires
+unfolding slice
+new-requires g c =
+    omega (arith, ap length c.slice.ensures, length-take c.self.inside.len c.args.self.now.bytes)
 
 pub returns : goal.returns
 unfolding slice

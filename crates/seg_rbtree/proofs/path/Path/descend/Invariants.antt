@@ -1,7 +1,6 @@
 use Rattle.std.proofs.Common.{◌≡◌, []}
 use Rattle.seg_spec.specs.Shapes.{Tree}
 use Rattle.seg_spec.specs.Search.{IsSearchTree}
-use Rattle.seg_rbtree.specs.Ways.{last_word}
 use Rattle.seg_rbtree.specs.Paths.{sought_by}
 use Rattle.seg_rbtree.proofs.Walking.{IsWalking}
 use Rattle.seg_rbtree.proofs.path.Path.descend.Given as goal
@@ -11,6 +10,5 @@ invariant-loop g l =
     let turn = sought_by (g.O.NodeOrder.compare l.order l.w.bytes) (g.O.NodeOrder.compare_key l.order l.w.bytes) l.sought in
     record {
       root : l.self.root ≡ l.fn.self.root;
-      word : l.word ≡ last_word l.fn.self.root l.self.steps.items;
-      walks : g.O.NodeOrder.exact → l.fn.self.steps.items ≡ [] → (shape : Tree) → IsSearchTree l.w.bytes l.fn.self.root shape → IsWalking turn shape l.self.steps.items l.counter;
+      walks : g.O.NodeOrder.exact → l.fn.self.steps.items ≡ [] → (shape : Tree) → IsSearchTree l.w.bytes l.fn.self.root shape → IsWalking l.fn.self.root turn shape l.self.steps.items l.word l.counter;
     }

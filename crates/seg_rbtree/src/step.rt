@@ -1,0 +1,52 @@
+ghost use Rattle.std.specs.Prelude.{◌≡◌, ◌<◌, ◌^◌};
+
+use crate::node::Side;
+use std::marker::Model;
+
+/// A node, and the side on which the way goes on, in one word: the side is its lowest bit, and the node's position stands above.
+/// That drops the position's highest bit, which is 0 in a segment.
+#[derive(Debug, Clone, Copy, Default)]
+pub(crate) struct Step {
+    word: u32,
+}
+
+impl Model for Step {
+    ghost use Rattle.std.specs.Prelude.{◌+◌, ◌*◌, ◌/◌};
+    ghost use Rattle.seg_rbtree.specs.Steps.{Step as NodeAndSide, bit_of, side_of};
+
+    ghost Value = { NodeAndSide };
+
+    ghost view = { λ s. record { node = s.word / 2; side = side_of s.word } };
+
+    ghost inverse = { λ s. record { word = s.node * 2 + bit_of s.side } };
+}
+
+impl Step {
+    /// The step from a node to a side of it.
+    #[inline]
+    pub(crate) fn new(node: u32, side: Side) -> Step
+        ensures { node < 2 ^ 31 → result ≡ record { node = node; side = side } }
+    {
+        Step {
+            word: node << 1 | side as u32,
+        }
+    }
+
+    #[inline]
+    pub(crate) fn node(self) -> u32
+        ensures { result ≡ self.node }
+    {
+        self.word >> 1
+    }
+
+    #[inline]
+    pub(crate) fn side(self) -> Side
+        ensures { result ≡ self.side }
+    {
+        if self.word & 1 == 0 {
+            Side::Left
+        } else {
+            Side::Right
+        }
+    }
+}
