@@ -1,4 +1,4 @@
-use Rattle.std.proofs.Common.{ℕ, ◌∙◌, sym, subst}
+use Rattle.std.proofs.Common.{ℕ, sym, subst}
 use Rattle.seg_spec.specs.Shapes.{Tree, nodes_of}
 use Rattle.seg_spec.specs.Search.{Ascend, IsSearchTree}
 use Rattle.seg_rbtree.proofs.Firsts.{IsLedToFirst, led_to_first}
