@@ -4,7 +4,7 @@ use Rattle.std.specs.List.{AllByRecursion}
 use Rattle.seg_bytes.specs.Bytes.{IsSame}
 use Rattle.seg_spec.specs.Heap.{Span, link_at, is_smaller, insert_by_size, by_size, IsFreeTree}
 use Rattle.seg_spec.specs.Pointer.{target}
-use Rattle.seg_spec.specs.Search.{IsSearchTree}
+use Rattle.seg_spec.specs.Search.{Ascend, IsSearchTree}
 use Rattle.seg_spec.specs.Shapes.{nodes_of}
 use Rattle.seg_spec.proofs.Frame.{each_map, each_of_map, target-same, IsTree-same}
 use Rattle.seg_spec.proofs.FreeLaws.{by_size-middle}
@@ -41,11 +41,14 @@ module _ (old : List ℕ) (xs : List Span) (g : Span) (ys : List Span) (path : P
       let one = each_of_map (λ x. node_of g ≢ x) node_of (by_size (xs ++ g ∷ ys)) (subst (λ ns. AllByRecursion (λ x. node_of g ≢ x) ns) holds.nodes_are all) in
       picked (λ h. node_of g ≢ node_of h) g (by_size (xs ++ ys)) (subst (λ hs. AllByRecursion (λ h. node_of g ≢ node_of h) hs) (by_size-middle xs g ys) one) refl
 
+  was_ascending : Ascend (by_units old) (nodes_of holds.tree)
+  was_ascending = tree_ascends old (xs ++ g ∷ ys) low small was_free holds
+
   lead : LeadsTo (by_units old (node_of g)) holds.tree path
-  lead = way.leads holds.tree was_tree
+  lead = way.leads holds.tree was_tree was_ascending
 
   found : node_at old path ≡ Some (node_of g)
-  found = way.found holds.tree was_tree (tree_ascends old (xs ++ g ∷ ys) low small was_free holds) among
+  found = way.found holds.tree was_tree was_ascending among
 
   -- the last one
   pub last_here : IsLastAt old path → IsLast (node_of g) (map node_of (insert_by_size g (by_size (xs ++ ys))))

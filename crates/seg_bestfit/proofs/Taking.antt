@@ -42,7 +42,7 @@ module _ (old : List ℕ) (xs ys : List Tile) (at u : ℕ) (was : IsTiling 1 old
     pub left_tiled : IsTiled mid (xs ++ tile at u false ∷ ys)
     left_tiled = tiled_kept old mid (xs ++ tile at u false ∷ ys) was.tiled left_kept
 
-    pub taken-retiles : Retiles 1 old taken xs (tile at u true ∷ []) ys
+    taken-retiles : Retiles 1 old taken xs (tile at u true ∷ []) ys
     taken-retiles =
         let p = relabel-places mid xs ys at u false true left_tiled in
         let r = relabel-replaces mid xs ys at u false true left_tiled (λ e. absurd (no e)) in
@@ -58,9 +58,13 @@ module _ (old : List ℕ) (xs ys : List Tile) (at u : ℕ) (was : IsTiling 1 old
         no : true ≡ false → ⊥
         no e = cc
 
-    pub taken-link : link_at taken at ≡ None
+    taken-link : link_at taken at ≡ None
     taken-link =
         let p = relabel-places old xs ys at u false false was.tiled in
         target-same mid taken (at + 12) (number-set_other 4 4 (set_word mid at (size_word u true)) (at + 16 * u + 4) u (at + 12) (inl (omega (arith, p.1))) ∙ number-set_other 4 4 mid at (size_word u true) (at + 12) (inr (omega arith)))
         ∙ link_kept old mid xs ys (tile at u false) at (length old) p.0 (refl, p.1, p.2) left_kept
         ∙ each_pick (λ g. link_at old g.at ≡ None) (free_of xs) (record { at = at; units = u }) (free_of ys) tree_around.links
+
+    -- so it is live in the bytes that follow
+    pub made_live : (new : List ℕ) → new ≡ taken → Retiles 1 old new xs (tile at u true ∷ []) ys × (link_at new at ≡ None)
+    made_live new e = subst (λ b. Retiles 1 old b xs (tile at u true ∷ []) ys × (link_at b at ≡ None)) (sym e) (taken-retiles, taken-link)

@@ -80,6 +80,7 @@ MakesGapWith old new at n more = (xs ms gap ys : List Tile) (t : Tile)
 pub record LeadsToGap (bytes : List ℕ) (path : Path) (node : ℕ) : Type 0 where
   pub root_is : path_root path ≡ FREE
   pub leads : (shape : Tree) → IsSearchTree bytes FREE shape
+      → Ascend (by_units bytes) (nodes_of shape)
       → LeadsTo (by_units bytes node) shape path
   pub found : (shape : Tree) → IsSearchTree bytes FREE shape
       → Ascend (by_units bytes) (nodes_of shape) → IsAmong node (nodes_of shape)

@@ -4,14 +4,16 @@ ghost use Rattle.seg_spec.specs.Heap.{IsHeap, gaps, best_fit};
 ghost use Rattle.seg_spec.specs.Search.{looks};
 ghost use Rattle.seg_bestfit.specs.FreeTree.{node_units};
 
-use crate::free_tree::{BySize, best_fit, free_tree, put_in, release_joined, take_front, take_out};
+use crate::free_tree::{
+    BySize, best_fit, free_tree, put_in, release_joined, take_front, take_out, take_whole,
+};
 use seg_block::{
     Block, Fit, FreeStructure, HEAP_START, UNIT, UNITS_BEFORE, block_at, block_of, cut,
     free_before, granted, is_live, last_block, resize, room_after, set_size,
 };
 use seg_ptr::Window;
 use seg_ptr::header::{FREE, SIZE};
-use seg_rbtree::{Looked, TREE_WORDS};
+use seg_rbtree::{Looked, Path, TREE_WORDS};
 use std::alloc::Allocator;
 
 /// The allocator that takes the smallest gap. Sizes are in units.
@@ -54,13 +56,14 @@ impl Fit for BestFit {
     }
 
     fn allocate<A: Allocator>(w: &mut Window<A>, need: u32) -> Option<u32> {
-        let gap = best_fit(w, need)?;
+        let mut path = Path::new(FREE);
+        let gap = best_fit(&mut path, w, need)?;
         // each smaller gap is too small, so a rest that would do as well keeps the gap's place
         if gap.units - need >= need {
-            take_front(w, gap, need);
+            take_front(w, &path, gap, need);
             return Some(gap.at);
         }
-        Self::take(w, (), gap);
+        take_whole(w, &mut path, gap);
         cut::<Self, A>(w, (), gap, granted(gap.units, need));
         Some(gap.at)
     }

@@ -73,22 +73,24 @@ pub(crate) fn free_tree() -> Tree
 
 /// The block with this node.
 fn node_block<A: Allocator>(w: &Window<A>, node: u32) -> Option<Block>
-    ensures bounds { IfSome result (LiesIn w.now.bytes) }
+    ensures bounds { IfSome result (λ f. (f.at + UNIT ≡ node) × LiesIn w.now.bytes f) }
     ensures read { (g : Span) → node ≡ g.at + UNIT → IsSized w.now.bytes g
         → IsSomeAnd result (λ f. Covers f g) }
 {
     block_at(w, node.checked_sub(UNIT)?)
 }
 
-/// The smallest gap of at least `need` units, the lowest among equals.
-pub(crate) fn best_fit<A: Allocator>(w: &Window<A>, need: u32) -> Option<Block>
+/// Makes a path the way to the smallest gap of at least `need` units, the lowest among equals, and returns the gap. None where
+/// there is none.
+pub(crate) fn best_fit<A: Allocator>(path: &mut Path, w: &Window<A>, need: u32) -> Option<Block>
     ensures bounds { IfSome result (λ f. (need ≤ f.units) × LiesIn w.now.bytes f) }
     ensures best { (gs : List Span) → IsFreeTree w.now.bytes gs → AreGaps w.now.bytes gs
         → HEAP_START ≤ length w.now.bytes → length w.now.bytes ≤ MAX_LEN
         → MatchOption result (best_fit gs need ≡ None)
         (λ f. best_fit gs need ≡ Some (span f.at f.units)) }
+    ensures leads { IfSome result (λ f. LeadsToGap w.now.bytes path.new (f.at + UNIT)) }
 {
-    let Some(node) = free_tree().first_at_least(w, &BySize, need).node else {
+    let Some(node) = path.lead_to_first(w, free_tree(), &BySize, need) else {
         return None;
     };
     let Some(gap) = node_block(w, node) else {
@@ -143,21 +145,20 @@ fn set_free<A: Allocator>(w: &mut Window<A>, block: Block)
     set_size(w, block.at, block.units, false);
 }
 
-/// Makes the front of a gap live, of `units`. The rest stays a gap, and its node takes the place of the gap's in the tree,
-/// which is right where no other gap stands between the two in the order.
-pub(crate) fn take_front<A: Allocator>(w: &mut Window<A>, gap: Block, units: u32)
+/// Makes the front of the gap that a path leads to live, of `units`. The rest stays a gap, and its node takes the place of the
+/// gap's in the tree, which is right where no other gap stands between the two in the order.
+pub(crate) fn take_front<A: Allocator>(w: &mut Window<A>, path: &Path, gap: Block, units: u32)
     requires inside { block_end gap ≤ MAX_LEN }
     requires front { 2 ≤ units }
     requires rest { units + 2 ≤ gap.units }
     ensures host { KeepsHost w.old w.new }
-    ensures tiles { (xs ys : List Tile) → IsTiling 1 w.old.bytes (xs ++ tile_of gap false ∷ ys)
+    ensures tiles { LeadsToGap w.old.bytes path.now (gap.at + UNIT) → (xs ys : List Tile)
+        → IsTiling 1 w.old.bytes (xs ++ tile_of gap false ∷ ys)
         → KeepsPlace (by_size (free_of xs ++ free_of ys)) (span gap.at gap.units)
         (span (gap.at + UNIT * units) (gap.units - units))
         → Retiles 1 w.old.bytes w.new.bytes xs (halves gap units true false) ys
         × (link_at w.new.bytes gap.at ≡ None) }
 {
-    let mut path = Path::new(FREE);
-    lead_to(&mut path, w, gap);
     let rest = Block {
         at: gap.at + UNIT * units,
         units: gap.units - units,
@@ -165,6 +166,19 @@ pub(crate) fn take_front<A: Allocator>(w: &mut Window<A>, gap: Block, units: u32
     set_free(w, rest);
     set_size(w, gap.at, units, true);
     path.replace(w, rest.at + UNIT);
+}
+
+/// Makes the gap that a path leads to live, all of it. The path leads nowhere then.
+pub(crate) fn take_whole<A: Allocator>(w: &mut Window<A>, path: &mut Path, gap: Block)
+    requires { block_end gap ≤ MAX_LEN }
+    ensures host { KeepsHost w.old w.new }
+    ensures tiles { LeadsToGap w.old.bytes path.old (gap.at + UNIT) → (xs ys : List Tile)
+        → IsTiling 1 w.old.bytes (xs ++ tile_of gap false ∷ ys)
+        → Retiles 1 w.old.bytes w.new.bytes xs (tile_of gap true ∷ []) ys
+        × (link_at w.new.bytes gap.at ≡ None) }
+{
+    path.remove(w);
+    set_size(w, gap.at, gap.units, true);
 }
 
 /// Makes the tiles that a block covers one gap, where the tree holds none of them.

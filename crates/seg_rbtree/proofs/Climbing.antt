@@ -22,7 +22,7 @@ use Rattle.seg_rbtree.specs.Following.{IsPartAt, AreRight, Climbs, GoesOn}
 use Rattle.seg_rbtree.proofs.Branches.{branch-parts, tree-down}
 use Rattle.seg_rbtree.proofs.Lengthening.{snoc_parts}
 use Rattle.seg_rbtree.proofs.Orders.{ascend-parts, ascend-down}
-use Rattle.seg_rbtree.proofs.Searching.{first_append, first_here, first_later}
+use Rattle.seg_rbtree.proofs.Searching.{first_append, first_here, first_later, none_before, or_none, or_some, reaches_up, upward_of}
 use Rattle.seg_rbtree.proofs.Steps.{last_word-steps}
 use Rattle.seg_rbtree.proofs.TakingOut.{plug_on}
 use Rattle.seg_rbtree.proofs.Unlinking.{nodes_plug}
@@ -183,15 +183,80 @@ fork_there bytes None node part h e = cc
 fork_there bytes (Some p) node leaf h e = absurd h
 fork_there bytes (Some p) node (fork l at c r) h e = record { left = l; colour = c; right = r; part_is = ap (λ q. fork l q c r) (h.0 ∙ (let same : p ≡ node = cc in same)) }
 
+-- what stands where a path leads to
+pub part_there : (bytes : List ℕ) (path : Path) (turn : ℕ → Ordering) (shape : Tree) (way : LeadsTo turn shape path) → IsSearchTree bytes path.root shape → IsPartAt bytes path way.layers way.rest
+part_there bytes path turn shape way t = record { steps_are = way.steps_are; whole = subst (λ x. IsSearchTree bytes path.root x) (sym way.shape_is) t }
+
+-- ---- the way to a node
+
+apart_nodes : (xs ls : List ℕ) (at : ℕ) (rs ys : List ℕ) → xs ++ ((ls ++ at ∷ rs) ++ ys) ≡ (xs ++ ls) ++ at ∷ (rs ++ ys)
+apart_nodes xs ls at rs ys = ap (λ zs. xs ++ zs) (append_assoc ls (at ∷ rs) ys) ∙ sym (append_assoc xs ls (at ∷ rs ++ ys))
+
+-- what is sought is before all that is after a node, after all that is before it, and equals it
+module _ (order : ℕ → ℕ → Ordering) (turn : ℕ → Ordering) (node : ℕ) (above : (y : ℕ) → order node y ≡ Less → turn y ≡ Less) (below : (x : ℕ) → order x node ≡ Less → turn x ≡ Greater) (equal : turn node ≡ Equal) where
+  lead_by : (layers : List Layer) → AllByRecursion (λ x. order x node ≡ Less) (before layers) → AllByRecursion (λ y. order node y ≡ Less) (following layers) → LeadBy turn layers
+  unfolding before following nodes_before nodes_after
+  lead_by [] lows highs = tt
+  lead_by (layer ∷ layers) lows highs = let parts = go layer.side lows highs in (parts.0, lead_by layers parts.1 parts.2)
+    where
+      go : (side : Side) → AllByRecursion (λ x. order x node ≡ Less) (before layers ++ nodes_before side layer.other layer.at) → AllByRecursion (λ y. order node y ≡ Less) (nodes_after side layer.other layer.at ++ following layers)
+          → (turn layer.at ≡ turn_of side) × AllByRecursion (λ x. order x node ≡ Less) (before layers) × AllByRecursion (λ y. order node y ≡ Less) (following layers)
+      go Left low high = (above layer.at high.0, each_left _ (before layers) [] low, each_right _ (nodes_of layer.other) (following layers) high.1)
+      go Right low high =
+          let last = (each_right _ (nodes_of layer.other) (layer.at ∷ []) (each_right _ (before layers) (nodes_of layer.other ++ layer.at ∷ []) low)).0 in
+          (below layer.at last, each_left _ (before layers) (nodes_of layer.other ++ layer.at ∷ []) low, high)
+
+  -- a way to the node is one to what is sought
+  pub leads_by : (bytes : List ℕ) (path : Path) (shape : Tree) → IsSearchTree bytes path.root shape → Ascend order (nodes_of shape) → IsWayIn shape path → node_at bytes path ≡ Some node → LeadsTo turn shape path
+  leads_by bytes path shape t a way named =
+      let s : IsPartAt bytes path way.layers way.rest = record { steps_are = way.steps_are; whole = subst (λ x. IsSearchTree bytes path.root x) (sym way.shape_is) t } in
+      let hung = stands_below bytes path path way.layers way.rest refl s way.layers way.rest refl way.steps_are in
+      let k = fork_there bytes (node_at bytes path) node way.rest hung named in
+      let nodes : nodes_of shape ≡ (before way.layers ++ nodes_of k.left) ++ node ∷ (nodes_of k.right ++ following way.layers) =
+      ap nodes_of (sym way.shape_is) ∙ nodes_plug way.layers way.rest ∙ ap (λ x. before way.layers ++ (nodes_of x ++ following way.layers)) k.part_is
+      ∙ apart_nodes (before way.layers) (nodes_of k.left) node (nodes_of k.right) (following way.layers) in
+      let parts = ascend-parts order (before way.layers ++ nodes_of k.left) node (nodes_of k.right ++ following way.layers) (subst (Ascend order) nodes a) in
+      record {
+        layers = way.layers;
+        rest = way.rest;
+        shape_is = way.shape_is;
+        steps_are = way.steps_are;
+        leads = lead_by way.layers (each_left _ (before way.layers) (nodes_of k.left) parts.before) (each_right _ (nodes_of k.right) (following way.layers) parts.following);
+        ends = subst (EndsAt turn) (sym k.part_is) equal;
+      }
+
+-- ---- the first node of which something is true
+
+-- It is true of a node to whose left a way goes on, and not of one to whose right it does.
+module _ (order : ℕ → ℕ → Ordering) (p : ℕ → Bool) (turn : ℕ → Ordering) (up : (x y : ℕ) → order x y ≡ Less → p x ≡ true → p y ≡ true) (lefts : (x : ℕ) → turn x ≡ Less → p x ≡ true) (rights : (x : ℕ) → turn x ≡ Greater → p x ≡ false) where
+  pub none_below : (xs : List ℕ) (at : ℕ) (ys : List ℕ) → Ascend order (xs ++ at ∷ ys) → p at ≡ false → first_where p (xs ++ at ∷ ys) ≡ first_where p ys
+  none_below xs at ys a e =
+      first_append p xs (at ∷ ys) ∙ ap (λ o. option_or o (first_where p (at ∷ ys))) (none_before p xs at ys (upward_of order p up (xs ++ at ∷ ys) a) e) ∙ first_later p at ys e
+
+  along : (layers : List Layer) (rest : Tree) → Ascend order (nodes_of (plug rest layers)) → LeadBy turn layers
+      → first_where p (nodes_of (plug rest layers)) ≡ option_or (first_where p (nodes_of rest)) (slice_get (following layers) 0)
+  unfolding following nodes_after
+  along [] rest a l = sym (or_none (first_where p (nodes_of rest)))
+  along (layer ∷ layers) rest a l = along layers (grow layer rest) a l.1 ∙ go layer.side l.0 (ascend-down order (grow layer rest) layers a)
+    where
+      go : (side : Side) → turn layer.at ≡ turn_of side → Ascend order (nodes_of (branch side layer.at layer.colour rest layer.other))
+          → option_or (first_where p (nodes_of (branch side layer.at layer.colour rest layer.other))) (slice_get (following layers) 0)
+          ≡ option_or (first_where p (nodes_of rest)) (slice_get (nodes_after side layer.other layer.at ++ following layers) 0)
+      go Left e h =
+          let here : first_where p (layer.at ∷ nodes_of layer.other) ≡ Some layer.at = first_here p layer.at (nodes_of layer.other) (lefts layer.at e) in
+          ap (λ o. option_or o (slice_get (following layers) 0)) (first_append p (nodes_of rest) (layer.at ∷ nodes_of layer.other) ∙ ap (option_or (first_where p (nodes_of rest))) here)
+          ∙ or_some (first_where p (nodes_of rest)) layer.at (slice_get (following layers) 0)
+      go Right e h = ap (λ o. option_or o (slice_get (following layers) 0)) (none_below (nodes_of layer.other) layer.at (nodes_of rest) h (rights layer.at e))
+
+  -- where a path goes on from the end of such a way, it comes to the first node of which it is true
+  pub goes_past : (bytes : List ℕ) (new : Path) (shape : Tree) (layers : List Layer) (rest : Tree) (result : Option ℕ) → Ascend order (nodes_of shape) → plug rest layers ≡ shape → LeadBy turn layers
+      → (Ascend order (nodes_of rest) → option_or (first_where p (nodes_of rest)) (slice_get (following layers) 0) ≡ slice_get (after_root rest ++ following layers) 0)
+      → GoesOn bytes layers rest new result → result ≡ first_where p (nodes_of shape)
+  goes_past bytes new shape layers rest result a is leads at_end on =
+      let b = subst (λ x. Ascend order (nodes_of x)) (sym is) a in
+      on.next_is ∙ sym (at_end (ascend-down order rest layers b)) ∙ sym (along layers rest b leads) ∙ ap (λ x. first_where p (nodes_of x)) is
+
 -- ---- the first node above a key
-
-or_none : (o : Option ℕ) → option_or o None ≡ o
-or_none None = refl
-or_none (Some x) = refl
-
-or_some : (o : Option ℕ) (x : ℕ) (n : Option ℕ) → option_or (option_or o (Some x)) n ≡ option_or o (Some x)
-or_some None x n = refl
-or_some (Some y) x n = refl
 
 module _ (compare : ℕ → Ordering) (order : ℕ → ℕ → Ordering) (keyed : (x y : ℕ) → order x y ≡ Less → rank_of (compare x) ≤ rank_of (compare y)) (one : (x y : ℕ) → compare x ≡ Equal → compare y ≡ Equal → order x y ≡ Equal) where
   abbrev past : ℕ → Bool
@@ -211,98 +276,44 @@ module _ (compare : ℕ → Ordering) (order : ℕ → ℕ → Ordering) (keyed 
   below x at Equal e f l = let o = one x at e f in cc
   below x at Greater e f l = let k : 2 ≤ 1 = subst (λ q. 2 ≤ rank_of q) f (subst (λ q. rank_of q ≤ rank_of (compare at)) e (keyed x at l)) in absurd (omega (arith, k))
 
-  -- the way to a node that equals the key is one to the key
-  lead_by : (at : ℕ) → compare at ≡ Equal → (layers : List Layer) → AllByRecursion (λ x. order x at ≡ Less) (before layers) → AllByRecursion (λ y. order at y ≡ Less) (following layers) → LeadBy turn layers
-  unfolding before following nodes_before nodes_after
-  lead_by at f [] lows highs = tt
-  lead_by at f (layer ∷ layers) lows highs = let parts = go layer.side lows highs in (parts.0, lead_by at f layers parts.1 parts.2)
-    where
-      go : (side : Side) → AllByRecursion (λ x. order x at ≡ Less) (before layers ++ nodes_before side layer.other layer.at) → AllByRecursion (λ y. order at y ≡ Less) (nodes_after side layer.other layer.at ++ following layers)
-          → (turn layer.at ≡ turn_of side) × AllByRecursion (λ x. order x at ≡ Less) (before layers) × AllByRecursion (λ y. order at y ≡ Less) (following layers)
-      go Left low high = (ap ordering_reverse (above at layer.at (compare layer.at) refl f high.0), each_left _ (before layers) [] low, each_right _ (nodes_of layer.other) (following layers) high.1)
-      go Right low high =
-          let last = (each_right _ (nodes_of layer.other) (layer.at ∷ []) (each_right _ (before layers) (nodes_of layer.other ++ layer.at ∷ []) low)).0 in
-          (ap ordering_reverse (below layer.at at (compare layer.at) refl f last), each_left _ (before layers) (nodes_of layer.other ++ layer.at ∷ []) low, high)
-
-  apart_nodes : (xs ls : List ℕ) (at : ℕ) (rs ys : List ℕ) → xs ++ ((ls ++ at ∷ rs) ++ ys) ≡ (xs ++ ls) ++ at ∷ (rs ++ ys)
-  apart_nodes xs ls at rs ys = ap (λ zs. xs ++ zs) (append_assoc ls (at ∷ rs) ys) ∙ sym (append_assoc xs ls (at ∷ rs ++ ys))
-
   pub leads_there : (bytes : List ℕ) (path : Path) (shape : Tree) (node : ℕ) → IsSearchTree bytes path.root shape → Ascend order (nodes_of shape) → IsWayIn shape path → node_at bytes path ≡ Some node
       → compare node ≡ Equal → LeadsTo turn shape path
   leads_there bytes path shape node t a way named f =
-      let s : IsPartAt bytes path way.layers way.rest = record { steps_are = way.steps_are; whole = subst (λ x. IsSearchTree bytes path.root x) (sym way.shape_is) t } in
-      let hung = stands_below bytes path path way.layers way.rest refl s way.layers way.rest refl way.steps_are in
-      let k = fork_there bytes (node_at bytes path) node way.rest hung named in
-      let nodes : nodes_of shape ≡ (before way.layers ++ nodes_of k.left) ++ node ∷ (nodes_of k.right ++ following way.layers) =
-      ap nodes_of (sym way.shape_is) ∙ nodes_plug way.layers way.rest ∙ ap (λ x. before way.layers ++ (nodes_of x ++ following way.layers)) k.part_is
-      ∙ apart_nodes (before way.layers) (nodes_of k.left) node (nodes_of k.right) (following way.layers) in
-      let parts = ascend-parts order (before way.layers ++ nodes_of k.left) node (nodes_of k.right ++ following way.layers) (subst (Ascend order) nodes a) in
-      record {
-        layers = way.layers;
-        rest = way.rest;
-        shape_is = way.shape_is;
-        steps_are = way.steps_are;
-        leads = lead_by node f way.layers (each_left _ (before way.layers) (nodes_of k.left) parts.before) (each_right _ (nodes_of k.right) (following way.layers) parts.following);
-        ends = subst (EndsAt turn) (sym k.part_is) (ap ordering_reverse f);
-      }
+      leads_by order turn node (λ y l. ap ordering_reverse (above node y (compare y) refl f l)) (λ x l. ap ordering_reverse (below x node (compare x) refl f l)) (ap ordering_reverse f) bytes path shape t a way named
 
-  -- ---- the first node above the key is the first after the place
+  -- ---- it is the first after the place
 
   back : (r s : Ordering) → ordering_reverse r ≡ s → r ≡ ordering_reverse s
   back Less s e = ap ordering_reverse e
   back Equal s e = ap ordering_reverse e
   back Greater s e = ap ordering_reverse e
 
-  none_all : (xs : List ℕ) → AllByRecursion (λ x. past x ≡ false) xs → first_where past xs ≡ None
-  none_all [] h = refl
-  none_all (x ∷ xs) h = first_later past x xs h.0 ∙ none_all xs h.1
+  up : (x y : ℕ) → order x y ≡ Less → past x ≡ true → past y ≡ true
+  up x y l e = reaches_up Greater (compare x) (compare y) (keyed x y l) e
+
+  lefts : (x : ℕ) → turn x ≡ Less → past x ≡ true
+  lefts x e = ap (reaches Greater) (back (compare x) Less e)
+
+  rights : (x : ℕ) → turn x ≡ Greater → past x ≡ false
+  rights x e = ap (reaches Greater) (back (compare x) Greater e)
 
   first_all : (xs ys : List ℕ) → AllByRecursion (λ x. past x ≡ true) xs → option_or (first_where past xs) (slice_get ys 0) ≡ slice_get (xs ++ ys) 0
   first_all [] ys h = refl
   first_all (x ∷ xs) ys h = ap (λ o. option_or o (slice_get ys 0)) (first_here past x xs h.0)
-
-  not_past : (x at : ℕ) (r : Ordering) → compare x ≡ r → compare at ≡ Less → order x at ≡ Less → past x ≡ false
-  not_past x at Less e f l = ap (reaches Greater) e
-  not_past x at Equal e f l = ap (reaches Greater) e
-  not_past x at Greater e f l = let k : 2 ≤ 0 = subst (λ q. 2 ≤ rank_of q) f (subst (λ q. rank_of q ≤ rank_of (compare at)) e (keyed x at l)) in absurd (omega (arith, k))
-
-  along : (layers : List Layer) (rest : Tree) → Ascend order (nodes_of (plug rest layers)) → LeadBy turn layers
-      → first_where past (nodes_of (plug rest layers)) ≡ option_or (first_where past (nodes_of rest)) (slice_get (following layers) 0)
-  unfolding following nodes_after
-  along [] rest a l = sym (or_none (first_where past (nodes_of rest)))
-  along (layer ∷ layers) rest a l =
-      along layers (grow layer rest) a l.1 ∙ go layer.side (back (compare layer.at) (turn_of layer.side) l.0) (ascend-down order (grow layer rest) layers a)
-    where
-      go : (side : Side) → compare layer.at ≡ ordering_reverse (turn_of side) → Ascend order (nodes_of (branch side layer.at layer.colour rest layer.other))
-          → option_or (first_where past (nodes_of (branch side layer.at layer.colour rest layer.other))) (slice_get (following layers) 0)
-          ≡ option_or (first_where past (nodes_of rest)) (slice_get (nodes_after side layer.other layer.at ++ following layers) 0)
-      go Left e h =
-          let here : first_where past (layer.at ∷ nodes_of layer.other) ≡ Some layer.at = first_here past layer.at (nodes_of layer.other) (ap (reaches Greater) e) in
-          ap (λ o. option_or o (slice_get (following layers) 0)) (first_append past (nodes_of rest) (layer.at ∷ nodes_of layer.other) ∙ ap (option_or (first_where past (nodes_of rest))) here)
-          ∙ or_some (first_where past (nodes_of rest)) layer.at (slice_get (following layers) 0)
-      go Right e h =
-          let parts = ascend-parts order (nodes_of layer.other) layer.at (nodes_of rest) h in
-          let none : first_where past (nodes_of layer.other) ≡ None = none_all (nodes_of layer.other) (each_weaker _ _ (λ x m. not_past x layer.at (compare x) refl e m) (nodes_of layer.other) parts.before) in
-          let later : first_where past (layer.at ∷ nodes_of rest) ≡ first_where past (nodes_of rest) = first_later past layer.at (nodes_of rest) (ap (reaches Greater) e) in
-          ap (λ o. option_or o (slice_get (following layers) 0)) (first_append past (nodes_of layer.other) (layer.at ∷ nodes_of rest) ∙ ap (λ o. option_or o (first_where past (layer.at ∷ nodes_of rest))) none ∙ later)
 
   at_end : (rest : Tree) (ys : List ℕ) → EndsAt turn rest → Ascend order (nodes_of rest) → option_or (first_where past (nodes_of rest)) (slice_get ys 0) ≡ slice_get (after_root rest ++ ys) 0
   at_end leaf ys e a = refl
   at_end (fork l at c r) ys e a =
       let equal : compare at ≡ Equal = back (compare at) Equal e in
       let parts = ascend-parts order (nodes_of l) at (nodes_of r) a in
-      let none : first_where past (nodes_of l) ≡ None = none_all (nodes_of l) (each_weaker _ _ (λ x m. ap (reaches Greater) (below x at (compare x) refl equal m)) (nodes_of l) parts.before) in
-      let later : first_where past (at ∷ nodes_of r) ≡ first_where past (nodes_of r) = first_later past at (nodes_of r) (ap (reaches Greater) equal) in
-      ap (λ o. option_or o (slice_get ys 0)) (first_append past (nodes_of l) (at ∷ nodes_of r) ∙ ap (λ o. option_or o (first_where past (at ∷ nodes_of r))) none ∙ later)
+      ap (λ o. option_or o (slice_get ys 0)) (none_below order past turn up lefts rights (nodes_of l) at (nodes_of r) a (ap (reaches Greater) equal))
       ∙ first_all (nodes_of r) ys (each_weaker _ _ (λ y m. ap (reaches Greater) (above at y (compare y) refl equal m)) (nodes_of r) parts.following)
 
   -- where a path to a key goes on, it comes to the first node above it
   pub goes_above : (bytes : List ℕ) (path new : Path) (shape : Tree) (result : Option ℕ) → IsSearchTree bytes path.root shape → Ascend order (nodes_of shape) → (way : LeadsTo turn shape path)
       → (IsPartAt bytes path way.layers way.rest → GoesOn bytes way.layers way.rest new result) → result ≡ first_where past (nodes_of shape)
   goes_above bytes path new shape result t a way on =
-      let s : IsPartAt bytes path way.layers way.rest = record { steps_are = way.steps_are; whole = subst (λ x. IsSearchTree bytes path.root x) (sym way.shape_is) t } in
-      let b = subst (λ x. Ascend order (nodes_of x)) (sym way.shape_is) a in
-      (on s).next_is ∙ sym (at_end way.rest (following way.layers) way.ends (ascend-down order way.rest way.layers b)) ∙ sym (along way.layers way.rest b way.leads) ∙ ap (λ x. first_where past (nodes_of x)) way.shape_is
+      goes_past order past turn up lefts rights bytes new shape way.layers way.rest result a way.shape_is way.leads (at_end way.rest (following way.layers) way.ends) (on (part_there bytes path turn shape way t))
 
 -- a path that goes on stays inside
 pub goes_inside : (bytes : List ℕ) (path new : Path) (result : Option ℕ) → new.root ≡ path.root → ((layers : List Layer) (part : Tree) → IsPartAt bytes path layers part → GoesOn bytes layers part new result)

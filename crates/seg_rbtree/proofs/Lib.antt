@@ -27,3 +27,4 @@ pub mod Seeking
 pub mod Keys
 pub mod Renaming
 pub mod Leading
+pub mod Firsts

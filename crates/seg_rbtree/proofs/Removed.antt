@@ -39,7 +39,7 @@ its_own_reverse Equal e = refl
 its_own_reverse Greater e = cc
 
 module _ (order : ℕ → ℕ → Ordering) (total : IsTotalOrder order) (node : ℕ) where
-  itself : order node node ≡ Equal
+  pub itself : order node node ≡ Equal
   itself = its_own_reverse (order node node) (total.antisymm node node)
 
   other_than : (at : ℕ) (r : Ordering) → order node at ≡ r → (r ≡ Equal → ⊥) → node ≢ at

@@ -20,11 +20,11 @@ pub record IsSearching (bytes : List ℕ) (is_past : ℕ → Bool) (shape : Tree
 
 -- ---- first nodes
 
-or_none : (o : Option ℕ) → option_or o None ≡ o
+pub or_none : (o : Option ℕ) → option_or o None ≡ o
 or_none None = refl
 or_none (Some x) = refl
 
-or_some : (o : Option ℕ) (x : ℕ) (n : Option ℕ) → option_or (option_or o (Some x)) n ≡ option_or o (Some x)
+pub or_some : (o : Option ℕ) (x : ℕ) (n : Option ℕ) → option_or (option_or o (Some x)) n ≡ option_or o (Some x)
 or_some None x n = refl
 or_some (Some y) x n = refl
 
@@ -60,7 +60,7 @@ upward_right : (p : ℕ → Bool) (xs ys : List ℕ) → IsUpward p (xs ++ ys) �
 upward_right p [] ys u = u
 upward_right p (x ∷ xs) ys u = upward_right p xs ys u.1
 
-none_before : (p : ℕ → Bool) (xs : List ℕ) (y : ℕ) (ys : List ℕ) → IsUpward p (xs ++ y ∷ ys) → p y ≡ false → first_where p xs ≡ None
+pub none_before : (p : ℕ → Bool) (xs : List ℕ) (y : ℕ) (ys : List ℕ) → IsUpward p (xs ++ y ∷ ys) → p y ≡ false → first_where p xs ≡ None
 none_before p [] y ys u e = refl
 none_before p (x ∷ xs) y ys u e = go (p x) refl (none_before p xs y ys u.1 e)
   where

@@ -1,5 +1,6 @@
 -- What a search of a tree finds.
 --     WhereOrdered compare w root claim      a claim of each search tree at a pointer word whose nodes are in order
+--     before_first found                     how the empty place before all that is at or above a key compares with a node
 --     sought_by nodes key sought             how what is sought compares with a node
 --     end_word path, word_after steps path   the position of the pointer at the end of a path, and after some of its steps
 --     node_at bytes path                     the node at the end of a path
@@ -14,13 +15,13 @@ use Rattle.std.specs.Cmp.{IsTotalOrder}
 use Rattle.std.specs.List.{AllByRecursion}
 use Rattle.std.specs.Ordering.{ordering_reverse}
 use Rattle.std.specs.declared.cmp.Ordering.{Ordering}
-use Rattle.std.specs.declared.cmp.Ordering.TheVariants.{Equal}
+use Rattle.std.specs.declared.cmp.Ordering.TheVariants.{Less, Equal, Greater}
 use Rattle.seg_spec.specs.Pointer.{target}
 use Rattle.seg_spec.specs.Shapes.{Tree, nodes_of}
 use Rattle.seg_spec.specs.Search.{Ascend, IsSearchTree}
 use Rattle.seg_spec.specs.Window.{Placement}
 use Rattle.seg_rbtree.specs.declared.order.Sought.{Sought}
-use Rattle.seg_rbtree.specs.declared.order.Sought.TheVariants.{Node, Key}
+use Rattle.seg_rbtree.specs.declared.order.Sought.TheVariants.{Node, Key, First}
 use Rattle.seg_rbtree.specs.declared.path.Path.{Path}
 use Rattle.seg_rbtree.specs.Ways.{last_word, LeadsTo}
 use Rattle.seg_rbtree.specs.Changes.{StandApart, IsNew, with_node, without_node, renamed, Leaves}
@@ -31,11 +32,19 @@ WhereOrdered compare w root claim =
     (shape : Tree) → IsSearchTree w.bytes root shape → Ascend (compare w.bytes) (nodes_of shape)
     → claim shape
 
+-- how the empty place before all that is at or above a key compares with a node, by how the node
+-- compares with the key
+abbrev pub before_first : Ordering → Ordering
+before_first Less = Greater
+before_first Equal = Less
+before_first Greater = Less
+
 -- how what is sought compares with a node
 abbrev pub sought_by : {K : Type 0} → (ℕ → ℕ → Ordering) → (ℕ → K → Ordering) → Sought K
     → ℕ → Ordering
 sought_by nodes key (Node sought) x = nodes sought x
 sought_by nodes key (Key sought) x = ordering_reverse (key x sought)
+sought_by nodes key (First sought) x = before_first (key x sought)
 
 -- the position of the pointer at the end of a path, and after some of its steps
 abbrev pub end_word : Path → ℕ

@@ -141,7 +141,7 @@ impl Path {
     }
 
     /// Goes back up to the nearest node that the way left on its left side. None, and at the root, where there is none.
-    fn climb(&mut self) -> Option<u32>
+    pub(crate) fn climb(&mut self) -> Option<u32>
         ensures root { path_root self.new ≡ path_root self.old }
         ensures climbs { (layers : _) → self.old.steps.items ≡ steps_of layers
             → MatchOption result (AreRight layers × (self.new.steps.items ≡ []))

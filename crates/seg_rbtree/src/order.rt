@@ -73,6 +73,8 @@ pub(crate) enum Sought<K> {
     Node(u32),
     /// A node that equals a key, or the empty place where one would stand.
     Key(K),
+    /// The empty place before the first node that is at or above a key.
+    First(K),
 }
 
 impl<K: Copy> Sought<K> {
@@ -84,6 +86,10 @@ impl<K: Copy> Sought<K> {
         match self {
             Sought::Node(sought) => order.nodes(view, sought, node),
             Sought::Key(key) => order.key(view, node, key).reverse(),
+            Sought::First(key) => match order.key(view, node, key) {
+                Ordering::Less => Ordering::Greater,
+                Ordering::Equal | Ordering::Greater => Ordering::Less,
+            },
         }
     }
 }

@@ -1,6 +1,6 @@
 //! Searches down a tree.
 
-ghost use Rattle.std.specs.Prelude.{◌≡◌, ◌+◌, ◌^◌, ◌≤◌, [], length, Some};
+ghost use Rattle.std.specs.Prelude.{◌≡◌, ◌+◌, ◌^◌, ◌≤◌, [], length, Some, IfSome};
 ghost use Rattle.std.specs.Ordering.{is_eq, ordering_reverse};
 ghost use Rattle.seg_spec.specs.Shapes.{nodes_of};
 ghost use Rattle.seg_spec.specs.Search.{reaches, first_where, looks, IsSearchTree};
@@ -178,6 +178,31 @@ impl Path {
         self.root = tree.root;
         self.rewind();
         self.descend(w, order, Sought::Node(node));
+    }
+
+    /// Goes to the first node of a tree that is at or above a key, and returns it. None where there is none.
+    #[inline(always)]
+    pub fn lead_to_first<K: Copy, O: NodeOrder<K>, A: Allocator>(
+        &mut self,
+        w: &Window<A>,
+        tree: Tree,
+        order: &O,
+        key: K,
+    ) -> Option<u32>
+        ensures root { path_root self.new ≡ root_word tree }
+        ensures node { O.exact → WhereOrdered (O.compare order.now) w.now (root_word tree)
+            (λ shape. result ≡ first_where
+            (λ node. reaches Ordering.Equal (O.compare_key order.now w.now.bytes node key))
+            (nodes_of shape)) }
+        ensures leads { O.exact → WhereOrdered (O.compare order.now) w.now (root_word tree)
+            (λ shape. IfSome result
+            (λ node. LeadsTo (O.compare order.now w.now.bytes node) shape self.new
+            × (node_at w.now.bytes self.new ≡ Some node))) }
+    {
+        self.root = tree.root;
+        self.rewind();
+        self.descend(w, order, Sought::First(key));
+        self.climb()
     }
 
     /// Goes down from the root to what is sought, or to the empty place where it would stand.

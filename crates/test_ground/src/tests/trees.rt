@@ -10,7 +10,7 @@ ghost use Rattle.seg_spec.proofs.OrderSteps.{steps_up};
 
 use seg_ptr::{View, Window};
 use seg_raw::Region;
-use seg_rbtree::{Colour, NodeOrder, Side, TREE_WORDS, Tree, UniqueKeys, child, node_colour};
+use seg_rbtree::{Colour, NodeOrder, Path, Side, TREE_WORDS, Tree, UniqueKeys, child, node_colour};
 use std::alloc::{AllocError, Allocator, Global};
 use std::cmp::Ordering;
 use std::process::Abort;
@@ -142,6 +142,9 @@ fn searches(rt: &impl Abort, w: &Window<Global>, numbers: &[u32], key: u32) {
     let looked = tree.first_at_least(w, &ByNumber, key);
     assert_eq!(rt; found(w, looked.node), at_least(numbers, key));
     assert!(rt; are_few(looked.looks, numbers.len()));
+    let mut path = Path::new(0);
+    assert_eq!(rt; path.lead_to_first(w, tree, &ByNumber, key), looked.node);
+    assert!(rt; looked.node.is_none() || path.node(w) == looked.node);
     let next = tree.next_after(w, &ByNumber, key);
     assert_eq!(rt; found(w, next), at_least(numbers, key.saturating_add(1)));
     let same = tree.find(w, &ByNumber, key);

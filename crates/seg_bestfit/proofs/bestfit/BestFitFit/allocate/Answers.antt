@@ -23,8 +23,8 @@ returns-clause-takes g c = λ h.
     let bytes = λ (p : Placement). p.bytes in
     let best = c.in_ok-gap.ensures.best (gaps old) h.free (heap_free_blocks old h) (Fill-le (tiles old) heap_start (length old) h.filled) h.small in
     let s = best_fit-smallest (gaps old) c.args.need (record { at = gap.at; units = gap.units }) best in
-    takes_gap (λ _. ⊤) old c.args.need gap.at gap.units h best s.before s.after s.gaps_are c.cut.new.w.bytes c.granted.result c.take.new.w.bytes tt c.granted.ensures c.requires (omega (arith, c.in_ok-gap.ensures.bounds))
-    c.take.ensures.tiles (λ k. ap bytes (c.cut.ensures.whole k)) c.cut.ensures.tiles
+    takes_gap (λ _. ⊤) old c.args.need gap.at gap.units h best s.before s.after s.gaps_are c.cut.new.w.bytes c.granted.result c.take_whole.new.w.bytes tt c.granted.ensures c.requires (omega (arith, c.in_ok-gap.ensures.bounds))
+    (λ xs ys _ was. c.take_whole.ensures.tiles c.in_ok-gap.ensures.leads xs ys was) (λ k. ap bytes (c.cut.ensures.whole k)) c.cut.ensures.tiles
 
 pub returns-then-gap-need-clause-takes : goal.returns-then-gap-need-clause-takes
 returns-then-gap-need-clause-takes g c = λ h.
@@ -35,5 +35,5 @@ returns-then-gap-need-clause-takes g c = λ h.
     let s = best_fit-smallest (gaps old) c.args.need (record { at = gap.at; units = gap.units }) best in
     let part = granted_part gap.units c.args.need (omega arith) in
     takes_gap_front (λ _. ⊤) old c.args.need gap.at gap.units h best s.before s.after s.gaps_are c.take_front.new.w.bytes c.args.need tt (sym part) c.requires (omega arith) (λ e. omega (arith, e))
-    (λ xs ys _ was. c.take_front.ensures.tiles xs ys was (rest_in_place old xs ys gap.at gap.units c.args.need was (omega arith) (omega arith)
+    (λ xs ys _ was. c.take_front.ensures.tiles c.in_ok-gap.ensures.leads xs ys was (rest_in_place old xs ys gap.at gap.units c.args.need was (omega arith) (omega arith)
     (c.in_ok-gap.ensures.best _ (tree_around old xs ys gap.at gap.units was) (blocks_around old xs ys gap.at gap.units was.tiled) low h.small)))

@@ -1,8 +1,7 @@
-use Rattle.std.proofs.Common.{◌≡◌, true, [], ◌∷◌, List, ℕ, None, sym, ap, subst}
+use Rattle.std.proofs.Common.{ap}
 use Rattle.seg_spec.specs.Window.{Placement}
-use Rattle.seg_spec.specs.Heap.{free_of, link_at}
-use Rattle.seg_block.specs.Tiling.{tile, Retiles}
-use Rattle.seg_bestfit.proofs.Taking.{blocks_around, tree_around, taken-retiles, taken-link}
+use Rattle.seg_spec.specs.Heap.{free_of}
+use Rattle.seg_bestfit.proofs.Taking.{blocks_around, tree_around, made_live}
 use Rattle.seg_bestfit.proofs.free_tree.BestFitFreeStructure.take.Goals as goal
 
 pub returns-clause-tiles : goal.returns-clause-tiles
@@ -12,4 +11,4 @@ returns-clause-tiles g c = λ xs ys _ was.
     let at = c.args.block.at in
     let u = c.args.block.units in
     let out = c.take_out.ensures.leaves was.tiled.small (free_of xs) (free_of ys) (blocks_around old xs ys at u was.tiled) (tree_around old xs ys at u was) in
-    subst (λ (b : List ℕ). Retiles 1 old b xs (tile at u true ∷ []) ys × (link_at b at ≡ None)) (sym (ap (λ (p : Placement). p.bytes) c.set_size.ensures)) (taken-retiles old xs ys at u was mid out, taken-link old xs ys at u was mid out)
+    made_live old xs ys at u was mid out c.set_size.new.w.bytes (ap (λ (p : Placement). p.bytes) c.set_size.ensures)
