@@ -184,8 +184,8 @@ fork_there bytes (Some p) node leaf h e = absurd h
 fork_there bytes (Some p) node (fork l at c r) h e = record { left = l; colour = c; right = r; part_is = ap (λ q. fork l q c r) (h.0 ∙ (let same : p ≡ node = cc in same)) }
 
 -- what stands where a path leads to
-pub part_there : (bytes : List ℕ) (path : Path) (turn : ℕ → Ordering) (shape : Tree) (way : LeadsTo turn shape path) → IsSearchTree bytes path.root shape → IsPartAt bytes path way.layers way.rest
-part_there bytes path turn shape way t = record { steps_are = way.steps_are; whole = subst (λ x. IsSearchTree bytes path.root x) (sym way.shape_is) t }
+pub part_there : (bytes : List ℕ) (path : Path) (shape : Tree) (layers : List Layer) (rest : Tree) → plug rest layers ≡ shape → path.steps.items ≡ steps_of layers → IsSearchTree bytes path.root shape → IsPartAt bytes path layers rest
+part_there bytes path shape layers rest is steps t = record { steps_are = steps; whole = subst (λ x. IsSearchTree bytes path.root x) (sym is) t }
 
 -- ---- the way to a node
 
@@ -211,7 +211,7 @@ module _ (order : ℕ → ℕ → Ordering) (turn : ℕ → Ordering) (node : �
   -- a way to the node is one to what is sought
   pub leads_by : (bytes : List ℕ) (path : Path) (shape : Tree) → IsSearchTree bytes path.root shape → Ascend order (nodes_of shape) → IsWayIn shape path → node_at bytes path ≡ Some node → LeadsTo turn shape path
   leads_by bytes path shape t a way named =
-      let s : IsPartAt bytes path way.layers way.rest = record { steps_are = way.steps_are; whole = subst (λ x. IsSearchTree bytes path.root x) (sym way.shape_is) t } in
+      let s = part_there bytes path shape way.layers way.rest way.shape_is way.steps_are t in
       let hung = stands_below bytes path path way.layers way.rest refl s way.layers way.rest refl way.steps_are in
       let k = fork_there bytes (node_at bytes path) node way.rest hung named in
       let nodes : nodes_of shape ≡ (before way.layers ++ nodes_of k.left) ++ node ∷ (nodes_of k.right ++ following way.layers) =
@@ -324,7 +324,8 @@ module _ (compare : ℕ → Ordering) (order : ℕ → ℕ → Ordering) (keyed 
   pub goes_above : (bytes : List ℕ) (path new : Path) (shape : Tree) (result : Option ℕ) → IsSearchTree bytes path.root shape → Ascend order (nodes_of shape) → (way : LeadsTo turn shape path)
       → (IsPartAt bytes path way.layers way.rest → GoesOn bytes way.layers way.rest new result) → result ≡ first_where past (nodes_of shape)
   goes_above bytes path new shape result t a way on =
-      goes_past order past turn up lefts rights bytes new shape way.layers way.rest result a way.shape_is way.leads (at_end way.rest (following way.layers) way.ends) (on (part_there bytes path turn shape way t))
+      goes_past order past turn up lefts rights bytes new shape way.layers way.rest result a way.shape_is way.leads (at_end way.rest (following way.layers) way.ends)
+      (on (part_there bytes path shape way.layers way.rest way.shape_is way.steps_are t))
 
 -- a path that goes on stays inside
 pub goes_inside : (bytes : List ℕ) (path new : Path) (result : Option ℕ) → new.root ≡ path.root → ((layers : List Layer) (part : Tree) → IsPartAt bytes path layers part → GoesOn bytes layers part new result)
@@ -332,8 +333,7 @@ pub goes_inside : (bytes : List ℕ) (path new : Path) (result : Option ℕ) →
 goes_inside bytes path new result same on inside shape t =
     let u : IsSearchTree bytes path.root shape = subst (λ root. IsSearchTree bytes root shape) same t in
     let way = inside shape u in
-    let s : IsPartAt bytes path way.layers way.rest = record { steps_are = way.steps_are; whole = subst (λ x. IsSearchTree bytes path.root x) (sym way.shape_is) u } in
-    subst (λ x. IsWayIn x new) way.shape_is (on way.layers way.rest s).way
+    subst (λ x. IsWayIn x new) way.shape_is (on way.layers way.rest (part_there bytes path shape way.layers way.rest way.shape_is way.steps_are u)).way
 
 -- a path to what is sought stays inside
 pub leads_inside : (turn : ℕ → Ordering) (shape : Tree) (path : Path) → LeadsTo turn shape path → IsWayIn shape path

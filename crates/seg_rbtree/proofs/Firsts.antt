@@ -70,7 +70,7 @@ pub led_to_first : (compare : ℕ → Ordering) (order : ℕ → ℕ → Orderin
     → new.root ≡ path.root → IsSearchTree bytes path.root shape → Ascend order (nodes_of shape) → LeadsTo (turn compare) shape path
     → ((layers : List Layer) → path.steps.items ≡ steps_of layers → MatchOption result (AreRight layers × (new.steps.items ≡ [])) (Climbs layers new)) → IsLedToFirst compare order bytes shape new result
 led_to_first compare order keyed total bytes path new shape result same t a way climbs =
-    let s = part_there bytes path (turn compare) shape way t in
+    let s = part_there bytes path shape way.layers way.rest way.shape_is way.steps_are t in
     let on = goes_up bytes path new way.layers way.rest same s result (ends_empty compare way.rest way.ends) (climbs way.layers way.steps_are) in
     let up = λ (x y : ℕ) (l : order x y ≡ Less) (e : reached compare x ≡ true). reaches_up Equal (compare x) (compare y) (keyed x y l) e in
     record {
