@@ -184,16 +184,18 @@ fork_there bytes (Some p) node leaf h e = absurd h
 fork_there bytes (Some p) node (fork l at c r) h e = record { left = l; colour = c; right = r; part_is = ap (λ q. fork l q c r) (h.0 ∙ (let same : p ≡ node = cc in same)) }
 
 -- what stands where a path leads to
-pub part_there : (bytes : List ℕ) (path : Path) (turn : ℕ → Ordering) (shape : Tree) (way : LeadsTo turn shape path) → IsSearchTree bytes path.root shape → IsPartAt bytes path way.layers way.rest
-part_there bytes path turn shape way t = record { steps_are = way.steps_are; whole = subst (λ x. IsSearchTree bytes path.root x) (sym way.shape_is) t }
+pub part_there : (bytes : List ℕ) (path : Path) (shape : Tree) (layers : List Layer) (rest : Tree) → plug rest layers ≡ shape → path.steps.items ≡ steps_of layers → IsSearchTree bytes path.root shape → IsPartAt bytes path layers rest
+part_there bytes path shape layers rest is steps t = record { steps_are = steps; whole = subst (λ x. IsSearchTree bytes path.root x) (sym is) t }
 
 -- ---- the way to a node
 
+-- a node in the middle of three lists, apart
 apart_nodes : (xs ls : List ℕ) (at : ℕ) (rs ys : List ℕ) → xs ++ ((ls ++ at ∷ rs) ++ ys) ≡ (xs ++ ls) ++ at ∷ (rs ++ ys)
 apart_nodes xs ls at rs ys = ap (λ zs. xs ++ zs) (append_assoc ls (at ∷ rs) ys) ∙ sym (append_assoc xs ls (at ∷ rs ++ ys))
 
 -- what is sought is before all that is after a node, after all that is before it, and equals it
 module _ (order : ℕ → ℕ → Ordering) (turn : ℕ → Ordering) (node : ℕ) (above : (y : ℕ) → order node y ≡ Less → turn y ≡ Less) (below : (x : ℕ) → order x node ≡ Less → turn x ≡ Greater) (equal : turn node ≡ Equal) where
+  -- from the layers above the node the way goes on to the sides where what is sought is
   lead_by : (layers : List Layer) → AllByRecursion (λ x. order x node ≡ Less) (before layers) → AllByRecursion (λ y. order node y ≡ Less) (following layers) → LeadBy turn layers
   unfolding before following nodes_before nodes_after
   lead_by [] lows highs = tt
@@ -209,7 +211,7 @@ module _ (order : ℕ → ℕ → Ordering) (turn : ℕ → Ordering) (node : �
   -- a way to the node is one to what is sought
   pub leads_by : (bytes : List ℕ) (path : Path) (shape : Tree) → IsSearchTree bytes path.root shape → Ascend order (nodes_of shape) → IsWayIn shape path → node_at bytes path ≡ Some node → LeadsTo turn shape path
   leads_by bytes path shape t a way named =
-      let s : IsPartAt bytes path way.layers way.rest = record { steps_are = way.steps_are; whole = subst (λ x. IsSearchTree bytes path.root x) (sym way.shape_is) t } in
+      let s = part_there bytes path shape way.layers way.rest way.shape_is way.steps_are t in
       let hung = stands_below bytes path path way.layers way.rest refl s way.layers way.rest refl way.steps_are in
       let k = fork_there bytes (node_at bytes path) node way.rest hung named in
       let nodes : nodes_of shape ≡ (before way.layers ++ nodes_of k.left) ++ node ∷ (nodes_of k.right ++ following way.layers) =
@@ -229,10 +231,12 @@ module _ (order : ℕ → ℕ → Ordering) (turn : ℕ → Ordering) (node : �
 
 -- It is true of a node to whose left a way goes on, and not of one to whose right it does.
 module _ (order : ℕ → ℕ → Ordering) (p : ℕ → Bool) (turn : ℕ → Ordering) (up : (x y : ℕ) → order x y ≡ Less → p x ≡ true → p y ≡ true) (lefts : (x : ℕ) → turn x ≡ Less → p x ≡ true) (rights : (x : ℕ) → turn x ≡ Greater → p x ≡ false) where
-  pub none_below : (xs : List ℕ) (at : ℕ) (ys : List ℕ) → Ascend order (xs ++ at ∷ ys) → p at ≡ false → first_where p (xs ++ at ∷ ys) ≡ first_where p ys
+  -- nothing before a node of which it isn't true comes first
+  none_below : (xs : List ℕ) (at : ℕ) (ys : List ℕ) → Ascend order (xs ++ at ∷ ys) → p at ≡ false → first_where p (xs ++ at ∷ ys) ≡ first_where p ys
   none_below xs at ys a e =
       first_append p xs (at ∷ ys) ∙ ap (λ o. option_or o (first_where p (at ∷ ys))) (none_before p xs at ys (upward_of order p up (xs ++ at ∷ ys) a) e) ∙ first_later p at ys e
 
+  -- the first node is in the part where such a way ends, or else the first after it
   along : (layers : List Layer) (rest : Tree) → Ascend order (nodes_of (plug rest layers)) → LeadBy turn layers
       → first_where p (nodes_of (plug rest layers)) ≡ option_or (first_where p (nodes_of rest)) (slice_get (following layers) 0)
   unfolding following nodes_after
@@ -276,6 +280,7 @@ module _ (compare : ℕ → Ordering) (order : ℕ → ℕ → Ordering) (keyed 
   below x at Equal e f l = let o = one x at e f in cc
   below x at Greater e f l = let k : 2 ≤ 1 = subst (λ q. 2 ≤ rank_of q) f (subst (λ q. rank_of q ≤ rank_of (compare at)) e (keyed x at l)) in absurd (omega (arith, k))
 
+  -- so a way to a node that equals the key is one to the key
   pub leads_there : (bytes : List ℕ) (path : Path) (shape : Tree) (node : ℕ) → IsSearchTree bytes path.root shape → Ascend order (nodes_of shape) → IsWayIn shape path → node_at bytes path ≡ Some node
       → compare node ≡ Equal → LeadsTo turn shape path
   leads_there bytes path shape node t a way named f =
@@ -283,24 +288,30 @@ module _ (compare : ℕ → Ordering) (order : ℕ → ℕ → Ordering) (keyed 
 
   -- ---- it is the first after the place
 
+  -- a reversed comparison, reversed again
   back : (r s : Ordering) → ordering_reverse r ≡ s → r ≡ ordering_reverse s
   back Less s e = ap ordering_reverse e
   back Equal s e = ap ordering_reverse e
   back Greater s e = ap ordering_reverse e
 
+  -- what is after a node above the key is above it too
   up : (x y : ℕ) → order x y ≡ Less → past x ≡ true → past y ≡ true
   up x y l e = reaches_up Greater (compare x) (compare y) (keyed x y l) e
 
+  -- a node to whose left the way goes on is above the key
   lefts : (x : ℕ) → turn x ≡ Less → past x ≡ true
   lefts x e = ap (reaches Greater) (back (compare x) Less e)
 
+  -- and one to whose right it does isn't
   rights : (x : ℕ) → turn x ≡ Greater → past x ≡ false
   rights x e = ap (reaches Greater) (back (compare x) Greater e)
 
+  -- where all are above the key, the first of them
   first_all : (xs ys : List ℕ) → AllByRecursion (λ x. past x ≡ true) xs → option_or (first_where past xs) (slice_get ys 0) ≡ slice_get (xs ++ ys) 0
   first_all [] ys h = refl
   first_all (x ∷ xs) ys h = ap (λ o. option_or o (slice_get ys 0)) (first_here past x xs h.0)
 
+  -- where the way ends, all after the node there are above the key, and nothing before it is
   at_end : (rest : Tree) (ys : List ℕ) → EndsAt turn rest → Ascend order (nodes_of rest) → option_or (first_where past (nodes_of rest)) (slice_get ys 0) ≡ slice_get (after_root rest ++ ys) 0
   at_end leaf ys e a = refl
   at_end (fork l at c r) ys e a =
@@ -313,7 +324,8 @@ module _ (compare : ℕ → Ordering) (order : ℕ → ℕ → Ordering) (keyed 
   pub goes_above : (bytes : List ℕ) (path new : Path) (shape : Tree) (result : Option ℕ) → IsSearchTree bytes path.root shape → Ascend order (nodes_of shape) → (way : LeadsTo turn shape path)
       → (IsPartAt bytes path way.layers way.rest → GoesOn bytes way.layers way.rest new result) → result ≡ first_where past (nodes_of shape)
   goes_above bytes path new shape result t a way on =
-      goes_past order past turn up lefts rights bytes new shape way.layers way.rest result a way.shape_is way.leads (at_end way.rest (following way.layers) way.ends) (on (part_there bytes path turn shape way t))
+      goes_past order past turn up lefts rights bytes new shape way.layers way.rest result a way.shape_is way.leads (at_end way.rest (following way.layers) way.ends)
+      (on (part_there bytes path shape way.layers way.rest way.shape_is way.steps_are t))
 
 -- a path that goes on stays inside
 pub goes_inside : (bytes : List ℕ) (path new : Path) (result : Option ℕ) → new.root ≡ path.root → ((layers : List Layer) (part : Tree) → IsPartAt bytes path layers part → GoesOn bytes layers part new result)
@@ -321,8 +333,7 @@ pub goes_inside : (bytes : List ℕ) (path new : Path) (result : Option ℕ) →
 goes_inside bytes path new result same on inside shape t =
     let u : IsSearchTree bytes path.root shape = subst (λ root. IsSearchTree bytes root shape) same t in
     let way = inside shape u in
-    let s : IsPartAt bytes path way.layers way.rest = record { steps_are = way.steps_are; whole = subst (λ x. IsSearchTree bytes path.root x) (sym way.shape_is) u } in
-    subst (λ x. IsWayIn x new) way.shape_is (on way.layers way.rest s).way
+    subst (λ x. IsWayIn x new) way.shape_is (on way.layers way.rest (part_there bytes path shape way.layers way.rest way.shape_is way.steps_are u)).way
 
 -- a path to what is sought stays inside
 pub leads_inside : (turn : ℕ → Ordering) (shape : Tree) (path : Path) → LeadsTo turn shape path → IsWayIn shape path

@@ -16,26 +16,30 @@ use Rattle.seg_rbtree.proofs.Climbing.{goes_up, goes_past, leads_by, part_there}
 use Rattle.seg_rbtree.proofs.Removed.{itself}
 use Rattle.seg_rbtree.proofs.Searching.{reaches_up}
 
--- the place is before what reaches the key and after what doesn't, and equals nothing
+-- what the place is before is at or above the key
 left_reaches : (r : Ordering) → before_first r ≡ Less → reaches Equal r ≡ true
 left_reaches Less e = cc
 left_reaches Equal e = refl
 left_reaches Greater e = refl
 
+-- what it is after is below the key
 right_misses : (r : Ordering) → before_first r ≡ Greater → reaches Equal r ≡ false
 right_misses Less e = refl
 right_misses Equal e = cc
 right_misses Greater e = cc
 
+-- it equals no node
 never_equal : (r : Ordering) → before_first r ≡ Equal → ⊥
 never_equal Less e = cc
 never_equal Equal e = cc
 never_equal Greater e = cc
 
 module _ (compare : ℕ → Ordering) where
+  -- whether a node is at or above the key
   abbrev reached : ℕ → Bool
   reached x = reaches Equal (compare x)
 
+  -- how the place compares with a node
   abbrev turn : ℕ → Ordering
   turn x = before_first (compare x)
 
@@ -44,6 +48,7 @@ module _ (compare : ℕ → Ordering) where
   ends_empty leaf e = refl
   ends_empty (fork l at c r) e = absurd (never_equal (compare at) e)
 
+  -- and has nothing but what comes after it
   at_end : (rest : Tree) (ys : List ℕ) → EndsAt turn rest → option_or (first_where reached (nodes_of rest)) (slice_get ys 0) ≡ slice_get (after_root rest ++ ys) 0
   at_end leaf ys e = refl
   at_end (fork l at c r) ys e = absurd (never_equal (compare at) e)
@@ -54,8 +59,8 @@ pub record IsLedToFirst (compare : ℕ → Ordering) (order : ℕ → ℕ → Or
   pub leads : IfSome result (λ node. LeadsTo (order node) shape path × (node_at bytes path ≡ Some node))
 
 -- a path that goes on to a node leads to it
-leads_on : (order : ℕ → ℕ → Ordering) → IsTotalOrder order → (bytes : List ℕ) (path : Path) (layers : List Layer) (rest : Tree) (result : Option ℕ) → IsSearchTree bytes path.root (plug rest layers) → Ascend order (nodes_of (plug rest layers))
-    → GoesOn bytes layers rest path result → IfSome result (λ node. LeadsTo (order node) (plug rest layers) path × (node_at bytes path ≡ Some node))
+leads_on : (order : ℕ → ℕ → Ordering) → IsTotalOrder order → (bytes : List ℕ) (path : Path) (layers : List Layer) (rest : Tree) (result : Option ℕ) → IsSearchTree bytes path.root (plug rest layers)
+    → Ascend order (nodes_of (plug rest layers)) → GoesOn bytes layers rest path result → IfSome result (λ node. LeadsTo (order node) (plug rest layers) path × (node_at bytes path ≡ Some node))
 leads_on order total bytes path layers rest None t a on = tt
 leads_on order total bytes path layers rest (Some node) t a on =
     (leads_by order (order node) node (λ y l. l) (λ x l. total.antisymm node x ∙ ap ordering_reverse l) (itself order total node) bytes path (plug rest layers) t a on.way on.stands, on.stands)
@@ -65,7 +70,7 @@ pub led_to_first : (compare : ℕ → Ordering) (order : ℕ → ℕ → Orderin
     → new.root ≡ path.root → IsSearchTree bytes path.root shape → Ascend order (nodes_of shape) → LeadsTo (turn compare) shape path
     → ((layers : List Layer) → path.steps.items ≡ steps_of layers → MatchOption result (AreRight layers × (new.steps.items ≡ [])) (Climbs layers new)) → IsLedToFirst compare order bytes shape new result
 led_to_first compare order keyed total bytes path new shape result same t a way climbs =
-    let s = part_there bytes path (turn compare) shape way t in
+    let s = part_there bytes path shape way.layers way.rest way.shape_is way.steps_are t in
     let on = goes_up bytes path new way.layers way.rest same s result (ends_empty compare way.rest way.ends) (climbs way.layers way.steps_are) in
     let up = λ (x y : ℕ) (l : order x y ≡ Less) (e : reached compare x ≡ true). reaches_up Equal (compare x) (compare y) (keyed x y l) e in
     record {
