@@ -11,6 +11,7 @@ use crate::pointer::named;
 #[derive(Debug, Clone, Copy)]
 pub struct View<'a> {
     bytes: &'a [u8],
+    // No view is longer than a segment may be.
     pub ghost small: { length bytes.now ≤ MAX_LEN },
 }
 

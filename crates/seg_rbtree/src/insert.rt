@@ -74,11 +74,12 @@ fn settle<A: Allocator>(w: &mut Window<A>, path: &mut Path, node: u32) -> Option
     }
     // a red node isn't the root
     let grandparent = path.pop()?;
-    let uncle = child(w, grandparent.node(), grandparent.side().other());
+    let top = grandparent.node();
+    let uncle = child(w, top, grandparent.side().other());
     match uncle {
         Some(uncle) if is_red(w, Some(uncle)) => {
-            push_red_up(w, grandparent.node(), parent.node(), uncle);
-            Some(grandparent.node())
+            push_red_up(w, top, parent.node(), uncle);
+            Some(top)
         }
         _ => {
             straighten(w, path.word(), grandparent, parent);

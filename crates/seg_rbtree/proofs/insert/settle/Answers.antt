@@ -39,8 +39,8 @@ returns-in-Some-uncle-clause-settled g c = λ nodes s.
     let grandparent = c.in_ok-grandparent.grandparent in
     let red : colour_at bytes (Some parent.node) ≡ Red = ap (λ n. colour_at bytes (Some n)) (sym c.node.ensures) ∙ c.is_red.ensures.0 c.if-not-is_red.false in
     let f = family bytes root nodes c.args.node steps rest more parent grandparent c.in-Some.ensures.popped c.in_ok-grandparent.ensures.popped red s in
-    let at : c.child-uncle.result ≡ target bytes (side_word grandparent.node (opposite grandparent.side)) = c.child-uncle.ensures ∙ (λ i. target bytes (side_word (c.node-2.ensures i) ((c.other.ensures ∙ ap opposite c.side.ensures) i))) in
-    rw (c.push_red_up.ensures, c.node-in-Some-uncle.ensures, c.node-in-Some-uncle-2.ensures, c.node-in-Some-uncle-3.ensures)
+    let at : c.child-uncle.result ≡ target bytes (side_word grandparent.node (opposite grandparent.side)) = c.child-uncle.ensures ∙ (λ i. target bytes (side_word (c.node-top.ensures i) ((c.other.ensures ∙ ap opposite c.side.ensures) i))) in
+    rw (c.push_red_up.ensures, c.node-top.ensures, c.node-in-Some-uncle.ensures)
     (settled_parting bytes root nodes c.args.node parent grandparent steps rest more f c.child-uncle.result c.in-Some-uncle.uncle c.in-Some.ensures.popped c.in_ok-grandparent.ensures.popped at c.in-Some-uncle.is
     (c.if-is_red.ensures.0 refl))
 
@@ -55,7 +55,7 @@ returns-in_default-uncle-clause-settled g c = λ nodes s.
     let grandparent = c.in_ok-grandparent.grandparent in
     let red : colour_at bytes (Some parent.node) ≡ Red = ap (λ n. colour_at bytes (Some n)) (sym c.node.ensures) ∙ c.is_red.ensures.0 c.if-not-is_red.false in
     let f = family bytes root nodes c.args.node steps rest more parent grandparent c.in-Some.ensures.popped c.in_ok-grandparent.ensures.popped red s in
-    let at : c.child-uncle.result ≡ target bytes (side_word grandparent.node (opposite grandparent.side)) = c.child-uncle.ensures ∙ (λ i. target bytes (side_word (c.node-2.ensures i) ((c.other.ensures ∙ ap opposite c.side.ensures) i))) in
+    let at : c.child-uncle.result ≡ target bytes (side_word grandparent.node (opposite grandparent.side)) = c.child-uncle.ensures ∙ (λ i. target bytes (side_word (c.node-top.ensures i) ((c.other.ensures ∙ ap opposite c.side.ensures) i))) in
     let black : colour_at bytes c.child-uncle.result ≡ Red → ⊥ = elim c.in_default-uncle.branch [
       | in_default-uncle-via-in-Some-uncle+else-is_red w ↦ (λ e. let t : false ≡ true = w.if-is_red.ensures.1 (ap (λ o. colour_at bytes o) (sym w.in-Some-uncle.is) ∙ e) in cc)
       | in_default-uncle-via-in_default-uncle w ↦ (λ e. let d : colour_at bytes c.child-uncle.result ≡ Black = ap (λ o. colour_at bytes o) w.in_default-uncle.is in cc)
