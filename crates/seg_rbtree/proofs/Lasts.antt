@@ -51,6 +51,7 @@ none_behind order total xs node (y ∷ ys) a last =
 
 -- ---- steps to the right
 
+-- steps that are all to the right lead through layers whose places are on their right sides
 right_steps : (layers : List Layer) → AllByRecursion (λ (s : Step). s.side ≡ Right) (steps_of layers) → AreRight layers
 right_steps [] a = tt
 right_steps (l ∷ ls) a = ((each_right _ (steps_of ls) (step_of l ∷ []) a).0, right_steps ls (each_left _ (steps_of ls) (step_of l ∷ []) a))
@@ -73,7 +74,9 @@ none_hangs bytes None tree h e = refl
 none_hangs bytes (Some p) leaf h e = absurd h
 none_hangs bytes (Some p) (fork l at c r) h e = absurd (not_empty (nodes_of l) at (nodes_of r) e)
 
+-- a path that leads to a node of the tree
 module _ (bytes : List ℕ) (path : Path) (turn : ℕ → Ordering) (node : ℕ) (shape : Tree) (t : IsSearchTree bytes path.root shape) (way : LeadsTo turn shape path) (named : node_at bytes path ≡ Some node) where
+  -- the part of the tree at the path's end, of which the node is the root
   hangs : IsTree bytes (node_at bytes path) way.rest
   hangs = rest_hangs bytes path.root path turn node shape refl way t.is_tree
 
@@ -83,12 +86,14 @@ module _ (bytes : List ℕ) (path : Path) (turn : ℕ → Ordering) (node : ℕ)
   parts : IsBranch bytes (node_at bytes path) Left node part.colour part.near part.far
   parts = branch-parts bytes (node_at bytes path) Left node part.colour part.near part.far (subst (λ x. IsTree bytes (node_at bytes path) x) part.tree_is hangs)
 
+  -- the nodes of the tree before and after it
   ahead : List ℕ
   ahead = before way.layers ++ nodes_of part.near
 
   behind : List ℕ
   behind = nodes_of part.far ++ following way.layers
 
+  -- it stands between them
   nodes_are : nodes_of shape ≡ ahead ++ node ∷ behind
   unfolding ahead behind
   nodes_are = ap nodes_of (sym way.shape_is) ∙ nodes_plug way.layers way.rest ∙ ap (λ x. before way.layers ++ (nodes_of x ++ following way.layers)) part.tree_is ∙ simp append_assoc
