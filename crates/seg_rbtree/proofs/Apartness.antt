@@ -18,7 +18,7 @@ Clear p n xs = AllByRecursion (λ q. Separate p n q 16) xs
 abbrev pub Beside : List ℕ → List ℕ → Type 0
 Beside xs ys = AllByRecursion (λ x. Clear x 16 ys) xs
 
-pub each_join : (P : ℕ → Type 0) (xs ys : List ℕ) → AllByRecursion P xs → AllByRecursion P ys → AllByRecursion P (xs ++ ys)
+pub each_join : {X : Type 0} (P : X → Type 0) (xs ys : List X) → AllByRecursion P xs → AllByRecursion P ys → AllByRecursion P (xs ++ ys)
 each_join P [] ys h k = k
 each_join P (x ∷ xs) ys h k = (h.0, each_join P xs ys h.1 k)
 

@@ -27,4 +27,5 @@ pub mod Seeking
 pub mod Keys
 pub mod Renaming
 pub mod Leading
+pub mod Lasts
 pub mod Firsts

@@ -9,8 +9,9 @@
 --     RenamesAt old new path to              another node is put in the place of the node at the end of a path
 --     IsAmong node nodes                     it is one of the nodes
 --     IsLastAt bytes path                    the node at the end of a path is the last of the tree
+--     TellsLast bytes path is_last           it tells whether that is so, in a tree whose nodes are in order
 --     FindsEqual compare nodes found         one of the nodes that compares as equal, where one does
-use Rattle.std.specs.Prelude.{◌≡◌, ◌≢◌, ℕ, List, [], ◌∷◌, ◌++◌, ◌+◌, ◌<◌, ◌^◌, length, take, Option, Some, MatchOption}
+use Rattle.std.specs.Prelude.{◌≡◌, ◌≢◌, ◌↔◌, ℕ, List, [], ◌∷◌, ◌++◌, ◌+◌, ◌<◌, ◌^◌, length, take, Bool, IsTrue, Option, Some, MatchOption}
 use Rattle.std.specs.Cmp.{IsTotalOrder}
 use Rattle.std.specs.List.{AllByRecursion}
 use Rattle.std.specs.Ordering.{ordering_reverse}
@@ -84,6 +85,14 @@ abbrev pub IsLastAt : List ℕ → Path → Type 0
 IsLastAt bytes path = (turn : ℕ → Ordering) (node : ℕ) (shape : Tree)
     → IsSearchTree bytes path.root shape → LeadsTo turn shape path
     → node_at bytes path ≡ Some node → IsLast node (nodes_of shape)
+
+-- it tells whether the node at the end of a path is the last of the tree, in any total order of the nodes; where they are in
+-- none, one node may stand at several places
+abbrev pub TellsLast : List ℕ → Path → Bool → Type 0
+TellsLast bytes path is_last = (turn : ℕ → Ordering) (order : ℕ → ℕ → Ordering) (node : ℕ)
+    (shape : Tree) → IsTotalOrder order → IsSearchTree bytes path.root shape
+    → Ascend order (nodes_of shape) → LeadsTo turn shape path → node_at bytes path ≡ Some node
+    → IsTrue is_last ↔ IsLast node (nodes_of shape)
 
 -- a node is added at the end of a path, in any total order that leads there
 abbrev pub AddsAt : List ℕ → List ℕ → Path → ℕ → Type 0

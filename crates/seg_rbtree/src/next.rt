@@ -6,7 +6,7 @@ ghost use Rattle.seg_spec.specs.Shapes.{fork, nodes_of};
 ghost use Rattle.seg_spec.specs.Search.{reaches, first_where, IsSearchTree};
 ghost use Rattle.seg_rbtree.specs.Nodes.{side_word};
 ghost use Rattle.seg_rbtree.specs.Ways.{place, steps_of};
-ghost use Rattle.seg_rbtree.specs.Paths.{WhereOrdered, IsLastAt, node_at};
+ghost use Rattle.seg_rbtree.specs.Paths.{WhereOrdered, IsLastAt, TellsLast, node_at};
 ghost use Rattle.seg_rbtree.specs.Removing.{layer_at, Descends};
 ghost use Rattle.seg_rbtree.specs.Following.{IsPartAt, LeadsInside, AreRight, Climbs, GoesOn};
 ghost use Rattle.seg_rbtree.specs.Roots.{root_word, path_root};
@@ -33,7 +33,8 @@ impl Path {
 
     /// Whether the node at the path's end is the last of the tree.
     pub fn is_last<A: Allocator>(&self, w: &Window<A>) -> bool
-        ensures { IsTrue result → IsLastAt w.now.bytes self.now }
+        ensures only { IsTrue result → IsLastAt w.now.bytes self.now }
+        ensures exact { TellsLast w.now.bytes self.now result }
     {
         match self.node(w) {
             Some(node) => child(w, node, Side::Right).is_none() && self.is_rightmost(),

@@ -1,4 +1,4 @@
-ghost use Rattle.std.specs.Prelude.{slice_set, slice_index_or, ◌≡◌, ◌^◌, ◌<◌, ◌≤◌, IsTrue, ℕ, List, [], ◌∷◌, ◌++◌, length, Option, Some, MatchOption, IfNone};
+ghost use Rattle.std.specs.Prelude.{slice_set, slice_index_or, ◌≡◌, ◌^◌, ◌<◌, ◌≤◌, ◌↔◌, IsTrue, ℕ, List, [], ◌∷◌, ◌++◌, length, Option, Some, MatchOption, IfNone};
 ghost use Rattle.std.specs.List.{AllByRecursion};
 ghost use Rattle.seg_spec.specs.Pointer.{target, set_pointer};
 ghost use Rattle.seg_spec.specs.Window.{with_bytes, KeepsHost};
@@ -78,7 +78,7 @@ impl Path {
 
     /// Whether every step is to the right.
     pub(crate) fn is_rightmost(&self) -> bool
-        ensures { IsTrue result → AllByRecursion (λ step. step.side ≡ Side.Right)
+        ensures { IsTrue result ↔ AllByRecursion (λ step. step.side ≡ Side.Right)
             self.now.steps.items }
     {
         for step in self.steps.as_slice() {

@@ -15,7 +15,7 @@ returns-then-is_last-clause-tiles g c =
     let path = c.lead_to.new.path in
     let new = c.replace.new.w.bytes in
     makes_with old new at c.args.block.units c.args.more c.if-more-eq0.false (λ xs ms ys t was holds fill.
-    down-retiles old xs ms ys t at c.args.block.units c.args.more was holds fill new path c.lead_to.ensures (c.is_last.ensures c.if-is_last.true)
+    down-retiles old xs ms ys t at c.args.block.units c.args.more was holds fill new path c.lead_to.ensures (c.is_last.ensures.only c.if-is_last.true)
     (subst (λ (b : List ℕ). RenamesAt b new path (at + 16)) (ap (λ (p : Placement). p.bytes) c.set_free.ensures) c.replace.ensures.replaced))
 
 pub returns-else-is_last-clause-tiles : goal.returns-else-is_last-clause-tiles

@@ -31,12 +31,12 @@ returns-clause-gives g c = λ h held.
           let found = w.in-Some-free_before.ensures in
           let gap_is = subst (λ p. IsGapAt (p + 16 * u) room b.ms) (sym found.bounds.0) (b.alone, b.there) in
           let makes = subst (λ (v : Placement). MakesGapWith v.bytes new gap.at (gap.units + u) room) w.w-is
-              (subst (λ (whole : Block). MakesGapWith c.match-free_before.w.bytes new whole.at whole.units room) w.whole-is c.release_joined.ensures.tiles) in
+          (subst (λ (whole : Block). MakesGapWith c.match-free_before.w.bytes new whole.at whole.units room) w.whole-is c.release_joined.ensures.tiles) in
           freed_joined old at u room h here room_is new b gap found.read found.none found.bounds.0
           (λ xs t. both-retiles old w.take_out.new.w.bytes new xs b.ms b.rest gap.at gap.units u room gap_is t (w.take_out.ensures.leaves h.small) makes)
       | in-None w ↦
           let makes = subst (λ (v : Placement). MakesGapWith v.bytes new at u room) w.w-is
-              (subst (λ (whole : Block). MakesGapWith c.match-free_before.w.bytes new whole.at whole.units room) w.whole-is c.release_joined.ensures.tiles) in
+          (subst (λ (whole : Block). MakesGapWith c.match-free_before.w.bytes new whole.at whole.units room) w.whole-is c.release_joined.ensures.tiles) in
           freed_alone old at u room h here room_is new b w.in-None.ensures.read
           (after-retiles old new (before old at u h here) b.ms b.rest at u room (b.alone, b.there) b.tiling makes)
     ])
