@@ -34,7 +34,7 @@ impl Path {
     /// Whether the node at the path's end is the last of the tree.
     pub fn is_last<A: Allocator>(&self, w: &Window<A>) -> bool
         ensures only { IsTrue result → IsLastAt w.now.bytes self.now }
-        ensures exact { TellsLast w.now.bytes self.now result }
+        ensures in_order { TellsLast w.now.bytes self.now result }
     {
         match self.node(w) {
             Some(node) => child(w, node, Side::Right).is_none() && self.is_rightmost(),

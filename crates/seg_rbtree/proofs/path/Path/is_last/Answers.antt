@@ -13,14 +13,14 @@ returns-then-is_none-clause-only g c = λ rightmost turn node shape t way named.
     let child = child_there c.args.w.now.bytes c.node.result c.child.result c.in-Some.node node c.in-Some.is (c.node.ensures ∙ named) c.child.ensures in
     last_there c.args.w.now.bytes c.args.self.now turn node shape t way named (child ∙ nothing_there c.child.result c.is_none.result c.is_none.ensures c.if-is_none.true) (c.is_rightmost.ensures.0 rightmost)
 
-pub returns-then-is_none-clause-exact : goal.returns-then-is_none-clause-exact
-returns-then-is_none-clause-exact g c = λ turn order node shape total t a way named. (
+pub returns-then-is_none-clause-in_order : goal.returns-then-is_none-clause-in_order
+returns-then-is_none-clause-in_order g c = λ turn order node shape total t a way named. (
   λ rightmost. returns-then-is_none-clause-only g c rightmost turn node shape t way named,
   λ last. c.is_rightmost.ensures.1 (way_to_last c.args.w.now.bytes c.args.self.now turn node shape t way named order total a last).1,
 )
 
-pub returns-else-is_none-clause-exact : goal.returns-else-is_none-clause-exact
-returns-else-is_none-clause-exact g c = λ turn order node shape total t a way named.
+pub returns-else-is_none-clause-in_order : goal.returns-else-is_none-clause-in_order
+returns-else-is_none-clause-in_order g c = λ turn order node shape total t a way named.
     let child = child_there c.args.w.now.bytes c.node.result c.child.result c.in-Some.node node c.in-Some.is (c.node.ensures ∙ named) c.child.ensures in (
       λ yes. let no = c.if-is_none.false in absurd cc,
       λ last. absurd (something_there c.child.result c.is_none.result c.is_none.ensures c.if-is_none.false
