@@ -90,12 +90,8 @@ pub(crate) fn best_fit<A: Allocator>(path: &mut Path, w: &Window<A>, need: u32) 
         (λ f. best_fit gs need ≡ Some (span f.at f.units)) }
     ensures leads { IfSome result (λ f. LeadsToGap w.now.bytes path.new (f.at + UNIT)) }
 {
-    let Some(node) = path.lead_to_first(w, free_tree(), &BySize, need) else {
-        return None;
-    };
-    let Some(gap) = node_block(w, node) else {
-        return None;
-    };
+    let node = path.lead_to_first(w, free_tree(), &BySize, need)?;
+    let gap = node_block(w, node)?;
     if gap.units < need {
         return None;
     }
