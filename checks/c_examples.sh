@@ -1,7 +1,8 @@
 #!/usr/bin/env bash
 # Builds the examples for C and C++ and checks/calls.c with the library for C, runs each by itself and under valgrind, and
-# compares what the examples print; then with each request for memory refused. Needs a C and a C++ compiler, make, valgrind, the library that `rt lib` leaves in
-# crates/lezgauri_c/out, and the program that `rt run` leaves in crates/segtool/out, or another that is given.
+# compares what the examples print; then with each request for memory refused. Needs a C and a C++ compiler, make, valgrind, the
+# library that `rt lib` leaves in crates/lezgauri_c/out, and the program that `rt run` leaves in crates/segtool/out, or another that
+# is given.
 set -eu
 here=$(cd "$(dirname "$0")" && pwd)
 root=$(dirname "$here")
