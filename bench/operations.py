@@ -5,7 +5,8 @@
 
 Each work is a client and a base: the same loop without the library's operations. Both run on the same image; the
 difference, divided by the operations, is what one takes. Instructions are counted by callgrind, which is exact whatever
-else the machine does; times are the least of ROUNDS rounds in which client, base and peer run by turns.
+else the machine does; times are the least of ROUNDS rounds in which client, base and peer run by turns. A work of few
+milliseconds is done several times over for them, since what the program does beside it varies by a millisecond.
 
 The work vec_push_host is no client's: the program BENCH_CALLS, which build.py makes (bench_calls), pushes by the library's
 own call, in a segment of best+tree. What it takes for N pushes is the base of what it takes for 2 N, so its loop counts, as
@@ -32,29 +33,30 @@ class Work:
     operations: int  # in a turn
     before: str | None  # a client that runs on the image first
     size: int  # of the image, in MiB
+    passes: int = 1  # how often the work is done where it is timed
 
 
 WORKS = {
     "vec_push": Work("vec_push", "base_loop", 1000000, 1, None, 32),
     "map_put": Work("map_put", "base_random", 100000, 1, None, 8),
-    "map_walk": Work("map_walk", "base_walk", 100000, 1, "map_put", 8),
+    "map_walk": Work("map_walk", "base_walk", 100000, 1, "map_put", 8, 10),
     "flat_map_put": Work("flat_map_put", "base_random", 20000, 1, None, 2),
     "list_push_pop": Work("list_push_pop", "base_list", 200000, 1, None, 8),
     "str_push": Work("str_push", "base_loop", 1000000, 1, None, 4),
-    "churn": Work("churn", "base_churn", 2000, 16, "churn.setup", 1),
-    "new_drop": Work("new_drop", "base_loop", 100000, 1, None, 1),
+    "churn": Work("churn", "base_churn", 2000, 16, "churn.setup", 1, 20),
+    "new_drop": Work("new_drop", "base_loop", 100000, 1, None, 1, 10),
     "named_construct": Work("named_construct", "base_named", 10000, 1, None, 2),
     "named_find": Work("named_find", "base_loop", 10000, 1, "named_construct", 2),
     "named_destroy": Work("named_destroy", "base_loop", 10000, 1, "named_construct", 2),
     "named_destroy_up": Work("named_destroy_up", "base_loop", 10000, 1, "named_construct", 2),
-    "chain": Work("chain", "base_loop", 20000, 1, None, 2),
+    "chain": Work("chain", "base_loop", 20000, 1, None, 2, 10),
 }
 
 # the steps of a turn of the loops that Lua runs too
 LOOPS = {"loop_count": 3, "loop_mixed": 9}
 
 # the work of a host, the peer's beside it, and how many pushes are its base
-HOST, HOST_PEER, HOST_CONFIG, HOST_PUSHES = "vec_push_host", "vec_push", "best+tree", 500000
+HOST, HOST_PEER, HOST_CONFIG, HOST_PUSHES = "vec_push_host", "vec_push", "best+tree", 1000000
 
 
 def run(*words):
@@ -88,10 +90,14 @@ class Bench:
     def __init__(self, segtool, folder):
         self.segtool, self.folder = segtool, folder
 
-    def client(self, name, turns):
-        made = f"{self.folder}/{name}.{turns}"
+    def client(self, name, turns, passes=1):
+        """A client with so many turns a pass. One whose text has no passes makes as many turns in a row."""
+        made = f"{self.folder}/{name}.{turns}.{passes}"
         if not os.path.exists(made):
-            text = open(f"{HERE}/clients/{name}.text").read().replace("@N", str(turns))
+            text = open(f"{HERE}/clients/{name}.text").read()
+            if "@P" not in text:
+                turns *= passes
+            text = text.replace("@N", str(turns)).replace("@P", str(passes))
             open(f"{made}.text", "w").write(text)
             run(self.segtool, "asm", f"{made}.text", made)
         return made
@@ -107,10 +113,10 @@ class Bench:
     def command(self, image, client):
         return [self.segtool, "run", image, f"{self.folder}/saved", client]
 
-    def pair(self, work, config, turns):
+    def pair(self, work, config, turns, passes=1):
         """The commands of a work's client and of its base."""
         image = self.image(config, work.size << 20, work.before, turns if work.before != "churn.setup" else 0)
-        clients = self.client(work.client, turns), self.client(work.base, turns)
+        clients = self.client(work.client, turns, passes), self.client(work.base, turns, passes)
         return [self.command(image, client) for client in clients]
 
 
@@ -140,35 +146,42 @@ def compare_loop(bench, name, rounds, count):
     row(name, "a step", counted[0], times[0], counted[1], times[1])
 
 
-def compare(name, config, pair, other, operations, rounds, count):
-    """A command and its base, which lacks so many operations, beside Boost.Interprocess: what an operation takes."""
+def count_pair(pair, other, operations):
+    """The instructions of an operation that a command has beyond its base, and of the peer's."""
     whole, base = pair
-    ours = theirs = 0
-    if count:
-        ours = (instructions(whole) - instructions(base)) / operations
-        theirs = instructions(other, ["--instr-atstart=no"]) / operations
-    least = {"whole": 1e9, "base": 1e9, "peer": 1e9}
+    ours = instructions(whole) - instructions(base)
+    return ours / operations, instructions(other, ["--instr-atstart=no"]) / operations
+
+
+def time_pair(pair, other, operations, rounds):
+    """The least times, in nanoseconds, of an operation that a command has beyond its base, and of the peer's."""
+    whole, base, peer = 1e9, 1e9, 1e9
     for _ in range(rounds):
-        least["whole"] = min(least["whole"], seconds(whole))
-        least["base"] = min(least["base"], seconds(base))
-        least["peer"] = min(least["peer"], float(run(*other).stdout.split()[3]))
-    our_time = (least["whole"] - least["base"]) / operations * 1e9
-    row(name, config, ours, our_time, theirs, least["peer"])
+        whole, base = min(whole, seconds(pair[0])), min(base, seconds(pair[1]))
+        peer = min(peer, float(run(*other).stdout.split()[3]))
+    return (whole - base) / operations * 1e9, peer
 
 
 def compare_work(bench, peer, name, config, rounds, count):
     """A client beside Boost.Interprocess."""
     work = WORKS[name]
     operations = work.turns * work.operations
-    pair = bench.pair(work, config, work.turns)
-    compare(name, config, pair, [peer, name, config, str(operations)], operations, rounds, count)
+    counted = 0, 0
+    if count:
+        counted = count_pair(bench.pair(work, config, work.turns), [peer, name, config, str(operations)], operations)
+    pair = bench.pair(work, config, work.turns, work.passes)
+    other = [peer, name, config, str(operations), str(work.passes)]
+    timed = time_pair(pair, other, operations * work.passes, rounds)
+    row(name, config, counted[0], timed[0], counted[1], timed[1])
 
 
 def compare_host(calls, peer, rounds, count):
     """A host's own pushes beside Boost.Interprocess."""
     pair = [calls, str(2 * HOST_PUSHES)], [calls, str(HOST_PUSHES)]
     other = [peer, HOST_PEER, HOST_CONFIG, str(HOST_PUSHES)]
-    compare(HOST, HOST_CONFIG, pair, other, HOST_PUSHES, rounds, count)
+    counted = count_pair(pair, other, HOST_PUSHES) if count else (0, 0)
+    timed = time_pair(pair, other, HOST_PUSHES, rounds)
+    row(HOST, HOST_CONFIG, counted[0], timed[0], counted[1], timed[1])
 
 
 def main():
@@ -181,7 +194,8 @@ def main():
     parser.add_argument("--no-count", action="store_true")
     words = parser.parse_args()
     only, configs = words.only.split(","), words.configs.split(",")
-    with tempfile.TemporaryDirectory() as folder:
+    # in memory where the system has such a folder, so that no time goes to a disk
+    with tempfile.TemporaryDirectory(dir="/dev/shm" if os.path.isdir("/dev/shm") else None) as folder:
         bench, peer = Bench(os.path.abspath(words.segtool), folder), f"{folder}/peer"
         run("g++", "-O2", "-std=c++17", f"{HERE}/peer.cpp", "-o", peer, "-lpthread", "-lrt")
         print(f"{'':27}{'ours':>10}{'':9}{'peer':>10}{'':9}{'ratio':>8}")

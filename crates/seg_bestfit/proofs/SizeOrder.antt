@@ -1,6 +1,6 @@
 -- The nodes of the tree compare as the gaps are ordered: by size, then by position.
-use Rattle.std.proofs.Common.{◌≡◌, ◌≢◌, ℕ, ◌+◌, ◌-◌, ◌<◌, ◌≤◌, ◌⊎◌, inl, inr, ⊎_elim, Bool, true, false, leb, eqb, List, [], ◌∷◌, ◌++◌, map, cond, Some, refl, sym, ap, ◌∙◌, subst, arith, le-leb}
-use Rattle.std.proofs.lemmas.Bool.{cases_lt}
+use Rattle.std.proofs.Common.{◌≡◌, ◌≢◌, ℕ, ◌+◌, ◌-◌, ◌*◌, ◌^◌, ◌<◌, ◌≤◌, ◌⊎◌, inl, inr, ⊎_elim, Bool, true, false, leb, eqb, List, [], ◌∷◌, ◌++◌, map, cond, Some, refl, sym, ap, ◌∙◌, subst, arith, le-leb}
+use Rattle.std.proofs.lemmas.Bool.{cases_lt, cases_order}
 use Rattle.std.proofs.lemmas.Bool.Decides.{nat_tests}
 use Rattle.std.specs.Cmp.{nat_cmp_is}
 use Rattle.std.specs.List.{AllByRecursion}
@@ -38,6 +38,26 @@ cmp_equal x y h = sym (nat_cmp_is x y Equal h)
 
 pub cmp_greater : (x y : ℕ) → y < x → nat_cmp x y ≡ Greater
 cmp_greater x y h = sym (nat_cmp_is x y Greater h)
+
+-- numbers above others of 32 bits compare first
+pub packed : (a b x y : ℕ) → x < 2 ^ 32 → y < 2 ^ 32 → nat_cmp (a * 2 ^ 32 + x) (b * 2 ^ 32 + y) ≡ ordering_then (nat_cmp a b) (nat_cmp x y)
+packed a b x y low_x low_y = by_first (cases_order a b)
+  where
+    this : ℕ
+    this = a * 2 ^ 32 + x
+
+    that : ℕ
+    that = b * 2 ^ 32 + y
+
+    by_second : a ≡ b → (x ≡ y) ⊎ ((x < y) ⊎ (y < x)) → nat_cmp this that ≡ nat_cmp x y
+    by_second e (inl same) = cmp_equal this that (omega (arith, e, same)) ∙ sym (cmp_equal x y same)
+    by_second e (inr (inl less)) = cmp_less this that (omega (arith, e, less)) ∙ sym (cmp_less x y less)
+    by_second e (inr (inr more)) = cmp_greater this that (omega (arith, e, more)) ∙ sym (cmp_greater x y more)
+
+    by_first : (a ≡ b) ⊎ ((a < b) ⊎ (b < a)) → nat_cmp this that ≡ ordering_then (nat_cmp a b) (nat_cmp x y)
+    by_first (inl e) = by_second e (cases_order x y) ∙ sym (ap (λ r. ordering_then r (nat_cmp x y)) (cmp_equal a b e))
+    by_first (inr (inl less)) = cmp_less this that (omega (arith, less, low_x, low_y)) ∙ sym (ap (λ r. ordering_then r (nat_cmp x y)) (cmp_less a b less))
+    by_first (inr (inr more)) = cmp_greater this that (omega (arith, more, low_x, low_y)) ∙ sym (ap (λ r. ordering_then r (nat_cmp x y)) (cmp_greater a b more))
 
 before_trans : (f g h : Span) → IsBefore f g → IsBefore g h → IsBefore f h
 before_trans f g h (inl a) (inl b) = inl (omega arith)

@@ -30,6 +30,13 @@ fn size(view: View, node: u32) -> u32
     units_in(view.get32(node.saturating_sub(UNIT) as usize))
 }
 
+/// The place in the order of the free block with this node: its units, then its position, in one number.
+fn rank(view: View, node: u32) -> u64
+    ensures { result ≡ node_units view.entry.bytes.now node * 2 ^ 32 + node }
+{
+    u64::from(size(view, node)) * (1 << 32) + u64::from(node)
+}
+
 impl NodeOrder<u32> for BySize {
     ghost exact = { ⊤ };
 
@@ -40,9 +47,7 @@ impl NodeOrder<u32> for BySize {
     ghost read = { λ _ _ x. part (x - 16) 4 ∷ [] };
 
     fn nodes(&self, view: View, node: u32, other: u32) -> Ordering {
-        size(view, node)
-            .cmp(&size(view, other))
-            .then(node.cmp(&other))
+        rank(view, node).cmp(&rank(view, other))
     }
 
     fn key(&self, view: View, node: u32, key: u32) -> Ordering {

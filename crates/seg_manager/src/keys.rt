@@ -25,7 +25,8 @@ impl<F: Fit, A: Allocator> Segment<F, A> {
         ensures first { WhereMaps F.allocator self.old.window.bytes self.old.types (place_of map)
             (λ U keys vs blocks. result_ok result ≡ first_of keys) }
     {
-        first_key_by(&self.heap, &mut self.cursor, map)
+        self.cursor.keep();
+        first_key_by(&self.heap, &mut self.cursor.way, map)
     }
 
     /// The least key above another, which need not be there. `OtherType` where the place is no map, `Null` where no key is
@@ -39,6 +40,7 @@ impl<F: Fit, A: Allocator> Segment<F, A> {
         ensures next { WhereMaps F.allocator self.old.window.bytes self.old.types (place_of map)
             (λ U keys vs blocks. result_ok result ≡ first_of (keys_above keys after)) }
     {
-        next_key_by(&self.heap, &mut self.cursor, map, after)
+        self.cursor.keep();
+        next_key_by(&self.heap, &mut self.cursor.way, map, after)
     }
 }

@@ -2,6 +2,7 @@
 #![tactic(auto)]
 
 mod anonymous;
+mod cursor;
 mod keys;
 mod names;
 mod segment;

@@ -6,11 +6,11 @@ ghost use Rattle.seg_spec.specs.Types.{AreOfVersion, IsTable, HasTable, Agree, I
 ghost use Rattle.seg_spec.specs.Window.{region_of, KeepsHost};
 ghost use Rattle.seg_manager.specs.Segments.{IsSegment, AddsTypes};
 
+use crate::cursor::Cursor;
 use seg_block::Fit;
 use seg_layout::{ENTRY, MAX_TYPES, TypeId, TypeTable};
 use seg_ptr::{Window, header};
 use seg_raw::{Fault, Region};
-use seg_rbtree::Path;
 use seg_value::Heap;
 use std::alloc::Allocator;
 use std::marker::Model;
@@ -21,19 +21,19 @@ use std::marker::Model;
 #[derive(Drop)]
 pub struct Segment<F: Fit, A: Allocator> {
     pub(crate) heap: Heap<F, A>,
-    /// The way to the key of a map that was returned last. It begins at the root again where the heap may change.
-    pub(crate) cursor: Path,
+    /// The way to the key of a map that was returned last. It is dropped where the heap may change.
+    pub(crate) cursor: Cursor,
 }
 
 impl<F: Fit, A: Allocator> Model for Segment<F, A> {
     ghost use Rattle.seg_value.specs.Stored.{Stored};
-    ghost use Rattle.seg_rbtree.specs.Following.{LeadsInside};
+    ghost use Rattle.seg_manager.specs.Cursors.{IsInside};
 
     ghost Value = { Stored };
 
     ghost view = { λ segment. segment.heap };
 
-    ghost invariant = { λ segment. LeadsInside segment.heap.window.bytes segment.cursor };
+    ghost invariant = { λ segment. IsInside segment.heap.window.bytes segment.cursor };
 }
 
 impl<F: Fit, A: Allocator> Segment<F, A> {
@@ -44,7 +44,7 @@ impl<F: Fit, A: Allocator> Segment<F, A> {
     {
         Segment {
             heap: Heap::new(window, types),
-            cursor: Path::new(0),
+            cursor: Cursor::new(),
         }
     }
 
@@ -65,7 +65,7 @@ impl<F: Fit, A: Allocator> Segment<F, A> {
         ensures* writes_back { sem 𝓛 (Lends (the_row F.row A.row F.Fit A.Allocator)
             (the_heap.the_row F.row A.row F.Fit A.Allocator) self.entry result (λ heap. heap)) }
     {
-        self.cursor.rewind();
+        self.cursor.lose();
         &mut self.heap
     }
 

@@ -26,8 +26,7 @@ impl Path {
             → result ≡ first_where (λ _. true) (nodes_of shape) }
         ensures inside { LeadsInside w.now.bytes self.new }
     {
-        self.root = tree.root;
-        self.rewind();
+        self.begin(tree);
         descend_to_first(w.view(), self)
     }
 
@@ -108,8 +107,7 @@ impl Path {
             (nodes_of shape)) }
         ensures inside { O.exact → LeadsInside w.now.bytes self.new }
     {
-        self.root = tree.root;
-        self.rewind();
+        self.begin(tree);
         self.descend(w, order, Sought::Key(key));
         self.go_on(w.view())
     }

@@ -9,6 +9,7 @@ ghost use Rattle.seg_rbtree.specs.declared.path.TheConstants.{DEPTH};
 
 use crate::node::{Side, child_word, rotate};
 use crate::step::Step;
+use crate::tree::Tree;
 use arrayvec::ArrayVec;
 use seg_ptr::{View, Window};
 use std::alloc::Allocator;
@@ -46,6 +47,16 @@ impl Path {
         ensures inside { (bytes : List ℕ) → LeadsInside bytes self.new }
     {
         self.steps.clear();
+    }
+
+    /// Goes to the place of a tree's root.
+    #[inline]
+    pub(crate) fn begin(&mut self, tree: Tree)
+        ensures root { self.new.root ≡ tree.root }
+        ensures steps { self.new.steps.items ≡ [] }
+    {
+        self.root = tree.root;
+        self.rewind();
     }
 
     /// One step down. False where the way is longer than any in a tree.

@@ -175,8 +175,7 @@ impl Path {
         ensures found { O.exact → WhereOrdered (O.compare order.now) w.now (root_word tree)
             (λ shape. IsAmong node (nodes_of shape) → node_at w.now.bytes self.new ≡ Some node) }
     {
-        self.root = tree.root;
-        self.rewind();
+        self.begin(tree);
         self.descend(w, order, Sought::Node(node));
     }
 
@@ -199,8 +198,7 @@ impl Path {
             (λ node. LeadsTo (O.compare order.now w.now.bytes node) shape self.new
             × (node_at w.now.bytes self.new ≡ Some node))) }
     {
-        self.root = tree.root;
-        self.rewind();
+        self.begin(tree);
         self.descend(w, order, Sought::First(key));
         self.climb()
     }

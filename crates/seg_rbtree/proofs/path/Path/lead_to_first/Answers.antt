@@ -12,10 +12,10 @@ led g c exact shape t a =
     let bytes = c.args.w.now.bytes in
     let order = c.args.order.now in
     let path = c.descend.new.self in
-    let hung = subst (λ (root : ℕ). IsSearchTree bytes root shape) (sym c.rewind.ensures.root) t in
+    let hung = subst (λ (root : ℕ). IsSearchTree bytes root shape) (sym c.begin.ensures.root) t in
     led_to_first (λ (x : ℕ). g.O.NodeOrder.compare_key order bytes x c.args.key) (g.O.NodeOrder.compare order bytes) (λ x y less. g.met.O.NodeOrder.keyed exact order bytes x y c.args.key less)
     (g.met.O.NodeOrder.total exact order bytes) bytes path c.climb.new.self shape c.climb.result c.climb.ensures.root (subst (λ (root : ℕ). IsSearchTree bytes root shape) (sym c.descend.ensures.root) hung) a
-    (c.descend.ensures.leads exact c.rewind.ensures.steps shape hung) c.climb.ensures.climbs
+    (c.descend.ensures.leads exact c.begin.ensures.steps shape hung) c.climb.ensures.climbs
 
 pub returns-clause-node : goal.returns-clause-node
 returns-clause-node g c = λ exact shape t a. (led g c exact shape t a).node_is

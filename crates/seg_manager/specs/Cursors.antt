@@ -1,0 +1,8 @@
+-- The way to a key of a map.
+--     IsInside bytes cursor      a way that is kept leads to a place of each search tree at its root
+use Rattle.std.specs.Prelude.{◌≡◌, ℕ, List, true}
+use Rattle.seg_rbtree.specs.Following.{LeadsInside}
+use Rattle.seg_manager.specs.declared.cursor.Cursor.{Cursor}
+
+abbrev pub IsInside : List ℕ → Cursor → Type 0
+IsInside bytes cursor = cursor.is_kept ≡ true → LeadsInside bytes cursor.way

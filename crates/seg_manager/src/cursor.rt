@@ -1,0 +1,43 @@
+//! The way to a key of a map that was returned last.
+
+ghost use Rattle.std.specs.Prelude.{◌≡◌, ℕ, List, true, false};
+ghost use Rattle.seg_rbtree.specs.Following.{LeadsInside};
+ghost use Rattle.seg_manager.specs.Cursors.{IsInside};
+
+use seg_rbtree::Path;
+
+/// A way down a map, which counts as long as it is kept.
+#[derive(Drop)]
+pub(crate) struct Cursor {
+    pub(crate) way: Path,
+    is_kept: bool,
+}
+
+impl Cursor {
+    pub(crate) fn new() -> Cursor
+        ensures { (bytes : List ℕ) → IsInside bytes result }
+    {
+        Cursor {
+            way: Path::new(0),
+            is_kept: false,
+        }
+    }
+
+    /// Drops the way, which may be out of date from here on.
+    // One write, since each lending of the heap does it.
+    pub(crate) fn lose(&mut self)
+        ensures { (bytes : List ℕ) → IsInside bytes self.new }
+    {
+        self.is_kept = false;
+    }
+
+    /// Keeps the way: the one there is, or one that begins at the root where that was dropped.
+    pub(crate) fn keep(&mut self)
+        ensures { (bytes : List ℕ) → IsInside bytes self.old → LeadsInside bytes self.new.way }
+    {
+        if !self.is_kept {
+            self.way.rewind();
+            self.is_kept = true;
+        }
+    }
+}
