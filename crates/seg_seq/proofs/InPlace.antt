@@ -1,6 +1,7 @@
 -- Entries that a buffer has room for, from what the calls below them return.
 use Rattle.std.proofs.Common.{◌≡◌, ℕ, ◌+◌, ◌-◌, ◌*◌, ◌%◌, ◌^◌, ◌<◌, ◌≤◌, ◌⊎◌, inl, inr, min, List, [], length, Option, Some, refl, sym, ◌∙◌, ap, subst, arith, zero-add}
-use Rattle.seg_bytes.specs.Bytes.{long, signed, signed_long, set_word, set_long, ChangesOnly}
+use Rattle.std.proofs.lemmas.Grind.{common_steps}
+use Rattle.seg_bytes.specs.Bytes.{long, signed, set_word, set_long, ChangesOnly}
 use Rattle.seg_spec.specs.Heap.{units_at}
 use Rattle.seg_spec.specs.Block.{block_of}
 use Rattle.seg_spec.specs.Pointer.{target}
@@ -20,6 +21,7 @@ use Rattle.seg_layout.specs.declared.kind.«Type».{«Type»}
 use Rattle.seg_layout.specs.declared.kind.«Type».TheVariants as kind
 use Rattle.seg_block.specs.declared.tag.Kind.TheVariants as tag
 use Rattle.seg_value.specs.Stored.{Stored}
+use Rattle.seg_value.specs.Contents.{numbers_in}
 use Rattle.seg_cells.specs.Places.{object_at}
 use Rattle.seg_value.specs.Buffers.{NamesBuffer}
 use Rattle.seg_cells.specs.Entries.{IsEntryOf}
@@ -48,13 +50,14 @@ lent_keeps old lent xs same is =
 
 -- ---- what the program reads in the table
 
-pub number_form : (table : Table) (T : ℕ) (o : Option «Type») (k : «Type») → form_at table T ≡ map_option form_of o → o ≡ Some k → k ≡ kind.I64 → form_at table T ≡ Some Form.i64
-number_form table T o k read is number = read ∙ ap (map_option form_of) (is ∙ ap (λ t. Some t) number)
-
 pub vector_form : (table : Table) (T U V : ℕ) (o : Option «Type») (k : «Type») → form_at table T ≡ map_option form_of o → o ≡ Some k → k ≡ kind.Vec V → (form_at table T ≡ Some (Form.vec V)) × (form_at table T ≡ Some (Form.vec U) → V ≡ U)
 vector_form table T U V o k read is vec =
     let f : form_at table T ≡ Some (Form.vec V) = read ∙ ap (map_option form_of) (is ∙ ap (λ t. Some t) vec) in
     (f, λ other. let same : Some (Form.vec V) ≡ Some (Form.vec U) = sym f ∙ other in cc)
+
+-- what a heap tells to be a vector of numbers has numbers as its items
+pub number_items : (table : Table) (T U V : ℕ) → numbers_in table T ≡ Some V → form_at table T ≡ Some (Form.vec U) → form_at table U ≡ Some Form.i64
+number_items table T U V told vector = grind (arith, common_steps)
 
 pub text_form : (table : Table) (T : ℕ) (o : Option «Type») (k : «Type») → form_at table T ≡ map_option form_of o → o ≡ Some k → k ≡ kind.Str → form_at table T ≡ Some Form.str
 text_form table T o k read is text = read ∙ ap (map_option form_of) (is ∙ ap (λ t. Some t) text)

@@ -12,7 +12,6 @@ use crate::kind::Kind;
 use crate::pushing::push_number_in_place;
 use crate::sequence::count_entry;
 use seg_block::Fit;
-use seg_layout::Type;
 use seg_raw::Code;
 use seg_value::{Content, Heap, Place};
 use std::alloc::Allocator;
@@ -31,12 +30,9 @@ impl Numbers {
             (λ numbers. (numbers.vector ≡ vector) × HasNumbers heap.now.types vector.type_id)
             (λ code. (code ≡ OtherType) × ¬ HasNumbers heap.now.types vector.type_id) }
     {
-        let Some(Type::Vec(item)) = heap.types().kind(vector.type_id) else {
-            return Err(Code::OtherType);
-        };
-        match heap.types().kind(item) {
-            Some(Type::I64) => Ok(Numbers { vector }),
-            Some(_) | None => Err(Code::OtherType),
+        match heap.number_type(vector.type_id) {
+            Some(_) => Ok(Numbers { vector }),
+            None => Err(Code::OtherType),
         }
     }
 

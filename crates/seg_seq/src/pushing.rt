@@ -33,33 +33,34 @@ pub fn push_in_place<F: Fit, A: Allocator>(heap: &mut Heap<F, A>, vector: Place)
         (IsFull heap.old (place_of vector) U)
         (λ item. PushesBack F.allocator heap.old heap.new (place_of vector) U vs blocks item.at) }
 {
-    let Some(Type::Vec(type_id)) = heap.types().kind(vector.type_id) else {
-        return None;
-    };
-    let at = push_default(heap, vector.at, type_id)?;
-    Some(Place { at, type_id })
+    match heap.number_type(vector.type_id) {
+        Some(type_id) => {
+            let at = push_number_in_place(heap, vector.at, 0)?;
+            Some(Place { at, type_id })
+        }
+        None => push_any_in_place(heap, vector),
+    }
 }
 
-/// Adds a default item of this type to the vector whose cell stands at a position, and returns the item's. None where its
-/// buffer has no room.
-#[inline(always)]
-fn push_default<F: Fit, A: Allocator>(
-    heap: &mut Heap<F, A>,
-    cell: u32,
-    type_id: TypeId,
-) -> Option<u32>
+/// As [`push_in_place`], of a vector of any values.
+#[inline(never)]
+fn push_any_in_place<F: Fit, A: Allocator>(heap: &mut Heap<F, A>, vector: Place) -> Option<Place>
     ensures window { KeepsHost heap.old.window heap.new.window }
     ensures types { heap.new.types ≡ heap.old.types }
     ensures none { result ≡ None → heap.new.window ≡ heap.old.window }
-    ensures vector { (T U : ℕ) (vs : Values) (blocks : List ℕ) →
-        HasItems F.allocator heap.old (object_at cell T) U vs blocks → type_id ≡ U →
-        MatchOption result (IsFull heap.old (object_at cell T) U)
-        (PushesBack F.allocator heap.old heap.new (object_at cell T) U vs blocks) }
+    ensures some { IfSome result
+        (λ item. form_at heap.old.types vector.type_id ≡ Some (Form.vec item.type_id)) }
+    ensures vector { (U : ℕ) (vs : Values) (blocks : List ℕ) →
+        HasItems F.allocator heap.old (place_of vector) U vs blocks →
+        MatchOption result
+        (IsFull heap.old (place_of vector) U)
+        (λ item. PushesBack F.allocator heap.old heap.new (place_of vector) U vs blocks item.at) }
 {
-    match heap.types().kind(type_id) {
-        Some(Type::I64) => push_number_in_place(heap, cell, 0),
-        Some(_) | None => push_value(heap, cell, type_id),
-    }
+    let Some(Type::Vec(type_id)) = heap.types().kind(vector.type_id) else {
+        return None;
+    };
+    let at = push_value(heap, vector.at, type_id)?;
+    Some(Place { at, type_id })
 }
 
 /// Adds a number to the vector of numbers whose cell stands at a position, and returns the number's. None where its buffer has
@@ -99,7 +100,8 @@ fn put_number(bytes: &mut [u8], cell: u32, count: u32, at: usize, number: u64)
     }
 }
 
-/// As [`push_default`], of a vector of any values.
+/// Adds a default item of this type to the vector whose cell stands at a position, and returns the item's. None where its
+/// buffer has no room.
 #[inline(always)]
 fn push_value<F: Fit, A: Allocator>(
     heap: &mut Heap<F, A>,

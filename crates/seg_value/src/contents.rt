@@ -1,15 +1,18 @@
 ghost use Rattle.std.specs.Prelude.{◌≡◌, get_or, None};
 ghost use Rattle.seg_spec.specs.Types.{IsTable};
+ghost use Rattle.seg_value.specs.Contents.{AreNumbers, numbers_in};
 
 use seg_cells::{Cells, IDS};
 use seg_content::Content;
-use seg_layout::{MAX_TYPES, TypeId, TypeTable};
+use seg_layout::{MAX_TYPES, Type, TypeId, TypeTable};
 
 /// What the cells of each type of a table name, and what its values are made of, worked out once.
 #[derive(Drop)]
 pub(crate) struct Contents {
     of_types: [Option<Content>; MAX_TYPES],
     cells: [Cells; IDS],
+    /// The type of the items, of each type that is a vector of numbers.
+    numbers: [Option<TypeId>; IDS],
 }
 
 impl Contents {
@@ -20,6 +23,7 @@ impl Contents {
     pub(crate) fn of(types: &TypeTable) -> Contents
         ensures contents { AreContents types.now result.of_types }
         ensures cells { AreCells types.now result.cells }
+        ensures numbers { AreNumbers types.now result.numbers }
         ensures table { IsTable types.now }
     {
         let mut of_types = [None; MAX_TYPES];
@@ -27,7 +31,12 @@ impl Contents {
             of_types[t] = Content::of(types, t as TypeId);
         }
         let cells = Cells::of_each(types);
-        Contents { of_types, cells }
+        let numbers = number_types(types);
+        Contents {
+            of_types,
+            cells,
+            numbers,
+        }
     }
 
     /// As [`Content::of`] a type of the table.
@@ -45,5 +54,36 @@ impl Contents {
             .get(usize::from(t))
             .copied()
             .unwrap_or(Cells::Number)
+    }
+
+    /// The type of the items of a vector of numbers. None for all other types.
+    pub(crate) fn number_type(&self, t: TypeId) -> Option<TypeId>
+        ensures { result ≡ get_or self.now.numbers t None }
+    {
+        self.numbers[usize::from(t)]
+    }
+}
+
+/// The type of the items of each vector of numbers, and None for all other types, those that the table lacks too.
+fn number_types(types: &TypeTable) -> [Option<TypeId>; IDS]
+    ensures { AreNumbers types.now result }
+{
+    let mut each = [None; IDS];
+    for t in 0..types.len() {
+        each[t] = number_type(types, t as TypeId);
+    }
+    each
+}
+
+/// The type of the items of a vector of numbers. None for all other types.
+fn number_type(types: &TypeTable, t: TypeId) -> Option<TypeId>
+    ensures { result ≡ numbers_in types.now t }
+{
+    let Some(Type::Vec(item)) = types.kind(t) else {
+        return None;
+    };
+    match types.kind(item) {
+        Some(Type::I64) => Some(item),
+        Some(_) | None => None,
     }
 }

@@ -31,12 +31,13 @@ impl<F: Fit, A: Allocator> Model for Heap<F, A> {
     ghost view = { λ heap. record { window = heap.window; types = heap.types } };
 
     ghost invariant = { λ heap. IsDescribed heap.types heap.contents.of_types
-        heap.contents.cells };
+        heap.contents.cells heap.contents.numbers };
 }
 
 impl<F: Fit, A: Allocator> Heap<F, A> {
     ghost use Rattle.std.specs.Borrow.{Lends, sem};
     ghost use Rattle.seg_ptr.specs.contracts.window.Window as the_window;
+    ghost use Rattle.seg_value.specs.Contents.{numbers_in};
     ghost use Rattle.seg_value.specs.contracts.heap.Heap.{the_row};
 
     pub fn new(window: Window<A>, types: TypeTable) -> Heap<F, A>
@@ -111,6 +112,13 @@ impl<F: Fit, A: Allocator> Heap<F, A> {
         ensures { ContentOf self.now.types t (form_at self.now.types t) result }
     {
         self.contents.get(t)
+    }
+
+    /// The type of the items, where the values of a type are vectors of numbers.
+    pub fn number_type(&self, t: TypeId) -> Option<TypeId>
+        ensures { result ≡ numbers_in self.now.types t }
+    {
+        self.contents.number_type(t)
     }
 
     /// What the values of a type are made of.
