@@ -1,4 +1,4 @@
-use Rattle.std.proofs.Common.{◌≡◌, ◌∙◌}
+use Rattle.std.proofs.Common.{◌∙◌}
 use Rattle.std.specs.Ordering.{nat_cmp}
 use Rattle.seg_bestfit.specs.FreeTree.{node_units}
 use Rattle.seg_bestfit.proofs.SizeOrder.{packed}
