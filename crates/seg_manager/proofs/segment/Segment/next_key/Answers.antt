@@ -10,5 +10,5 @@ use Rattle.seg_manager.proofs.segment.Segment.next_key.Goals as goal
 pub returns-clause-next : goal.returns-clause-next
 returns-clause-next g c = λ U keys vs blocks m stands.
     (subst (λ (s : Stored). WhereMaps g.F.Fit.allocator s.window.bytes s.types (place_of c.args.map) (λ U keys vs blocks. result_ok c.next_key_by.result ≡ first_of (keys_above keys (to_z w64 (of_z w64 c.args.after)))))
-    c.self.view_is (c.next_key_by.ensures.next c.self.invariant)) U keys vs blocks m stands
+    c.self.view_is (c.next_key_by.ensures.next (c.keep.ensures _ c.self.invariant))) U keys vs blocks m stands
     ∙ ap (λ k. first_of (keys_above keys k)) (to_z-of_z w64 c.args.after c.ranges.after)
