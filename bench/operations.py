@@ -1,7 +1,9 @@
 #!/usr/bin/env python3
 """Compares the clients of segtool, and a host's own calls, with Boost.Interprocess and Lua, an operation at a time.
 
-    operations.py SEGTOOL [--calls BENCH_CALLS] [--time ROUNDS] [--only WORK,..] [--configs best+tree,seq+flat] [--no-count]
+    operations.py SEGTOOL.. [--calls BENCH_CALLS..] [--time ROUNDS] [--only WORK,..] [--configs best+tree,seq+flat] [--no-count]
+
+With several SEGTOOLs, before and after a change say, each has its row, and all run by turns.
 
 Each work is a client and a base: the same loop without the library's operations. Both run on the same image; the
 difference, divided by the operations, is what one takes. Instructions are counted by callgrind, which is exact whatever
@@ -18,6 +20,7 @@ import os
 import subprocess
 import tempfile
 from dataclasses import dataclass
+from functools import partial
 
 HERE = os.path.dirname(os.path.abspath(__file__))
 
@@ -84,11 +87,17 @@ def seconds(words):
     return used.ru_utime + used.ru_stime
 
 
+def peer_time(words):
+    """The nanoseconds of an operation that the peer prints."""
+    return float(run(*words).stdout.split()[3])
+
+
 class Bench:
     """The clients and the images, made where they are first asked for, in a folder."""
 
     def __init__(self, segtool, folder):
         self.segtool, self.folder = segtool, folder
+        os.makedirs(folder, exist_ok=True)
 
     def client(self, name, turns, passes=1):
         """A client with so many turns a pass. One whose text has no passes makes as many turns in a row."""
@@ -129,65 +138,79 @@ def row(name, config, ours, our_time, peer, peer_time):
     )
 
 
-def compare_loop(bench, name, rounds, count):
-    """A loop of a client beside the same loop in Lua: what a step takes."""
-    steps, image = LOOPS[name], bench.image("seq+flat", 65536)
-    ours = lambda turns: bench.command(image, bench.client(name, turns))
-    lua = lambda turns: ["lua5.4", f"{HERE}/{name}.lua", str(turns)]
-    counted = [0, 0]
-    if count:
-        counted = [(instructions(it(400000)) - instructions(it(200000))) / 200000 / steps for it in (ours, lua)]
-    turns, least, nothing = 20000000, [1e9, 1e9], [1e9, 1e9]
-    for _ in range(rounds):
-        for i, it in enumerate((ours, lua)):
-            least[i] = min(least[i], seconds(it(turns)))
-            nothing[i] = min(nothing[i], seconds(it(1)))
-    times = [(least[i] - nothing[i]) / turns / steps * 1e9 for i in range(2)]
-    row(name, "a step", counted[0], times[0], counted[1], times[1])
-
-
-def count_pair(pair, other, operations):
-    """The instructions of an operation that a command has beyond its base, and of the peer's."""
+def count(pair, operations):
+    """The instructions of an operation that a command has beyond its base."""
     whole, base = pair
-    ours = instructions(whole) - instructions(base)
-    return ours / operations, instructions(other, ["--instr-atstart=no"]) / operations
+    return (instructions(whole) - instructions(base)) / operations
 
 
-def time_pair(pair, other, operations, rounds):
-    """The least times, in nanoseconds, of an operation that a command has beyond its base, and of the peer's."""
-    whole, base, peer = 1e9, 1e9, 1e9
+def least(measures, rounds):
+    """The least of each measure. They are taken by turns."""
+    found = [1e9] * len(measures)
     for _ in range(rounds):
-        whole, base = min(whole, seconds(pair[0])), min(base, seconds(pair[1]))
-        peer = min(peer, float(run(*other).stdout.split()[3]))
-    return (whole - base) / operations * 1e9, peer
+        found = [min(before, measure()) for before, measure in zip(found, measures)]
+    return found
 
 
-def compare_work(bench, peer, name, config, rounds, count):
+def time_pairs(pairs, operations, rounds, others=()):
+    """The least times, in nanoseconds, of an operation that each command has beyond its base; then those of other measures."""
+    timers = [partial(seconds, command) for pair in pairs for command in pair]
+    found = least([*timers, *others], rounds)
+    ends = len(timers)
+    ours = [(whole - base) / operations * 1e9 for whole, base in zip(found[:ends:2], found[1:ends:2])]
+    return ours + found[ends:]
+
+
+def rows(name, config, counts, times):
+    """A row for each build of ours, beside the peer, which comes last."""
+    *our_counts, peer_count = counts
+    *our_times, peer_time = times
+    for ours, our_time in zip(our_counts, our_times):
+        row(name, config, ours, our_time, peer_count, peer_time)
+
+
+def compare_loop(benches, name, rounds, counts):
+    """A loop of a client beside the same loop in Lua: what a step takes."""
+
+    def pairs(turns, base):
+        ours = [[it.command(it.image("seq+flat", 65536), it.client(name, n)) for n in (turns, base)] for it in benches]
+        return [*ours, [["lua5.4", f"{HERE}/{name}.lua", str(n)] for n in (turns, base)]]
+
+    steps, turns = LOOPS[name], 20000000
+    counted = [count(it, 200000 * steps) if counts else 0 for it in pairs(400000, 200000)]
+    rows(name, "a step", counted, time_pairs(pairs(turns, 1), turns * steps, rounds))
+
+
+def count_beside(pairs, other, operations, counts):
+    """The instructions of an operation by each pair of commands, then by the peer. 0 where none are counted."""
+    if not counts:
+        return [0] * (len(pairs) + 1)
+    return [*(count(it, operations) for it in pairs), instructions(other, ["--instr-atstart=no"]) / operations]
+
+
+def compare_work(benches, peer, name, config, rounds, counts):
     """A client beside Boost.Interprocess."""
     work = WORKS[name]
     operations = work.turns * work.operations
-    counted = 0, 0
-    if count:
-        counted = count_pair(bench.pair(work, config, work.turns), [peer, name, config, str(operations)], operations)
-    pair = bench.pair(work, config, work.turns, work.passes)
-    other = [peer, name, config, str(operations), str(work.passes)]
-    timed = time_pair(pair, other, operations * work.passes, rounds)
-    row(name, config, counted[0], timed[0], counted[1], timed[1])
+    other = [peer, name, config, str(operations)]
+    counted = count_beside([it.pair(work, config, work.turns) for it in benches], other, operations, counts)
+    pairs = [it.pair(work, config, work.turns, work.passes) for it in benches]
+    passes = partial(peer_time, [*other, str(work.passes)])
+    rows(name, config, counted, time_pairs(pairs, operations * work.passes, rounds, [passes]))
 
 
-def compare_host(calls, peer, rounds, count):
+def compare_host(calls, peer, rounds, counts):
     """A host's own pushes beside Boost.Interprocess."""
-    pair = [calls, str(2 * HOST_PUSHES)], [calls, str(HOST_PUSHES)]
+    pairs = [[[it, str(n)] for n in (2 * HOST_PUSHES, HOST_PUSHES)] for it in calls]
     other = [peer, HOST_PEER, HOST_CONFIG, str(HOST_PUSHES)]
-    counted = count_pair(pair, other, HOST_PUSHES) if count else (0, 0)
-    timed = time_pair(pair, other, HOST_PUSHES, rounds)
-    row(HOST, HOST_CONFIG, counted[0], timed[0], counted[1], timed[1])
+    counted = count_beside(pairs, other, HOST_PUSHES, counts)
+    rows(HOST, HOST_CONFIG, counted, time_pairs(pairs, HOST_PUSHES, rounds, [partial(peer_time, other)]))
 
 
 def main():
     parser = argparse.ArgumentParser(description=__doc__, formatter_class=argparse.RawDescriptionHelpFormatter)
-    parser.add_argument("segtool")
-    parser.add_argument("--calls", metavar="BENCH_CALLS", help=f"the program bench_calls; without it {HOST} is left out")
+    parser.add_argument("segtool", nargs="+")
+    parser.add_argument("--calls", nargs="+", metavar="BENCH_CALLS", help=f"bench_calls; without it {HOST} is left out")
     parser.add_argument("--time", type=int, default=5, metavar="ROUNDS")
     parser.add_argument("--only", default=",".join([*LOOPS, HOST, *WORKS]), metavar="WORK,..")
     parser.add_argument("--configs", default="best+tree,seq+flat", metavar="CONFIG,..")
@@ -196,17 +219,18 @@ def main():
     only, configs = words.only.split(","), words.configs.split(",")
     # in memory where the system has such a folder, so that no time goes to a disk
     with tempfile.TemporaryDirectory(dir="/dev/shm" if os.path.isdir("/dev/shm") else None) as folder:
-        bench, peer = Bench(os.path.abspath(words.segtool), folder), f"{folder}/peer"
+        peer = f"{folder}/peer"
+        benches = [Bench(os.path.abspath(it), f"{folder}/{i}") for i, it in enumerate(words.segtool)]
         run("g++", "-O2", "-std=c++17", f"{HERE}/peer.cpp", "-o", peer, "-lpthread", "-lrt")
         print(f"{'':27}{'ours':>10}{'':9}{'peer':>10}{'':9}{'ratio':>8}")
         print(f"{'work':17}{'config':10}" + f"{'instr.':>10}{'ns':>9}" * 2 + f"{'instr.':>8}{'ns':>8}")
         for name in filter(LOOPS.__contains__, only):
-            compare_loop(bench, name, words.time, not words.no_count)
+            compare_loop(benches, name, words.time, not words.no_count)
         if words.calls and HOST in only and HOST_CONFIG in configs:
-            compare_host(os.path.abspath(words.calls), peer, words.time, not words.no_count)
+            compare_host([os.path.abspath(it) for it in words.calls], peer, words.time, not words.no_count)
         for name in filter(WORKS.__contains__, only):
             for config in configs:
-                compare_work(bench, peer, name, config, words.time, not words.no_count)
+                compare_work(benches, peer, name, config, words.time, not words.no_count)
 
 
 if __name__ == "__main__":
