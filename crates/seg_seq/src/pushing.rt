@@ -43,7 +43,8 @@ pub fn push_in_place<F: Fit, A: Allocator>(heap: &mut Heap<F, A>, vector: Place)
 }
 
 /// As [`push_in_place`], of a vector of any values.
-#[inline(never)]
+// A call would return the item through memory, and so would the way of numbers, which it joins.
+#[inline(always)]
 fn push_any_in_place<F: Fit, A: Allocator>(heap: &mut Heap<F, A>, vector: Place) -> Option<Place>
     ensures window { KeepsHost heap.old.window heap.new.window }
     ensures types { heap.new.types ≡ heap.old.types }
