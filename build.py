@@ -1,6 +1,6 @@
 #!/usr/bin/env python3
 """Proves and builds a program, crates/NAME/out/NAME, and all below it: segrun, which runs clients, segtool, which has all commands,
-or bench_calls, whose pushes bench/operations.py counts.
+or bench_calls, whose calls bench/operations.py counts.
 
 That is the gate, `rt ci`, of a copy of these crates alone, without the edits that the prover must refuse, so each is proved once."""
 import argparse

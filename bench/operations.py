@@ -10,9 +10,9 @@ difference, divided by the operations, is what one takes. Instructions are count
 else the machine does; times are the least of ROUNDS rounds in which client, base and peer run by turns. A work of few
 milliseconds is done several times over for them, since what the program does beside it varies by a millisecond.
 
-The work vec_push_host is no client's: the program BENCH_CALLS, which build.py makes (bench_calls), pushes by the library's
-own call, in a segment of best+tree. What it takes for N pushes is the base of what it takes for 2 N, so its loop counts, as
-the peer's does. Without --calls the work is left out.
+The works of hosts are no client's: the program BENCH_CALLS, which build.py makes (bench_calls), pushes numbers, or takes a
+block and gives it back, by the library's own calls. What it takes for N times is the base of what it takes for 2 N, so its
+loop counts, as the peer's does. Without --calls they are left out.
 
 Needs valgrind, lua5.4, g++ and libboost-dev."""
 import argparse
@@ -58,8 +58,19 @@ WORKS = {
 # the steps of a turn of the loops that Lua runs too
 LOOPS = {"loop_count": 3, "loop_mixed": 9}
 
-# the work of a host, the peer's beside it, and how many pushes are its base
-HOST, HOST_PEER, HOST_CONFIG, HOST_PUSHES = "vec_push_host", "vec_push", "best+tree", 1000000
+
+@dataclass
+class Host:
+    words: dict[str, str]  # what the program is to do, by the allocator and the index
+    peer: str  # the peer's work beside it
+    times: int
+
+
+# the works of a host, which runs no client
+HOSTS = {
+    "push_host": Host({"best+tree": "push"}, "vec_push", 1000000),
+    "block_host": Host({"best+tree": "best", "seq+flat": "seq"}, "new_drop", 1000000),
+}
 
 
 def run(*words):
@@ -199,20 +210,21 @@ def compare_work(benches, peer, name, config, rounds, counts):
     rows(name, config, counted, time_pairs(pairs, operations * work.passes, rounds, [passes]))
 
 
-def compare_host(calls, peer, rounds, counts):
-    """A host's own pushes beside Boost.Interprocess."""
-    pairs = [[[it, str(n)] for n in (2 * HOST_PUSHES, HOST_PUSHES)] for it in calls]
-    other = [peer, HOST_PEER, HOST_CONFIG, str(HOST_PUSHES)]
-    counted = count_beside(pairs, other, HOST_PUSHES, counts)
-    rows(HOST, HOST_CONFIG, counted, time_pairs(pairs, HOST_PUSHES, rounds, [partial(peer_time, other)]))
+def compare_host(calls, peer, name, config, rounds, counts):
+    """A host's own calls beside Boost.Interprocess."""
+    work = HOSTS[name]
+    pairs = [[[it, work.words[config], str(n)] for n in (2 * work.times, work.times)] for it in calls]
+    other = [peer, work.peer, config, str(work.times)]
+    counted = count_beside(pairs, other, work.times, counts)
+    rows(name, config, counted, time_pairs(pairs, work.times, rounds, [partial(peer_time, other)]))
 
 
 def main():
     parser = argparse.ArgumentParser(description=__doc__, formatter_class=argparse.RawDescriptionHelpFormatter)
     parser.add_argument("segtool", nargs="+")
-    parser.add_argument("--calls", nargs="+", metavar="BENCH_CALLS", help=f"bench_calls; without it {HOST} is left out")
+    parser.add_argument("--calls", nargs="+", metavar="BENCH_CALLS", help="bench_calls; without it hosts are left out")
     parser.add_argument("--time", type=int, default=5, metavar="ROUNDS")
-    parser.add_argument("--only", default=",".join([*LOOPS, HOST, *WORKS]), metavar="WORK,..")
+    parser.add_argument("--only", default=",".join([*LOOPS, *HOSTS, *WORKS]), metavar="WORK,..")
     parser.add_argument("--configs", default="best+tree,seq+flat", metavar="CONFIG,..")
     parser.add_argument("--no-count", action="store_true")
     words = parser.parse_args()
@@ -226,8 +238,10 @@ def main():
         print(f"{'work':17}{'config':10}" + f"{'instr.':>10}{'ns':>9}" * 2 + f"{'instr.':>8}{'ns':>8}")
         for name in filter(LOOPS.__contains__, only):
             compare_loop(benches, name, words.time, not words.no_count)
-        if words.calls and HOST in only and HOST_CONFIG in configs:
-            compare_host([os.path.abspath(it) for it in words.calls], peer, words.time, not words.no_count)
+        for name in filter(HOSTS.__contains__, only) if words.calls else ():
+            for config in filter(HOSTS[name].words.__contains__, configs):
+                calls = [os.path.abspath(it) for it in words.calls]
+                compare_host(calls, peer, name, config, words.time, not words.no_count)
         for name in filter(WORKS.__contains__, only):
             for config in configs:
                 compare_work(benches, peer, name, config, words.time, not words.no_count)

@@ -1,5 +1,5 @@
-//! The program `bench_calls`: pushes numbers onto a vector by the library's own call, as a host does that runs no client, for
-//! `bench/operations.py` to count. Its one word says how many. It prints nothing.
+//! The program `bench_calls`: works by the library's own calls, as a host does that runs no client, for `bench/operations.py` to
+//! count. Its words say which work (`push`, `best` or `seq`) and how many times. It prints nothing.
 #![tactic(auto)]
 
 use seg_bestfit::BestFit;
@@ -8,6 +8,7 @@ use seg_layout::{ENTRY, Type, TypeId, TypeTable};
 use seg_manager::{IndexKind, Segment};
 use seg_raw::{Code, Fault, Region};
 use seg_seq::Numbers;
+use seg_seqfit::SeqFit;
 use seg_space::create;
 use seg_value::{Heap, Place};
 use std::alloc::{Allocator, Global};
@@ -24,40 +25,85 @@ const NUMBER: TypeId = 0;
 /// The type of a vector of them.
 const NUMBERS: TypeId = 1;
 
+/// The units of a block for one number.
+const NUMBER_UNITS: u32 = 2;
+
+/// What is done so many times.
+#[derive(Clone, Copy)]
+enum Work {
+    /// A number is pushed onto a vector.
+    Push,
+    /// A block is taken by best fit, and given back.
+    Best,
+    /// The same by sequential fit.
+    Seq,
+}
+
+impl Work {
+    fn named(word: &str) -> Option<Work> {
+        match word {
+            "push" => Some(Work::Push),
+            "best" => Some(Work::Best),
+            "seq" => Some(Work::Seq),
+            _ => None,
+        }
+    }
+
+    /// None where something is refused.
+    fn perform(self, alloc: Global, times: u32) -> Option<()> {
+        match self {
+            Work::Push => push_times(alloc, times),
+            Work::Best => allocate_times::<BestFit>(alloc, IndexKind::Tree, times),
+            Work::Seq => allocate_times::<SeqFit>(alloc, IndexKind::Flat, times),
+        }
+    }
+}
+
 fn main(rt: HostRuntime) -> ExitCode {
-    let Some(calls) = calls(&rt) else {
+    let Some((work, times)) = asked(&rt) else {
         return ExitCode::from(2);
     };
-    match push_calls(rt.alloc(), calls) {
+    match work.perform(rt.alloc(), times) {
         Some(()) => ExitCode::SUCCESS,
         None => ExitCode::FAILURE,
     }
 }
 
-/// The command line's one word, if it has one and that is a number.
-fn calls(rt: &(impl Env + AllocGlobal)) -> Option<u32> {
+/// What the command line asks for, if it has the two words for it.
+fn asked(rt: &(impl Env + AllocGlobal)) -> Option<(Work, u32)> {
     let words = env::args(rt).ok()?.collect::<Vec<String>>(rt.alloc()).ok()?;
     match words.as_slice() {
-        [_, calls] => calls.as_str().parse().ok(),
+        [_, work, times] => Some((Work::named(work.as_str())?, times.as_str().parse().ok()?)),
         _ => None,
     }
 }
 
+/// Takes a block in a new segment and gives it back, so many times.
+fn allocate_times<F: Fit>(alloc: Global, index: IndexKind, times: u32) -> Option<()> {
+    let mut segment: Segment<F, Global> = segment(alloc, index)?;
+    let window = segment.heap_mut().window_mut();
+    for _ in 0..times {
+        let block = F::allocate(window, NUMBER_UNITS)?;
+        F::free(window, block);
+    }
+    Some(())
+}
+
 /// Makes a segment with a vector of numbers, and pushes so many. None where something is refused.
-fn push_calls(alloc: Global, calls: u32) -> Option<()> {
-    let mut segment = segment(alloc)?;
+fn push_times(alloc: Global, times: u32) -> Option<()> {
+    let mut segment: Segment<BestFit, Global> = segment(alloc, IndexKind::Tree)?;
     let at = segment.construct(b"v", NUMBERS, 1).ok()?;
     let vector = Place {
         at,
         type_id: NUMBERS,
     };
-    push_numbers(segment.heap_mut(), vector, calls).ok()
+    push_numbers(segment.heap_mut(), vector, times).ok()
 }
 
 /// A segment in memory that knows the types.
-fn segment(alloc: Global) -> Option<Segment<BestFit, Global>> {
+fn segment<F: Fit>(alloc: Global, index: IndexKind) -> Option<Segment<F, Global>> {
     let region = Region::new(alloc, SIZE).ok()?;
-    let mut segment = create(region, 0, SIZE, IndexKind::Tree).ok()?;
+    let mut segment = create(region, 0, SIZE, index).ok()?;
     segment.add_types(&types().ok()?).ok()?;
     Some(segment)
 }
@@ -73,10 +119,10 @@ fn types() -> Result<TypeTable, Fault> {
 fn push_numbers<F: Fit, A: Allocator>(
     heap: &mut Heap<F, A>,
     vector: Place,
-    calls: u32,
+    times: u32,
 ) -> Result<(), Code> {
     let numbers = Numbers::of(heap, vector)?;
-    for number in 0..calls {
+    for number in 0..times {
         numbers.push(heap, i64::from(number))?;
     }
     Ok(())
