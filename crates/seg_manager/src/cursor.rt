@@ -1,6 +1,6 @@
 //! The way to a key of a map that was returned last.
 
-ghost use Rattle.std.specs.Prelude.{◌≡◌, ℕ, List, true, false};
+ghost use Rattle.std.specs.Prelude.{ℕ, List};
 ghost use Rattle.seg_rbtree.specs.Following.{LeadsInside};
 ghost use Rattle.seg_manager.specs.Cursors.{IsInside};
 
