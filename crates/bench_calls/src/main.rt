@@ -9,7 +9,7 @@ use seg_manager::{IndexKind, Segment};
 use seg_raw::{Code, Fault, Region};
 use seg_seq::Numbers;
 use seg_seqfit::SeqFit;
-use seg_space::create;
+use seg_space::{create, zero_free_memory};
 use seg_value::{Heap, Place};
 use std::alloc::{Allocator, Global};
 use std::env;
@@ -100,11 +100,12 @@ fn push_times(alloc: Global, times: u32) -> Option<()> {
     push_numbers(segment.heap_mut(), vector, times).ok()
 }
 
-/// A segment in memory that knows the types.
+/// A segment in memory that knows the types. All of it was written, so that no call is the first to touch a page.
 fn segment<F: Fit>(alloc: Global, index: IndexKind) -> Option<Segment<F, Global>> {
     let region = Region::new(alloc, SIZE).ok()?;
     let mut segment = create(region, 0, SIZE, index).ok()?;
     segment.add_types(&types().ok()?).ok()?;
+    zero_free_memory(&mut segment);
     Some(segment)
 }
 
