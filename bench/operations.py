@@ -11,8 +11,8 @@ else the machine does; times are the least of ROUNDS rounds in which client, bas
 milliseconds is done several times over for them, since what the program does beside it varies by a millisecond.
 
 The works of hosts are no client's: the program BENCH_CALLS, which build.py makes (bench_calls), pushes numbers, or takes a
-block and gives it back, by the library's own calls. What it takes for N times is the base of what it takes for 2 N, so its
-loop counts, as the peer's does. Without --calls they are left out.
+block and gives it back, by the library's own calls. What it takes for some passes is the base of what it takes for twice as
+many, so its loop counts, as the peer's does. Without --calls they are left out.
 
 Needs valgrind, lua5.4, g++ and libboost-dev."""
 import argparse
@@ -63,13 +63,14 @@ LOOPS = {"loop_count": 3, "loop_mixed": 9}
 class Host:
     words: dict[str, str]  # what the program is to do, by the allocator and the index
     peer: str  # the peer's work beside it
-    times: int
+    times: int  # in a pass
+    passes: int  # of the base
 
 
 # the works of a host, which runs no client
 HOSTS = {
-    "push_host": Host({"best+tree": "push"}, "vec_push", 1000000),
-    "block_host": Host({"best+tree": "best", "seq+flat": "seq"}, "new_drop", 1000000),
+    "push_host": Host({"best+tree": "push"}, "vec_push", 1000000, 10),
+    "block_host": Host({"best+tree": "best", "seq+flat": "seq"}, "new_drop", 1000000, 2),
 }
 
 
@@ -192,11 +193,11 @@ def compare_loop(benches, name, rounds, counts):
     rows(name, "a step", counted, time_pairs(pairs(turns, 1), turns * steps, rounds))
 
 
-def count_beside(pairs, other, operations, counts):
-    """The instructions of an operation by each pair of commands, then by the peer. 0 where none are counted."""
+def count_beside(pairs, operations, other, others, counts):
+    """The instructions of an operation by each pair of commands, then of one of the peer's. 0 where none are counted."""
     if not counts:
         return [0] * (len(pairs) + 1)
-    return [*(count(it, operations) for it in pairs), instructions(other, ["--instr-atstart=no"]) / operations]
+    return [*(count(it, operations) for it in pairs), instructions(other, ["--instr-atstart=no"]) / others]
 
 
 def compare_work(benches, peer, name, config, rounds, counts):
@@ -204,7 +205,8 @@ def compare_work(benches, peer, name, config, rounds, counts):
     work = WORKS[name]
     operations = work.turns * work.operations
     other = [peer, name, config, str(operations)]
-    counted = count_beside([it.pair(work, config, work.turns) for it in benches], other, operations, counts)
+    pairs = [it.pair(work, config, work.turns) for it in benches]
+    counted = count_beside(pairs, operations, other, operations, counts)
     pairs = [it.pair(work, config, work.turns, work.passes) for it in benches]
     passes = partial(peer_time, [*other, str(work.passes)])
     rows(name, config, counted, time_pairs(pairs, operations * work.passes, rounds, [passes]))
@@ -213,10 +215,11 @@ def compare_work(benches, peer, name, config, rounds, counts):
 def compare_host(calls, peer, name, config, rounds, counts):
     """A host's own calls beside Boost.Interprocess."""
     work = HOSTS[name]
-    pairs = [[[it, work.words[config], str(n)] for n in (2 * work.times, work.times)] for it in calls]
-    other = [peer, work.peer, config, str(work.times)]
-    counted = count_beside(pairs, other, work.times, counts)
-    rows(name, config, counted, time_pairs(pairs, work.times, rounds, [partial(peer_time, other)]))
+    word, times, operations = work.words[config], str(work.times), work.times * work.passes
+    pairs = [[[it, word, times, str(n)] for n in (2 * work.passes, work.passes)] for it in calls]
+    other = [peer, work.peer, config, times]
+    counted = count_beside(pairs, operations, other, work.times, counts)
+    rows(name, config, counted, time_pairs(pairs, operations, rounds, [partial(peer_time, other)]))
 
 
 def main():

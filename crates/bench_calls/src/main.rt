@@ -1,5 +1,5 @@
 //! The program `bench_calls`: works by the library's own calls, as a host does that runs no client, for `bench/operations.py` to
-//! count. Its words say which work (`push`, `best` or `seq`) and how many times. It prints nothing.
+//! count. Its words say which work (`push`, `best` or `seq`), how many times, and in how many passes. It prints nothing.
 #![tactic(auto)]
 
 use seg_bestfit::BestFit;
@@ -28,10 +28,10 @@ const NUMBERS: TypeId = 1;
 /// The units of a block for one number.
 const NUMBER_UNITS: u32 = 2;
 
-/// What is done so many times.
+/// What is done so many times, in each of some passes.
 #[derive(Clone, Copy)]
 enum Work {
-    /// A number is pushed onto a vector.
+    /// A number is pushed onto a vector, which is empty when a pass begins.
     Push,
     /// A block is taken by best fit, and given back.
     Best,
@@ -50,36 +50,39 @@ impl Work {
     }
 
     /// None where something is refused.
-    fn perform(self, alloc: Global, times: u32) -> Option<()> {
+    fn perform(self, alloc: Global, times: u32, passes: u32) -> Option<()> {
+        let all = times.saturating_mul(passes);
         match self {
-            Work::Push => push_times(alloc, times),
-            Work::Best => allocate_times::<BestFit>(alloc, IndexKind::Tree, times),
-            Work::Seq => allocate_times::<SeqFit>(alloc, IndexKind::Flat, times),
+            Work::Push => push(alloc, times, passes),
+            Work::Best => allocate::<BestFit>(alloc, IndexKind::Tree, all),
+            Work::Seq => allocate::<SeqFit>(alloc, IndexKind::Flat, all),
         }
     }
 }
 
 fn main(rt: HostRuntime) -> ExitCode {
-    let Some((work, times)) = asked(&rt) else {
+    let Some((work, times, passes)) = asked(&rt) else {
         return ExitCode::from(2);
     };
-    match work.perform(rt.alloc(), times) {
+    match work.perform(rt.alloc(), times, passes) {
         Some(()) => ExitCode::SUCCESS,
         None => ExitCode::FAILURE,
     }
 }
 
-/// What the command line asks for, if it has the two words for it.
-fn asked(rt: &(impl Env + AllocGlobal)) -> Option<(Work, u32)> {
+/// What the command line asks for, if it has the three words for it.
+fn asked(rt: &(impl Env + AllocGlobal)) -> Option<(Work, u32, u32)> {
     let words = env::args(rt).ok()?.collect::<Vec<String>>(rt.alloc()).ok()?;
-    match words.as_slice() {
-        [_, work, times] => Some((Work::named(work.as_str())?, times.as_str().parse().ok()?)),
-        _ => None,
-    }
+    let [_, work, times, passes] = words.as_slice() else {
+        return None;
+    };
+    let times = times.as_str().parse().ok()?;
+    let passes = passes.as_str().parse().ok()?;
+    Some((Work::named(work.as_str())?, times, passes))
 }
 
 /// Takes a block in a new segment and gives it back, so many times.
-fn allocate_times<F: Fit>(alloc: Global, index: IndexKind, times: u32) -> Option<()> {
+fn allocate<F: Fit>(alloc: Global, index: IndexKind, times: u32) -> Option<()> {
     let mut segment: Segment<F, Global> = segment(alloc, index)?;
     let window = segment.heap_mut().window_mut();
     for _ in 0..times {
@@ -89,15 +92,20 @@ fn allocate_times<F: Fit>(alloc: Global, index: IndexKind, times: u32) -> Option
     Some(())
 }
 
-/// Makes a segment with a vector of numbers, and pushes so many. None where something is refused.
-fn push_times(alloc: Global, times: u32) -> Option<()> {
+/// Makes a segment with a vector of numbers, and in each pass pushes so many and takes them all out. None where something is
+/// refused.
+fn push(alloc: Global, times: u32, passes: u32) -> Option<()> {
     let mut segment: Segment<BestFit, Global> = segment(alloc, IndexKind::Tree)?;
     let at = segment.construct(b"v", NUMBERS, 1).ok()?;
     let vector = Place {
         at,
         type_id: NUMBERS,
     };
-    push_numbers(segment.heap_mut(), vector, times).ok()
+    for _ in 0..passes {
+        push_numbers(segment.heap_mut(), vector, times).ok()?;
+        segment.heap_mut().clear(vector);
+    }
+    Some(())
 }
 
 /// A segment in memory that knows the types. All of it was written, so that no call is the first to touch a page.
