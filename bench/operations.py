@@ -208,8 +208,8 @@ def compare_work(benches, peer, name, config, rounds, counts):
     pairs = [it.pair(work, config, work.turns) for it in benches]
     counted = count_beside(pairs, operations, other, operations, counts)
     pairs = [it.pair(work, config, work.turns, work.passes) for it in benches]
-    passes = partial(peer_time, [*other, str(work.passes)])
-    rows(name, config, counted, time_pairs(pairs, operations * work.passes, rounds, [passes]))
+    peer_timer = partial(peer_time, [*other, str(work.passes)])
+    rows(name, config, counted, time_pairs(pairs, operations * work.passes, rounds, [peer_timer]))
 
 
 def compare_host(calls, peer, name, config, rounds, counts):
