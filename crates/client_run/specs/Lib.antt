@@ -1,4 +1,5 @@
 pub mod Moves
+pub mod ReadyClients
 pub mod Runs
 pub mod Machines
 pub mod Worlds
