@@ -1,2 +1,3 @@
 pub mod Placed
 pub mod Sizes
+pub mod Anywhere

@@ -9,7 +9,7 @@ use std::test::Fail;
 fn prints(rt: &impl Abort, fault: Fault, number: u8, line: &str) {
     let printed = InlineText::<64>::of(fault);
     assert_eq!(rt; printed.as_str(), line);
-    assert!(rt; fault.number() == number, "the number of {line}");
+    assert!(rt; fault.code() == number, "the number of {line}");
 }
 
 #[test]
