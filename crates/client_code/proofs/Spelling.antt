@@ -9,6 +9,7 @@ use Rattle.client_code.specs.declared.constant.ConstantKind.TheVariants as kind
 use Rattle.client_spec.specs.Syntax as code
 use Rattle.client_spec.specs.Grammar.{IsConstant, word_bytes, constant_bytes, instruction_bytes}
 use Rattle.client_code.specs.declared.instruction.Instruction.{Instruction}
+use Rattle.client_code.specs.Operands.{HasOperands}
 use Rattle.client_code.specs.Views.{constant_by, instruction_of}
 
 spelled_four : (s : List ℕ) → length s ≡ 4 → spelled s ≡ slice_index s 0 + 256 * (slice_index s 1 + 256 * (slice_index s 2 + 256 * (slice_index s 3 + 0)))
@@ -85,7 +86,7 @@ decoded None file field at h same found = found
 decoded (Some i) file field at h same found = (h, sym same ∙ found)
 
 pub not_decoded : (r : Option Instruction) (file field : List ℕ) (at : ℕ)
-    → field ≡ slice file at 8 → IfNone r ((i : code.Instruction) → field ≢ instruction_bytes i)
-    → IfNone r (at + 8 ≤ length file → (i : code.Instruction) → slice file at 8 ≢ instruction_bytes i)
-not_decoded None file field at same none = λ h i e. none i (same ∙ e)
+    → field ≡ slice file at 8 → IfNone r ((i : code.Instruction) → HasOperands i → field ≢ instruction_bytes i)
+    → IfNone r (at + 8 ≤ length file → (i : code.Instruction) → HasOperands i → slice file at 8 ≢ instruction_bytes i)
+not_decoded None file field at same none = λ h i few e. none i few (same ∙ e)
 not_decoded (Some i) file field at same none = none

@@ -19,7 +19,9 @@ use Rattle.client_spec.proofs.Values.{Some_inj}
 use Rattle.client_code.specs.declared.instruction.Instruction as program
 use Rattle.client_code.specs.declared.constant.Constant as constant
 use Rattle.client_code.specs.Views.{instruction_of, constant_of, constants_of}
+use Rattle.client_code.specs.Operands.{HasOperands}
 use Rattle.client_code.proofs.Constants.{fronts, any}
+use Rattle.client_code.proofs.Operands.{all_operands}
 use Rattle.client_code.specs.Files.{code_place, IsFileHeader, AreTypes, AreConstants, IsCodeAt}
 
 -- ---- words
@@ -308,14 +310,14 @@ at_list (x ∷ is) (suc i) h =
           ∙ ap (drop (8 * i)) (drop_at (instruction_bytes x) (flat_map instruction_bytes is) 8 refl) ∙ r.3,
     )
 
-some_word : (is : List Instruction) (i : ℕ) (j : Instruction) → AllByRecursion IsWord is → slice_get is i ≡ Some j → IsWord j
-some_word [] i j all e = cc
-some_word (x ∷ is) zero j all e = subst IsWord (Some_inj e) all.0
-some_word (x ∷ is) (suc i) j all e = some_word is i j all.1 e
+one_of : (P : Instruction → Type 0) (is : List Instruction) (i : ℕ) (j : Instruction) → AllByRecursion P is → slice_get is i ≡ Some j → P j
+one_of P [] i j all e = cc
+one_of P (x ∷ is) zero j all e = subst P (Some_inj e) all.0
+one_of P (x ∷ is) (suc i) j all e = one_of P is i j all.1 e
 
 -- the instruction at an index
 pub instruction_there : (file : List ℕ) (tree : Client) → SpellsClient file tree → (i : ℕ)
-    → i < length (listing tree.code) → (j : Instruction) × (slice_get (listing tree.code) i ≡ Some j) × IsWord j × (code_place tree + 8 * i + 8 ≤ length file)
+    → i < length (listing tree.code) → (j : Instruction) × (slice_get (listing tree.code) i ≡ Some j) × IsWord j × HasOperands j × (code_place tree + 8 * i + 8 ≤ length file)
     × (slice file (code_place tree + 8 * i) 8 ≡ instruction_bytes j)
 unfolding slice
 instruction_there file tree spells i h =
@@ -324,7 +326,8 @@ instruction_there file tree spells i h =
     let ends = code.ends in (
       r.0,
       r.2,
-      some_word (listing tree.code) i r.0 (words tree.types tree.constants tree.code code.right) r.2,
+      one_of IsWord (listing tree.code) i r.0 (words tree.types tree.constants tree.code code.right) r.2,
+      one_of HasOperands (listing tree.code) i r.0 (all_operands tree.types tree.constants tree.code code.right) r.2,
       omega arith,
       ap (take 8) (sym (drop-drop (8 * i) (code_place tree) file) ∙ ap (drop (8 * i)) code.spelled ∙ r.3) ∙ take_at (instruction_bytes r.0) r.1 8 refl,
     )
@@ -341,13 +344,13 @@ end_there file tree spells place n e m = let ends = (spelled_parts file tree spe
 pub same_instruction : (file : List ℕ) (tree : Client) → SpellsClient file tree → (i place : ℕ) (r : Option program.Instruction) → i < length (listing tree.code)
     → place ≡ code_place tree + 8 * i → IfSome r (λ j. (place + 8 ≤ length file) × (slice file place 8 ≡ instruction_bytes (instruction_of j)))
     → IfSome r (λ j. FitsSigned w32 j.number)
-    → IfNone r (place + 8 ≤ length file → (j : Instruction) → slice file place 8 ≢ instruction_bytes j) → option_map instruction_of r ≡ slice_get (listing tree.code) i
+    → IfNone r (place + 8 ≤ length file → (j : Instruction) → HasOperands j → slice file place 8 ≢ instruction_bytes j) → option_map instruction_of r ≡ slice_get (listing tree.code) i
 same_instruction file tree spells i place None h e found range none =
     let there = instruction_there file tree spells i h in
-    absurd (none (let l = there.3 in omega arith) there.0 (ap (λ n. slice file n 8) e ∙ there.4))
+    absurd (none (let l = there.4 in omega arith) there.0 there.3 (ap (λ n. slice file n 8) e ∙ there.5))
 same_instruction file tree spells i place (Some r) h e found range none =
     let there = instruction_there file tree spells i h in
-    let same = sym found.1 ∙ ap (λ n. slice file n 8) e ∙ there.4 in
+    let same = sym found.1 ∙ ap (λ n. slice file n 8) e ∙ there.5 in
     ap Some (instruction_front (instruction_of r) there.0 [] [] range there.2 (ap (λ xs. xs ++ []) same)).0 ∙ sym there.1
 
 -- where the parts of a client that is read stand

@@ -1,4 +1,5 @@
 pub mod Views
+pub mod Operands
 pub mod Files
 pub mod Parts
 pub mod Clients

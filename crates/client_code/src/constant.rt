@@ -1,7 +1,9 @@
-ghost use Rattle.std.specs.Prelude.{◌≡◌, ◌≢◌, ℕ, List, ◌+◌, ◌^◌, ◌≤◌, ◌↔◌, ◌++◌, ◌∷◌, [], length, drop, All, IsTrue, IfSome, IfNone, codes};
+ghost use Rattle.std.specs.Prelude.{◌≡◌, ◌≢◌, ℕ, List, ◌+◌, ◌^◌, ◌≤◌, ◌↔◌, ◌++◌, ◌∷◌, [], length, drop, slice_get, All, IsTrue, IfSome, IfNone, codes};
 ghost use Rattle.client_spec.specs.Syntax as syntax;
-ghost use Rattle.client_spec.specs.Grammar.{IsConstant, IsNameByte, Differ, constant_bytes};
-ghost use Rattle.client_code.specs.Views.{constant_of, constant_by};
+ghost use Rattle.client_spec.specs.Grammar.{IsConstant, IsNameByte, IsTextConstant, NamesBy, Differ, constant_bytes};
+ghost use Rattle.client_code.specs.Views.{constant_of, constants_of, constant_by};
+
+use crate::instruction::{Instruction, REGISTERS};
 
 /// The most bytes of a constant.
 pub const LONGEST: usize = 255;
@@ -109,5 +111,29 @@ impl<'a> Constant<'a> {
         ensures { IsTrue result ↔ Differ (constant_of self.entry) (constant_of other.entry) }
     {
         self.kind == ConstantKind::Text || self.kind != other.kind || self.bytes != other.bytes
+    }
+}
+
+/// Whether the constant with this number is a text.
+pub(crate) fn is_text(constants: &[Constant], n: usize) -> bool
+    ensures { IsTrue result ↔ IsTextConstant (slice_get (constants_of constants.now) n) }
+{
+    match constants.get(n) {
+        Some(constant) => constant.kind == ConstantKind::Text,
+        None => false,
+    }
+}
+
+/// Whether the constant with this number names objects, with register b: a family's number is there, and an exact name has none.
+pub(crate) fn names_by(constants: &[Constant], n: usize, b: u8) -> bool
+    ensures { IsTrue result ↔ NamesBy (slice_get (constants_of constants.now) n) b }
+{
+    let Some(constant) = constants.get(n) else {
+        return false;
+    };
+    match constant.kind {
+        ConstantKind::Name => b == Instruction::NONE,
+        ConstantKind::Family => b < REGISTERS,
+        ConstantKind::Text => false,
     }
 }

@@ -1,13 +1,12 @@
-ghost use Rattle.std.specs.Prelude.{◌≡◌, ◌≢◌, ◌%◌, ◌/◌, ◌↔◌, ℕ, pos, length, slice_get, IsTrue, IfSome, IfNone, FitsSigned};
-ghost use Rattle.std.specs.Int.{w32};
+ghost use Rattle.std.specs.Prelude.{◌≡◌, ◌≢◌, ◌≤◌, ◌%◌, ◌/◌, ◌↔◌, ℕ, pos, length, IsTrue, IfSome, IfNone};
 ghost use Rattle.seg_spec.specs.Types.{Table};
 ghost use Rattle.client_spec.specs.Syntax as syntax;
 ghost use Rattle.client_spec.specs.declared.table.Number.TheVariants as number;
 ghost use Rattle.client_spec.specs.Operations.{row_of};
-ghost use Rattle.client_spec.specs.Grammar.{file_version, IsOperand, IsTextConstant, NamesBy, IsNumber, IsInstruction, instruction_bytes};
-ghost use Rattle.client_code.specs.Views.{constants_of, instruction_of};
+ghost use Rattle.client_spec.specs.Grammar.{file_version, IsOperand, IsNumber, IsInstruction, instruction_bytes};
+ghost use Rattle.client_code.specs.declared.instruction.TheConstants.{REGISTERS};
 
-use crate::constant::{Constant, ConstantKind};
+use crate::constant::{Constant, is_text, names_by};
 use client_spec::table::{Number, Operand, Operation};
 use seg_layout::TypeId;
 
@@ -26,6 +25,7 @@ pub struct Instruction {
     pub b: u8,
     pub c: u8,
     pub number: i32,
+    ghost operands: { (a ≤ REGISTERS) × (b ≤ REGISTERS) × (c ≤ REGISTERS) },
 }
 
 fn is_operand(operand: Operand, n: u8) -> bool
@@ -39,20 +39,27 @@ fn is_operand(operand: Operand, n: u8) -> bool
 }
 
 impl Instruction {
+    ghost use Rattle.client_code.specs.Views.{constants_of, instruction_of};
+    ghost use Rattle.client_code.specs.Operands.{HasOperands};
+
     /// The operand that stands for no register.
     pub const NONE: u8 = REGISTERS;
 
     /// The bytes of an instruction in a client file.
     pub const SIZE: usize = 8;
 
-    /// The instruction that 8 bytes spell, if they are 8 and their operation is known.
+    /// The instruction that 8 bytes spell, if they are 8, their operation is known and no operand is above `NONE`.
     pub fn decode(bytes: &[u8]) -> Option<Instruction>
         ensures found { IfSome result (λ i. bytes.now ≡ instruction_bytes (instruction_of i)) }
-        ensures none { IfNone result ((i : syntax.Instruction) → bytes.now ≢ instruction_bytes i) }
+        ensures none { IfNone result ((i : syntax.Instruction) → HasOperands i →
+            bytes.now ≢ instruction_bytes i) }
     {
         let [operation, a, b, c, n0, n1, n2, n3] = bytes else {
             return None;
         };
+        if *a > Self::NONE || *b > Self::NONE || *c > Self::NONE {
+            return None;
+        }
         let operation = Operation::from_number(*operation)?;
         let number = i32::from_le_bytes([*n0, *n1, *n2, *n3]);
         Some(Instruction {
@@ -135,28 +142,5 @@ impl Instruction {
             Number::Text => is_text(constants, n),
             Number::TypedName => n / 256 < types && names_by(constants, n % 256, self.b),
         }
-    }
-}
-
-fn is_text(constants: &[Constant], n: usize) -> bool
-    ensures { IsTrue result ↔ IsTextConstant (slice_get (constants_of constants.now) n) }
-{
-    match constants.get(n) {
-        Some(constant) => constant.kind == ConstantKind::Text,
-        None => false,
-    }
-}
-
-// the number of a family's name is in register b, and an exact name has none
-fn names_by(constants: &[Constant], n: usize, b: u8) -> bool
-    ensures { IsTrue result ↔ NamesBy (slice_get (constants_of constants.now) n) b }
-{
-    let Some(constant) = constants.get(n) else {
-        return false;
-    };
-    match constant.kind {
-        ConstantKind::Name => b == Instruction::NONE,
-        ConstantKind::Family => b < REGISTERS,
-        ConstantKind::Text => false,
     }
 }

@@ -5,6 +5,7 @@ ghost use Rattle.client_spec.specs.Syntax as syntax;
 ghost use Rattle.client_spec.specs.Syntax.{Statements};
 ghost use Rattle.client_spec.specs.Grammar.{constant_bytes, instruction_bytes, listing, IsConstant, Differ, SpellsClient};
 ghost use Rattle.client_code.specs.Views.{constant_of, constants_of, instruction_of};
+ghost use Rattle.client_code.specs.Operands.{HasOperands};
 ghost use Rattle.client_code.specs.Files.{AreConstants, IsCodeAt};
 ghost use Rattle.client_code.specs.Clients.{bytes_of};
 
@@ -79,7 +80,7 @@ pub fn instruction_at(file: &[u8], at: u32) -> Option<Instruction>
         × (slice file.now at 8 ≡ instruction_bytes (instruction_of i))) }
     ensures range { IfSome result (λ i. FitsSigned w32 i.number) }
     ensures none { IfNone result (at + 8 ≤ length file.now → (i : syntax.Instruction) →
-        slice file.now at 8 ≢ instruction_bytes i) }
+        HasOperands i → slice file.now at 8 ≢ instruction_bytes i) }
 {
     let place = at as usize;
     Instruction::decode(file.get(place..place + Instruction::SIZE)?)

@@ -201,6 +201,7 @@ fn read_operand(operand: Operand, words: &mut Words) -> Option<u8>
     ensures found { IfSome result (λ n. words_of words.old.line.now
         ≡ operand_words operand n ++ words_of words.new.line.now) }
     ensures right { IfSome result (λ n. IsOperand operand n) }
+    ensures few { IfSome result (λ n. n ≤ REGISTERS) }
     ensures none { IfNone result ((n : ℕ) (rest : text.Words) → IsOperand operand n →
         words_of words.old.line.now ≢ operand_words operand n ++ rest) }
 {

@@ -2,7 +2,7 @@
 
 use crate::bytes::word;
 use crate::flaw::{Flaw, is_name};
-use crate::outline::{MOST_CONSTANTS, Outline};
+use crate::outline::{Draft, MOST_CONSTANTS, Outline};
 use crate::rule;
 use client_code::{ConstantKind, Instruction, MOST_INSTRUCTIONS, Operation};
 use seg_layout::{ENTRY, MAX_TYPES};
@@ -174,7 +174,7 @@ impl<'a> File<'a> {
         let Some(spelled) = self.bytes.get(at..at.saturating_add(Instruction::SIZE)) else {
             return Flaw::Unmet(rule::WHOLE);
         };
-        match Instruction::decode(spelled) {
+        match Draft::read(spelled) {
             Some(instruction) => {
                 let mut outline = self.outline(number);
                 outline.flaw(instruction).unwrap_or(Flaw::Unmet(rule::ANY))

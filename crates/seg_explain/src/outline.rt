@@ -1,13 +1,39 @@
 use crate::flaw::Flaw;
 use crate::rule;
 use arrayvec::ArrayVec;
-use client_code::{ConstantKind, Instruction, Nesting, Number, Operand, REGISTERS, Role};
+use client_code::{ConstantKind, Instruction, Nesting, Number, Operand, Operation, REGISTERS, Role};
 
 /// The most constants of a client.
 pub(crate) const MOST_CONSTANTS: usize = 256;
 
 /// The most turns of a loop.
 const TURNS: i32 = 1_000_000_000;
+
+/// An instruction as a file or a text has it. Unlike an `Instruction`, it may have any operands.
+#[derive(Clone, Copy)]
+pub(crate) struct Draft {
+    pub(crate) operation: Operation,
+    pub(crate) a: u8,
+    pub(crate) b: u8,
+    pub(crate) c: u8,
+    pub(crate) number: i32,
+}
+
+impl Draft {
+    /// The instruction that 8 bytes spell, if their operation is known.
+    pub(crate) fn read(bytes: &[u8]) -> Option<Draft> {
+        let [operation, a, b, c, n0, n1, n2, n3] = bytes else {
+            return None;
+        };
+        Some(Draft {
+            operation: Operation::from_number(*operation)?,
+            a: *a,
+            b: *b,
+            c: *c,
+            number: i32::from_le_bytes([*n0, *n1, *n2, *n3]),
+        })
+    }
+}
 
 /// What stands in front of an instruction of a client, and how many types and which version the whole client has.
 #[derive(Drop)]
@@ -47,12 +73,12 @@ impl Outline {
     }
 
     /// The first thing that is wrong with an instruction here.
-    pub(crate) fn flaw(&mut self, instruction: Instruction) -> Option<Flaw<'static>> {
+    pub(crate) fn flaw(&mut self, instruction: Draft) -> Option<Flaw<'static>> {
         let row = instruction.operation.row();
         if row.version > self.version {
             return Some(Flaw::Unmet(rule::VERSION));
         }
-        let Instruction { a, b, c, .. } = instruction;
+        let Draft { a, b, c, .. } = instruction;
         for (letter, operand, n) in [('a', row.a, a), ('b', row.b, b), ('c', row.c, c)] {
             if !is_operand(operand, n) {
                 return Some(Flaw::Operand(letter, operand_words(operand)));
@@ -64,7 +90,7 @@ impl Outline {
         (!self.pass(row.role)).then_some(Flaw::Unmet(rule::of_place(row.role)))
     }
 
-    fn number_flaw(&self, number: Number, instruction: Instruction) -> Option<Flaw<'static>> {
+    fn number_flaw(&self, number: Number, instruction: Draft) -> Option<Flaw<'static>> {
         let signed = instruction.number;
         let n = signed.unsigned_abs() as usize;
         match number {

@@ -87,7 +87,13 @@ fn is_first_met(
     let tried = match right_c {
         Some(holds) => {
             right.set(c, holds);
-            Instruction { c, ..instruction }
+            Instruction {
+                operation: instruction.operation,
+                a: instruction.a,
+                b: instruction.b,
+                c,
+                number: instruction.number,
+            }
         }
         None => instruction,
     };

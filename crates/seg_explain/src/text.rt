@@ -1,7 +1,7 @@
 //! What is wrong with a line of a client's text.
 
 use crate::flaw::{Flaw, is_name};
-use crate::outline::{MOST_CONSTANTS, Outline, operand_words};
+use crate::outline::{Draft, MOST_CONSTANTS, Outline, operand_words};
 use crate::pieces::Pieces;
 use crate::quoted::Quoted;
 use crate::rule;
@@ -336,9 +336,9 @@ fn number_count(number: Number) -> usize {
 fn read_instruction<'a>(
     operation: Operation,
     words: &mut Pieces<'a>,
-) -> Result<Instruction, Flaw<'a>> {
+) -> Result<Draft, Flaw<'a>> {
     let row = operation.row();
-    Ok(Instruction {
+    Ok(Draft {
         operation,
         a: read_operand(row.a, words)?,
         b: read_operand(row.b, words)?,

@@ -4,6 +4,7 @@ use Rattle.client_spec.proofs.OneClient.{instruction_front}
 use Rattle.client_code.specs.Views.{constants_of, instruction_of}
 use Rattle.client_code.specs.Parts.{passed, open_parts}
 use Rattle.client_code.proofs.Nested.{Right, role_of}
+use Rattle.client_code.proofs.Operands.{has_operands}
 use Rattle.client_code.proofs.Instructions.{CodeTo, starts, goes_on, ends, stands, closed}
 use Rattle.client_code.proofs.parser.check_code.Goals as goal
 use Rattle.client_code.proofs.parser.check_code.Goals.{then-not-is_valid-via-then-not-is_valid, then-not-is_valid-via-else-not-is_valid+then-not-pass}
@@ -24,7 +25,7 @@ loop-i-preserved c =
 pub returns-in_default-clause-wrong : goal.returns-in_default-clause-wrong
 returns-in_default-clause-wrong c tree count whole =
     let s = stands c.args.file.now c.args.at c.args.types.now (constants_of c.args.constants.now) tree whole c.loop-i.i (open_parts c.loop-i.nesting) c.loop-i.invariant (let t = c.loop-i-test.true in omega arith) in
-    c.in_default.ensures.none s.2 s.0 s.3
+    c.in_default.ensures.none s.2 s.0 (has_operands c.args.types.now (constants_of c.args.constants.now) (role_of s.0) s.0 s.1) s.3
 
 pub returns-then-not-is_valid-clause-wrong : goal.returns-then-not-is_valid-clause-wrong
 returns-then-not-is_valid-clause-wrong c tree count whole =
