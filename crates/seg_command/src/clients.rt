@@ -5,7 +5,9 @@ ghost use Rattle.std.specs.Prelude.{◌≡◌, false};
 use crate::door::{assembled, opened, printed, verified};
 use client_trace::{Untraced, trace};
 use lezgauri::{Fault, Image, Sink, Verified};
-use seg_files::{Files, Format, read_file, read_image, refuse_input, refuse_other, write_file};
+use seg_files::{
+    Files, Format, read_file, read_image, refuse_input, refuse_other_format, write_file,
+};
 use seg_program::{Failure, print, read_input};
 use seg_request::{Assembly, Trace};
 use std::alloc::Global;
@@ -95,7 +97,7 @@ pub fn assemble_file<'a, F: Files>(
     let text = read_file(alloc, files, assembly.text)?;
     refuse_input(files, assembly.client, assembly.text)?;
     if !assembly.forced {
-        refuse_other(alloc, files, assembly.client, Format::Client)?;
+        refuse_other_format(alloc, files, assembly.client, Format::Client)?;
     }
     let assembled = assembled(alloc, text.as_slice())?;
     Ok(write_file(files, assembly.client, assembled.as_slice())?)

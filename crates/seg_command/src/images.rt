@@ -4,7 +4,9 @@ ghost use Rattle.std.specs.Prelude.{◌≡◌, false};
 
 use crate::made::{Made, made_of, new_image};
 use lezgauri::Sink;
-use seg_files::{FileFailure, Files, Format, read_image, refuse_input, refuse_other, write_file};
+use seg_files::{
+    FileFailure, Files, Format, read_image, refuse_input, refuse_other_format, write_file,
+};
 use seg_program::{Failure, print};
 use seg_request::{ImageTask, NewImage, Picture};
 use std::alloc::Global;
@@ -16,7 +18,7 @@ pub fn new_file<'a, F: Files>(
     files: &mut F,
 ) -> Result<(), Failure<'a>> {
     if !new.forced {
-        refuse_other(alloc, files, new.file, Format::Image)?;
+        refuse_other_format(alloc, files, new.file, Format::Image)?;
     }
     let image = new_image(alloc, new)?;
     Ok(write_file(files, new.file, image.as_slice())?)
@@ -56,7 +58,7 @@ fn check_picture<'a, F: Files>(
     if picture.forced {
         return Ok(());
     }
-    refuse_other(alloc, files, picture.file, Format::Picture)
+    refuse_other_format(alloc, files, picture.file, Format::Picture)
 }
 
 /// The picture that a task writes.

@@ -9,7 +9,7 @@ pub(crate) fn told(alloc: Global, name: &str, problem: FileProblem) -> Result<Ve
         FileProblem::TooLong { limit } => format!(in alloc;
             "`{name}` has more than {limit} bytes; an image may have 2^30 bytes, and a client, a text or the input 2^20\n"
         )?,
-        FileProblem::Other(format) => {
+        FileProblem::OtherFormat(format) => {
             let (wanted, magic) = words_of(format);
             format!(in alloc;
                 "`{name}` isn't empty and isn't {wanted}, which begins with `{magic}`, so nothing was written over it; \
@@ -56,6 +56,6 @@ fn plain_words(problem: FileProblem) -> &'static str {
         FileProblem::Input => {
             "is a file that the command reads, under this name or another, so it wasn't written; name another file"
         }
-        FileProblem::TooLong { .. } | FileProblem::Other(_) => "",
+        FileProblem::TooLong { .. } | FileProblem::OtherFormat(_) => "",
     }
 }

@@ -10,5 +10,5 @@ mod problem;
 pub use files::{FileFault, Files};
 pub use host::HostFiles;
 pub use named::{FileFailure, read_file, read_files, read_image, write_file};
-pub use overwriting::{is_same_file, refuse_input, refuse_other};
+pub use overwriting::{is_same_file, refuse_input, refuse_other_format};
 pub use problem::{FileProblem, Format};

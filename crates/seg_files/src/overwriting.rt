@@ -30,7 +30,7 @@ pub fn is_same_file<'a, F: Files>(
 }
 
 /// Refuses to write over a plain file that has bytes and isn't of the format.
-pub fn refuse_other<'a, F: Files>(
+pub fn refuse_other_format<'a, F: Files>(
     alloc: Global,
     files: &mut F,
     name: &'a str,
@@ -39,7 +39,7 @@ pub fn refuse_other<'a, F: Files>(
     let magic = format.magic();
     match files.front(alloc, name, magic.len() as u64) {
         Ok(front) if front.is_empty() || front.as_slice() == magic => Ok(()),
-        Ok(_) => Err(FileFailure::File(name, FileProblem::Other(format))),
+        Ok(_) => Err(FileFailure::File(name, FileProblem::OtherFormat(format))),
         Err(fault) => Err(FileFailure::of(name, fault)),
     }
 }

@@ -40,5 +40,5 @@ pub enum FileProblem {
     /// The command reads this file, under this name or another, so it doesn't write it.
     Input,
     /// It has bytes already and isn't of the format that would be written over it.
-    Other(Format),
+    OtherFormat(Format),
 }

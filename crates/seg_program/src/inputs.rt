@@ -1,6 +1,6 @@
 use seg_files::{
     FileFailure, Files, Format, is_same_file, read_file, read_files, read_image, refuse_input,
-    refuse_other,
+    refuse_other_format,
 };
 use seg_words::Run;
 use std::alloc::{AllocError, Global};
@@ -46,7 +46,7 @@ fn check_out<'a, F: Files>(
     if run.forced || is_same_file(files, run.out, run.image)? {
         return Ok(());
     }
-    refuse_other(alloc, files, run.out, Format::Image)
+    refuse_other_format(alloc, files, run.out, Format::Image)
 }
 
 /// The bytes of the file that clients read, none where it is left out.
