@@ -429,10 +429,10 @@ expect "not written over a client" has_status 0
 
 case_with_files "a file that isn't a picture, as the picture"
 segtool map image --svg notes --explain
-other_format notes "an SVG picture" "<svg"
+other_format notes "an SVG picture" "<svg "
 kept
 segtool map image --svg client --explain
-other_format client "an SVG picture" "<svg"
+other_format client "an SVG picture" "<svg "
 kept
 segtool map image --svg picture
 cp picture first
@@ -520,7 +520,7 @@ for mode in 555 333; do
   chmod "$mode" .
   save_to image --explain
   chmod 755 .
-  explained image "may not be written: this makes a file beside it and renames that, so its folder should allow reading and writing"
+  explained image "may not be written: its folder should allow reading and writing, since a new file is made there and renamed; a device or a pipe should allow writing"
 done
 full="couldn't be written whole: the disk is full, or a limit on the size of files is reached"
 save_to /dev/full --explain

@@ -10,7 +10,8 @@ pub(crate) fn told(alloc: Global, name: &str, problem: FileProblem) -> Result<Ve
             "`{name}` has more than {limit} bytes; an image may have 2^30 bytes, and a client, a text or the input 2^20\n"
         )?,
         FileProblem::OtherFormat(format) => {
-            let (wanted, magic) = words_of(format);
+            let wanted = noun_of(format);
+            let magic = format.magic();
             format!(in alloc;
                 "`{name}` isn't empty and isn't {wanted}, which begins with `{magic}`, so nothing was written over it; \
                  name another file, or add --force\n"
@@ -24,12 +25,12 @@ pub(crate) fn told(alloc: Global, name: &str, problem: FileProblem) -> Result<Ve
     Ok(words.into_bytes())
 }
 
-/// What a format is called, and what its files begin with.
-fn words_of(format: Format) -> (&'static str, &'static str) {
+/// What a file of a format is called.
+fn noun_of(format: Format) -> &'static str {
     match format {
-        Format::Image => ("an image", "SEGIMAGE"),
-        Format::Client => ("a client", "SEGC"),
-        Format::Picture => ("an SVG picture", "<svg"),
+        Format::Image => "an image",
+        Format::Client => "a client",
+        Format::Picture => "an SVG picture",
     }
 }
 
@@ -45,7 +46,8 @@ fn plain_words(problem: FileProblem) -> &'static str {
             "may not be read: its permissions or those of its folders don't allow it"
         }
         FileProblem::Unwritable => {
-            "may not be written: this makes a file beside it and renames that, so its folder should allow reading and writing"
+            "may not be written: its folder should allow reading and writing, since a new file is made there and renamed; \
+a device or a pipe should allow writing"
         }
         FileProblem::NoSpace => {
             "couldn't be written whole: the disk is full, or a limit on the size of files is reached"

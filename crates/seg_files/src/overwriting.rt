@@ -36,7 +36,7 @@ pub fn refuse_other_format<'a, F: Files>(
     name: &'a str,
     format: Format,
 ) -> Result<(), FileFailure<'a>> {
-    let magic = format.magic();
+    let magic = format.magic().as_bytes();
     match files.front(alloc, name, magic.len() as u64) {
         Ok(front) if front.is_empty() || front.as_slice() == magic => Ok(()),
         Ok(_) => Err(FileFailure::File(name, FileProblem::OtherFormat(format))),

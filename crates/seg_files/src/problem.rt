@@ -8,12 +8,12 @@ pub enum Format {
 }
 
 impl Format {
-    /// The bytes that each file of this format begins with.
-    pub fn magic(self) -> &'static [u8] {
+    /// What each file of this format begins with.
+    pub fn magic(self) -> &'static str {
         match self {
-            Format::Image => b"SEGIMAGE".as_slice(),
-            Format::Client => b"SEGC".as_slice(),
-            Format::Picture => b"<svg ".as_slice(),
+            Format::Image => "SEGIMAGE",
+            Format::Client => "SEGC",
+            Format::Picture => "<svg ",
         }
     }
 }

@@ -168,7 +168,7 @@ fn a_picture_spares_what_is_no_picture(rt: HostRuntime) -> Result<(), Fail> {
         "
 $3 segtool map image --svg saved --explain
 file saved
-`saved` isn't empty and isn't an SVG picture, which begins with `<svg`, so nothing was written over it; name another file, or add --force
+`saved` isn't empty and isn't an SVG picture, which begins with `<svg `, so nothing was written over it; name another file, or add --force
 $3 segtool map image --svg notes
 file notes
 $3 segtool map damaged --svg notes

@@ -70,7 +70,7 @@ fn a_file_that_may_not_be_written(rt: HostRuntime) -> Result<(), Fail> {
         "
 $3 segtool new image 1024 seq flat --force --explain
 file image
-`image` may not be written: this makes a file beside it and renames that, so its folder should allow reading and writing",
+`image` may not be written: its folder should allow reading and writing, since a new file is made there and renamed; a device or a pipe should allow writing",
     )
 }
 
