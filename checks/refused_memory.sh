@@ -58,9 +58,11 @@ try() {
 }
 
 try new fresh.image 1024 seq flat
+try new table.image 2048 seq flat
 try check counter.image
 try verify counter.image increment.client
 try run counter.image saved.image increment.client
+try run counter.image table.image increment.client --input increment.text
 try run table.image table.image increment.client --room 4096 --base 64
 try stat counter.image
 try list counter.image
@@ -73,5 +75,6 @@ try grow counter.image 64
 try shrink table.image
 try upgrade counter.image
 try asm increment.text assembled.client
+try asm increment.text increment.client
 try print increment.client
 try_on "$segrun" counter.image saved.image increment.client

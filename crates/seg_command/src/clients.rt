@@ -5,9 +5,11 @@ ghost use Rattle.std.specs.Prelude.{◌≡◌, false};
 use crate::door::{assembled, opened, printed, ready, verified};
 use client_trace::{Untraced, trace};
 use lezgauri::{Fault, Image, Ready, Sink};
-use seg_files::{Files, read_file, read_image, write_file};
-use seg_program::{Failure, STANDARD_OUTPUT, print, read_input};
-use seg_request::Trace;
+use seg_files::{
+    Files, Format, read_file, read_image, refuse_input, refuse_other_format, write_file,
+};
+use seg_program::{Failure, print, read_input};
+use seg_request::{Assembly, Trace};
 use std::alloc::Global;
 
 /// `verify FILE CLIENT`: prints the steps that the client takes at most on the image.
@@ -67,7 +69,7 @@ fn trace_bytes<'a, O: Sink>(
 fn ended<'a>(untraced: Untraced) -> Failure<'a> {
     match untraced {
         Untraced::Memory => Failure::from(Fault::Memory),
-        Untraced::OutputFailed => Failure::File(STANDARD_OUTPUT),
+        Untraced::OutputFailed => Failure::Output,
     }
 }
 
@@ -86,16 +88,19 @@ fn trace_client<O: Sink>(
     }
 }
 
-/// `asm TEXT OUT`: writes the client that a text spells.
+/// `asm TEXT OUT [--force]`: writes the client that a text spells, not over the text, and not over a file that isn't a client.
 pub fn assemble_file<'a, F: Files>(
     alloc: Global,
-    text: &'a str,
-    client: &'a str,
+    assembly: &Assembly<'a>,
     files: &mut F,
 ) -> Result<(), Failure<'a>> {
-    let text = read_file(alloc, files, text)?;
+    let text = read_file(alloc, files, assembly.text)?;
+    refuse_input(files, assembly.client, assembly.text)?;
+    if !assembly.forced {
+        refuse_other_format(alloc, files, assembly.client, Format::Client)?;
+    }
     let assembled = assembled(alloc, text.as_slice())?;
-    Ok(write_file(files, client, assembled.as_slice())?)
+    Ok(write_file(files, assembly.client, assembled.as_slice())?)
 }
 
 /// `print CLIENT`: prints the client's canonical text.

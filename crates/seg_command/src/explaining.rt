@@ -1,10 +1,11 @@
 ghost use Rattle.std.specs.Prelude.{◌≡◌, false};
 
+use crate::problems::told;
 use lezgauri::{Refused, Sink};
 use seg_explain::{Sources, explain};
 use seg_files::{Files, read_file, read_files, read_image};
-use seg_program::{Failure, STANDARD_OUTPUT, slices, tell};
-use seg_request::Request;
+use seg_program::{Failure, slices, tell};
+use seg_request::{ImageTask, Request};
 use std::alloc::{AllocError, Global};
 
 /// Writes in words why a command failed. The files that it worked on are read again for that; one that can't be read any more
@@ -36,7 +37,8 @@ fn words_of<'a, F: Files>(
             explained(alloc, refused, &read)
         }
         Failure::Absent(name) => absent(alloc, name),
-        Failure::File(name) => unusable(alloc, name),
+        Failure::File(name, problem) => told(alloc, name, *problem),
+        Failure::Output => Vec::from_slice(alloc, failed_output(request).as_bytes()),
         Failure::Words(_) => Ok(Vec::new(alloc)),
     }
 }
@@ -96,7 +98,7 @@ impl Read {
 /// The file of the text that a command works on.
 fn text_of<'a>(request: &Request<'a>) -> Option<&'a str> {
     match request {
-        Request::Assemble { text, .. } => Some(text),
+        Request::Assemble(assembly) => Some(assembly.text),
         Request::New(_)
         | Request::Image { .. }
         | Request::Verify { .. }
@@ -114,7 +116,7 @@ fn image_of<'a>(request: &Request<'a>) -> Option<&'a str> {
         Request::Verify { image, .. } => Some(image),
         Request::Run(run) => Some(run.image),
         Request::Trace(trace) => Some(trace.image),
-        Request::New(_) | Request::Assemble { .. } | Request::Print { .. } | Request::Help(_) => {
+        Request::New(_) | Request::Assemble(_) | Request::Print { .. } | Request::Help(_) => {
             None
         }
     }
@@ -128,7 +130,7 @@ fn clients_of<'a>(alloc: Global, request: &Request<'a>) -> Result<Vec<&'a str>, 
         }
         Request::Trace(trace) => Vec::from_slice(alloc, &[trace.client]),
         Request::Run(run) => Vec::from_slice(alloc, run.clients.as_slice()),
-        Request::New(_) | Request::Image { .. } | Request::Assemble { .. } | Request::Help(_) => Ok(
+        Request::New(_) | Request::Image { .. } | Request::Assemble(_) | Request::Help(_) => Ok(
             Vec::new(alloc),
         ),
     }
@@ -141,13 +143,22 @@ fn absent(alloc: Global, name: &str) -> Result<Vec<u8>, AllocError> {
     Ok(words.into_bytes())
 }
 
-fn unusable(alloc: Global, name: &str) -> Result<Vec<u8>, AllocError> {
-    if name == STANDARD_OUTPUT {
-        return Vec::from_slice(alloc, b"the output couldn't be written\n");
+/// What a failed output means for a command.
+fn failed_output(request: &Request) -> &'static str {
+    match request {
+        Request::Run(_) => {
+            "the output couldn't be written, and the run ended there; the image as it was then was saved, unless its file failed too\n"
+        }
+        Request::Image {
+            task: ImageTask::Grow { .. } | ImageTask::Shrink | ImageTask::Upgrade,
+            ..
+        } => "the output couldn't be written; the image was saved, unless its file failed too\n",
+        Request::New(_)
+        | Request::Image { .. }
+        | Request::Verify { .. }
+        | Request::Trace(_)
+        | Request::Assemble(_)
+        | Request::Print { .. }
+        | Request::Help(_) => "the output couldn't be written\n",
     }
-    let words = format!(in alloc;
-        "the file `{name}` couldn't be read or written, or it is too long: an image may have 2^30 bytes, another \
-         file 2^20\n"
-    )?;
-    Ok(words.into_bytes())
 }

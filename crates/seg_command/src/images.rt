@@ -4,17 +4,22 @@ ghost use Rattle.std.specs.Prelude.{◌≡◌, false};
 
 use crate::made::{Made, made_of, new_image};
 use lezgauri::Sink;
-use seg_files::{Files, read_image, write_file};
+use seg_files::{
+    FileFailure, Files, Format, read_image, refuse_input, refuse_other_format, write_file,
+};
 use seg_program::{Failure, print};
-use seg_request::{ImageTask, NewImage};
+use seg_request::{ImageTask, NewImage, Picture};
 use std::alloc::Global;
 
-/// `new FILE SIZE ALG INDEX`: writes the image of an empty segment.
+/// `new FILE SIZE ALG INDEX [--force]`: writes the image of an empty segment.
 pub fn new_file<'a, F: Files>(
     alloc: Global,
     new: &NewImage<'a>,
     files: &mut F,
 ) -> Result<(), Failure<'a>> {
+    if !new.forced {
+        refuse_other_format(alloc, files, new.file, Format::Image)?;
+    }
     let image = new_image(alloc, new)?;
     Ok(write_file(files, new.file, image.as_slice())?)
 }
@@ -30,17 +35,36 @@ pub fn image_file<'a, F: Files, O: Sink>(
 ) -> Result<(), Failure<'a>>
     requires works { O.has_failed out.old ≡ false }
 {
-    let made = made_of(alloc, read_image(alloc, files, file)?, task)?;
-    match picture_file(task) {
-        Some(to) => Ok(write_file(files, to, made.text.as_slice())?),
+    let image = read_image(alloc, files, file)?;
+    let picture = picture_of(task);
+    if let Some(picture) = picture {
+        check_picture(alloc, file, picture, files)?;
+    }
+    let made = made_of(alloc, image, task)?;
+    match picture {
+        Some(picture) => Ok(write_file(files, picture.file, made.text.as_slice())?),
         None => give(file, &made, files, out),
     }
 }
 
-/// The file that a picture is written to.
-fn picture_file<'a>(task: ImageTask<'a>) -> Option<&'a str> {
+/// Refuses to write a picture over its image, and over a file that isn't a picture.
+fn check_picture<'a, F: Files>(
+    alloc: Global,
+    image: &str,
+    picture: Picture<'a>,
+    files: &mut F,
+) -> Result<(), FileFailure<'a>> {
+    refuse_input(files, picture.file, image)?;
+    if picture.forced {
+        return Ok(());
+    }
+    refuse_other_format(alloc, files, picture.file, Format::Picture)
+}
+
+/// The picture that a task writes.
+fn picture_of<'a>(task: ImageTask<'a>) -> Option<Picture<'a>> {
     match task {
-        ImageTask::Picture { to } => Some(to),
+        ImageTask::Picture(picture) => Some(picture),
         ImageTask::Check
         | ImageTask::Stat
         | ImageTask::List

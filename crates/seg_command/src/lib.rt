@@ -7,6 +7,7 @@ mod explaining;
 mod images;
 mod listing;
 mod made;
+mod problems;
 mod program;
 
 pub use program::command;

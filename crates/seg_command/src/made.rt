@@ -79,7 +79,7 @@ fn text_of<'a>(
         ImageTask::List => Ok(objects(alloc, image)?),
         ImageTask::Show { name, whole } => shown(alloc, image, name, whole),
         ImageTask::Map => Ok(blocks(alloc, image)?),
-        ImageTask::Picture { .. } => Ok(pictured(alloc, image)?),
+        ImageTask::Picture(_) => Ok(pictured(alloc, image)?),
         ImageTask::Grow { extra } => Ok(size(alloc, grown(image, extra)?)?),
         ImageTask::Shrink => Ok(size(alloc, shrunk(image))?),
         // an image is one of version 2 as soon as it is open
@@ -96,6 +96,6 @@ fn is_change(task: ImageTask) -> bool {
         | ImageTask::List
         | ImageTask::Show { .. }
         | ImageTask::Map
-        | ImageTask::Picture { .. } => false,
+        | ImageTask::Picture(_) => false,
     }
 }

@@ -68,7 +68,7 @@ fn perform<'a, F: Files, O: Sink>(
         Request::Verify { image, client } => verify_file(alloc, image, client, files, out),
         Request::Run(run) => run_files(alloc, &ImageRunner, run, files, out),
         Request::Trace(trace) => trace_file(alloc, trace, files, out),
-        Request::Assemble { text, client } => assemble_file(alloc, text, client, files),
+        Request::Assemble(assembly) => assemble_file(alloc, assembly, files),
         Request::Print { client } => print_file(alloc, client, files, out),
         Request::Help(text) => print(out, text.as_bytes()),
     }

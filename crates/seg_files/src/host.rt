@@ -1,4 +1,5 @@
 use crate::files::{FileFault, Files};
+use crate::problem::FileProblem;
 use std::alloc::Global;
 use std::fs::{self, File, Metadata, OpenOptions, Permissions};
 use std::io::{self, ErrorKind, Read, Write};
@@ -43,6 +44,16 @@ impl<'a, R: rt::Files<File = File> + AllocGlobal> HostFiles<'a, R> {
         let mut bytes = Vec::with_capacity(alloc, room as usize)?;
         file.take(limit).read_to_end(&mut bytes)?;
         Ok(bytes)
+    }
+
+    /// What the system knows of the plain file with this name, or at the end of the links from it. None if there is no plain
+    /// file, or if it can't be reached, since then it can't be written either.
+    fn plain_file(&self, name: &str) -> Result<Option<Metadata>, FileFault> {
+        match fs::metadata(self.rt, name) {
+            Ok(there) if there.is_file() => Ok(Some(there)),
+            Err(error) if error.kind() == ErrorKind::OutOfMemory => Err(FileFault::Memory),
+            Ok(_) | Err(_) => Ok(None),
+        }
     }
 
     /// Makes a file, or replaces the plain file that is there; what is there and is neither plain nor a link, as a device or a
@@ -152,25 +163,61 @@ fn folder_of(name: &str) -> Path<'_> {
     }
 }
 
-fn fault_of(error: io::Error) -> FileFault {
-    match error.kind() {
-        ErrorKind::OutOfMemory => FileFault::Memory,
-        _ => FileFault::Failed,
-    }
+/// Why the system didn't read a file.
+fn unread(error: io::Error) -> FileFault {
+    let problem = match error.kind() {
+        ErrorKind::OutOfMemory => return FileFault::Memory,
+        ErrorKind::NotFound | ErrorKind::NotADirectory => FileProblem::Missing,
+        ErrorKind::IsADirectory => FileProblem::Folder,
+        ErrorKind::PermissionDenied => FileProblem::Unreadable,
+        _ => FileProblem::System,
+    };
+    FileFault::Failed(problem)
+}
+
+/// Why the system didn't write a file.
+fn unwritten(error: io::Error) -> FileFault {
+    let problem = match error.kind() {
+        ErrorKind::OutOfMemory => return FileFault::Memory,
+        ErrorKind::NotFound | ErrorKind::NotADirectory => FileProblem::NoFolder,
+        ErrorKind::IsADirectory => FileProblem::Folder,
+        ErrorKind::PermissionDenied | ErrorKind::ReadOnlyFilesystem => FileProblem::Unwritable,
+        ErrorKind::StorageFull | ErrorKind::QuotaExceeded | ErrorKind::FileTooLarge => {
+            FileProblem::NoSpace
+        }
+        _ => FileProblem::System,
+    };
+    FileFault::Failed(problem)
 }
 
 impl<R: rt::Files<File = File> + AllocGlobal> Files for HostFiles<'_, R> {
     fn read(&mut self, alloc: Global, name: &str, limit: u64) -> Result<Vec<u8>, FileFault> {
         let bytes = self
             .read_at_most(alloc, name, limit.saturating_add(1))
-            .map_err(fault_of)?;
+            .map_err(unread)?;
         if bytes.len() as u64 > limit {
-            return Err(FileFault::Failed);
+            return Err(FileFault::Failed(FileProblem::TooLong { limit }));
         }
         Ok(bytes)
     }
 
     fn write(&mut self, name: &str, bytes: &[u8]) -> Result<(), FileFault> {
-        self.write_file(name, bytes).map_err(fault_of)
+        self.write_file(name, bytes).map_err(unwritten)
+    }
+
+    fn is_same(&mut self, name: &str, other: &str) -> Result<bool, FileFault> {
+        let (Some(one), Some(two)) = (self.plain_file(name)?, self.plain_file(other)?) else {
+            return Ok(false);
+        };
+        Ok(one.dev() == two.dev() && one.ino() == two.ino())
+    }
+
+    fn front(&mut self, alloc: Global, name: &str, len: u64) -> Result<Vec<u8>, FileFault> {
+        match self.plain_file(name)? {
+            Some(there) if there.len() > 0 => {
+                self.read_at_most(alloc, name, len).map_err(unread)
+            }
+            _ => Ok(Vec::new(alloc)),
+        }
     }
 }

@@ -1,4 +1,5 @@
 use crate::files::{FileFault, Files};
+use crate::problem::FileProblem;
 use std::alloc::Global;
 
 /// The most bytes of an image.
@@ -12,15 +13,15 @@ const MAX_FILE: u64 = 1 << 20;
 pub enum FileFailure<'a> {
     /// A request for memory was refused.
     Memory,
-    /// The file with this name couldn't be read or written, or it has more bytes than it may.
-    File(&'a str),
+    /// The file with this name can't be read or written, and why.
+    File(&'a str, FileProblem),
 }
 
 impl<'a> FileFailure<'a> {
-    fn of(name: &'a str, fault: FileFault) -> FileFailure<'a> {
+    pub(crate) fn of(name: &'a str, fault: FileFault) -> FileFailure<'a> {
         match fault {
             FileFault::Memory => FileFailure::Memory,
-            FileFault::Failed => FileFailure::File(name),
+            FileFault::Failed(problem) => FileFailure::File(name, problem),
         }
     }
 }

@@ -1,5 +1,5 @@
 use client_output::Refused;
-use seg_files::FileFailure;
+use seg_files::{FileFailure, FileProblem};
 use seg_raw::Fault;
 use seg_words::Misread;
 use std::alloc::{AllocError, Global};
@@ -13,12 +13,11 @@ pub enum Failure<'a> {
     Absent(&'a str),
     /// A refusal of the library.
     Refused(Refused),
-    /// A file that couldn't be read or written, `-` for the standard output.
-    File(&'a str),
+    /// A file that can't be read or written, and why.
+    File(&'a str, FileProblem),
+    /// The standard output failed.
+    Output,
 }
-
-/// The name that stands for the standard output.
-pub const STANDARD_OUTPUT: &str = "-";
 
 impl Failure<'_> {
     /// The status that the program ends with.
@@ -26,7 +25,7 @@ impl Failure<'_> {
         match self {
             Failure::Refused(_) | Failure::Absent(_) => 1,
             Failure::Words(_) => 2,
-            Failure::File(_) => 3,
+            Failure::File(_, _) | Failure::Output => 3,
         }
     }
 
@@ -36,7 +35,8 @@ impl Failure<'_> {
             Failure::Words(text) => format!(in alloc; "{text}"),
             Failure::Absent(name) => format!(in alloc; "absent {name}\n"),
             Failure::Refused(refused) => format!(in alloc; "{refused}\n"),
-            Failure::File(name) => format!(in alloc; "file {name}\n"),
+            Failure::File(name, _) => format!(in alloc; "file {name}\n"),
+            Failure::Output => String::from_str(alloc, "file -\n"),
         }
     }
 }
@@ -63,7 +63,7 @@ impl<'a> From<FileFailure<'a>> for Failure<'a> {
     fn from(failure: FileFailure<'a>) -> Self {
         match failure {
             FileFailure::Memory => Failure::from(Fault::Memory),
-            FileFailure::File(name) => Failure::File(name),
+            FileFailure::File(name, problem) => Failure::File(name, problem),
         }
     }
 }

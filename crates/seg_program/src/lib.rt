@@ -12,7 +12,7 @@ mod saving;
 
 pub use client_output::Through;
 pub use command::run_command;
-pub use failure::{Failure, STANDARD_OUTPUT};
+pub use failure::Failure;
 pub use host::{refuse, words};
 pub use inputs::{read_input, slices};
 pub use output::{print, report, tell};

@@ -1,6 +1,6 @@
 ghost use Rattle.std.specs.Prelude.{◌≡◌, false};
 
-use crate::failure::{Failure, STANDARD_OUTPUT};
+use crate::failure::Failure;
 use client_output::{Sink, write_all};
 use std::alloc::Global;
 
@@ -10,7 +10,7 @@ pub fn print<'a, O: Sink>(out: &mut O, text: &[u8]) -> Result<(), Failure<'a>>
 {
     match write_all(out, text) {
         Ok(()) => Ok(()),
-        Err(_) => Err(Failure::File(STANDARD_OUTPUT)),
+        Err(_) => Err(Failure::Output),
     }
 }
 

@@ -1,4 +1,4 @@
-use crate::failure::{Failure, STANDARD_OUTPUT};
+use crate::failure::Failure;
 use client_output::Ended;
 use seg_files::{Files, write_file};
 
@@ -12,6 +12,6 @@ pub fn save<'a, F: Files>(
     let saved = write_file(files, name, image);
     match ended {
         Ended::Done => Ok(saved?),
-        Ended::OutputFailed => Err(Failure::File(STANDARD_OUTPUT)),
+        Ended::OutputFailed => Err(Failure::Output),
     }
 }

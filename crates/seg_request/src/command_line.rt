@@ -1,5 +1,5 @@
 use clap::Command;
-use seg_words::{Argument, INPUT, Line, RUN, Takes, parser, parser_of};
+use seg_words::{Argument, FORCE, INPUT, Line, RUN, Takes, parser, parser_of};
 use std::alloc::{AllocError, Global};
 
 /// What each command takes beside its own arguments.
@@ -21,7 +21,7 @@ const CLIENT: Argument = Argument {
     help: "The client",
 };
 
-const NEW: [Argument; 4] = [
+const NEW: [Argument; 5] = [
     Argument {
         id: "FILE",
         takes: Takes::Word,
@@ -42,6 +42,7 @@ const NEW: [Argument; 4] = [
         takes: Takes::OneOf(&["flat", "tree"]),
         help: "How names are kept",
     },
+    FORCE,
 ];
 
 const TRACE: [Argument; 3] = [IMAGE, CLIENT, INPUT];
@@ -60,12 +61,17 @@ const SHOW: [Argument; 3] = [
     },
 ];
 
-const MAP: [Argument; 2] = [
+const MAP: [Argument; 3] = [
     IMAGE,
     Argument {
         id: "svg",
         takes: Takes::File,
         help: "Write a picture to this file instead",
+    },
+    Argument {
+        id: "force",
+        takes: Takes::Flag,
+        help: "Write the picture over a file that isn't empty and isn't an SVG picture",
     },
 ];
 
@@ -78,7 +84,7 @@ const GROW: [Argument; 2] = [
     },
 ];
 
-const ASSEMBLE: [Argument; 2] = [
+const ASSEMBLE: [Argument; 3] = [
     Argument {
         id: "TEXT",
         takes: Takes::Word,
@@ -88,6 +94,11 @@ const ASSEMBLE: [Argument; 2] = [
         id: "OUT",
         takes: Takes::Word,
         help: "The file that the client is written to",
+    },
+    Argument {
+        id: "force",
+        takes: Takes::Flag,
+        help: "Write the client over a file that isn't empty and isn't a client",
     },
 ];
 
@@ -115,7 +126,7 @@ const LINES: &[Line] = &[
         name: "run",
         about: "Runs clients on an image, prints their output and saves the image",
         arguments: &RUN,
-        examples: "Examples:\n  segtool run shop.image shop.image stock.client\n  segtool run shop.image saved.image stock.client sell.client --input orders.txt",
+        examples: "Examples:\n  segtool run shop.image shop.image stock.client\n  segtool run shop.image saved.image stock.client sell.client --input orders.txt\n\nOUT may be IMAGE itself, but no client and not the input. If the output fails (status 3), the run ends there,\nand the image as it is then is still written to OUT.",
     },
     Line {
         name: "trace",
@@ -151,19 +162,19 @@ const LINES: &[Line] = &[
         name: "grow",
         about: "Adds free memory to a segment's end, rewrites the file and prints the new size",
         arguments: &GROW,
-        examples: "Example:\n  segtool grow shop.image 4096",
+        examples: "Example:\n  segtool grow shop.image 4096\n\nIf the output fails (status 3), the file is still rewritten.",
     },
     Line {
         name: "shrink",
         about: "Cuts the free memory at a segment's end, rewrites the file and prints the new size",
         arguments: &[IMAGE],
-        examples: "Example:\n  segtool shrink shop.image",
+        examples: "Example:\n  segtool shrink shop.image\n\nIf the output fails (status 3), the file is still rewritten.",
     },
     Line {
         name: "upgrade",
         about: "Rewrites an image as one of version 2 and prints the version",
         arguments: &[IMAGE],
-        examples: "Example:\n  segtool upgrade shop.image",
+        examples: "Example:\n  segtool upgrade shop.image\n\nIf the output fails (status 3), the file is still rewritten.",
     },
     Line {
         name: "asm",

@@ -6,4 +6,6 @@ mod reading;
 mod request;
 
 pub use reading::read;
-pub use request::{Allocator, Asked, ImageTask, Index, NewImage, Request, Trace};
+pub use request::{
+    Allocator, Asked, Assembly, ImageTask, Index, NewImage, Picture, Request, Trace,
+};

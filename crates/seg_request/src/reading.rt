@@ -1,5 +1,7 @@
 use crate::command_line::command_line;
-use crate::request::{Allocator, Asked, ImageTask, Index, NewImage, Request, Trace};
+use crate::request::{
+    Allocator, Asked, Assembly, ImageTask, Index, NewImage, Picture, Request, Trace,
+};
 use clap::ArgMatches;
 use seg_words::{Misread, number, run_of, word};
 use std::alloc::{AllocError, Global};
@@ -55,7 +57,10 @@ fn task_of<'a>(command: &str, arguments: &ArgMatches<'a>) -> Option<ImageTask<'a
             whole: arguments.get_flag("all"),
         }),
         "map" => Some(match arguments.get_str("svg") {
-            Some(to) => ImageTask::Picture { to },
+            Some(file) => ImageTask::Picture(Picture {
+                file,
+                forced: arguments.get_flag("force"),
+            }),
             None => ImageTask::Map,
         }),
         "grow" => Some(ImageTask::Grow {
@@ -79,10 +84,11 @@ fn client_request<'a>(alloc: Global, command: &str, arguments: &ArgMatches<'a>) 
             client: word(arguments, "CLIENT"),
             input: arguments.get_str("input"),
         }),
-        "asm" => Request::Assemble {
+        "asm" => Request::Assemble(Assembly {
             text: word(arguments, "TEXT"),
             client: word(arguments, "OUT"),
-        },
+            forced: arguments.get_flag("force"),
+        }),
         "print" => Request::Print {
             client: word(arguments, "CLIENT"),
         },
@@ -103,5 +109,6 @@ fn new_of<'a>(arguments: &ArgMatches<'a>) -> NewImage<'a> {
             "tree" => Index::Tree,
             _ => Index::Flat,
         },
+        forced: arguments.get_flag("force"),
     }
 }

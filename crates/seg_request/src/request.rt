@@ -17,7 +17,7 @@ pub enum Request<'a> {
     Verify { image: &'a str, client: &'a str },
     Run(Run<'a>),
     Trace(Trace<'a>),
-    Assemble { text: &'a str, client: &'a str },
+    Assemble(Assembly<'a>),
     Print { client: &'a str },
     /// A text for the standard output.
     Help(String),
@@ -33,8 +33,8 @@ pub enum ImageTask<'a> {
     Show { name: Option<&'a str>, whole: bool },
     /// Its heap block by block.
     Map,
-    /// Its heap as a picture, to be written to a file.
-    Picture { to: &'a str },
+    /// Its heap as a picture.
+    Picture(Picture<'a>),
     /// So many bytes more.
     Grow { extra: u32 },
     Shrink,
@@ -63,6 +63,25 @@ pub struct NewImage<'a> {
     pub size: u32,
     pub allocator: Allocator,
     pub index: Index,
+    /// Whether `file` is written over whatever it has.
+    pub forced: bool,
+}
+
+/// A picture to be written to a file.
+#[derive(Clone, Copy)]
+pub struct Picture<'a> {
+    pub file: &'a str,
+    /// Whether `file` is written over whatever it has.
+    pub forced: bool,
+}
+
+/// A text to be assembled to a client.
+#[derive(Clone, Copy)]
+pub struct Assembly<'a> {
+    pub text: &'a str,
+    pub client: &'a str,
+    /// Whether `client` is written over whatever it has.
+    pub forced: bool,
 }
 
 /// A client to be run on an image step by step. Nothing is saved.

@@ -7,4 +7,4 @@ mod run;
 
 pub use line::{Argument, Line, Takes, number, parser, parser_of, word};
 pub use misread::Misread;
-pub use run::{INPUT, RUN, Run, RunRequest, read_run, run_of};
+pub use run::{FORCE, INPUT, RUN, Run, RunRequest, read_run, run_of};

@@ -13,6 +13,8 @@ pub struct Run<'a> {
     pub input: Option<&'a str>,
     pub base: u32,
     pub room: Option<u32>,
+    /// Whether `out` is written over whatever it has.
+    pub forced: bool,
 }
 
 /// What the words of `segrun` ask for.
@@ -30,8 +32,15 @@ pub const INPUT: Argument = Argument {
     help: "The bytes that the clients read, none if left out",
 };
 
+/// What has an image written over a file that isn't one.
+pub const FORCE: Argument = Argument {
+    id: "force",
+    takes: Takes::Flag,
+    help: "Write the image over a file that isn't empty and isn't an image",
+};
+
 /// What it takes to run clients.
-pub const RUN: [Argument; 6] = [
+pub const RUN: [Argument; 7] = [
     Argument {
         id: "IMAGE",
         takes: Takes::Word,
@@ -58,6 +67,7 @@ pub const RUN: [Argument; 6] = [
         help: "The bytes of the host region [default: as many as the segment needs]",
     },
     INPUT,
+    FORCE,
 ];
 
 /// The program that runs clients and does nothing else: it takes what the command `run` takes.
@@ -65,7 +75,7 @@ const SEGRUN: &Line = &Line {
     name: "segrun",
     about: "Runs verified clients on an image of a managed segment, prints their output and saves the image",
     arguments: &RUN,
-    examples: "Examples:\n  segrun shop.image shop.image stock.client\n  segrun shop.image saved.image stock.client sell.client --input orders.txt\n\nThe command run of segtool does the same, and tells a fault in words where --explain is added.",
+    examples: "Examples:\n  segrun shop.image shop.image stock.client\n  segrun shop.image saved.image stock.client sell.client --input orders.txt\n\nOUT may be IMAGE itself, but no client and not the input. If the output fails (status 3), the run ends there,\nand the image as it is then is still written to OUT.\n\nThe command run of segtool does the same, and tells a fault in words where --explain is added.",
 };
 
 /// What the words of `segrun` ask for, the program's name first.
@@ -87,5 +97,6 @@ pub fn run_of<'a>(alloc: Global, arguments: &ArgMatches<'a>) -> Result<Run<'a>, 
         input: arguments.get_str("input"),
         base: number(arguments, "base"),
         room: arguments.get_one("room"),
+        forced: arguments.get_flag("force"),
     })
 }

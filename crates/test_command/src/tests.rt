@@ -4,6 +4,8 @@ mod failures;
 mod faults;
 mod files;
 mod language;
+mod overwriting;
+mod problems;
 mod rows;
 mod runner;
 mod segments;

@@ -36,10 +36,7 @@ $1 segtool check image --explain
 fault 10
 the allocator at byte 16 is 2, and should be 0 (sequential fit) or 1 (best fit)
 $1 segtool check image
-fault 10
-$3 segtool stat none --explain
-file none
-the file `none` couldn't be read or written, or it is too long: an image may have 2^30 bytes, another file 2^20",
+fault 10",
     )
 }
 

@@ -30,6 +30,42 @@ fn stops_at_a_failed_output(rt: HostRuntime) -> Result<(), Fail> {
     Ok(())
 }
 
+/// What a command says in words where its output takes nothing.
+fn tells_of_a_failed_output(
+    rt: &(impl Abort + AllocGlobal),
+    words: &[&str],
+    line: &str,
+) -> Result<(), Fail> {
+    let mut files = counter_files(rt.alloc())?;
+    let out = Limited::new(rt.alloc(), usize::MAX, 0);
+    let printed = run_into(rt.alloc(), words, &mut files, out);
+    is(rt, &printed, 3, "", line);
+    Ok(())
+}
+
+#[test]
+fn tells_of_failed_outputs(rt: HostRuntime) -> Result<(), Fail> {
+    let words = ["segtool", "run", "image", "saved", "client", "--explain"];
+    tells_of_a_failed_output(
+        &rt,
+        words.as_slice(),
+        "file -\nthe output couldn't be written, and the run ended there; \
+the image as it was then was saved, unless its file failed too\n",
+    )?;
+    let words = ["segtool", "grow", "image", "32", "--explain"];
+    tells_of_a_failed_output(
+        &rt,
+        words.as_slice(),
+        "file -\nthe output couldn't be written; the image was saved, unless its file failed too\n",
+    )?;
+    let words = ["segtool", "check", "image", "--explain"];
+    tells_of_a_failed_output(
+        &rt,
+        words.as_slice(),
+        "file -\nthe output couldn't be written\n",
+    )
+}
+
 #[test]
 fn writes_a_byte_at_a_time(rt: HostRuntime) -> Result<(), Fail> {
     let alloc = rt.alloc();

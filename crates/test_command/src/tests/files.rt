@@ -3,27 +3,34 @@
 use client_text::assemble;
 use client_vm::Through;
 use seg_command::command;
-use seg_files::{FileFault, Files};
+use seg_files::{FileFault, FileProblem, Files};
 use std::alloc::{AllocError, Global};
 use std::process::Abort;
 use std::str;
 use std::test::Fail;
-use support_data::{INCREMENT, Limited, counter, write_words};
+use support_data::{INCREMENT, Limited, counter, front, write_words};
 
-/// Files in memory. The read and the write with these numbers, counted from 1, fail.
+/// Files in memory. The read and the write with these numbers, counted from 1, fail. The file `saved` can be made, and those
+/// that are there be written.
 #[derive(Drop)]
 pub(crate) struct Stored {
     files: Vec<(&'static str, Vec<u8>)>,
+    /// Other names of files.
+    links: Vec<(&'static str, &'static str)>,
+    /// Files that can't be read or written, and why.
+    problems: Vec<(&'static str, FileProblem)>,
     pub(crate) failing_read: usize,
     pub(crate) failing_write: usize,
     reads: usize,
-    writes: usize,
+    pub(crate) writes: usize,
 }
 
 impl Stored {
     pub(crate) fn new(alloc: Global) -> Stored {
         Stored {
             files: Vec::new(alloc),
+            links: Vec::new(alloc),
+            problems: Vec::new(alloc),
             failing_read: 0,
             failing_write: 0,
             reads: 0,
@@ -34,6 +41,26 @@ impl Stored {
     pub(crate) fn add(&mut self, name: &'static str, bytes: &[u8]) -> Result<(), AllocError> {
         let alloc = *self.files.allocator();
         self.files.push((name, Vec::from_slice(alloc, bytes)?))?;
+        Ok(())
+    }
+
+    /// Another name of a file.
+    pub(crate) fn link(
+        &mut self,
+        name: &'static str,
+        file: &'static str,
+    ) -> Result<(), AllocError> {
+        self.links.push((name, file))?;
+        Ok(())
+    }
+
+    /// A file that can't be read or written.
+    pub(crate) fn fail(
+        &mut self,
+        name: &'static str,
+        problem: FileProblem,
+    ) -> Result<(), AllocError> {
+        self.problems.push((name, problem))?;
         Ok(())
     }
 
@@ -56,24 +83,79 @@ impl Stored {
     pub(crate) fn has(&self, name: &str) -> bool {
         self.files.iter().any(|file| file.0 == name)
     }
+
+    /// The file that has this name, under its own.
+    fn file_of<'a>(&self, name: &'a str) -> &'a str {
+        for (link, file) in self.links.iter() {
+            if *link == name {
+                return file;
+            }
+        }
+        name
+    }
+
+    /// The name of a file that can be written, as the files have it.
+    fn writable(&self, name: &str) -> Option<&'static str> {
+        for (other, _) in self.files.iter() {
+            if *other == name {
+                return Some(other);
+            }
+        }
+        if name == "saved" { Some("saved") } else { None }
+    }
+
+    /// Why a file can't be read or written, if it is one of those.
+    fn test(&self, name: &str) -> Result<(), FileFault> {
+        for (other, problem) in self.problems.iter() {
+            if *other == name {
+                return Err(FileFault::Failed(*problem));
+            }
+        }
+        Ok(())
+    }
 }
 
 impl Files for Stored {
     fn read(&mut self, alloc: Global, name: &str, limit: u64) -> Result<Vec<u8>, FileFault> {
         self.reads = self.reads.saturating_add(1);
+        let name = self.file_of(name);
+        self.test(name)?;
+        if self.reads == self.failing_read {
+            return Err(FileFault::Failed(FileProblem::System));
+        }
+        if !self.has(name) {
+            return Err(FileFault::Failed(FileProblem::Missing));
+        }
         let bytes = self.get(name);
-        if self.reads == self.failing_read || !self.has(name) || bytes.len() as u64 > limit {
-            return Err(FileFault::Failed);
+        if bytes.len() as u64 > limit {
+            return Err(FileFault::Failed(FileProblem::TooLong { limit }));
         }
         Vec::from_slice(alloc, bytes).map_err(|_| FileFault::Memory)
     }
 
     fn write(&mut self, name: &str, bytes: &[u8]) -> Result<(), FileFault> {
         self.writes = self.writes.saturating_add(1);
-        if self.writes == self.failing_write || name != "saved" {
-            return Err(FileFault::Failed);
+        let name = self.file_of(name);
+        self.test(name)?;
+        if self.writes == self.failing_write {
+            return Err(FileFault::Failed(FileProblem::System));
         }
-        self.add("saved", bytes).map_err(|_| FileFault::Memory)
+        match self.writable(name) {
+            Some(name) => self.add(name, bytes).map_err(|_| FileFault::Memory),
+            None => Err(FileFault::Failed(FileProblem::NoFolder)),
+        }
+    }
+
+    fn is_same(&mut self, name: &str, other: &str) -> Result<bool, FileFault> {
+        let name = self.file_of(name);
+        Ok(self.has(name) && name == self.file_of(other))
+    }
+
+    fn front(&mut self, alloc: Global, name: &str, len: u64) -> Result<Vec<u8>, FileFault> {
+        let name = self.file_of(name);
+        self.test(name)?;
+        let bytes = front(self.get(name), usize::try_from(len).unwrap_or(usize::MAX));
+        Vec::from_slice(alloc, bytes).map_err(|_| FileFault::Memory)
     }
 }
 

@@ -42,6 +42,26 @@ fn tells_faults_and_files(rt: HostRuntime) -> Result<(), Fail> {
     Ok(())
 }
 
+/// The first refusal comes before anything runs.
+#[test]
+fn writes_over_images_alone(rt: HostRuntime) -> Result<(), Fail> {
+    let mut files = counter_files(rt.alloc())?;
+    files.add("notes", b"notes")?;
+    let words = ["segrun", "image", "notes", "client"];
+    let printed = run(rt.alloc(), words.as_slice(), &mut files);
+    is(&rt, &printed, 3, "", "file notes\n");
+    assert_eq!(rt; files.get("notes"), b"notes".as_slice());
+    let words = ["segrun", "image", "client", "client", "--force"];
+    let printed = run(rt.alloc(), words.as_slice(), &mut files);
+    is(&rt, &printed, 3, "", "file client\n");
+    let words = ["segrun", "image", "notes", "client", "--force"];
+    let printed = run(rt.alloc(), words.as_slice(), &mut files);
+    is(&rt, &printed, 0, "42\n", "");
+    let saved = counter_saved(rt.alloc(), 42)?;
+    assert_eq!(rt; files.get("notes"), saved.as_slice());
+    Ok(())
+}
+
 #[test]
 fn tells_what_it_takes(rt: HostRuntime) -> Result<(), Fail> {
     let mut files = counter_files(rt.alloc())?;

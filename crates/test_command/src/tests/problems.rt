@@ -1,0 +1,118 @@
+//! Files that can't be read or written: the line, and why.
+
+use crate::tests::files::{Stored, counter_files, follow};
+use seg_files::FileProblem;
+use std::alloc::Global;
+use std::test::Fail;
+
+/// A command on a file with this problem, and what it writes on the error output.
+fn tells(alloc: Global, problem: FileProblem, text: &str) -> Result<(), Fail> {
+    let mut files = counter_files(alloc)?;
+    files.fail("image", problem)?;
+    follow(alloc, &mut files, text)
+}
+
+#[test]
+fn a_missing_file(rt: HostRuntime) -> Result<(), Fail> {
+    follow(
+        rt.alloc(),
+        &mut Stored::new(rt.alloc()),
+        "
+$3 segtool stat none --explain
+file none
+`none` doesn't exist, or is a link to a file that doesn't exist
+$3 segtool stat none
+file none",
+    )
+}
+
+#[test]
+fn a_missing_folder(rt: HostRuntime) -> Result<(), Fail> {
+    follow(
+        rt.alloc(),
+        &mut Stored::new(rt.alloc()),
+        "
+$3 segtool new none/image 1024 seq flat --explain
+file none/image
+`none/image` can't be made: its folder doesn't exist, or it is a link to a file that doesn't exist",
+    )
+}
+
+#[test]
+fn a_folder(rt: HostRuntime) -> Result<(), Fail> {
+    tells(
+        rt.alloc(),
+        FileProblem::Folder,
+        "
+$3 segtool stat image --explain
+file image
+`image` is a folder, and should be a file",
+    )
+}
+
+#[test]
+fn a_file_that_may_not_be_read(rt: HostRuntime) -> Result<(), Fail> {
+    tells(
+        rt.alloc(),
+        FileProblem::Unreadable,
+        "
+$3 segtool stat image --explain
+file image
+`image` may not be read: its permissions or those of its folders don't allow it",
+    )
+}
+
+#[test]
+fn a_file_that_may_not_be_written(rt: HostRuntime) -> Result<(), Fail> {
+    tells(
+        rt.alloc(),
+        FileProblem::Unwritable,
+        "
+$3 segtool new image 1024 seq flat --force --explain
+file image
+`image` may not be written: its folder should allow reading and writing, since a new file is made there and renamed; a device or a pipe should allow writing",
+    )
+}
+
+#[test]
+fn a_full_disk(rt: HostRuntime) -> Result<(), Fail> {
+    tells(
+        rt.alloc(),
+        FileProblem::NoSpace,
+        "
+$3 segtool new image 1024 seq flat --force --explain
+file image
+`image` couldn't be written whole: the disk is full, or a limit on the size of files is reached",
+    )
+}
+
+#[test]
+fn a_system_that_fails(rt: HostRuntime) -> Result<(), Fail> {
+    tells(
+        rt.alloc(),
+        FileProblem::System,
+        "
+$3 segtool stat image --explain
+file image
+`image` couldn't be read or written: the system failed for a rare reason, such as a broken disk or links in a circle",
+    )
+}
+
+/// A client with one byte more than the limit, and one that has as many.
+#[test]
+fn a_file_that_is_too_long(rt: HostRuntime) -> Result<(), Fail> {
+    let alloc = rt.alloc();
+    let mut files = counter_files(alloc)?;
+    files.add("long", vec![in alloc; 0; 1048577]?.as_slice())?;
+    files.add("longest", vec![in alloc; 0; 1048576]?.as_slice())?;
+    follow(
+        alloc,
+        &mut files,
+        "
+$3 segtool verify image long --explain
+file long
+`long` has more than 1048576 bytes; an image may have 2^30 bytes, and a client, a text or the input 2^20
+$1 segtool verify image longest
+fault 20 0",
+    )
+}
