@@ -1,0 +1,81 @@
+//! Memory that a host lends, as a `Vec` that owns its bytes and never grows or frees them.
+#![tactic(auto)]
+
+ghost use Rattle.std.specs.Prelude.{◌≡◌, ℕ, ◌≤◌, ◌<◌, ◌^◌, List, [], length, vec_len, vec_capacity};
+ghost use Rattle.std.specs.Borrow.{sem, u8 as octet};
+ghost use Rattle.std_alloc.specs.Vec.{vec_ptr};
+ghost use Rattle.std_alloc.specs.Vec.Ownership.{lodged};
+
+use std::marker::Model;
+use std::mem::replace;
+use std_alloc::vec::{Lodged, lodge};
+
+/// Memory of a host's: where it begins, how many of its bytes are in use, and how many it has.
+///
+/// It isn't `Drop`, so code that loses the memory is refused.
+#[repr(C)]
+pub struct Lent {
+    at: *mut u8,
+    len: usize,
+    room: usize,
+    pub ghost bytes: { List ℕ },
+    ghost counted: { (len ≡ length bytes) × (len ≤ room) },
+    ghost small: { room < 2 ^ 63 },
+}
+
+impl Model for Lent {
+    ghost also_owns = { λ m. lodged octet m.at m.len m.room m.bytes };
+}
+
+impl Lent {
+    /// No memory.
+    pub fn none() -> Lent
+        ensures { result.bytes ≡ [] }
+    {
+        Lent::from_vec(Vec::new(Lodged))
+    }
+
+    /// Takes the memory's bytes, where they lie, and leaves no memory.
+    pub fn take(&mut self) -> Vec<u8, Lodged>
+        ensures { result.items ≡ self.old.bytes }
+    {
+        replace(self, Lent::none()).into_vec()
+    }
+
+    /// Gives bytes back whose memory was taken.
+    pub fn give_back(&mut self, bytes: Vec<u8, Lodged>)
+        ensures { self.new.bytes ≡ bytes.items }
+    {
+        let none = replace(self, Lent::from_vec(bytes));
+        let _ = none.into_vec();
+    }
+
+    /// Its bytes, where they lie.
+    pub fn into_vec(self) -> Vec<u8, Lodged>
+        ensures { (result.items ≡ self.bytes) × (vec_len result ≡ self.len)
+            × (vec_capacity result ≡ self.room) × (vec_ptr result ≡ self.at) }
+    {
+        let Lent { at, len, room } = self;
+        unsafe { lodge(at, len, room) }
+    }
+
+    /// The memory of bytes that were lent.
+    pub fn from_vec(vec: Vec<u8, Lodged>) -> Lent
+        ensures { (result.bytes ≡ vec.items) × (result.len ≡ vec_len vec)
+            × (result.room ≡ vec_capacity vec) × (result.at ≡ vec_ptr vec) }
+    {
+        let mut vec = vec;
+        let at = vec.as_mut_ptr();
+        let room = vec.capacity();
+        Lent::of(vec, at, room)
+    }
+
+    fn of(vec: Vec<u8, Lodged>, at: *mut u8, room: usize) -> Lent
+        requires { (at ≡ vec_ptr vec) × (room ≡ vec_capacity vec) }
+        ensures { (result.bytes ≡ vec.items) × (result.len ≡ vec_len vec)
+            × (result.room ≡ vec_capacity vec) × (result.at ≡ vec_ptr vec) }
+    {
+        let len = vec.dislodge();
+        Lent { at, len, room }
+    }
+}
