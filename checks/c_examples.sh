@@ -1,8 +1,8 @@
 #!/usr/bin/env bash
 # Builds the examples for C and C++ and checks/calls.c with the library for C, runs each by itself and under valgrind, and
-# compares what the examples print; then with each request for memory refused. Needs a C and a C++ compiler, make, valgrind, the
-# library that `rt lib` leaves in crates/lezgauri_c/out, and the program that `rt run` leaves in crates/segtool/out, or another that
-# is given.
+# compares what the examples print; runs checks/calls.c with the address and undefined behaviour sanitizers too, checks/stack.c, and
+# an example with each request for memory refused. Needs a C and a C++ compiler with sanitizers, make, valgrind, the library that
+# `rt lib` leaves in crates/lezgauri_c/out, and the program that `rt run` leaves in crates/segtool/out, or another that is given.
 set -eu
 here=$(cd "$(dirname "$0")" && pwd)
 root=$(dirname "$here")
@@ -13,11 +13,28 @@ trap 'rm -rf "$work"' EXIT
 
 "$library/build.sh" --link
 make -s -C "$root/examples/c" OUT="$work" SEGTOOL="$segtool" all "$work/cache.image" "$work/cache.client"
-${CC:-cc} -std=c11 -Wall -Wextra -Werror -O1 -g -I"$library/include" -o "$work/calls" "$here/calls.c" "$library/out/liblezgauri.a"
+cc=(${CC:-cc} -std=c11 -Wall -Wextra -Wpedantic -Werror -O1 -g -I"$library/include" -pthread)
+wrapped=(-Wl,--wrap=malloc,--wrap=realloc)
+"${cc[@]}" "${wrapped[@]}" -o "$work/calls" "$here/calls.c" "$library/out/liblezgauri.a"
+# the calls of the header are built once more, since the library's aren't instrumented
+"${cc[@]}" "${wrapped[@]}" -fsanitize=address,undefined -fno-sanitize-recover=all -o "$work/calls.sanitized" \
+  "$here/calls.c" "$library/include/lezgauri.c" "$library/out/liblezgauri.a"
+"${cc[@]}" -o "$work/stack" "$here/stack.c" "$library/out/liblezgauri.a"
 
 counter=("$work/counter" "$root/examples/counter.image" "$root/examples/increment.client")
 cache=("$work/cache" "$work/cache.image" "$work/cache.client")
-calls=("$work/calls" "$root/examples/counter.image" "$root/examples/increment.client")
+counted=("$root/examples/counter.image" "$root/examples/increment.client")
+calls=("$work/calls" "${counted[@]}")
+
+# an image whose table of types is full, each a struct of the one before
+{
+  echo "type i64"
+  for n in $(seq 0 30); do echo "type struct t$n"; done
+  printf '%s\n' "name deep" "FINDOR r0 - t31 k0" "ELSE" "END"
+} > "$work/deep.text"
+"$segtool" asm "$work/deep.text" "$work/deep.client"
+"$segtool" new "$work/deep.image" 4096 best tree
+"$segtool" run "$work/deep.image" "$work/deep.image" "$work/deep.client"
 under=(valgrind --quiet --leak-check=full --errors-for-leak-kinds=all --error-exitcode=9)
 
 # 41 goes up by one in each of three runs, of six instructions each
@@ -43,6 +60,8 @@ EOF
 "${under[@]}" "${counter[@]}" > "$work/out" && diff "$work/counter.wanted" "$work/out"
 "${under[@]}" "${cache[@]}" > "$work/out" && diff "$work/cache.wanted" "$work/out"
 "${under[@]}" "${calls[@]}"
+"$work/calls.sanitized" "${counted[@]}"
+"$work/stack" "${counted[@]}" "$work/cache.image" "$work/cache.client" "$work/deep.image" "$work/deep.client"
 
 # each request for memory refused: the program says so and fails, or does without
 cc -O1 -shared -fPIC -o "$work/refuse.so" "$here/refuse.c" -ldl

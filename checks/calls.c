@@ -1,12 +1,18 @@
 /*
- * Calls of the library with arguments that it can't take, and at the ends of what it can: null pointers, lengths of 0, pointers
- * that aren't aligned, memory that overlaps, and memory that is a byte too small. Prints each that answers something else than
- * it should, and at the end how many there were.
+ * Calls of the library with arguments that it can't take, and at the ends of what it can: null pointers, lengths that nothing has,
+ * pointers that aren't aligned, each place that a call writes laid over each other memory of the call, memory that is a byte too
+ * small, an image that changes while it is opened, and segments that are used by two calls at once. Prints each that answers
+ * something else than it should, and at the end how many there were.
  *
  *   calls IMAGE CLIENT     the image of 784 bytes whose number `x`, at 720, is 41, and the client that adds 1 and prints it
+ *
+ * Link with -Wl,--wrap=malloc,--wrap=realloc: some calls are made, and bytes changed, within the library's requests for memory.
  */
 #include <lezgauri.h>
 
+#include <pthread.h>
+#include <stdalign.h>
+#include <stdbool.h>
 #include <stdio.h>
 #include <stdlib.h>
 #include <string.h>
@@ -23,7 +29,54 @@ static void expect(const char *call, uint64_t got, uint64_t wanted)
     }
 }
 
-/* A file's bytes in a block of exactly their length, so that valgrind sees a read of one more. */
+/* ---- what the library asks of malloc */
+
+void *__real_malloc(size_t size);
+void *__real_realloc(void *block, size_t size);
+
+static size_t asked;
+static size_t requests;
+static void (*at_request)(size_t request);
+
+static void note(size_t size)
+{
+    asked += size;
+    requests++;
+    if (at_request != NULL) {
+        at_request(requests);
+    }
+}
+
+void *__wrap_malloc(size_t size)
+{
+    note(size);
+    return __real_malloc(size);
+}
+
+void *__wrap_realloc(void *block, size_t size)
+{
+    note(size);
+    return __real_realloc(block, size);
+}
+
+/* What the next call asks for is counted from 0, and this is called at each request. */
+static void watch(void (*call)(size_t request))
+{
+    asked = 0;
+    requests = 0;
+    at_request = call;
+}
+
+static void *room(size_t len)
+{
+    void *block = malloc(len);
+    if (block == NULL) {
+        exit(2);
+    }
+    return block;
+}
+
+/* A file's bytes in a block of exactly their length, so that a read of one more is seen. */
 static uint8_t *read_file(const char *name, size_t *len)
 {
     static uint8_t bytes[4096];
@@ -34,145 +87,577 @@ static uint8_t *read_file(const char *name, size_t *len)
     }
     *len = fread(bytes, 1, sizeof bytes, file);
     fclose(file);
-    uint8_t *exact = malloc(*len);
-    if (exact == NULL) {
-        exit(2);
-    }
+    uint8_t *exact = room(*len);
     memcpy(exact, bytes, *len);
     return exact;
 }
 
-static void check_calls(uint8_t *image, size_t len)
+static uint8_t *image;
+static size_t image_len;
+static uint8_t *client;
+static size_t client_len;
+
+/* ---- each call by itself */
+
+static void check_calls(void)
 {
     lezgauri_fault fault;
-    expect("check", lezgauri_check(image, len, &fault), LEZGAURI_OK);
+    expect("check", lezgauri_check(image, image_len, &fault), LEZGAURI_OK);
     expect("check: number", fault.number, 0);
-    expect("check without a fault", lezgauri_check(image, len, NULL), LEZGAURI_OK);
-    expect("check of null", lezgauri_check(NULL, len, &fault), LEZGAURI_BAD_ARGUMENT);
+    expect("check without a fault", lezgauri_check(image, image_len, NULL), LEZGAURI_OK);
+    expect("check of null", lezgauri_check(NULL, image_len, &fault), LEZGAURI_BAD_ARGUMENT);
     expect("check of null: number", fault.number, LEZGAURI_BAD_ARGUMENT);
     expect("check of null and 0", lezgauri_check(NULL, 0, &fault), LEZGAURI_BAD_HEADER);
     expect("check of 0 bytes", lezgauri_check(image, 0, &fault), LEZGAURI_BAD_HEADER);
     expect("check of 735 bytes", lezgauri_check(image, 735, &fault), LEZGAURI_BAD_HEADER);
-    expect("check of a length past the largest", lezgauri_check(image, SIZE_MAX, &fault), LEZGAURI_BAD_ARGUMENT);
-    char place[sizeof fault + 1];
-    uintptr_t odd = (uintptr_t)place | 1;
-    expect("check, fault not aligned", lezgauri_check(image, len, (lezgauri_fault *)odd), LEZGAURI_BAD_ARGUMENT);
     image[0] ^= 1;
-    expect("check of a changed image", lezgauri_check(image, len, &fault), LEZGAURI_BAD_HEADER);
+    expect("check of a changed image", lezgauri_check(image, image_len, &fault), LEZGAURI_BAD_HEADER);
     expect("check of a changed image: client", fault.client, LEZGAURI_NO_CLIENT);
     image[0] ^= 1;
+    uint8_t *shifted = room(image_len + 1);
+    memcpy(shifted + 1, image, image_len);
+    expect("check of an image at an odd address", lezgauri_check(shifted + 1, image_len, &fault), LEZGAURI_OK);
+    free(shifted);
 }
 
-static void verify_calls(const uint8_t *image, size_t len, const uint8_t *client, size_t client_len)
+static void verify_calls(void)
 {
     lezgauri_fault fault;
     uint64_t bound = 7;
-    expect("verify", lezgauri_verify(image, len, client, client_len, &bound, &fault), LEZGAURI_OK);
+    expect("verify", lezgauri_verify(image, image_len, client, client_len, &bound, &fault), LEZGAURI_OK);
     expect("verify: bound", bound, 6);
     bound = 7;
-    expect("verify of 0 bytes", lezgauri_verify(image, len, client, 0, &bound, &fault), LEZGAURI_BAD_CODE);
+    expect("verify of 0 bytes", lezgauri_verify(image, image_len, client, 0, &bound, &fault), LEZGAURI_BAD_CODE);
     expect("verify of 0 bytes: client", fault.client, 0);
     expect("verify of 0 bytes: bound", bound, 7);
-    expect("verify of null and 0", lezgauri_verify(image, len, NULL, 0, &bound, NULL), LEZGAURI_BAD_CODE);
-    expect("verify of null", lezgauri_verify(image, len, NULL, 1, &bound, &fault), LEZGAURI_BAD_ARGUMENT);
-    expect("verify on null", lezgauri_verify(NULL, len, client, client_len, NULL, NULL), LEZGAURI_BAD_ARGUMENT);
-    expect("verify of a cut client", lezgauri_verify(image, len, client, client_len - 1, NULL, NULL), LEZGAURI_BAD_CODE);
+    expect("verify of null and 0", lezgauri_verify(image, image_len, NULL, 0, &bound, NULL), LEZGAURI_BAD_CODE);
+    expect("verify of a cut client", lezgauri_verify(image, image_len, client, client_len - 1, NULL, NULL), LEZGAURI_BAD_CODE);
+    expect("verify of bytes of the image", lezgauri_verify(image, image_len, image + 3, 7, NULL, &fault), LEZGAURI_BAD_CODE);
 }
 
-static void run_calls(uint8_t *image, size_t len, const uint8_t *client, size_t client_len)
+static void run_calls(void)
 {
     lezgauri_bytes clients[] = {{client, client_len}, {client, client_len}};
-    lezgauri_bytes nulls[] = {{NULL, 0}};
     lezgauri_report reports[2];
     lezgauri_fault fault;
     size_t written;
-    char *output = malloc(6);
-    uint8_t *saved = malloc(len);
-    if (output == NULL || saved == NULL) {
-        exit(2);
-    }
-    expect("run", lezgauri_run(image, len, clients, 2, NULL, 0, output, 6, &written, saved, reports, &fault), LEZGAURI_OK);
+    char *output = room(6);
+    uint8_t *saved = room(image_len);
+    expect("run", lezgauri_run(image, image_len, clients, 2, NULL, 0, output, 6, &written, saved, reports, &fault), LEZGAURI_OK);
     expect("run: written", written, 6);
     expect("run: output", (uint64_t)memcmp(output, "42\n43\n", 6), 0);
     expect("run: image as before", image[720], 41);
     expect("run: saved", saved[720], 43);
     expect("run: steps", reports[1].steps, 6);
     expect("run: ended", reports[1].ended, 0);
-    expect("run, too little room", lezgauri_run(image, len, clients, 2, NULL, 0, output, 5, &written, saved, reports, NULL),
+    expect("run, too little room",
+           lezgauri_run(image, image_len, clients, 2, NULL, 0, output, 5, &written, saved, reports, NULL),
            LEZGAURI_OUTPUT_FULL);
     expect("run, too little room: written", written, 5);
     expect("run, too little room: ended", reports[1].ended, 1);
-    expect("run, no room", lezgauri_run(image, len, clients, 1, NULL, 0, NULL, 0, &written, saved, NULL, NULL),
+    expect("run, no room", lezgauri_run(image, image_len, clients, 1, NULL, 0, NULL, 0, &written, saved, NULL, NULL),
            LEZGAURI_OUTPUT_FULL);
-    expect("run of no clients", lezgauri_run(image, len, NULL, 0, NULL, 0, NULL, 0, NULL, saved, NULL, NULL), LEZGAURI_OK);
+    expect("run of no clients", lezgauri_run(image, image_len, NULL, 0, NULL, 0, NULL, 0, NULL, saved, NULL, NULL), LEZGAURI_OK);
     expect("run of no clients: version", saved[8], 2);
     saved[8] = image[8];
-    expect("run of no clients: saved", (uint64_t)memcmp(image, saved, len), 0);
-    expect("run, clients null", lezgauri_run(image, len, NULL, 1, NULL, 0, output, 6, NULL, saved, NULL, NULL),
-           LEZGAURI_BAD_ARGUMENT);
-    expect("run, a client null", lezgauri_run(image, len, nulls, 1, NULL, 0, output, 6, NULL, saved, NULL, NULL),
-           LEZGAURI_BAD_ARGUMENT);
-    expect("run, input null", lezgauri_run(image, len, clients, 1, NULL, 1, output, 6, NULL, saved, NULL, NULL),
-           LEZGAURI_BAD_ARGUMENT);
-    expect("run, output null", lezgauri_run(image, len, clients, 1, NULL, 0, NULL, 6, NULL, saved, NULL, NULL),
-           LEZGAURI_BAD_ARGUMENT);
-    expect("run, saved null", lezgauri_run(image, len, clients, 1, NULL, 0, output, 6, NULL, NULL, NULL, NULL),
-           LEZGAURI_BAD_ARGUMENT);
-    expect("run, saved in the image", lezgauri_run(image, len, clients, 1, NULL, 0, output, 6, NULL, image, NULL, NULL),
-           LEZGAURI_BAD_ARGUMENT);
-    expect("run, output in saved", lezgauri_run(image, len, clients, 1, NULL, 0, saved + 1, 6, NULL, saved, NULL, NULL),
-           LEZGAURI_BAD_ARGUMENT);
+    expect("run of no clients: saved", (uint64_t)memcmp(image, saved, image_len), 0);
+    expect("run, the client as input",
+           lezgauri_run(image, image_len, clients, 1, client, client_len, output, 6, NULL, saved, NULL, NULL), LEZGAURI_OK);
     expect("run, more clients than fit",
-           lezgauri_run(image, len, clients, SIZE_MAX / 8, NULL, 0, output, 6, NULL, saved, NULL, NULL),
+           lezgauri_run(image, image_len, clients, SIZE_MAX / 8, NULL, 0, output, 6, NULL, saved, NULL, NULL),
            LEZGAURI_BAD_ARGUMENT);
     clients[1].len = client_len - 1;
-    expect("run, a cut client", lezgauri_run(image, len, clients, 2, NULL, 0, output, 6, &written, saved, reports, &fault),
+    expect("run, a cut client",
+           lezgauri_run(image, image_len, clients, 2, NULL, 0, output, 6, &written, saved, reports, &fault),
            LEZGAURI_BAD_CODE);
     expect("run, a cut client: which", fault.client, 1);
     expect("run, a cut client: written", written, 0);
+    clients[1] = (lezgauri_bytes){NULL, 0};
+    expect("run, a client null", lezgauri_run(image, image_len, clients, 2, NULL, 0, output, 6, NULL, saved, NULL, NULL),
+           LEZGAURI_BAD_ARGUMENT);
+    clients[1] = (lezgauri_bytes){client, SIZE_MAX};
+    expect("run, a client too long", lezgauri_run(image, image_len, clients, 2, NULL, 0, output, 6, NULL, saved, NULL, NULL),
+           LEZGAURI_BAD_ARGUMENT);
+    clients[1] = (lezgauri_bytes){saved, client_len};
+    expect("run, a client in saved", lezgauri_run(image, image_len, clients, 2, NULL, 0, output, 6, NULL, saved, NULL, NULL),
+           LEZGAURI_BAD_ARGUMENT);
+    clients[1] = (lezgauri_bytes){(uint8_t *)&fault, sizeof fault};
+    memset(&fault, 0x55, sizeof fault);
+    expect("run, a client in the fault", lezgauri_run(image, image_len, clients, 2, NULL, 0, output, 6, NULL, saved, NULL, &fault),
+           LEZGAURI_BAD_ARGUMENT);
+    expect("run, a client in the fault: as before", fault.number, 0x55555555);
     free(output);
     free(saved);
 }
 
-static void handle_calls(const uint8_t *image, size_t len, const uint8_t *client, size_t client_len)
+static lezgauri_handle *opened(void)
 {
-    lezgauri_handle *handle;
+    lezgauri_handle *handle = NULL;
+    expect("open", lezgauri_open(image, image_len, &handle, NULL), LEZGAURI_OK);
+    if (handle == NULL) {
+        exit(2);
+    }
+    return handle;
+}
+
+/* The number `x` of an open segment, which must be sound. */
+static uint8_t x_of(lezgauri_handle *handle)
+{
+    uint8_t *saved = room(image_len);
+    expect("save", lezgauri_save(handle, saved, image_len, NULL), LEZGAURI_OK);
+    expect("save: sound", lezgauri_check(saved, image_len, NULL), LEZGAURI_OK);
+    uint8_t x = saved[720];
+    free(saved);
+    return x;
+}
+
+static void open_calls(void)
+{
+    lezgauri_handle *handle = (lezgauri_handle *)image;
+    lezgauri_fault fault;
+    expect("open of 0 bytes", lezgauri_open(image, 0, &handle, &fault), LEZGAURI_BAD_HEADER);
+    expect("open of 0 bytes: no segment", handle != NULL, 0);
+    handle = (lezgauri_handle *)image;
+    expect("open of null", lezgauri_open(NULL, image_len, &handle, &fault), LEZGAURI_BAD_ARGUMENT);
+    expect("open of null: no segment", handle != NULL, 0);
+    handle = (lezgauri_handle *)image;
+    expect("open of a length past the largest", lezgauri_open(image, SIZE_MAX - 16, &handle, &fault), LEZGAURI_BAD_ARGUMENT);
+    expect("open of a length past the largest: no segment", handle != NULL, 0);
+    expect("open, handle null", lezgauri_open(image, image_len, NULL, &fault), LEZGAURI_BAD_ARGUMENT);
+    expect("open, handle null: number", fault.number, LEZGAURI_BAD_ARGUMENT);
+    lezgauri_close(NULL);
+    uint8_t *shifted = room(image_len + 1);
+    memcpy(shifted + 1, image, image_len);
+    expect("open of an image at an odd address", lezgauri_open(shifted + 1, image_len, &handle, &fault), LEZGAURI_OK);
+    free(shifted);
+    lezgauri_close(handle);
+    lezgauri_handle *one = opened();
+    lezgauri_handle *other = opened();
+    expect("run on one of two segments of an image", lezgauri_run_on(one, client, client_len, NULL, 0, NULL, 0, NULL, NULL, NULL),
+           LEZGAURI_OUTPUT_FULL);
+    expect("two segments of an image: one", x_of(one), 42);
+    expect("two segments of an image: the other", x_of(other), 41);
+    lezgauri_close(one);
+    lezgauri_close(other);
+}
+
+static void run_on_calls(void)
+{
+    lezgauri_handle *handle = opened();
     lezgauri_report report;
     lezgauri_fault fault;
     size_t written;
-    size_t needed;
-    char output[3];
-    expect("open of null", lezgauri_open(NULL, len, &handle, &fault), LEZGAURI_BAD_ARGUMENT);
-    expect("open of 0 bytes", lezgauri_open(image, 0, &handle, &fault), LEZGAURI_BAD_HEADER);
-    expect("open: no segment", handle != NULL, 0);
-    expect("open, handle null", lezgauri_open(image, len, NULL, &fault), LEZGAURI_BAD_ARGUMENT);
-    expect("run on null", lezgauri_run_on(NULL, client, client_len, NULL, 0, output, 3, &written, NULL, NULL),
-           LEZGAURI_BAD_ARGUMENT);
-    expect("save of null", lezgauri_save(NULL, output, 3, &needed), LEZGAURI_BAD_ARGUMENT);
-    lezgauri_close(NULL);
-    expect("open", lezgauri_open(image, len, &handle, &fault), LEZGAURI_OK);
-    for (char last = '2'; last < '6' && handle != NULL; last++) {
+    char *output = room(3);
+    for (char last = '2'; last < '6'; last++) {
         expect("run on", lezgauri_run_on(handle, client, client_len, NULL, 0, output, 3, &written, &report, &fault), LEZGAURI_OK);
         expect("run on: output", output[0] == '4' && output[1] == last && written == 3, 1);
         expect("run on: steps", report.steps, 6);
     }
-    expect("run on, too little room", lezgauri_run_on(handle, client, client_len, NULL, 0, output, 2, NULL, NULL, NULL),
-           LEZGAURI_OUTPUT_FULL);
-    expect("run on, client null", lezgauri_run_on(handle, NULL, 1, NULL, 0, output, 3, NULL, NULL, NULL), LEZGAURI_BAD_ARGUMENT);
     expect("run on, cut client", lezgauri_run_on(handle, client, client_len - 1, NULL, 0, output, 3, &written, NULL, &fault),
            LEZGAURI_BAD_CODE);
-    uint8_t *saved = malloc(len);
-    if (saved == NULL) {
-        exit(2);
-    }
+    expect("run on, cut client: written", written, 0);
+    expect("run on, cut client: as before", x_of(handle), 45);
+    expect("run on, too little room", lezgauri_run_on(handle, client, client_len, NULL, 0, output, 2, &written, &report, NULL),
+           LEZGAURI_OUTPUT_FULL);
+    expect("run on, too little room: written", written, 2);
+    expect("run on, too little room: ended", report.ended, 1);
+    expect("run on, too little room: as it was there", x_of(handle), 46);
+    expect("run on, the client as input",
+           lezgauri_run_on(handle, client, client_len, client, client_len, output, 3, NULL, NULL, NULL), LEZGAURI_OK);
+    free(output);
+    lezgauri_close(handle);
+}
+
+static void save_calls(void)
+{
+    lezgauri_handle *handle = opened();
+    uint8_t *saved = room(image_len);
+    size_t needed;
     expect("save, no room", lezgauri_save(handle, NULL, 0, &needed), LEZGAURI_TOO_SMALL);
-    expect("save: needed", needed, len);
-    expect("save, a byte too small", lezgauri_save(handle, saved, len - 1, NULL), LEZGAURI_TOO_SMALL);
-    expect("save", lezgauri_save(handle, saved, len, NULL), LEZGAURI_OK);
-    expect("save: x", saved[720], 46);
-    expect("save: sound", lezgauri_check(saved, len, NULL), LEZGAURI_OK);
+    expect("save: needed", needed, image_len);
+    expect("save, a byte too small", lezgauri_save(handle, saved, image_len - 1, NULL), LEZGAURI_TOO_SMALL);
+    expect("save over the image that was opened", lezgauri_save(handle, image, image_len, NULL), LEZGAURI_OK);
+    expect("save over the image that was opened: x", image[720], 41);
     free(saved);
     lezgauri_close(handle);
+}
+
+/* ---- each argument of each call that it can't take */
+
+/* A pointer that a call takes: how long its memory is, how it is aligned, and what the call does with it. */
+typedef struct argument {
+    const char *name;
+    uint8_t *at;
+    size_t len;
+    size_t align;
+    bool is_written;
+    bool may_be_null;
+    bool is_counted; /* the caller gives its length */
+    bool is_image;
+} argument;
+
+enum { MOST_ARGUMENTS = 8 };
+
+/* A call, and memory that it succeeds on. All of it is in one block, each part right after the one before, but for an open segment. */
+typedef struct call {
+    const char *name;
+    uint32_t (*make)(const argument *arguments);
+    size_t count;
+    argument arguments[MOST_ARGUMENTS];
+    bool has_fault; /* as its first argument */
+    bool has_segment; /* as its last argument */
+} call;
+
+static uint8_t *block;
+static uint8_t *before;
+static size_t block_len;
+
+static uint32_t make_check(const argument *a)
+{
+    return lezgauri_check(a[1].at, a[1].len, (lezgauri_fault *)a[0].at);
+}
+
+static uint32_t make_verify(const argument *a)
+{
+    return lezgauri_verify(a[2].at, a[2].len, a[3].at, a[3].len, (uint64_t *)a[1].at, (lezgauri_fault *)a[0].at);
+}
+
+static uint32_t make_run(const argument *a)
+{
+    return lezgauri_run(a[5].at, a[5].len, (lezgauri_bytes *)a[6].at, 1, a[7].at, a[7].len, a[2].at, a[2].len, (size_t *)a[1].at,
+                        a[3].at, (lezgauri_report *)a[4].at, (lezgauri_fault *)a[0].at);
+}
+
+static uint32_t make_open(const argument *a)
+{
+    uint32_t status = lezgauri_open(a[2].at, a[2].len, (lezgauri_handle **)a[1].at, (lezgauri_fault *)a[0].at);
+    if (status == LEZGAURI_OK) {
+        lezgauri_close(*(lezgauri_handle **)a[1].at);
+    }
+    return status;
+}
+
+static uint32_t make_run_on(const argument *a)
+{
+    return lezgauri_run_on((lezgauri_handle *)a[6].at, a[4].at, a[4].len, a[5].at, a[5].len, a[3].at, a[3].len,
+                           (size_t *)a[1].at, (lezgauri_report *)a[2].at, (lezgauri_fault *)a[0].at);
+}
+
+static uint32_t make_save(const argument *a)
+{
+    return lezgauri_save((lezgauri_handle *)a[2].at, a[1].at, a[1].len, (size_t *)a[0].at);
+}
+
+/* Whether a place that a refused call writes was written: *fault, which then has the status, or *handle, which is null. */
+typedef enum telling { TOLD, UNTOLD, EITHER } telling;
+
+static void told_in(const char *name, uint8_t *at, size_t len, bool is_right, telling how)
+{
+    uint8_t *old = before + (at - block);
+    bool is_as_before = memcmp(at, old, len) == 0;
+    expect(name, is_right, how != UNTOLD && !(how == EITHER && is_as_before));
+    if (is_right) {
+        memcpy(at, old, len);
+    }
+}
+
+/* Makes a call, and expects a status; then the block is as before, but for the places that a refusal is told in. */
+static void refused(const call *of, const char *how, const char *with, const argument *arguments, uint32_t status,
+                    telling fault_is, telling handle_is)
+{
+    char name[120];
+    snprintf(name, sizeof name, "%s, %s%s", of->name, how, with);
+    memcpy(before, block, block_len);
+    expect(name, of->make(arguments), status);
+    if (of->has_fault) {
+        lezgauri_fault *fault = (lezgauri_fault *)of->arguments[0].at;
+        told_in(name, (uint8_t *)fault, sizeof *fault, fault->number == status && fault->client == LEZGAURI_NO_CLIENT, fault_is);
+    }
+    if (of->make == make_open) {
+        lezgauri_handle **handle = (lezgauri_handle **)of->arguments[1].at;
+        told_in(name, (uint8_t *)handle, sizeof *handle, *handle == NULL, handle_is);
+    }
+    expect(name, (uint64_t)memcmp(before, block, block_len), 0);
+    memcpy(block, before, block_len);
+}
+
+/* Lays each place that a call writes over the start, and over the end, of each other memory of the call. */
+static void overlaps(const call *of)
+{
+    for (size_t i = 0; i < of->count - of->has_segment; i++) {
+        for (size_t j = 0; j < of->count; j++) {
+            argument changed[MOST_ARGUMENTS];
+            memcpy(changed, of->arguments, sizeof changed);
+            argument *over = &changed[i];
+            const argument *under = &of->arguments[j];
+            telling fault_is = i == 0 || j == 0 ? UNTOLD : TOLD;
+            telling handle_is = i == 1 || j == 1 ? UNTOLD : over->is_image ? EITHER : TOLD;
+            if (i == j || !(over->is_written || under->is_written)) {
+                continue;
+            }
+            char with[80];
+            snprintf(with, sizeof with, "%s over %s", over->name, under->name);
+            over->at = under->at;
+            refused(of, "", with, changed, LEZGAURI_BAD_ARGUMENT, fault_is, handle_is);
+            over->at = under->at + (under->len - 1) / over->align * over->align;
+            /* it may be over what comes next too */
+            bool is_segment = of->has_segment && j + 1 == of->count;
+            refused(of, "the end: ", with, changed, LEZGAURI_BAD_ARGUMENT, is_segment ? EITHER : fault_is,
+                    j == 0 ? EITHER : handle_is);
+        }
+    }
+}
+
+static void nulls(const call *of)
+{
+    for (size_t i = 0; i < of->count; i++) {
+        argument changed[MOST_ARGUMENTS];
+        memcpy(changed, of->arguments, sizeof changed);
+        changed[i].at = NULL;
+        if (!of->arguments[i].may_be_null) {
+            refused(of, "null: ", changed[i].name, changed, LEZGAURI_BAD_ARGUMENT, TOLD, i == 1 ? UNTOLD : TOLD);
+        } else {
+            memcpy(before, block, block_len);
+            expect(changed[i].name, of->make(changed), LEZGAURI_OK);
+            memcpy(block, before, block_len);
+        }
+    }
+}
+
+static void odd_addresses(const call *of)
+{
+    for (size_t i = 0; i < of->count - of->has_segment; i++) {
+        argument changed[MOST_ARGUMENTS];
+        memcpy(changed, of->arguments, sizeof changed);
+        if (changed[i].align > 1) {
+            changed[i].at++;
+            refused(of, "not aligned: ", changed[i].name, changed, LEZGAURI_BAD_ARGUMENT, i == 0 ? UNTOLD : TOLD,
+                    i == 1 ? UNTOLD : EITHER);
+        }
+    }
+}
+
+static void lengths(const call *of)
+{
+    static const size_t none[] = {SIZE_MAX, SIZE_MAX - 16, (size_t)PTRDIFF_MAX + 1};
+    static const size_t images[] = {((size_t)1 << 30) + 1, (size_t)3 << 30, (size_t)1 << 62, PTRDIFF_MAX};
+    for (size_t i = 0; i < of->count; i++) {
+        argument changed[MOST_ARGUMENTS];
+        memcpy(changed, of->arguments, sizeof changed);
+        for (size_t k = 0; changed[i].is_counted && k < sizeof none / sizeof *none; k++) {
+            changed[i].len = none[k];
+            refused(of, "no length: ", changed[i].name, changed, LEZGAURI_BAD_ARGUMENT, EITHER, EITHER);
+        }
+        for (size_t k = 0; changed[i].is_image && k < sizeof images / sizeof *images; k++) {
+            changed[i].len = images[k];
+            refused(of, "no image's length: ", changed[i].name, changed, LEZGAURI_BAD_HEADER, EITHER, EITHER);
+        }
+    }
+}
+
+/* Lays the memory of a call out in the block, an image and a client where it has some. */
+static void lay_out(call *of)
+{
+    size_t at = 0;
+    memset(block, 0x55, block_len);
+    for (size_t i = 0; i < of->count - of->has_segment; i++) {
+        argument *argument = &of->arguments[i];
+        argument->at = block + at;
+        at += (argument->len + 15) / 16 * 16;
+        if (argument->is_image) {
+            memcpy(argument->at, image, image_len);
+        } else if (strcmp(argument->name, "client") == 0) {
+            memcpy(argument->at, client, client_len);
+        } else if (strcmp(argument->name, "clients") == 0) {
+            memcpy(argument->at, &(lezgauri_bytes){client, client_len}, sizeof(lezgauri_bytes));
+        }
+    }
+}
+
+#define PLACE(type, name) {name, NULL, sizeof(type), alignof(type), true, true, false, false}
+#define FAULT PLACE(lezgauri_fault, "fault")
+#define IMAGE {"image", NULL, image_len, 1, false, false, true, true}
+#define CLIENT {"client", NULL, client_len, 1, false, false, true, false}
+#define INPUT {"input", NULL, 16, 1, false, false, true, false}
+#define OUTPUT {"output", NULL, 16, 1, true, false, true, false}
+#define SEGMENT {"segment", (uint8_t *)handle, image_len, 1, true, false, false, false}
+
+static void arguments(void)
+{
+    lezgauri_handle *handle = opened();
+    call calls[] = {
+        {"check", make_check, 2, {FAULT, IMAGE}, true, false},
+        {"verify", make_verify, 4, {FAULT, PLACE(uint64_t, "bound"), IMAGE, CLIENT}, true, false},
+        {"run",
+         make_run,
+         8,
+         {FAULT,
+          PLACE(size_t, "written"),
+          OUTPUT,
+          {"saved", NULL, image_len, 1, true, false, false, false},
+          PLACE(lezgauri_report, "reports"),
+          IMAGE,
+          {"clients", NULL, sizeof(lezgauri_bytes), alignof(lezgauri_bytes), false, false, false, false},
+          INPUT},
+         true,
+         false},
+        {"open",
+         make_open,
+         3,
+         {FAULT, {"handle", NULL, sizeof(lezgauri_handle *), alignof(lezgauri_handle *), true, false, false, false}, IMAGE},
+         true,
+         false},
+        {"run on",
+         make_run_on,
+         7,
+         {FAULT, PLACE(size_t, "written"), PLACE(lezgauri_report, "report"), OUTPUT, CLIENT, INPUT, SEGMENT},
+         true,
+         true},
+        {"save",
+         make_save,
+         3,
+         {PLACE(size_t, "needed"), {"buffer", NULL, image_len, 1, true, false, true, false}, SEGMENT},
+         false,
+         true},
+    };
+    block_len = 4 * image_len + 4096;
+    block = aligned_alloc(16, (block_len + 15) / 16 * 16);
+    before = room(block_len);
+    for (size_t i = 0; i < sizeof calls / sizeof *calls; i++) {
+        call *of = &calls[i];
+        lay_out(of);
+        expect(of->name, of->make(of->arguments), LEZGAURI_OK);
+        lay_out(of);
+        uint8_t x = x_of(handle);
+        overlaps(of);
+        odd_addresses(of);
+        lengths(of);
+        expect("refused: the segment is as before", x_of(handle), x);
+        nulls(of);
+    }
+    free(block);
+    free(before);
+    lezgauri_close(handle);
+}
+
+/* ---- an image that changes while it is opened */
+
+static size_t spoil_at;
+
+static void spoil(size_t request)
+{
+    if (request == spoil_at) {
+        image[708] ^= 1;
+    }
+}
+
+/* At whichever request for memory another process spoils the image, what is opened is sound. */
+static void changing_image(void)
+{
+    watch(NULL);
+    lezgauri_close(opened());
+    size_t all = requests;
+    int refused_opens = 0;
+    for (spoil_at = 1; spoil_at <= all; spoil_at++) {
+        lezgauri_handle *handle = NULL;
+        watch(spoil);
+        uint32_t status = lezgauri_open(image, image_len, &handle, NULL);
+        watch(NULL);
+        expect("open of a changing image: a segment", handle != NULL, status == LEZGAURI_OK);
+        if (handle != NULL) {
+            expect("open of a changing image: x", x_of(handle), 41);
+            lezgauri_close(handle);
+        }
+        refused_opens += status != LEZGAURI_OK;
+        image[708] ^= 1;
+    }
+    expect("open of a changing image: the copy comes first", refused_opens, 1);
+    expect("open of a changing image: as before", lezgauri_check(image, image_len, NULL), LEZGAURI_OK);
+}
+
+/* ---- a segment that two calls use at once */
+
+static lezgauri_handle *shared;
+
+static void use_meanwhile(size_t request)
+{
+    if (request != 1) {
+        return;
+    }
+    char output[3];
+    uint8_t saved[1];
+    lezgauri_fault fault = {0};
+    size_t count = 7;
+    expect("run on a busy segment", lezgauri_run_on(shared, client, client_len, NULL, 0, output, 3, &count, NULL, &fault),
+           LEZGAURI_BUSY);
+    expect("run on a busy segment: number", fault.number, LEZGAURI_BUSY);
+    expect("run on a busy segment: client", fault.client, LEZGAURI_NO_CLIENT);
+    expect("run on a busy segment: written", count, 7);
+    expect("save of a busy segment, no room", lezgauri_save(shared, saved, 1, NULL), LEZGAURI_TOO_SMALL);
+    uint8_t whole[4096];
+    expect("save of a busy segment", lezgauri_save(shared, whole, image_len, NULL), LEZGAURI_BUSY);
+}
+
+/* Within a run that asks for memory, each other call on its segment is told that it is busy. */
+static void busy_calls(void)
+{
+    shared = opened();
+    watch(use_meanwhile);
+    char output[3];
+    expect("run on, others meanwhile", lezgauri_run_on(shared, client, client_len, NULL, 0, output, 3, NULL, NULL, NULL),
+           LEZGAURI_OK);
+    expect("run on, others meanwhile: it asked for memory", requests > 0, 1);
+    watch(NULL);
+    expect("busy calls: x", x_of(shared), 42);
+    expect("run on, no longer busy", lezgauri_run_on(shared, client, client_len, NULL, 0, output, 3, NULL, NULL, NULL), LEZGAURI_OK);
+    lezgauri_close(shared);
+}
+
+enum { RUNS = 2000 };
+
+static void *count_runs(void *counted)
+{
+    for (int i = 0; i < RUNS; i++) {
+        char output[24];
+        uint32_t status = lezgauri_run_on(shared, client, client_len, NULL, 0, output, sizeof output, NULL, NULL, NULL);
+        *(int *)counted += status == LEZGAURI_OK;
+        if (status != LEZGAURI_OK && status != LEZGAURI_BUSY) {
+            *(int *)counted = -RUNS;
+        }
+    }
+    return NULL;
+}
+
+static uint64_t number_of(lezgauri_handle *handle)
+{
+    uint8_t *saved = room(image_len);
+    expect("save", lezgauri_save(handle, saved, image_len, NULL), LEZGAURI_OK);
+    uint64_t number = 0;
+    for (int i = 7; i >= 0; i--) {
+        number = number << 8 | saved[720 + i];
+    }
+    free(saved);
+    return number;
+}
+
+/* Two threads at once: each run that says that it ran has counted. Then a segment that one thread after the other uses. */
+static void threads(void)
+{
+    int counted[2] = {0, 0};
+    pthread_t thread[2];
+    shared = opened();
+    for (int i = 0; i < 2; i++) {
+        pthread_create(&thread[i], NULL, count_runs, &counted[i]);
+    }
+    for (int i = 0; i < 2; i++) {
+        pthread_join(thread[i], NULL);
+    }
+    expect("two threads at once", number_of(shared), 41 + (uint64_t)counted[0] + (uint64_t)counted[1]);
+    counted[0] = 0;
+    pthread_create(&thread[0], NULL, count_runs, &counted[0]);
+    pthread_join(thread[0], NULL);
+    expect("another thread", (uint64_t)counted[0], RUNS);
+    lezgauri_close(shared);
 }
 
 int main(int argc, char **argv)
@@ -181,14 +666,18 @@ int main(int argc, char **argv)
         fprintf(stderr, "usage: calls IMAGE CLIENT\n");
         return 2;
     }
-    size_t len;
-    size_t client_len;
-    uint8_t *image = read_file(argv[1], &len);
-    uint8_t *client = read_file(argv[2], &client_len);
-    check_calls(image, len);
-    verify_calls(image, len, client, client_len);
-    run_calls(image, len, client, client_len);
-    handle_calls(image, len, client, client_len);
+    image = read_file(argv[1], &image_len);
+    client = read_file(argv[2], &client_len);
+    check_calls();
+    verify_calls();
+    run_calls();
+    open_calls();
+    run_on_calls();
+    save_calls();
+    arguments();
+    changing_image();
+    busy_calls();
+    threads();
     free(image);
     free(client);
     printf("%d calls and results, %d wrong\n", made, wrong);

@@ -1,9 +1,10 @@
 /*
- * The calls of lezgauri.h: each tests the caller's pointers and lengths, and passes what is left of them on to an export of
- * the library, which takes slices, and so may be given no null pointer, and no memory twice that it writes.
+ * The calls of lezgauri.h. Each tests the caller's pointers and lengths, and passes them on to an export of the library, which takes
+ * slices, so it may be given no null pointer, and no memory twice that it writes.
  */
 #include "lezgauri.h"
 
+#include <stdatomic.h>
 #include <stdbool.h>
 #include <stdlib.h>
 #include <string.h>
@@ -20,39 +21,29 @@ uint32_t lezgauri_raw_run_on(uint8_t *image, size_t len, const uint8_t *client, 
                              size_t input_len, uint8_t *output, size_t capacity, size_t *written, lezgauri_report *report,
                              lezgauri_fault *fault);
 
+/* The most bytes of an image. */
+#define MOST_IMAGE ((size_t)1 << 30)
+
+/* ---- memory of a call */
+
 /* Memory of the caller's: `len` bytes. */
 typedef struct span {
     const void *at;
     size_t len;
 } span;
 
-/* Where an empty slice lies that the caller gave as null: aligned for each type of the calls. */
+/* All memory of a call but a list of clients. The first places are written, the fault's among them. */
+typedef struct memory {
+    const span *spans;
+    size_t count;
+    size_t written;
+} memory;
+
+#define MEMORY(spans, written) ((memory){(spans), sizeof(spans) / sizeof *(spans), (written)})
+
+/* Where an empty slice is that the caller gave as null: aligned for each type of the calls. */
 static const uint64_t empty_place[4] = {0};
 static uint64_t empty_room[4];
-
-/* Whether `len` items of a size and an alignment may lie at a pointer. */
-static bool may_lie(const void *at, size_t len, size_t size, size_t align)
-{
-    return len <= PTRDIFF_MAX / size && (uintptr_t)at % align == 0 && (at != NULL || len == 0);
-}
-
-static bool may_lie_bytes(const void *at, size_t len)
-{
-    return may_lie(at, len, 1, 1);
-}
-
-/* Whether a pointer that may be null is one to a value of an alignment. */
-static bool may_tell(const void *at, size_t align)
-{
-    return (uintptr_t)at % align == 0;
-}
-
-static bool overlap(span a, span b)
-{
-    uintptr_t start = (uintptr_t)a.at;
-    uintptr_t other = (uintptr_t)b.at;
-    return a.len > 0 && b.len > 0 && (start < other ? other - start < a.len : start - other < b.len);
-}
 
 static const void *or_empty(const void *at)
 {
@@ -64,34 +55,124 @@ static void *or_room(void *at)
     return at != NULL ? at : empty_room;
 }
 
-/* What a call returns that looked at nothing. */
-static uint32_t refuse(lezgauri_fault *fault)
+/* Whether `len` items of a size and an alignment may be at a pointer. */
+static bool may_be(const void *at, size_t len, size_t size, size_t align)
 {
-    if (fault != NULL && may_tell(fault, _Alignof(lezgauri_fault))) {
-        *fault = (lezgauri_fault){.client = LEZGAURI_NO_CLIENT, .number = LEZGAURI_BAD_ARGUMENT};
-    }
-    return LEZGAURI_BAD_ARGUMENT;
+    return len <= PTRDIFF_MAX / size && (uintptr_t)at % align == 0 && (at != NULL || len == 0);
 }
+
+static bool may_be_bytes(const void *at, size_t len)
+{
+    return may_be(at, len, 1, 1);
+}
+
+/* Whether a pointer that may be null is one to a value of an alignment. */
+static bool may_tell(const void *at, size_t align)
+{
+    return (uintptr_t)at % align == 0;
+}
+
+/* The memory of one value, or none if the pointer is null. */
+static span one(const void *at, size_t size)
+{
+    return (span){at, at != NULL ? size : 0};
+}
+
+/* The memory of an image. Of a length that is no image's the call reads nothing. */
+static span image_at(const void *at, size_t len)
+{
+    return one(at, len < MOST_IMAGE ? len : MOST_IMAGE);
+}
+
+static bool overlap(span a, span b)
+{
+    uintptr_t start = (uintptr_t)a.at;
+    uintptr_t other = (uintptr_t)b.at;
+    return a.len > 0 && b.len > 0 && (start < other ? other - start < a.len : start - other < b.len);
+}
+
+/* Whether memory overlaps none of a call's, itself left out. */
+static bool is_apart(span part, memory of, size_t itself)
+{
+    for (size_t i = 0; i < of.count; i++) {
+        if (i != itself && overlap(part, of.spans[i])) {
+            return false;
+        }
+    }
+    return true;
+}
+
+/* Whether each place that a call writes is apart from all its other memory. */
+static bool are_apart(memory of)
+{
+    for (size_t i = 0; i < of.written; i++) {
+        if (!is_apart(of.spans[i], of, i)) {
+            return false;
+        }
+    }
+    return true;
+}
+
+/* Whether the places that a call writes are apart from some memory that it reads besides. */
+static bool are_apart_from(memory of, span read)
+{
+    return is_apart(read, (memory){of.spans, of.written, 0}, SIZE_MAX);
+}
+
+/* ---- refusals */
+
+/* The number of a call that looked at no image and no client. Its fault is told if that spoils no other memory of the call. The
+ * fault's place is the first of the call's memory. */
+static uint32_t refuse(uint32_t number, lezgauri_fault *fault, memory of)
+{
+    if (fault != NULL && may_tell(fault, _Alignof(lezgauri_fault)) && is_apart(of.spans[0], of, 0)) {
+        *fault = (lezgauri_fault){.client = LEZGAURI_NO_CLIENT, .number = number};
+    }
+    return number;
+}
+
+static void tell(lezgauri_fault *fault, const lezgauri_fault *told)
+{
+    if (fault != NULL) {
+        *fault = *told;
+    }
+}
+
+/* ---- images */
 
 uint32_t lezgauri_check(const void *image, size_t len, lezgauri_fault *fault)
 {
-    if (!may_lie_bytes(image, len) || !may_tell(fault, _Alignof(lezgauri_fault))) {
-        return refuse(fault);
+    span spans[] = {one(fault, sizeof *fault), image_at(image, len)};
+    memory of = MEMORY(spans, 1);
+    if (!may_be_bytes(image, len) || !may_tell(fault, _Alignof(lezgauri_fault))) {
+        return refuse(LEZGAURI_BAD_ARGUMENT, fault, of);
+    }
+    if (len > MOST_IMAGE) {
+        return refuse(LEZGAURI_BAD_HEADER, fault, of);
+    }
+    if (!are_apart(of)) {
+        return refuse(LEZGAURI_BAD_ARGUMENT, fault, of);
     }
     lezgauri_fault told;
     uint32_t status = lezgauri_raw_check(or_empty(image), len, &told);
-    if (fault != NULL) {
-        *fault = told;
-    }
+    tell(fault, &told);
     return status;
 }
 
 uint32_t lezgauri_verify(const void *image, size_t len, const void *client, size_t client_len, uint64_t *bound,
                          lezgauri_fault *fault)
 {
-    if (!may_lie_bytes(image, len) || !may_lie_bytes(client, client_len) || !may_tell(bound, _Alignof(uint64_t)) ||
+    span spans[] = {one(fault, sizeof *fault), one(bound, sizeof *bound), image_at(image, len), one(client, client_len)};
+    memory of = MEMORY(spans, 2);
+    if (!may_be_bytes(image, len) || !may_be_bytes(client, client_len) || !may_tell(bound, _Alignof(uint64_t)) ||
         !may_tell(fault, _Alignof(lezgauri_fault))) {
-        return refuse(fault);
+        return refuse(LEZGAURI_BAD_ARGUMENT, fault, of);
+    }
+    if (len > MOST_IMAGE) {
+        return refuse(LEZGAURI_BAD_HEADER, fault, of);
+    }
+    if (!are_apart(of)) {
+        return refuse(LEZGAURI_BAD_ARGUMENT, fault, of);
     }
     uint64_t steps = 0;
     lezgauri_fault told;
@@ -99,40 +180,31 @@ uint32_t lezgauri_verify(const void *image, size_t len, const void *client, size
     if (bound != NULL && status == LEZGAURI_OK) {
         *bound = steps;
     }
-    if (fault != NULL) {
-        *fault = told;
-    }
+    tell(fault, &told);
     return status;
 }
 
-/* Whether none of a call's memory to write overlaps another part of its memory. */
-static bool stand_apart(const span *writes, size_t writes_len, const span *reads, size_t reads_len)
-{
-    for (size_t i = 0; i < writes_len; i++) {
-        for (size_t j = 0; j < i; j++) {
-            if (overlap(writes[i], writes[j])) {
-                return false;
-            }
-        }
-        for (size_t j = 0; j < reads_len; j++) {
-            if (overlap(writes[i], reads[j])) {
-                return false;
-            }
-        }
-    }
-    return true;
-}
-
 /* Whether the library may read each client while it writes elsewhere. */
-static bool may_read_clients(const lezgauri_bytes *clients, size_t count, const span *writes, size_t writes_len)
+static bool may_read_clients(const lezgauri_bytes *clients, size_t count, memory of)
 {
     for (size_t i = 0; i < count; i++) {
         span client = {clients[i].bytes, clients[i].len};
-        if (client.at == NULL || !may_lie_bytes(client.at, client.len) || !stand_apart(writes, writes_len, &client, 1)) {
+        if (client.at == NULL || !may_be_bytes(client.at, client.len) || !are_apart_from(of, client)) {
             return false;
         }
     }
     return true;
+}
+
+/* As refuse, for a call that has a list of clients too. */
+static uint32_t refuse_run(uint32_t number, lezgauri_fault *fault, memory of, const lezgauri_bytes *clients, size_t count)
+{
+    for (size_t i = 0; i < count; i++) {
+        if (overlap(of.spans[0], one(clients[i].bytes, clients[i].len))) {
+            return number;
+        }
+    }
+    return refuse(number, fault, of);
 }
 
 uint32_t lezgauri_run(const void *image, size_t image_len, const lezgauri_bytes *clients, size_t count, const void *input,
@@ -140,16 +212,30 @@ uint32_t lezgauri_run(const void *image, size_t image_len, const lezgauri_bytes 
                       lezgauri_report *reports, lezgauri_fault *fault)
 {
     size_t reports_len = reports != NULL ? count : 0;
-    if (!may_lie_bytes(image, image_len) || !may_lie(clients, count, sizeof *clients, _Alignof(lezgauri_bytes)) ||
-        !may_lie_bytes(input, input_len) || !may_lie_bytes(output, capacity) || !may_lie_bytes(saved, image_len) ||
-        !may_tell(written, _Alignof(size_t)) || !may_lie(reports, reports_len, sizeof *reports, _Alignof(lezgauri_report)) ||
-        !may_tell(fault, _Alignof(lezgauri_fault))) {
-        return refuse(fault);
+    bool are_clients = may_be(clients, count, sizeof *clients, _Alignof(lezgauri_bytes));
+    bool are_reports = may_be(reports, reports_len, sizeof *reports, _Alignof(lezgauri_report));
+    span spans[] = {one(fault, sizeof *fault),
+                    one(written, sizeof *written),
+                    one(output, capacity),
+                    image_at(saved, image_len),
+                    one(reports, are_reports ? reports_len * sizeof *reports : 0),
+                    image_at(image, image_len),
+                    one(clients, are_clients ? count * sizeof *clients : 0),
+                    one(input, input_len)};
+    memory of = MEMORY(spans, 5);
+    if (!are_clients) {
+        return refuse(LEZGAURI_BAD_ARGUMENT, fault, of);
     }
-    span writes[] = {{output, capacity}, {saved, image_len}, {reports, reports_len * sizeof *reports}};
-    span reads[] = {{image, image_len}, {clients, count * sizeof *clients}, {input, input_len}};
-    if (!stand_apart(writes, 3, reads, 3) || !may_read_clients(clients, count, writes, 3)) {
-        return refuse(fault);
+    if (!may_be_bytes(image, image_len) || !may_be_bytes(input, input_len) || !may_be_bytes(output, capacity) ||
+        !may_be_bytes(saved, image_len) || !may_tell(written, _Alignof(size_t)) || !are_reports ||
+        !may_tell(fault, _Alignof(lezgauri_fault))) {
+        return refuse_run(LEZGAURI_BAD_ARGUMENT, fault, of, clients, count);
+    }
+    if (image_len > MOST_IMAGE) {
+        return refuse_run(LEZGAURI_BAD_HEADER, fault, of, clients, count);
+    }
+    if (!are_apart(of) || !may_read_clients(clients, count, of)) {
+        return refuse_run(LEZGAURI_BAD_ARGUMENT, fault, of, clients, count);
     }
     size_t taken = 0;
     lezgauri_fault told;
@@ -159,79 +245,106 @@ uint32_t lezgauri_run(const void *image, size_t image_len, const lezgauri_bytes 
     if (written != NULL) {
         *written = taken;
     }
-    if (fault != NULL) {
-        *fault = told;
-    }
+    tell(fault, &told);
     return status;
 }
 
+/* ---- segments that stay open */
+
 struct lezgauri_handle {
     size_t len;
-    uint8_t image[];
+    atomic_flag busy; /* while a call uses the segment */
+    _Alignas(16) uint8_t image[];
 };
+
+static span segment_at(const lezgauri_handle *handle)
+{
+    return (span){handle, handle != NULL ? sizeof *handle + handle->len : 0};
+}
+
+/* Whether the segment was free; then it is the call's until it is released. */
+static bool acquire(lezgauri_handle *handle)
+{
+    return !atomic_flag_test_and_set_explicit(&handle->busy, memory_order_acquire);
+}
+
+static void release(lezgauri_handle *handle)
+{
+    atomic_flag_clear_explicit(&handle->busy, memory_order_release);
+}
 
 uint32_t lezgauri_open(const void *image, size_t len, lezgauri_handle **handle, lezgauri_fault *fault)
 {
-    if (handle == NULL || !may_tell(handle, _Alignof(lezgauri_handle *)) || len > PTRDIFF_MAX - sizeof **handle) {
-        return refuse(fault);
+    span spans[] = {one(fault, sizeof *fault), one(handle, sizeof *handle), image_at(image, len)};
+    memory of = MEMORY(spans, 2);
+    bool is_handle = handle != NULL && may_tell(handle, _Alignof(lezgauri_handle *));
+    if (is_handle && is_apart(spans[1], of, 1)) {
+        *handle = NULL;
     }
-    *handle = NULL;
-    uint32_t status = lezgauri_check(image, len, fault);
-    if (status != LEZGAURI_OK) {
-        return status;
+    if (!is_handle || !may_be_bytes(image, len) || !may_tell(fault, _Alignof(lezgauri_fault))) {
+        return refuse(LEZGAURI_BAD_ARGUMENT, fault, of);
+    }
+    if (len > MOST_IMAGE) {
+        return refuse(LEZGAURI_BAD_HEADER, fault, of);
+    }
+    if (!are_apart(of)) {
+        return refuse(LEZGAURI_BAD_ARGUMENT, fault, of);
     }
     lezgauri_handle *opened = malloc(sizeof *opened + len);
     if (opened == NULL) {
-        if (fault != NULL) {
-            *fault = (lezgauri_fault){.client = LEZGAURI_NO_CLIENT, .number = LEZGAURI_MEMORY};
-        }
-        return LEZGAURI_MEMORY;
+        return refuse(LEZGAURI_MEMORY, fault, of);
     }
-    opened->len = len;
-    memcpy(opened->image, image, len);
-    *handle = opened;
-    return LEZGAURI_OK;
+    /* the copy is checked, and not the caller's bytes, which another process may write */
+    memcpy(opened->image, or_empty(image), len);
+    lezgauri_fault told;
+    uint32_t status = lezgauri_raw_check(opened->image, len, &told);
+    if (status == LEZGAURI_OK) {
+        opened->len = len;
+        atomic_flag_clear(&opened->busy);
+        *handle = opened;
+    } else {
+        free(opened);
+    }
+    tell(fault, &told);
+    return status;
 }
 
 uint32_t lezgauri_run_on(lezgauri_handle *handle, const void *client, size_t client_len, const void *input,
                          size_t input_len, void *output, size_t capacity, size_t *written, lezgauri_report *report,
                          lezgauri_fault *fault)
 {
-    if (handle == NULL || !may_lie_bytes(client, client_len) || !may_lie_bytes(input, input_len) ||
-        !may_lie_bytes(output, capacity) || !may_tell(written, _Alignof(size_t)) ||
-        !may_tell(report, _Alignof(lezgauri_report)) || !may_tell(fault, _Alignof(lezgauri_fault))) {
-        return refuse(fault);
+    span spans[] = {one(fault, sizeof *fault), one(written, sizeof *written), one(report, sizeof *report), one(output, capacity),
+                    segment_at(handle),        one(client, client_len),       one(input, input_len)};
+    memory of = MEMORY(spans, 5);
+    if (handle == NULL || !may_be_bytes(client, client_len) || !may_be_bytes(input, input_len) ||
+        !may_be_bytes(output, capacity) || !may_tell(written, _Alignof(size_t)) ||
+        !may_tell(report, _Alignof(lezgauri_report)) || !may_tell(fault, _Alignof(lezgauri_fault)) || !are_apart(of)) {
+        return refuse(LEZGAURI_BAD_ARGUMENT, fault, of);
     }
-    span writes[] = {{output, capacity}, {handle, sizeof *handle + handle->len}};
-    span reads[] = {{client, client_len}, {input, input_len}};
-    if (!stand_apart(writes, 2, reads, 2)) {
-        return refuse(fault);
+    if (!acquire(handle)) {
+        return refuse(LEZGAURI_BUSY, fault, of);
     }
     size_t taken = 0;
     lezgauri_report reported = {0};
     lezgauri_fault told;
     uint32_t status = lezgauri_raw_run_on(handle->image, handle->len, or_empty(client), client_len, or_empty(input),
                                           input_len, or_room(output), capacity, &taken, &reported, &told);
+    release(handle);
     if (written != NULL) {
         *written = taken;
     }
     if (report != NULL && (status == LEZGAURI_OK || status == LEZGAURI_OUTPUT_FULL)) {
         *report = reported;
     }
-    if (fault != NULL) {
-        *fault = told;
-    }
+    tell(fault, &told);
     return status;
 }
 
 uint32_t lezgauri_save(const lezgauri_handle *handle, void *buffer, size_t capacity, size_t *needed)
 {
-    if (handle == NULL || !may_lie_bytes(buffer, capacity) || !may_tell(needed, _Alignof(size_t))) {
-        return LEZGAURI_BAD_ARGUMENT;
-    }
-    span writes[] = {{buffer, capacity}};
-    span reads[] = {{handle, sizeof *handle + handle->len}};
-    if (!stand_apart(writes, 1, reads, 1)) {
+    span spans[] = {one(needed, sizeof *needed), one(buffer, capacity), segment_at(handle)};
+    if (handle == NULL || !may_be_bytes(buffer, capacity) || !may_tell(needed, _Alignof(size_t)) ||
+        !are_apart(MEMORY(spans, 2))) {
         return LEZGAURI_BAD_ARGUMENT;
     }
     if (needed != NULL) {
@@ -240,7 +353,13 @@ uint32_t lezgauri_save(const lezgauri_handle *handle, void *buffer, size_t capac
     if (capacity < handle->len) {
         return LEZGAURI_TOO_SMALL;
     }
+    /* to a caller that may only read the segment, its flag is no part of it */
+    lezgauri_handle *flagged = (lezgauri_handle *)handle;
+    if (!acquire(flagged)) {
+        return LEZGAURI_BUSY;
+    }
     memcpy(buffer, handle->image, handle->len);
+    release(flagged);
     return LEZGAURI_OK;
 }
 

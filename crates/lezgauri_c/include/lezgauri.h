@@ -5,21 +5,27 @@
  * Images, clients and their text are those of docs/FORMATS.md. All lengths and positions are in bytes, if nothing else is
  * said.
  *
- * Each call returns a status: LEZGAURI_OK, the number of a fault, or one of the numbers from 100 on below. With
- * LEZGAURI_BAD_ARGUMENT and with a fault nothing ran, and the caller's memory is unchanged but for *fault and *written.
- * No call aborts, unwinds, prints, or reads or writes beyond the lengths that it is given. Memory that a call takes comes
- * from malloc, and has gone back to free when it returns; LEZGAURI_MEMORY says that it was refused.
+ * Each call returns a status: LEZGAURI_OK, the number of a fault, or one of the numbers from 100 on below. With a fault,
+ * LEZGAURI_BAD_ARGUMENT or LEZGAURI_BUSY nothing ran, and the caller's memory is unchanged but for *fault, *written and
+ * *handle. No call aborts, unwinds, prints, or reads or writes beyond the lengths that it is given. Memory that a call takes
+ * comes from malloc, and has gone back to free when it returns, but for an open segment; LEZGAURI_MEMORY says that malloc refused.
  *
  * Tested by each call: null pointers where a length isn't 0, lengths above PTRDIFF_MAX, pointers to numbers or structs that
- * aren't aligned, and memory to write that overlaps other memory of the call. Each returns LEZGAURI_BAD_ARGUMENT. A pointer
- * with a length of 0 may be null, if nothing else is said.
+ * aren't aligned, and places that the call writes (*fault, *bound, *written, *needed, reports, *handle, an output, a saved image,
+ * an open segment) that overlap any other memory of the call. Each returns LEZGAURI_BAD_ARGUMENT. A pointer with a length of 0 may
+ * be null, if nothing else is said. An image's length above 2^30 returns LEZGAURI_BAD_HEADER, and nothing of the image is read or
+ * copied. *fault isn't written where it overlaps other memory of the call, so the status alone says why.
  *
- * Promised by the caller, as no call can test it: at each pointer lie as many bytes as its length says; they may be written
- * where the pointer isn't to const; and no other thread writes them, or reads what the call writes, while the call runs. A
- * call isn't made from a signal handler, nor from the forked child of a process with threads.
+ * Promised by the caller, as no call can test it: at each pointer are as many bytes as its length says; they may be written
+ * where the pointer isn't to const; and no other thread or process writes them, or reads what the call writes, while the call
+ * runs. Only lezgauri_open may be given bytes that others write: what it opens is the copy that it checked. A call isn't made
+ * from a signal handler, nor from the forked child of a process with threads.
  *
- * Threads: calls share nothing, so several may run at a time, each on memory of its own. Images, clients and inputs may be
- * shared by calls that run at a time, since they are only read.
+ * Threads: calls share nothing but an open segment, so several may run at a time, each on memory of its own. Images, clients and
+ * inputs may be shared by calls that run at a time, since they are only read. One call at a time uses an open segment: another
+ * returns LEZGAURI_BUSY at once, having done nothing.
+ *
+ * Stack: each call touches at most LEZGAURI_STACK_.. bytes of its thread's stack, beside what malloc and the caller use.
  */
 #ifndef LEZGAURI_H
 #define LEZGAURI_H
@@ -51,7 +57,16 @@ enum {
     LEZGAURI_TOO_LONG = 23,      /* the client's bound on its steps passes 1,000,000,000 */
     LEZGAURI_BAD_ARGUMENT = 100, /* a pointer or a length that the call can't take; nothing else was looked at */
     LEZGAURI_OUTPUT_FULL = 101,  /* the output had no room for what a client prints */
-    LEZGAURI_TOO_SMALL = 102     /* the memory for a saved image has fewer bytes than the image */
+    LEZGAURI_TOO_SMALL = 102,    /* the memory for a saved image has fewer bytes than the image */
+    LEZGAURI_BUSY = 103          /* another call uses the open segment */
+};
+
+/* The most bytes of stack that a call touches. */
+enum {
+    LEZGAURI_STACK_CHECK = 32 * 1024,  /* lezgauri_check, lezgauri_open */
+    LEZGAURI_STACK_VERIFY = 48 * 1024, /* lezgauri_verify */
+    LEZGAURI_STACK_RUN = 384 * 1024,   /* lezgauri_run, lezgauri_run_on */
+    LEZGAURI_STACK_SAVE = 4 * 1024     /* lezgauri_save, lezgauri_close */
 };
 
 /* No client has the fault. */
@@ -113,21 +128,22 @@ uint32_t lezgauri_run(const void *image, size_t image_len, const lezgauri_bytes 
                       lezgauri_report *reports, lezgauri_fault *fault);
 
 /*
- * A segment that stays open, so that its image is checked once for many runs. It owns a copy of the image, and the caller owns
- * it: it goes back with lezgauri_close. One thread at a time may use it. Only these calls may write its memory: what
- * lezgauri_run_on keeps of an image rests on its having been accepted.
+ * A segment that stays open, so that its image is checked once for many runs. It has a copy of the image, and the caller owns
+ * it: its memory goes back with lezgauri_close. Only these calls may write that memory: what a run keeps of an image rests on its
+ * having been accepted.
  */
 typedef struct lezgauri_handle lezgauri_handle;
 
 /*
- * Opens a copy of an image, if it is sound: LEZGAURI_OK, and *handle is the segment; else *handle is null. `handle` isn't null,
- * `fault` may be.
+ * Copies an image, and opens the copy if it is sound: LEZGAURI_OK, and *handle is the segment. Else *handle is null, unless `handle`
+ * is null, isn't aligned, or overlaps other memory of the call. `handle` isn't null, `fault` may be.
  */
 uint32_t lezgauri_open(const void *image, size_t len, lezgauri_handle **handle, lezgauri_fault *fault);
 
 /*
  * Verifies a client and runs it on an open segment; the memory is that of lezgauri_run. `report`, `written` and `fault` may be
- * null. With a fault nothing ran, and the segment is as before.
+ * null. With a fault nothing ran, and the segment is as before. With LEZGAURI_OUTPUT_FULL the client ran up to the output that had no
+ * room, and the segment is as it was there.
  */
 uint32_t lezgauri_run_on(lezgauri_handle *handle, const void *client, size_t client_len, const void *input,
                          size_t input_len, void *output, size_t capacity, size_t *written, lezgauri_report *report,
@@ -139,7 +155,7 @@ uint32_t lezgauri_run_on(lezgauri_handle *handle, const void *client, size_t cli
  */
 uint32_t lezgauri_save(const lezgauri_handle *handle, void *buffer, size_t capacity, size_t *needed);
 
-/* Gives an open segment's memory back. Null is no segment, and nothing happens. */
+/* Gives an open segment's memory back, while no call uses it. Null is no segment, and nothing happens. */
 void lezgauri_close(lezgauri_handle *handle);
 
 #ifdef __cplusplus
