@@ -163,6 +163,14 @@ fn folder_of(name: &str) -> Path<'_> {
     }
 }
 
+/// Refuses a file with more bytes than the limit.
+fn test_len(len: u64, limit: u64) -> Result<(), FileFault> {
+    if len > limit {
+        return Err(FileFault::Failed(FileProblem::TooLong { limit }));
+    }
+    Ok(())
+}
+
 /// Why the system didn't read a file.
 fn unread(error: io::Error) -> FileFault {
     let problem = match error.kind() {
@@ -192,12 +200,14 @@ fn unwritten(error: io::Error) -> FileFault {
 
 impl<R: rt::Files<File = File> + AllocGlobal> Files for HostFiles<'_, R> {
     fn read(&mut self, alloc: Global, name: &str, limit: u64) -> Result<Vec<u8>, FileFault> {
+        // a plain file that is too long isn't read first; what else there is has no length that is known
+        if let Some(there) = self.plain_file(name)? {
+            test_len(there.len(), limit)?;
+        }
         let bytes = self
             .read_at_most(alloc, name, limit.saturating_add(1))
             .map_err(unread)?;
-        if bytes.len() as u64 > limit {
-            return Err(FileFault::Failed(FileProblem::TooLong { limit }));
-        }
+        test_len(bytes.len() as u64, limit)?;
         Ok(bytes)
     }
 
