@@ -9,7 +9,6 @@ use Rattle.seg_spec.specs.Types.{AreOfVersion, Table, IsTable, HasTable, Agree, 
 use Rattle.seg_spec.specs.Sound.{Picture, IsHeld}
 use Rattle.seg_spec.proofs.Frame.{word-same}
 use Rattle.seg_spec.proofs.HeapFrame.{live-kept}
-use Rattle.seg_spec.proofs.CellSteps.{ChangesOnly-none}
 use Rattle.seg_spec.specs.Window.{Placement}
 use Rattle.seg_value.specs.Stored.{Stored}
 use Rattle.seg_manager.specs.Segments.{IsSegment, AddsTypes}
@@ -77,21 +76,7 @@ adds_types allocator old new picture more is agree valid valid_more of_version t
       live_is = live-kept a b (word a allocator_word) l.heap (heap_same a b (word a allocator_word) l.heap changes.length_kept root in_heap);
     }
 
--- a table that isn't longer adds nothing
-pub none_added : (allocator : ℕ) (old : Stored) (picture : Picture) (more : Table) → IsSegment allocator old picture → longer old.types more ≡ old.types → AddsTypes allocator old old picture more
-none_added allocator old picture more is same = record {
-  segment = subst (λ t. IsSegment allocator old (record picture { table = t })) (sym (same ∙ is.table_is)) is;
-  changes = ChangesOnly-none old.window.bytes types_start types_size;
-  live_is = refl;
-}
-
--- the first of two tables is the longer one where the second has no more types
-pub not_longer : (old new : Table) → length new ≤ length old → longer old new ≡ old
-not_longer old new le =
-    let on : leb (length new) (length old) ≡ true = grind (arith, nat_tests) in
-    ap (λ b. cond b old new) on
-
--- the second one is where it has more
+-- a table with more types is the longer one
 pub then_longer : (old new : Table) → length old < length new → longer old new ≡ new
 then_longer old new lt =
     let off : leb (length new) (length old) ≡ false = grind (arith, nat_tests) in

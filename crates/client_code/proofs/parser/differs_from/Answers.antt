@@ -1,4 +1,4 @@
-use Rattle.std.proofs.Common.{◌≡◌, ◌+◌, [], ◌∷◌, ◌++◌, length, refl, sym, ◌∙◌, subst, arith}
+use Rattle.std.proofs.Common.{◌≡◌, [], ◌∷◌, ◌++◌, length, refl, sym, ◌∙◌, subst, arith}
 use Rattle.std.specs.Prelude.{All}
 use Rattle.std.proofs.lemmas.Bool.{false≢true}
 use Rattle.std.proofs.lemmas.List.{length_push}
@@ -34,7 +34,7 @@ loop-preserved c = record {
       );
 }
 
-pub returns-in_default-spelled_at : goal.returns-in_default
+pub returns-in_default-spelled_at : goal.returns-in_default-spelled_at
 returns-in_default-spelled_at c = λ cs following n are.
     let w = c.loop.invariant.walks cs following n are in
     let count = w.2 in
