@@ -170,7 +170,7 @@ pub fn room_after<A: Allocator>(w: &Window<A>, block: Block) -> u32
 }
 
 /// Cuts a block in two, both of them live or free as it was. The front keeps `units`; the rest has tag 0.
-pub(crate) fn split<A: Allocator>(w: &mut Window<A>, block: Block, units: u32)
+pub fn split<A: Allocator>(w: &mut Window<A>, block: Block, units: u32)
     requires inside { block_end block ≤ MAX_LEN }
     requires front { 2 ≤ units }
     requires rest { units + 2 ≤ block.units }
@@ -188,7 +188,7 @@ pub(crate) fn split<A: Allocator>(w: &mut Window<A>, block: Block, units: u32)
 }
 
 /// Joins a block with the block right after it. It stays live or free as it was.
-pub(crate) fn join<A: Allocator>(w: &mut Window<A>, block: Block, following: Block)
+pub fn join<A: Allocator>(w: &mut Window<A>, block: Block, following: Block)
     requires { block_end block + UNIT * following.units ≤ MAX_LEN }
     ensures bytes { w.new ≡ with_bytes w.old (set_size w.old.bytes block.at
         (block.units + following.units) (is_live_at w.old.bytes block.at)) }

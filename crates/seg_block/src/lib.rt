@@ -11,8 +11,8 @@ mod rules;
 mod tag;
 
 pub use block::{
-    Block, block_at, block_within, capacity, free_after, free_before, last_block, need, next,
-    previous, room_after, set_size, size_word,
+    Block, block_at, block_within, capacity, free_after, free_before, join, last_block, need, next,
+    previous, room_after, set_size, size_word, split,
 };
 pub use fit::Fit;
 pub use free_structure::{FreeStructure, cut, resize};

@@ -42,8 +42,8 @@ pub fn check<A: Allocator + Copy>(alloc: A, bytes: &[u8]) -> Result<TypeTable, F
 
 impl<A: Allocator + Copy> Image<A> {
     /// Opens an image where it is sound, in its own memory; it is one of the version that may have frozen objects from then
-    /// on. The bytes come back with the image's first fault, or with
-    /// `Memory` where host memory for the check is refused: up to 5 bytes for each 16 of the image, freed before it returns.
+    /// on. The bytes come back with the image's first fault, or with `Memory` where host memory for the check is refused:
+    /// 9 bytes for each 16 of the image, or 13 where it has a shared type, freed before the call returns.
     pub fn open(alloc: A, bytes: Vec<u8, A>) -> Result<Image<A>, Unopened<A>>
         ensures opened { IfOk result
             (λ image. (segment_of image).window.bytes ≡ upgraded bytes.items) }

@@ -12,3 +12,4 @@ pub mod KeyLaws
 pub mod FlatMaps
 pub mod FlatChanges
 pub mod Taking
+pub mod Counted

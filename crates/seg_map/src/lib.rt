@@ -7,4 +7,4 @@ mod flat;
 mod map;
 mod tree;
 
-pub use map::{first_key, first_key_by, get, next_key, next_key_by, put, remove};
+pub use map::{first_key, first_key_by, get, len, next_key, next_key_by, put, remove};

@@ -1,7 +1,8 @@
-ghost use Rattle.std.specs.Prelude.{◌≡◌, ℕ, ℤ, List, true, false, Err, IsOkUnless};
+ghost use Rattle.std.specs.Prelude.{◌≡◌, ℕ, ℤ, List, length, true, false, Ok, Err, IsOkUnless};
 ghost use Rattle.std.specs.Result.{result_ok};
 ghost use Rattle.seg_spec.specs.Items.{key_place};
 ghost use Rattle.seg_spec.specs.Owning.{Stands};
+ghost use Rattle.seg_spec.specs.Reads.{count_at};
 ghost use Rattle.seg_spec.specs.Types.{form_at};
 ghost use Rattle.seg_spec.specs.Value.{Values, Map};
 ghost use Rattle.seg_spec.specs.Window.{KeepsHost};
@@ -42,6 +43,20 @@ impl Kind {
             Shape::Tree => Ok(Kind::Tree(content)),
             Shape::Ring | Shape::Object => Err(Code::OtherType),
         }
+    }
+}
+
+/// How many keys a map has. `OtherType` where the place is no map.
+pub fn len<F: Fit, A: Allocator>(heap: &Heap<F, A>, map: Place) -> Result<u32, Code>
+    ensures other { has_keys (form_at heap.now.types map.type_id) ≡ false →
+        result ≡ Err Code.OtherType }
+    ensures counted { has_keys (form_at heap.now.types map.type_id) ≡ true →
+        result ≡ Ok (count_at heap.now.window.bytes map.at) }
+    ensures keys { WhereMaps F.allocator heap.now.window.bytes heap.now.types (place_of map)
+        (λ U keys vs blocks. result ≡ Ok (length keys)) }
+{
+    match Kind::of(heap, map)? {
+        Kind::Flat(_) | Kind::Tree(_) => Ok(heap.count(map.at)),
     }
 }
 

@@ -14,5 +14,5 @@ mod text;
 pub use list::{next, pop_front, prev, push_front};
 pub use numbers::Numbers;
 pub use pushing::push_in_place;
-pub use sequence::{at, pop_back, push_back};
+pub use sequence::{at, len, pop_back, push_back};
 pub use text::{append, assign, push_byte};

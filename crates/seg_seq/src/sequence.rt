@@ -1,4 +1,4 @@
-ghost use Rattle.std.specs.Prelude.{◌≡◌, ℕ, ◌+◌, ◌-◌, ◌<◌, ◌≤◌, List, [], ◌∷◌, length, take, Some, None, true, false, Err, MatchResult};
+ghost use Rattle.std.specs.Prelude.{◌≡◌, ℕ, ◌+◌, ◌-◌, ◌<◌, ◌≤◌, List, [], ◌∷◌, length, take, Some, None, true, false, Ok, Err, MatchResult};
 ghost use Rattle.seg_spec.specs.Reads.{count_at};
 ghost use Rattle.seg_spec.specs.Demand.{block_for};
 ghost use Rattle.seg_spec.specs.Items.{without_last};
@@ -18,6 +18,23 @@ use seg_block::Fit;
 use seg_raw::Code;
 use seg_value::{Content, Heap, Held, Place};
 use std::alloc::Allocator;
+
+/// How many bytes a string has, or how many items a vector or a list has. `OtherType` where the place is none of them.
+pub fn len<F: Fit, A: Allocator>(heap: &Heap<F, A>, sequence: Place) -> Result<u32, Code>
+    ensures text { (xs blocks : List ℕ) →
+        HasText F.allocator heap.now (place_of sequence) xs blocks → result ≡ Ok (length xs) }
+    ensures vector { (U : ℕ) (vs : Values) (blocks : List ℕ) →
+        HasItems F.allocator heap.now (place_of sequence) U vs blocks → result ≡ Ok (count vs) }
+    ensures list { (U : ℕ) (vs : Values) (blocks : List ℕ) →
+        HasList F.allocator heap.now (place_of sequence) U vs blocks → result ≡ Ok (count vs) }
+    ensures other { is_sequence (form_at heap.now.types sequence.type_id) ≡ false →
+        result ≡ Err Code.OtherType }
+    ensures counted { is_sequence (form_at heap.now.types sequence.type_id) ≡ true →
+        result ≡ Ok (count_at heap.now.window.bytes sequence.at) }
+{
+    Kind::of(heap, sequence)?;
+    Ok(heap.count(sequence.at))
+}
 
 /// The position of an item of a vector or a list, or of a byte of a string. `OtherType` where the place is none of them,
 /// `OutOfRange` where it has no such item.

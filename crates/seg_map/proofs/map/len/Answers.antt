@@ -1,0 +1,8 @@
+use Rattle.std.proofs.Common.{Ok, sym, ap, ◌∙◌}
+use Rattle.seg_cells.specs.Places.{place_of}
+use Rattle.seg_map.proofs.Counted.{keys_counted}
+use Rattle.seg_map.proofs.map.len.Goals as goal
+
+pub returns-clause-keys : goal.returns-clause-keys
+returns-clause-keys g c = λ U keys vs blocks is s.
+    ap (λ n. Ok n) (c.count.ensures ∙ sym (keys_counted g.F.Fit.allocator c.args.heap.now.window.bytes c.args.heap.now.types (place_of c.args.map) U keys vs blocks s is))
