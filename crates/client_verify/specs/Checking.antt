@@ -271,12 +271,16 @@ module _ (s : Step) where
   abbrev pub ended_in : RegisterTypes
   ended_in = ended_by (referred held) s.row.ends
 
-  abbrev pub checked_first : Checked (⊤)
-  checked_first = do
+  -- where register b leads there, and this register gets that
+  abbrev pub checked_by : Option (Class × ℕ) → Option (ℕ × RegisterType) → Checked (⊤)
+  checked_by x changes = do
     _ ← required (meets s.row.needs_b s.b) Reason.WrongOperand
     _ ← required (meets s.row.needs_c s.c) Reason.WrongOperand
-    _ ← required (not (is_inside s.row.ends (referred held) s.c)) Reason.PutIntoItself
-    required (not (is_lost given s.before)) Reason.OwnerLost
+    _ ← required (not (is_inside s.row.ends x s.c)) Reason.PutIntoItself
+    required (not (is_lost changes s.before)) Reason.OwnerLost
+
+  abbrev pub checked_first : Checked (⊤)
+  checked_first = checked_by (referred held) given
 
   -- in the success part, and in the else part
   abbrev pub known_in_parts : RegisterTypes × RegisterTypes

@@ -27,6 +27,7 @@ impl After {
     ghost use Rattle.client_verify.specs.Changes.{led_of, ended_after, success_after, otherwise_after};
 
     /// Ends references, and empties a register. Both parts begin with what is known then.
+    #[inline(always)]
     pub fn end(&self, registers: &mut Registers)
         ensures { registers_of registers.new ≡ ended_after self.now (registers_of registers.old) }
     {
@@ -58,6 +59,7 @@ impl After {
     }
 
     /// What is known in the success part, or after an instruction without parts.
+    #[inline(always)]
     pub fn succeed(&self, registers: &mut Registers)
         ensures { registers_of registers.new ≡ success_after self.now (registers_of registers.old) }
     {

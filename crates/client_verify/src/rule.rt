@@ -38,11 +38,12 @@ impl<'a> Rule<'a> {
     ghost use Rattle.seg_spec.specs.Types.{form_at};
     ghost use Rattle.seg_layout.specs.Forms.{form_of};
     ghost use Rattle.client_verify.specs.Views.{class_of, known_of};
-    ghost use Rattle.client_verify.specs.Checking.{referred, field_at, part_of, is_kind, is_kind_at, is_inside, is_lost, shares, part_known, borrowed_from, held, part_held as part_in, meets as meets_in, given as given_in, checked_first, known_in_parts};
-    ghost use Rattle.client_verify.specs.Changes.{known_by};
+    ghost use Rattle.client_verify.specs.Checking.{referred, field_at, part_of, is_kind, is_kind_at, is_inside, is_lost, shares, part_known, borrowed_from, held, part_held as part_in, meets as meets_in, given as given_in, checked_by, known_in_parts};
+    ghost use Rattle.client_verify.specs.Changes.{led_of, given_of, known_by};
     ghost use Rattle.client_verify.specs.Steps.{types_of, before_of, instruction_in, step_by};
 
     /// The rule of an instruction, in front of which this is known.
+    #[inline(always)]
     pub fn new(types: &'a TypeTable, before: &'a Registers, instruction: Instruction) -> Rule<'a>
         ensures types { types_of result ≡ types.now }
         ensures before { before_of result ≡ before.now }
@@ -61,6 +62,7 @@ impl<'a> Rule<'a> {
     }
 
     /// What the instruction changes, or the first reason to reject it.
+    #[inline(always)]
     pub fn apply(&self) -> Result<After, Reason>
         ensures { (constants : List syntax.Constant) →
             IsInstruction (types_of self.now) constants
@@ -70,13 +72,17 @@ impl<'a> Rule<'a> {
             ≡ rule_at (types_of self.now) constants
             (instruction_of (instruction_in self.now)) (registers_of (before_of self.now)) }
     {
-        self.check()?;
-        Ok(self.after())
+        let after = self.after();
+        self.check(&after)?;
+        Ok(after)
     }
 
     /// What the instruction changes where there is no reason to reject it.
+    #[inline(always)]
     fn after(&self) -> After
-        ensures { known_by (registers_of self.now.before.now) result
+        ensures led { led_of result ≡ referred (held (step_by self.now)) }
+        ensures given { given_of result ≡ given_in (step_by self.now) }
+        ensures known { known_by (registers_of self.now.before.now) result
             ≡ known_in_parts (step_by self.now) }
     {
         After {
@@ -92,29 +98,31 @@ impl<'a> Rule<'a> {
     }
 
     /// The reasons in their order.
-    fn check(&self) -> Result<(), Reason>
-        ensures { checked (λ x. x) result ≡ checked_first (step_by self.now) }
+    #[inline(always)]
+    fn check(&self, after: &After) -> Result<(), Reason>
+        ensures { checked (λ x. x) result
+            ≡ checked_by (step_by self.now) (led_of after.now) (given_of after.now) }
     {
         let Instruction { b, c, .. } = self.instruction;
         if !self.meets(self.row.needs_b, b) || !self.meets(self.row.needs_c, c) {
             return Err(Reason::WrongOperand);
         }
-        if self.is_inside() {
+        if self.is_inside(after) {
             return Err(Reason::PutIntoItself);
         }
-        if self.loses_owner() {
+        if self.loses_owner(after) {
             return Err(Reason::OwnerLost);
         }
         Ok(())
     }
 
     /// Whether the object of register c is to be put into a part of itself.
-    fn is_inside(&self) -> bool
-        ensures { result ≡ is_inside (step_by self.now).row.ends
-            (referred (held (step_by self.now))) self.now.instruction.c }
+    fn is_inside(&self, after: &After) -> bool
+        ensures { result ≡ is_inside (step_by self.now).row.ends (led_of after.now)
+            self.now.instruction.c }
     {
         match self.row.ends {
-            Ends::Moved | Ends::Frozen => match self.reference() {
+            Ends::Moved | Ends::Frozen => match after.led {
                 Some((class, _)) => class == Class::Register(self.instruction.c),
                 None => false,
             },
@@ -123,17 +131,17 @@ impl<'a> Rule<'a> {
     }
 
     /// Whether the register that changes owns an object.
-    fn loses_owner(&self) -> bool
-        ensures { result ≡ is_lost (given_in (step_by self.now))
-            (registers_of self.now.before.now) }
+    fn loses_owner(&self, after: &After) -> bool
+        ensures { result ≡ is_lost (given_of after.now) (registers_of self.now.before.now) }
     {
-        match self.given() {
+        match after.given {
             Some((register, _)) => self.before.get(register).is_owner(),
             None => false,
         }
     }
 
     /// Whether a register holds what is needed.
+    #[inline(always)]
     fn meets(&self, need: Need, register: u8) -> bool
         ensures { result ≡ meets_in (step_by self.now) need register }
     {
@@ -255,6 +263,7 @@ impl<'a> Rule<'a> {
     }
 
     /// The register that changes, and what it holds after success.
+    #[inline(always)]
     fn given(&self) -> Option<(u8, RegisterType)>
         ensures { option_map (λ x. (x.0, known_of x.1)) result ≡ given_in (step_by self.now) }
     {
