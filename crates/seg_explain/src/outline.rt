@@ -1,7 +1,9 @@
 use crate::flaw::Flaw;
 use crate::rule;
 use arrayvec::ArrayVec;
-use client_code::{ConstantKind, Instruction, Nesting, Number, Operand, Operation, REGISTERS, Role};
+use client_code::{
+    ConstantKind, Instruction, Nesting, Number, Operand, Operation, REGISTERS, Role,
+};
 
 /// The most constants of a client.
 pub(crate) const MOST_CONSTANTS: usize = 256;

@@ -333,10 +333,7 @@ fn number_count(number: Number) -> usize {
     }
 }
 
-fn read_instruction<'a>(
-    operation: Operation,
-    words: &mut Pieces<'a>,
-) -> Result<Draft, Flaw<'a>> {
+fn read_instruction<'a>(operation: Operation, words: &mut Pieces<'a>) -> Result<Draft, Flaw<'a>> {
     let row = operation.row();
     Ok(Draft {
         operation,
