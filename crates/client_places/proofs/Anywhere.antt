@@ -125,7 +125,7 @@ module _ (constants : List Constant) (others : List Root) (moves other : List Mo
 abbrev pub given_at : Given → List Move → List ℕ → ℕ → Given
 given_at given moves host base = record { others = given.others; moves = moves; image = given.image; host = host; base = base; input = given.input }
 
-abbrev left_at : Left → List ℕ → ℕ → Left
+abbrev pub left_at : Left → List ℕ → ℕ → Left
 left_at left host base = record { steps = left.steps; read = left.read; ending = left.ending; output = left.output; image = left.image; host = host; base = base }
 
 client_anywhere : (client : Client) (given : Given) (left : Left) → RunsClient client given left → (moves : List Move) (host : List ℕ) (base : ℕ)

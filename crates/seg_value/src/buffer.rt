@@ -1,6 +1,7 @@
 ghost use Rattle.std.specs.Prelude.{◌≡◌, ℕ, ◌+◌, ◌-◌, ◌*◌, ◌/◌, ◌%◌, ◌^◌, ◌<◌, ◌≤◌, [], ◌∷◌, length, List, Some, true, option_map, IfOk, IsOkUnless, MatchResult};
 ghost use Rattle.seg_bytes.specs.Bytes.{set_word};
 ghost use Rattle.seg_spec.specs.Block.{has_buffer};
+ghost use Rattle.seg_block.specs.Blocks.{HasRoom, payload_at};
 ghost use Rattle.seg_spec.specs.Calls.{Refuses};
 ghost use Rattle.seg_spec.specs.Demand.{block_for};
 ghost use Rattle.seg_spec.specs.Block.{block_of};
@@ -36,9 +37,13 @@ use std::alloc::Allocator;
 
 /// Blocks of entries, and the buffers that cells name.
 impl<F: Fit, A: Allocator> Heap<F, A> {
-    /// How many entries the block has room for whose payload begins at `start`.
+    /// How many entries the block has room for whose payload begins at `start`. 0 where the segment has no room for the size
+    /// that its header states.
     pub fn capacity(&self, entry: Entry, start: u32) -> u32
-        ensures { (g : Span) → start ≡ g.at + 16 → IsSized self.now.window.bytes g →
+        ensures stated { HasRoom self.now.window.bytes (start - 16) →
+            result ≡ payload_at self.now.window.bytes (start - 16) / entry.size }
+        ensures none { (HasRoom self.now.window.bytes (start - 16) → ⊥) → result ≡ 0 }
+        ensures block { (g : Span) → start ≡ g.at + 16 → IsSized self.now.window.bytes g →
             result ≡ (16 * g.units - 16) / entry.size }
     {
         seg_block::capacity(&self.window, start, entry.size)

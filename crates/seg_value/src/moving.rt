@@ -1,4 +1,4 @@
-ghost use Rattle.std.specs.Prelude.{◌≡◌, ℕ, ◌+◌, ◌*◌, ◌%◌, ◌^◌, ◌≤◌, List};
+ghost use Rattle.std.specs.Prelude.{◌≡◌, ℕ, ◌+◌, ◌*◌, ◌%◌, ◌^◌, ◌<◌, ◌≤◌, List, length};
 ghost use Rattle.seg_bytes.specs.Bytes.{slice, put, ChangesOnly};
 ghost use Rattle.seg_spec.specs.Cells.{IsWithin, Shifts};
 ghost use Rattle.seg_spec.specs.Heap.{IsHeap};
@@ -35,6 +35,10 @@ impl<F: Fit, A: Allocator> Heap<F, A> {
             (items self.old.types from t n) vs blocks →
             HoldsEach self.new.window.bytes self.old.types
             (items self.old.types to t n) vs blocks }
+        ensures no_values { length self.old.window.bytes < from + n * size self.old.types t →
+            self.new.window ≡ self.old.window }
+        ensures no_room { length self.old.window.bytes < to + n * size self.old.types t →
+            self.new.window ≡ self.old.window }
     {
         let entry = Content::object(&self.types, t).entry;
         self.shift_entries(entry, from, to, n);
@@ -59,6 +63,10 @@ impl<F: Fit, A: Allocator> Heap<F, A> {
             IsWithin self.old.window.bytes to (n * entry.size) →
             MovesPointers self.old.window.bytes self.new.window.bytes
             entry.size entry.before from to n }
+        ensures no_entries { length self.old.window.bytes < from + n * entry.size →
+            self.new.window ≡ self.old.window }
+        ensures no_room { length self.old.window.bytes < to + n * entry.size →
+            self.new.window ≡ self.old.window }
     {
         let bytes = (n as usize).saturating_mul(entry.size as usize);
         if !self.window.holds(from as usize, bytes) || !self.window.holds(to as usize, bytes) {

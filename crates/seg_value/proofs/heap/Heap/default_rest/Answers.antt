@@ -65,7 +65,7 @@ returns-clause-rest g c = λ allocator before U valid is heap low here fits.
     let p = c.args.start in
     let size_is = is.size_is in
     let room : c.capacity.result ≡ payload_size old (block_of p) / (before + size table U) =
-    c.capacity.ensures (record { at = block_of p; units = units_at old (block_of p) }) (omega arith) (sized table valid U allocator old p before c.args.used heap low here fits)
+    c.capacity.ensures.block (record { at = block_of p; units = units_at old (block_of p) }) (omega arith) (sized table valid U allocator old p before c.args.used heap low here fits)
     ∙ ap (λ m. payload_size old (block_of p) / m) size_is in
     let n_is : c.saturating_sub-rest.result ≡ payload_size old (block_of p) / (before + size table U) - c.args.used = c.saturating_sub-rest.ensures ∙ ap (λ m. m - c.args.used) room in
     let from_is : c.at-from.result ≡ p + c.args.used * (before + size table U) = c.at-from.ensures ∙ ap (λ m. (p + c.args.used * m) % 2 ^ 32) size_is ∙ rest_from table valid U allocator old p before c.args.used heap low here fits in
