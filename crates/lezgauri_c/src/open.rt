@@ -8,7 +8,7 @@ ghost use Rattle.seg_check.specs.Faults.{IsImageOf, IsFaultOf};
 ghost use Rattle.client_spec.specs.Syntax as syntax;
 ghost use Rattle.client_spec.specs.Clients.{IsVerified};
 ghost use Rattle.client_code.specs.Clients.{OfTree, bytes_of};
-ghost use Rattle.client_verify.specs.Accepted.{client_of};
+ghost use Rattle.client_run.specs.ReadyClients.{client_in};
 ghost use Rattle.client_output.specs.declared.report.Ended.{Ended};
 ghost use Rattle.client_vm.specs.Admitted.{IsWrong};
 ghost use Rattle.client_vm.specs.Reports.{IsReportOf};
@@ -18,14 +18,13 @@ ghost use Rattle.lezgauri_c.specs.Buffers.{printed};
 ghost use Rattle.lezgauri_c.specs.Calls.{IsRun, HasRunOn, IsRefusedAs};
 ghost use Rattle.lezgauri_c.specs.Told.{no_fault, status_number};
 
-use crate::accepting::accepted;
+use crate::accepting::ready;
 use crate::buffer::{Buffer, put, replace};
 use crate::fault::Fault;
 use crate::report::Report;
 use crate::running::status_of;
 use crate::status::TOO_SMALL;
-use client_verify::Verified;
-use client_vm::{Refused, Report as Told, Sink, run};
+use client_vm::{Ready, Refused, Report as Told, Sink, run};
 use seg_bestfit::BestFit;
 use seg_block::Fit;
 use seg_check::read_types;
@@ -110,7 +109,7 @@ fn run_in_room(
     let mut sink = Buffer::new(alloc, room)?;
     let window = window_of(alloc, image)?;
     let types = types_of(&window)?;
-    let client = accepted(client, &types)?;
+    let client = ready(alloc, client, &types)?;
     let (told, image) = run_alone(window, types, &client, input, &mut sink);
     Ok(Ran { told, image, sink })
 }
@@ -141,15 +140,15 @@ fn types_of(window: &Window<Global>) -> Result<TypeTable, Reason>
 fn run_alone<W: Sink>(
     window: Window<Global>,
     types: TypeTable,
-    client: &Verified,
+    client: &Ready<Global>,
     input: &[u8],
     sink: &mut W,
 ) -> (Told, Vec<u8, Global>)
     requires works { W.has_failed sink.old ≡ false }
-    ensures within { IsReportOf (bytes_of (client_of client.now)) result.0 }
+    ensures within { IsReportOf (bytes_of (client_in client.now)) result.0 }
     ensures runs { IsImageOf window.bytes types →
-        OfTree (client_of client.now) (λ tree. IsVerified types tree →
-        HaveRunOn (bytes_of (client_of client.now) ∷ []) [] input.now window (W.taken sink.old)
+        OfTree (client_in client.now) (λ tree. IsVerified types tree →
+        HaveRunOn (bytes_of (client_in client.now) ∷ []) [] input.now window (W.taken sink.old)
         result.1.items (W.taken sink.new) (result.0 ∷ []) (ending_of result.0.ended)) }
 {
     if window.get32(header::ALLOCATOR) == BestFit::word() {
@@ -163,15 +162,15 @@ fn run_alone<W: Sink>(
 fn run_on<F: Fit, W: Sink>(
     mut window: Window<Global>,
     types: TypeTable,
-    client: &Verified,
+    client: &Ready<Global>,
     input: &[u8],
     sink: &mut W,
 ) -> (Told, Vec<u8, Global>)
     requires works { W.has_failed sink.old ≡ false }
-    ensures within { IsReportOf (bytes_of (client_of client.now)) result.0 }
+    ensures within { IsReportOf (bytes_of (client_in client.now)) result.0 }
     ensures runs { IsImageOf window.bytes types → word window.bytes allocator_word ≡ F.allocator →
-        OfTree (client_of client.now) (λ tree. IsVerified types tree →
-        HaveRunOn (bytes_of (client_of client.now) ∷ []) [] input.now window (W.taken sink.old)
+        OfTree (client_in client.now) (λ tree. IsVerified types tree →
+        HaveRunOn (bytes_of (client_in client.now) ∷ []) [] input.now window (W.taken sink.old)
         result.1.items (W.taken sink.new) (result.0 ∷ []) (ending_of result.0.ended)) }
 {
     header::upgrade(&mut window);
