@@ -15,4 +15,5 @@ mod OwningLaws
 mod IndexLaws
 mod CourseLaws
 mod UnnamedLaws
+mod ProgramLaws
 mod RunLaws
