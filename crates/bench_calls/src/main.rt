@@ -1,9 +1,15 @@
-//! The program `bench_calls`: works by the library's own calls, as a host does that runs no client, for `bench/operations.py` to
-//! count. Its words say which work (`push`, `best` or `seq`), how many times, and in how many passes. It prints nothing.
+//! The program `bench_calls`: works by the library's own calls, for `bench/operations.py` and `bench/clients.py` to count. Its words
+//! name the work (`push`, `best`, `seq`, `prepare` or `run`), how many times it is done, and in how many passes; for the last two an
+//! image and a client too. It prints nothing.
 #![tactic(auto)]
 
+mod clients;
+mod discarded;
+
+use crate::clients::{prepare_client, run_client};
 use seg_bestfit::BestFit;
 use seg_block::Fit;
+use seg_files::HostFiles;
 use seg_layout::{ENTRY, Type, TypeId, TypeTable};
 use seg_manager::{IndexKind, Segment};
 use seg_raw::{Code, Fault, Region};
@@ -61,24 +67,42 @@ impl Work {
 }
 
 fn main(rt: HostRuntime) -> ExitCode {
-    let Some((work, times, passes)) = asked(&rt) else {
+    let Some(words) = words(&rt) else {
         return ExitCode::from(2);
     };
-    match work.perform(rt.alloc(), times, passes) {
+    match asked(&rt, words.as_slice()) {
         Some(()) => ExitCode::SUCCESS,
         None => ExitCode::FAILURE,
     }
 }
 
-/// What the command line asks for, if it has the three words for it.
-fn asked(rt: &(impl Env + AllocGlobal)) -> Option<(Work, u32, u32)> {
-    let words = env::args(rt).ok()?.collect::<Vec<String>>(rt.alloc()).ok()?;
-    let [_, work, times, passes] = words.as_slice() else {
-        return None;
-    };
-    let times = times.as_str().parse().ok()?;
-    let passes = passes.as_str().parse().ok()?;
-    Some((Work::named(work.as_str())?, times, passes))
+fn words(rt: &(impl Env + AllocGlobal)) -> Option<Vec<String>> {
+    env::args(rt).ok()?.collect::<Vec<String>>(rt.alloc()).ok()
+}
+
+/// Does what the command line asks for. None where it asks for nothing known, or where something is refused.
+fn asked(rt: &HostRuntime, words: &[String]) -> Option<()> {
+    match words {
+        [_, work, times, passes] => {
+            let (times, passes) = (number(times)?, number(passes)?);
+            Work::named(work.as_str())?.perform(rt.alloc(), times, passes)
+        }
+        [_, work, times, passes, image, client] => {
+            let times = number(times)?.saturating_mul(number(passes)?);
+            let names = [image.as_str(), client.as_str()];
+            let mut files = HostFiles::new(rt);
+            match work.as_str() {
+                "prepare" => prepare_client(rt.alloc(), &mut files, names, times),
+                "run" => run_client(rt.alloc(), &mut files, names, times),
+                _ => None,
+            }
+        }
+        _ => None,
+    }
+}
+
+fn number(word: &String) -> Option<u32> {
+    word.as_str().parse().ok()
 }
 
 /// Takes a block in a new segment and gives it back, so many times.

@@ -88,6 +88,19 @@ impl Instruction {
         ]
     }
 
+    /// The same instruction, of another operation.
+    pub fn with_operation(self, operation: Operation) -> Instruction
+        ensures { result ≡ record self { operation = operation } }
+    {
+        Instruction {
+            operation,
+            a: self.a,
+            b: self.b,
+            c: self.c,
+            number: self.number,
+        }
+    }
+
     /// The type that the number names, by itself or before a constant.
     pub fn type_id(self) -> TypeId
         ensures before { (row_of self.operation).number ≡ number.TypedName → (n : ℕ) →

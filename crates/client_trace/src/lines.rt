@@ -60,7 +60,7 @@ impl Lines {
         stepped: Stepped,
         known: &Registers,
         paths: &Paths,
-        run: &Stepper,
+        run: &Stepper<Global>,
     ) -> Result<(), AllocError> {
         if *known == Registers::new() {
             return Ok(());
@@ -97,7 +97,7 @@ impl Lines {
         register: u8,
         known: RegisterType,
         paths: &Paths,
-        run: &Stepper,
+        run: &Stepper<Global>,
     ) -> Result<bool, AllocError> {
         if known == RegisterType::Undefined {
             return Ok(false);
@@ -113,7 +113,7 @@ impl Lines {
         register: u8,
         known: RegisterType,
         paths: &Paths,
-        run: &Stepper,
+        run: &Stepper<Global>,
     ) -> Result<(), AllocError> {
         match known {
             RegisterType::Undefined => Ok(()),

@@ -36,7 +36,7 @@ impl<'a> Paths<'a> {
     pub(crate) fn pass<F: Fit>(
         &mut self,
         instruction: Instruction,
-        run: &Stepper,
+        run: &Stepper<Global>,
         segment: &Segment<F, Global>,
     ) {
         if let Some(path) = self.given(instruction, run, segment) {
@@ -48,7 +48,7 @@ impl<'a> Paths<'a> {
     fn given<F: Fit>(
         &self,
         i: Instruction,
-        run: &Stepper,
+        run: &Stepper<Global>,
         segment: &Segment<F, Global>,
     ) -> Option<Path> {
         let whole = self.get(i.b);
@@ -111,7 +111,7 @@ impl<'a> Paths<'a> {
 }
 
 /// The path to the object of the name that an instruction gives.
-fn named(i: Instruction, run: &Stepper) -> Path {
+fn named(i: Instruction, run: &Stepper<Global>) -> Path {
     Path::new(Root::Named {
         constant: i.constant(),
         number: run.number(i.b),
@@ -119,7 +119,7 @@ fn named(i: Instruction, run: &Stepper) -> Path {
 }
 
 /// The path to the value that register c counts in a named array, or to the first where there is no such register.
-fn value(i: Instruction, run: &Stepper) -> Path {
+fn value(i: Instruction, run: &Stepper<Global>) -> Path {
     let first = named(i, run);
     if i.c == Instruction::NONE {
         first

@@ -7,8 +7,7 @@ use crate::paths::Paths;
 use crate::untraced::Untraced;
 use client_code::Client;
 use client_output::{Sink, write_all};
-use client_run::Stepper;
-use client_verify::Verified;
+use client_run::{Ready, Stepper};
 use seg_block::Fit;
 use seg_manager::Segment;
 use std::alloc::{AllocError, Global};
@@ -25,16 +24,17 @@ use std::alloc::{AllocError, Global};
 pub fn trace<F: Fit, W: Sink>(
     alloc: Global,
     segment: &mut Segment<F, Global>,
-    client: &Verified,
+    client: &Ready<Global>,
     input: &[u8],
     out: &mut W,
 ) -> Result<(), Untraced>
     requires works { W.has_failed out.old ≡ false }
     ensures failed { IsErrOf result Untraced.OutputFailed ↔ (W.has_failed out.new ≡ true) }
 {
-    let mut tracer = Tracer::new(alloc, client)?;
+    let verified = client.verified();
+    let mut tracer = Tracer::new(alloc, verified.client())?;
     let mut run = Stepper::new(segment, client, input);
-    let ended = tracer.to_end(&mut run, segment, client.bound(), out);
+    let ended = tracer.to_end(&mut run, segment, verified.bound(), out);
     run.finish(segment);
     ended
 }
@@ -49,8 +49,7 @@ struct Tracer<'a> {
 }
 
 impl<'a> Tracer<'a> {
-    fn new(alloc: Global, client: &Verified<'a>) -> Result<Tracer<'a>, AllocError> {
-        let client = client.client();
+    fn new(alloc: Global, client: Client<'a>) -> Result<Tracer<'a>, AllocError> {
         Ok(Tracer {
             client,
             known: Known::new(alloc, &client)?,
@@ -62,7 +61,7 @@ impl<'a> Tracer<'a> {
     /// Writes the lines of a run to the end of the code, which it comes to within twice the client's bound.
     fn to_end<F: Fit, W: Sink>(
         &mut self,
-        run: &mut Stepper,
+        run: &mut Stepper<Global>,
         segment: &mut Segment<F, Global>,
         bound: u64,
         out: &mut W,
@@ -82,7 +81,7 @@ impl<'a> Tracer<'a> {
     /// Performs an instruction, and makes its lines. There is none at the end of the code.
     fn step<F: Fit>(
         &mut self,
-        run: &mut Stepper,
+        run: &mut Stepper<Global>,
         segment: &mut Segment<F, Global>,
     ) -> Result<bool, AllocError> {
         let at = run.instruction();

@@ -2,11 +2,7 @@
 use Rattle.std.proofs.Common.{◌≡◌, ℕ, ◌+◌, ◌<◌, Bool, true, false, List, [], ◌∷◌, ◌++◌, length, map, take, drop, get_or, sym, ap, ◌∙◌, subst, arith, length-append}
 use Rattle.std.specs.Prelude.{if◌then◌else◌}
 use Rattle.std.proofs.lemmas.List.{map-append, length-map, length-take-le, take-append-drop}
-use Rattle.client_code.specs.Clients.{bytes_of}
-use Rattle.client_accept.specs.Texts.{texts_of}
 use Rattle.client_accept.proofs.TextsLaws.{mapped_front}
-use Rattle.client_verify.specs.Accepted.{client_of}
-use Rattle.client_verify.specs.declared.verified.Verified.{Verified}
 use Rattle.client_output.specs.declared.report.Report.{Report}
 use Rattle.client_vm.specs.Reports.{IsReportOf, AreReportsOf}
 
@@ -28,20 +24,18 @@ pub pushed_there : {X : Type 0} (ok : Bool) (xs ys new : List X) → new ≡ (if
 pushed_there true xs ys new e h = e
 pushed_there false xs ys new e h = cc
 
-pub program_ran : (programs : List Verified) (k : ℕ) (program : Verified) (old new : List Report) (report : Report) → k < length programs → program ≡ get_or programs k program → length old ≡ k → AreReportsOf (texts_of (take k programs)) old
-    → IsReportOf (bytes_of (client_of program)) report → new ≡ old ++ report ∷ [] → (length new ≡ k + 1) × AreReportsOf (texts_of (take (k + 1) programs)) new
-program_ran programs k program old new report there is count h ran e =
-    let text : Verified → List ℕ = λ p. bytes_of (client_of p) in
-    let size : length (texts_of (take k programs)) ≡ k = length-map (take k programs) text ∙ length-take-le k programs (omega arith) in (
+pub program_ran : {P : Type 0} (text : P → List ℕ) (programs : List P) (k : ℕ) (program : P) (old new : List Report) (report : Report) → k < length programs → program ≡ get_or programs k program → length old ≡ k → AreReportsOf (map text (take k programs)) old
+    → IsReportOf (text program) report → new ≡ old ++ report ∷ [] → (length new ≡ k + 1) × AreReportsOf (map text (take (k + 1) programs)) new
+program_ran text programs k program old new report there is count h ran e =
+    let size : length (map text (take k programs)) ≡ k = length-map (take k programs) text ∙ length-take-le k programs (omega arith) in (
       ap length e ∙ length-append old (report ∷ []) ∙ ap (λ n. n + 1) count,
-      subst (AreReportsOf (texts_of (take (k + 1) programs))) (sym e)
+      subst (AreReportsOf (map text (take (k + 1) programs))) (sym e)
           (subst (λ ts. AreReportsOf ts (old ++ report ∷ [])) (sym (mapped_front text programs k program there is))
-          (one_report (texts_of (take k programs)) old (text program) report (size ∙ sym count) h ran)),
+          (one_report (map text (take k programs)) old (text program) report (size ∙ sym count) h ran)),
     )
 
 -- the clients after some that ran didn't run
-pub some_ran : (programs : List Verified) (k : ℕ) (reports : List Report) → AreReportsOf (texts_of (take k programs)) reports → AreReportsOf (texts_of programs) reports
-some_ran programs k reports h =
-    let text : Verified → List ℕ = λ p. bytes_of (client_of p) in
+pub some_ran : {P : Type 0} (text : P → List ℕ) (programs : List P) (k : ℕ) (reports : List Report) → AreReportsOf (map text (take k programs)) reports → AreReportsOf (map text programs) reports
+some_ran text programs k reports h =
     subst (λ ts. AreReportsOf ts reports) (sym (map-append text (take k programs) (drop k programs)) ∙ ap (map text) (take-append-drop k programs))
-    (fewer_reports (texts_of (take k programs)) (texts_of (drop k programs)) reports h)
+    (fewer_reports (map text (take k programs)) (map text (drop k programs)) reports h)

@@ -12,12 +12,13 @@ ghost use Rattle.client_vm.specs.Outcomes.{IsFaultOfCall, IsRefusedFor, HasOutco
 ghost use Rattle.client_run.specs.Runs.{ending_of, IsReady};
 ghost use Rattle.client_vm.specs.Together.{ending_if, HaveRun, HaveRunOn};
 ghost use Rattle.client_accept.specs.Texts.{AreWrong, texts_of};
+ghost use Rattle.client_run.specs.ReadyClients.{texts_in};
 ghost use Rattle.client_vm.specs.Reports.{AreReportsOf, HasReportsOf};
 
 use crate::outcome::{Outcome, Schedule};
 use client_accept::verify_all;
 use client_output::{Ended, Refused, Report, Sink};
-use client_run::{Move, first_bad_move, is_place, run};
+use client_run::{Move, Ready, first_bad_move, is_place, prepare, run};
 use client_verify::Verified;
 use seg_bestfit::BestFit;
 use seg_block::Fit;
@@ -27,7 +28,7 @@ use seg_open::open;
 use seg_ptr::{Window, header, is_size};
 use seg_raw::{Fault, Region};
 use seg_seqfit::SeqFit;
-use std::alloc::Allocator;
+use std::alloc::{AllocError, Allocator};
 
 /// The most bytes of a region.
 const MAX_ROOM: u32 = 1 << 31;
@@ -183,14 +184,14 @@ fn run_opened<F: Fit, A: Allocator + Copy, W: Sink>(
     Ok(run_verified(segment, programs, input, moves, reports, out))
 }
 
-/// The verified clients, and room for the report of each.
+/// The clients, verified and made ready, and room for the report of each.
 fn prepared<'a, A: Allocator + Copy>(
     alloc: A,
     clients: &[&'a [u8]],
     types: &TypeTable,
-) -> Result<(Vec<Verified<'a>, A>, Vec<Report, A>), Refused>
+) -> Result<(Vec<Ready<'a, A>, A>, Vec<Report, A>), Refused>
     ensures texts { IfOk result
-        (λ it. texts_of it.0.items ≡ map (λ c. c.now) clients.now) }
+        (λ it. texts_in it.0.items ≡ map (λ c. c.now) clients.now) }
     ensures empty { IfOk result (λ it. it.1.items ≡ []) }
     ensures room { IfOk result (λ it. length it.0.items ≤ vec_capacity it.1) }
     ensures accepted { OnOk result ((trees : List syntax.Client) ×
@@ -198,15 +199,31 @@ fn prepared<'a, A: Allocator + Copy>(
     ensures refused { IfErr result (λ refused.
         AreWrong types.now (map (λ c. c.now) clients.now) refused) }
 {
-    let programs = verify_all(alloc, clients, types)?;
+    let verified = verify_all(alloc, clients, types)?;
+    let programs = all_ready(alloc, verified)?;
     let reports = Vec::with_capacity(alloc, clients.len())?;
     Ok((programs, reports))
 }
 
-/// Runs verified clients on an open segment, and saves it; the reports have room for each.
+/// Verified clients, each made ready.
+fn all_ready<'a, A: Allocator + Copy>(
+    alloc: A,
+    clients: Vec<Verified<'a>, A>,
+) -> Result<Vec<Ready<'a, A>, A>, AllocError>
+    ensures { IfOk result
+        (λ programs. texts_in programs.items ≡ texts_of clients.entry.items) }
+{
+    let mut programs = Vec::with_capacity(alloc, clients.len())?;
+    for client in clients {
+        programs.push(prepare(alloc, client)?)?;
+    }
+    Ok(programs)
+}
+
+/// Runs clients on an open segment, and saves it; the reports have room for each.
 fn run_verified<F: Fit, A: Allocator, W: Sink>(
     mut segment: Segment<F, A>,
-    programs: Vec<Verified, A>,
+    programs: Vec<Ready<A>, A>,
     input: &[u8],
     moves: &[Move],
     mut reports: Vec<Report, A>,
@@ -216,16 +233,16 @@ fn run_verified<F: Fit, A: Allocator, W: Sink>(
     requires empty { reports.items ≡ [] }
     requires room { length programs.items ≤ vec_capacity reports }
     ensures runs { (trees : List syntax.Client) →
-        AreAccepted segment.types (texts_of programs.entry.items) trees →
+        AreAccepted segment.types (texts_in programs.entry.items) trees →
         IsReady F.allocator [] segment.window segment.types (moves_of moves.now) →
         HaveRun trees (moves_of moves.now) input.now segment.window (W.taken out.old)
         result.image.items (W.taken out.new) result.reports.items (ending_of result.ended) }
     ensures ended { (result.ended ≡ Ended.OutputFailed) ↔ (W.has_failed out.new ≡ true) }
-    ensures reports { HasReportsOf (texts_of programs.entry.items) result.reports.items
+    ensures reports { HasReportsOf (texts_in programs.entry.items) result.reports.items
         result.ended }
 {
-    let verified = programs.as_slice();
-    run_all(&mut segment, verified, input, moves, out, &mut reports);
+    let ready = programs.as_slice();
+    run_all(&mut segment, ready, input, moves, out, &mut reports);
     let ended = if out.failed() {
         Ended::OutputFailed
     } else {
@@ -304,7 +321,7 @@ fn image_len(image: &[u8]) -> Result<u32, Fault>
 /// Runs the clients until the output fails, and adds the report of each that ran.
 fn run_all<F: Fit, A: Allocator, B: Allocator, W: Sink>(
     segment: &mut Segment<F, A>,
-    programs: &[Verified],
+    programs: &[Ready<B>],
     input: &[u8],
     moves: &[Move],
     out: &mut W,
@@ -312,12 +329,12 @@ fn run_all<F: Fit, A: Allocator, B: Allocator, W: Sink>(
 )
     ensures reports { reports.old.items ≡ [] →
         length programs.now ≤ vec_capacity reports.old →
-        AreReportsOf (texts_of programs.now) reports.new.items }
+        AreReportsOf (texts_in programs.now) reports.new.items }
     ensures all { reports.old.items ≡ [] → length programs.now ≤ vec_capacity reports.old →
         W.has_failed out.new ≡ false → length reports.new.items ≡ length programs.now }
     ensures runs { reports.old.items ≡ [] → length programs.now ≤ vec_capacity reports.old →
         W.has_failed out.old ≡ false → (trees : List syntax.Client) →
-        AreAccepted segment.old.types (texts_of programs.now) trees →
+        AreAccepted segment.old.types (texts_in programs.now) trees →
         IsReady F.allocator [] segment.old.window segment.old.types (moves_of moves.now) →
         HaveRun trees (moves_of moves.now) input.now segment.old.window (W.taken out.old)
         segment.new.window.bytes (W.taken out.new) reports.new.items

@@ -9,12 +9,13 @@ ghost use Rattle.client_spec.specs.Clients.{IsVerified};
 ghost use Rattle.client_spec.specs.Run as definitions;
 ghost use Rattle.client_code.specs.Clients.{OfTree, bytes_of};
 ghost use Rattle.client_verify.specs.Accepted.{client_of};
+ghost use Rattle.client_run.specs.ReadyClients.{client_in};
 ghost use Rattle.client_run.specs.Runs.{MayRun, HasRun};
 ghost use Rattle.client_accept.specs.Texts.{IsWrongText};
 ghost use Rattle.seg_image.specs.Images.{segment_of, allocator_of};
 
 use client_code::parse;
-use client_run::run as run_on_segment;
+use client_run::{Ready, run as run_on_segment};
 use client_verify::Verified;
 use client_vm::{Ended, Report, Sink};
 use seg_image::Image;
@@ -33,22 +34,22 @@ pub fn verify<'c, A: Allocator>(image: &Image<A>, client: &'c [u8]) -> Result<Ve
 }
 
 /// Adds a client's types to an image, and runs the client on it: to its end, or to an output that fails. It takes
-/// [`Verified::bound`] steps at most; clients run one after the other. `TypeMismatch` where the client was verified against
+/// [`Verified::bound`] steps at most, and no host memory; clients run one after the other, each any number of times. `TypeMismatch` where the client was verified against
 /// other types; then it doesn't run, and nothing changes.
-pub fn run<A: Allocator, W: Sink>(
+pub fn run<A: Allocator, B: Allocator, W: Sink>(
     image: &mut Image<A>,
-    client: &Verified,
+    client: &Ready<B>,
     input: &[u8],
     out: &mut W,
 ) -> Result<Report, Fault>
     requires works { W.has_failed out.old ≡ false }
-    ensures agrees { OfTree (client_of client.now)
+    ensures agrees { OfTree (client_in client.now)
         (λ tree. IsOk result ↔ Agree (segment_of image.old).types tree.types) }
     ensures ended { IfOk result
         (λ report. (report.ended ≡ Ended.OutputFailed) ↔ (W.has_failed out.new ≡ true)) }
-    ensures steps { IfOk result (λ report. OfTree (client_of client.now)
+    ensures steps { IfOk result (λ report. OfTree (client_in client.now)
         (λ tree. report.steps ≤ definitions.bound tree.code)) }
-    ensures runs { IfOk result (λ report. OfTree (client_of client.now)
+    ensures runs { IfOk result (λ report. OfTree (client_in client.now)
         (λ tree. (others : List Root) → MayRun (allocator_of image.old) others
         (segment_of image.old).window (segment_of image.old).types tree [] →
         HasRun (allocator_of image.old) tree others [] input.now
@@ -56,12 +57,12 @@ pub fn run<A: Allocator, W: Sink>(
         (segment_of image.new).window (segment_of image.new).types (W.taken out.new)
         report)) }
     ensures allocator { allocator_of image.new ≡ allocator_of image.old }
-    ensures differs { IfErr result (λ fault. OfTree (client_of client.now)
+    ensures differs { IfErr result (λ fault. OfTree (client_in client.now)
         (λ tree. (k : ℕ) × (fault ≡ Fault.TypeMismatch k)
         × IsFirstDifference (segment_of image.old).types tree.types k)) }
     ensures unchanged { OnErr result ((image.new ≡ image.old) × (out.new ≡ out.old)) }
 {
-    image.types().extends(client.types())?;
+    image.types().agrees(client.verified().types())?;
     Ok(match image {
         Image::Seq(segment) => run_on_segment(segment, client, input, &[], out),
         Image::Best(segment) => run_on_segment(segment, client, input, &[], out),

@@ -1,6 +1,6 @@
 ghost use Rattle.std.specs.Prelude.{◌≡◌, false};
 
-use lezgauri::{AllocatorKind, Fault, Image, IndexKind, Sink, run, verify};
+use lezgauri::{AllocatorKind, Fault, Image, IndexKind, Sink, prepare, run, verify};
 use std::alloc::Global;
 
 /// An image with room for a counter, which the first client makes.
@@ -21,7 +21,7 @@ pub fn count<W: Sink>(
     requires works { W.has_failed out.old ≡ false }
 {
     let mut image = Image::open(alloc, image)?;
-    let client = verify(&image, client)?;
+    let client = prepare(alloc, verify(&image, client)?)?;
     for _ in 0..times {
         if out.failed() {
             break;

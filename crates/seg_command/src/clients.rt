@@ -2,9 +2,9 @@
 
 ghost use Rattle.std.specs.Prelude.{◌≡◌, false};
 
-use crate::door::{assembled, opened, printed, verified};
+use crate::door::{assembled, opened, printed, ready, verified};
 use client_trace::{Untraced, trace};
-use lezgauri::{Fault, Image, Sink, Verified};
+use lezgauri::{Fault, Image, Ready, Sink};
 use seg_files::{Files, read_file, read_image, write_file};
 use seg_program::{Failure, STANDARD_OUTPUT, print, read_input};
 use seg_request::Trace;
@@ -56,7 +56,7 @@ fn trace_bytes<'a, O: Sink>(
     requires works { O.has_failed out.old ≡ false }
 {
     let mut image = opened(alloc, image)?;
-    let client = verified(&image, client)?;
+    let client = ready(alloc, &image, client)?;
     match trace_client(alloc, &mut image, &client, input, out) {
         Ok(()) => Ok(()),
         Err(untraced) => Err(ended(untraced)),
@@ -74,7 +74,7 @@ fn ended<'a>(untraced: Untraced) -> Failure<'a> {
 fn trace_client<O: Sink>(
     alloc: Global,
     image: &mut Image<Global>,
-    client: &Verified,
+    client: &Ready<Global>,
     input: &[u8],
     out: &mut O,
 ) -> Result<(), Untraced>

@@ -1,7 +1,8 @@
 //! The calls of the library that the commands make. What they promise isn't passed on: the commands are tested.
 
 use lezgauri::{
-    AllocatorKind, Client, Fault, Image, IndexKind, Verified, assemble, parse, print, verify,
+    AllocatorKind, Client, Fault, Image, IndexKind, Ready, Verified, assemble, parse, prepare,
+    print, verify,
 };
 use std::alloc::Global;
 
@@ -36,6 +37,15 @@ pub(crate) fn shrunk(image: &mut Image<Global>) -> u32 {
 /// A client that may run on an image.
 pub(crate) fn verified<'a>(image: &Image<Global>, client: &'a [u8]) -> Result<Verified<'a>, Fault> {
     verify(image, client)
+}
+
+/// A client that may run on an image, made ready.
+pub(crate) fn ready<'a>(
+    alloc: Global,
+    image: &Image<Global>,
+    client: &'a [u8],
+) -> Result<Ready<'a, Global>, Fault> {
+    Ok(prepare(alloc, verified(image, client)?)?)
 }
 
 /// The client that a text spells.

@@ -220,17 +220,29 @@ impl TypeTable {
         ensures table { IsTable self.now }
         ensures other { IsTable other.now }
     {
+        self.agrees(other)?;
+        if self.len() < other.len() {
+            Ok(other.copy())
+        } else {
+            Ok(self.copy())
+        }
+    }
+
+    /// Whether two tables agree on the types that both have; else `TypeMismatch` with the first one that differs.
+    pub fn agrees(&self, other: &TypeTable) -> Result<(), Fault>
+        ensures agree { IsOk result ↔ Agree self.now other.now }
+        ensures differs { IfErr result (λ fault.
+            (k : ℕ) × (fault ≡ Fault.TypeMismatch k) × IsFirstDifference self.now other.now k) }
+        ensures table { IsTable self.now }
+        ensures other { IsTable other.now }
+    {
         let (mine, theirs) = (self.entries.as_slice(), other.entries.as_slice());
         for index in 0..mine.len().min(theirs.len()) {
             if mine[index].kind.entry() != theirs[index].kind.entry() {
                 return Err(Fault::TypeMismatch(index as u32));
             }
         }
-        if self.len() < other.len() {
-            Ok(other.copy())
-        } else {
-            Ok(self.copy())
-        }
+        Ok(())
     }
 
     /// The same table again.

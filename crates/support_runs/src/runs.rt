@@ -4,7 +4,7 @@ use crate::windows::window;
 use client_code::parse;
 use client_text::assemble;
 use client_verify::{Verified, verify};
-use client_vm::{Ended, Move, Refused, Report, Schedule, Through, run_bytes};
+use client_vm::{Ended, Move, Ready, Refused, Report, Schedule, Through, prepare, run_bytes};
 use seg_bestfit::BestFit;
 use seg_block::Fit;
 use seg_check::check;
@@ -82,6 +82,15 @@ pub fn client(alloc: Global, text: &str) -> Result<Vec<u8>, Fail> {
 /// The client in a file, if it is accepted on a segment with these types.
 pub fn verified<'c>(file: &'c [u8], types: &TypeTable) -> Result<Verified<'c>, Fault> {
     verify(parse(file)?, types)
+}
+
+/// The same, made ready to run.
+pub fn ready<'c>(
+    alloc: Global,
+    file: &'c [u8],
+    types: &TypeTable,
+) -> Result<Ready<'c, Global>, Fault> {
+    Ok(prepare(alloc, verified(file, types)?)?)
 }
 
 /// What a run of clients came to.

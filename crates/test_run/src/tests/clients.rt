@@ -10,7 +10,7 @@ use support_runs::run_on;
 #[test]
 fn clients_run_in_turn(rt: HostRuntime) -> Result<(), Fail> {
     let mut image = Host::opened(rt.alloc(), counter(rt.alloc())?)?;
-    let client = image.verify(&INCREMENT_FILE)?;
+    let client = image.prepare(rt.alloc(), &INCREMENT_FILE)?;
     let done = Report {
         steps: 6,
         read: 0,
@@ -44,7 +44,7 @@ fn clients_run_beside_a_frozen_object(rt: HostRuntime) -> Result<(), Fail> {
 #[test]
 fn a_client_of_other_types_does_not_run(rt: HostRuntime) -> Result<(), Fail> {
     let image = Host::opened(rt.alloc(), counter(rt.alloc())?)?;
-    let client = image.verify(&INCREMENT_FILE)?;
+    let client = image.prepare(rt.alloc(), &INCREMENT_FILE)?;
     assert_eq!(rt;
         image.verify(&INCREMENT_FILE[..102]).err(),
         Some(Fault::BadCode(95))

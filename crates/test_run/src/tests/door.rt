@@ -2,8 +2,8 @@
 //! a short proof.
 
 use lezgauri::{
-    AllocatorKind, Code, Fault, Image, IndexKind, Named, Numbers, Place, Report, Through, Type,
-    TypeId, TypeTable, Verified, check, run, type_table, verify,
+    AllocatorKind, Code, Fault, Image, IndexKind, Named, Numbers, Place, Ready, Report, Through,
+    Type, TypeId, TypeTable, Verified, check, prepare, run, type_table, verify,
 };
 use std::alloc::Global;
 use std::test::Fail;
@@ -67,11 +67,20 @@ impl Host {
         verify(&self.image, client)
     }
 
+    /// A client that is verified and made ready.
+    pub(crate) fn prepare<'c>(
+        &self,
+        alloc: Global,
+        client: &'c [u8],
+    ) -> Result<Ready<'c, Global>, Fault> {
+        Ok(prepare(alloc, self.verify(client)?)?)
+    }
+
     /// Runs a client without input. What it told, and what it wrote.
     pub(crate) fn run(
         &mut self,
         alloc: Global,
-        client: &Verified,
+        client: &Ready<Global>,
     ) -> Result<(Report, Vec<u8>), Fault> {
         let mut out = Through::new(Limited::unlimited(alloc));
         let report = run(&mut self.image, client, b"", &mut out)?;

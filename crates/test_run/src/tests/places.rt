@@ -12,7 +12,7 @@ use std::test::Fail;
 use support_data::{INCREMENT_FILE, Limited, chain, counter, counter_saved};
 use support_runs::{
     KINDS, PLAIN, Ran, SEQ_FLAT, Setting, empty, opened, outcome_of, placed, run_files, run_in,
-    verified,
+    ready,
 };
 
 /// The bytes of the host, all of them 0xa5 but for the segment.
@@ -37,7 +37,7 @@ fn increment(
     segment: &mut Segment<SeqFit, Global>,
     moves: &[Move],
 ) -> Result<(), Fail> {
-    let client = verified(&INCREMENT_FILE, segment.types())?;
+    let client = ready(rt.alloc(), &INCREMENT_FILE, segment.types())?;
     let mut out = Through::new(Limited::new(rt.alloc(), 1, usize::MAX));
     let report = run(segment, &client, b"", moves, &mut out);
     assert_eq!(rt; report.steps, 6);

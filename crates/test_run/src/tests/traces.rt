@@ -8,7 +8,7 @@ use std::alloc::Global;
 use std::process::Abort;
 use std::test::Fail;
 use support_data::Limited;
-use support_runs::{client, created, verified};
+use support_runs::{client, created, ready};
 
 /// A vector gets a struct, whose field gets the numbers 2 and 1 in a loop; it has no item 1. Then an object comes and goes.
 const STORES: &str = r"type i64
@@ -204,9 +204,9 @@ fn traced(
 ) -> Result<(Vec<u8>, Result<(), Untraced>), Fail> {
     let file = client(alloc, text)?;
     let mut segment = created::<SeqFit>(alloc, 2048, IndexKind::Flat)?;
-    let accepted = verified(file.as_slice(), segment.types())?;
+    let client = ready(alloc, file.as_slice(), segment.types())?;
     let mut out = Through::new(Limited::new(alloc, usize::MAX, limit));
-    let ended = trace(alloc, &mut segment, &accepted, &[], &mut out);
+    let ended = trace(alloc, &mut segment, &client, &[], &mut out);
     Ok((out.into_inner().bytes, ended))
 }
 

@@ -7,7 +7,7 @@ use Rattle.client_vm.proofs.bytes.prepared.Goals as goal
 
 pub returns-clause-room : goal.returns-clause-room
 returns-clause-room g c =
-    let few : length c.in_ok-programs.programs.items ≡ length c.args.clients.now =
-    sym (length-map c.in_ok-programs.programs.items (λ (p : Verified). bytes_of (client_of p))) ∙ ap length c.in_ok-programs.ensures.texts ∙ length-map c.args.clients.now (λ x. x.now) in
+    let few : length c.in_ok-verified.verified.items ≡ length c.args.clients.now =
+    sym (length-map c.in_ok-verified.verified.items (λ (p : Verified). bytes_of (client_of p))) ∙ ap length c.in_ok-verified.ensures.texts ∙ length-map c.args.clients.now (λ x. x.now) in
     let capacity = c.in_ok-reports.ensures.capacity in
     omega (arith, capacity, few)

@@ -1,12 +1,11 @@
 use Rattle.std.proofs.Common.{◌≡◌, ℕ, ◌≤◌, List, true, false, length, vec_capacity, sym, ap, ◌∙◌, subst}
 use Rattle.std.proofs.lemmas.List.{length-map}
 use Rattle.client_code.specs.Clients.{bytes_of}
-use Rattle.client_verify.specs.Accepted.{client_of}
-use Rattle.client_verify.specs.declared.verified.Verified.{Verified}
 use Rattle.seg_spec.specs.Window.{Placement}
 use Rattle.client_spec.specs.Run.{Ending}
 use Rattle.client_spec.specs.Clients.{AreAccepted}
-use Rattle.client_accept.specs.Texts.{texts_of}
+use Rattle.client_run.specs.ReadyClients.{client_in, texts_in}
+use Rattle.client_run.specs.declared.ready.Ready.{Ready}
 use Rattle.client_run.specs.Moves.{moves_of}
 use Rattle.client_run.specs.Runs.{ending_of}
 use Rattle.client_vm.specs.Reports.{AreReportsOf}
@@ -17,21 +16,21 @@ use Rattle.client_vm.proofs.bytes.run_verified.Goals as goal
 
 pub returns-clause-reports : goal.returns-clause-reports
 returns-clause-reports g c =
-    let same : length c.as_slice-verified.result.now ≡ length c.args.programs.items = ap length c.as_slice-verified.ensures.value in
+    let same : length c.as_slice-ready.result.now ≡ length c.args.programs.items = ap length c.as_slice-ready.ensures.value in
     let room = subst (λ n. n ≤ vec_capacity c.args.reports) (sym same) c.requires.room in
     record {
-      reports_are = subst (λ ps. AreReportsOf (texts_of ps) c.run_all.new.reports.items) c.as_slice-verified.ensures.value (c.run_all.ensures.reports c.requires.empty room);
+      reports_are = subst (λ ps. AreReportsOf (texts_in ps) c.run_all.new.reports.items) c.as_slice-ready.ensures.value (c.run_all.ensures.reports c.requires.empty room);
       all = λ done. elim c.if-failed.branch [
         | then-failed w ↦ absurd (let is = w.ended-is in cc)
         | else-failed w ↦
-            c.run_all.ensures.all c.requires.empty room (sym c.failed.ensures ∙ w.if-failed.false) ∙ same ∙ sym (length-map c.args.programs.items (λ (p : Verified). bytes_of (client_of p)))
+            c.run_all.ensures.all c.requires.empty room (sym c.failed.ensures ∙ w.if-failed.false) ∙ same ∙ sym (length-map c.args.programs.items (λ (p : Ready g.A). bytes_of (client_in p)))
       ];
     }
 
 pub returns-clause-runs : goal.returns-clause-runs
 returns-clause-runs g c trees accepted ready =
-    let room = subst (λ n. n ≤ vec_capacity c.args.reports) (sym (ap length c.as_slice-verified.ensures.value)) c.requires.room in
-    let ran = c.run_all.ensures.runs c.requires.empty room c.requires.works trees (subst (λ ps. AreAccepted c.args.segment.types (texts_of ps) trees) (sym c.as_slice-verified.ensures.value) accepted) ready in
+    let room = subst (λ n. n ≤ vec_capacity c.args.reports) (sym (ap length c.as_slice-ready.ensures.value)) c.requires.room in
+    let ran = c.run_all.ensures.runs c.requires.empty room c.requires.works trees (subst (λ ps. AreAccepted c.args.segment.types (texts_in ps) trees) (sym c.as_slice-ready.ensures.value) accepted) ready in
     let bytes : c.run_all.new.segment.window.bytes ≡ c.into_bytes.result.items = sym (c.into_bytes.ensures ∙ ap (λ (w : Placement). w.bytes) c.into_window.ensures) in
     let is : c.failed.result ≡ g.W.Sink.has_failed c.run_all.new.out = c.failed.ensures in
     let ending : ending_if (g.W.Sink.has_failed c.run_all.new.out) ≡ ending_of c.if-failed.ended = ending_failed (g.W.Sink.has_failed c.run_all.new.out) c.if-failed.ended

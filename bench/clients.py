@@ -1,0 +1,97 @@
+#!/usr/bin/env python3
+"""What it costs to prepare and to run a client on an open image, beside a prepared statement of SQLite and a function of Lua.
+
+    clients.py SEGTOOL BENCH_CALLS.. [--time ROUNDS] [--no-count]
+
+BENCH_CALLS is the program that build.py makes (bench_calls); with several, before and after a change, each has its rows, and all
+run by turns. It does a work for some passes and for twice as many, and the difference is what is told, so that its start, the
+check of the image and the first touch of memory don't count. Instructions are counted by callgrind, and times are the least of
+ROUNDS rounds.
+
+Needs valgrind, cc, libsqlite3-dev and liblua5.4-dev."""
+import argparse
+import os
+import tempfile
+from functools import partial
+
+from operations import HERE, instructions, least, run, seconds
+
+# the clients, with the texts that they are made of
+CLIENTS = {
+    "empty": f"{HERE}/clients/empty.text",
+    "increment": f"{HERE}/../examples/increment.text",
+    "cache": f"{HERE}/../examples/cache.text",
+}
+
+# the works, by the client, and the peers' works beside them
+WORKS = [
+    ("prepare", "empty", ()),
+    ("prepare", "increment", ("sqlite-prepare", "lua-load")),
+    ("prepare", "cache", ()),
+    ("run", "empty", ("lua-empty",)),
+    ("run", "increment", ("sqlite-step", "lua-call")),
+]
+
+# how often a work is done in a pass where instructions are counted, and where times are taken
+COUNTED, TIMED = 2000, 200000
+
+
+def made(segtool, folder):
+    """The image and the clients, by name."""
+    image = f"{folder}/image"
+    run(segtool, "new", image, "4096", "best", "tree")
+    files = {}
+    for name, text in CLIENTS.items():
+        files[name] = f"{folder}/{name}.client"
+        run(segtool, "asm", text, files[name])
+    maker = f"{folder}/maker.text"
+    with open(maker, "w", encoding="utf-8") as out:
+        out.write("type i64\nname x\nMAKE r0 - - t0 k0\nELSE\nEND\n")
+    run(segtool, "asm", maker, f"{folder}/maker")
+    run(segtool, "run", image, image, f"{folder}/maker")
+    return image, files
+
+
+def counted(command):
+    """The instructions of one time that a work is done."""
+    return (instructions(command(COUNTED, 2)) - instructions(command(COUNTED, 1))) / COUNTED
+
+
+def peer_count(peer, work):
+    return instructions([peer, work, str(COUNTED), "1"], ["--instr-atstart=no"]) / COUNTED
+
+
+def row(work, who, count, time):
+    print(f"{work:20}{who:24}{count:12.0f}{time:12.1f}", flush=True)
+
+
+def main():
+    parser = argparse.ArgumentParser(description=__doc__, formatter_class=argparse.RawDescriptionHelpFormatter)
+    parser.add_argument("segtool")
+    parser.add_argument("calls", nargs="+", metavar="BENCH_CALLS")
+    parser.add_argument("--time", type=int, default=7, metavar="ROUNDS")
+    parser.add_argument("--no-count", action="store_true")
+    words = parser.parse_args()
+    with tempfile.TemporaryDirectory(dir="/dev/shm" if os.path.isdir("/dev/shm") else None) as folder:
+        peer = f"{folder}/peer"
+        run("cc", "-O2", "-I/usr/include/lua5.4", f"{HERE}/clients.c", "-o", peer, "-lsqlite3", "-llua5.4")
+        image, files = made(os.path.abspath(words.segtool), folder)
+        print(f"{'work':20}{'by':24}{'instr.':>12}{'ns':>12}")
+        for work, client, peers in WORKS:
+            commands = [
+                lambda times, passes, it=it: [os.path.abspath(it), work, str(times), str(passes), image, files[client]]
+                for it in words.calls
+            ]
+            timers = [partial(seconds, command(TIMED, passes)) for command in commands for passes in (2, 1)]
+            timers += [partial(lambda it: float(run(peer, it, str(TIMED), "1").stdout.split()[1]), it) for it in peers]
+            found = least(timers, words.time)
+            ends = 2 * len(commands)
+            ours = [(whole - base) / TIMED * 1e9 for whole, base in zip(found[:ends:2], found[1:ends:2])]
+            for command, it, time in zip(commands, words.calls, ours):
+                row(f"{work} {client}", it[-22:], 0 if words.no_count else counted(command), time)
+            for it, time in zip(peers, found[ends:]):
+                row(f"{work} {client}", it, 0 if words.no_count else peer_count(peer, it), time)
+
+
+if __name__ == "__main__":
+    main()

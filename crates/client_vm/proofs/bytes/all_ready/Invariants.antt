@@ -1,0 +1,7 @@
+use Rattle.std.proofs.Common.{◌≡◌}
+use Rattle.client_accept.specs.Texts.{texts_of}
+use Rattle.client_run.specs.ReadyClients.{texts_in}
+use Rattle.client_vm.proofs.bytes.all_ready.Given as goal
+
+abbrev pub invariant-loop-client : goal.invariant-loop-client
+invariant-loop-client g l = texts_in l.programs.items ≡ texts_of l.yielded
