@@ -31,8 +31,8 @@ pub fn verify_all<'a, A: Allocator + Copy>(
     let mut programs = Vec::with_capacity(alloc, clients.len())?;
     for (i, bytes) in clients.iter().enumerate() {
         match verify_one(bytes, &types) {
-            Ok((program, extended)) => {
-                types = extended;
+            Ok(program) => {
+                extend(&mut types, program.types());
                 programs.push(program)?;
             }
             Err(fault) => {
@@ -46,15 +46,22 @@ pub fn verify_all<'a, A: Allocator + Copy>(
     Ok(programs)
 }
 
-/// The client of a file, verified against types, and these types with the client's.
-fn verify_one<'a>(bytes: &'a [u8], types: &TypeTable) -> Result<(Verified<'a>, TypeTable), Fault>
-    ensures text { IfOk result (λ it. bytes_of (client_of it.0) ≡ bytes.now) }
-    ensures accepted { IfOk result (λ it. (tree : syntax.Client) × SpellsClient bytes.now tree
-        × IsVerified types.now tree × (it.1 ≡ longer types.now tree.types)) }
+/// The client of a file, verified against types.
+fn verify_one<'a>(bytes: &'a [u8], types: &TypeTable) -> Result<Verified<'a>, Fault>
+    ensures text { IfOk result (λ program. bytes_of (client_of program) ≡ bytes.now) }
+    ensures accepted { IfOk result (λ program. (tree : syntax.Client) × SpellsClient bytes.now tree
+        × IsVerified types.now tree) }
     ensures wrong { IfErr result (IsWrongText types.now bytes.now) }
 {
     let client = parse(bytes)?;
-    let program = verify(client, types)?;
-    let extended = types.extends(program.types())?;
-    Ok((program, extended))
+    verify(client, types)
+}
+
+/// Makes a table the longer one of itself and another.
+fn extend(types: &mut TypeTable, more: &TypeTable)
+    ensures { types.new ≡ longer types.old more.now }
+{
+    if types.len() < more.len() {
+        *types = more.copy();
+    }
 }

@@ -1,13 +1,17 @@
 -- Constants that stand one after the other in a file.
-use Rattle.std.proofs.Common.{◌≡◌, ◌≢◌, ℕ, ◌+◌, ◌<◌, ◌≤◌, List, [], ◌∷◌, ◌++◌, length, map, drop, get_or, refl, sym, ap, ◌∙◌, subst, arith, inl, inr, append_assoc}
+use Rattle.std.proofs.Common.{◌≡◌, ◌≢◌, ℕ, ◌+◌, ◌<◌, ◌≤◌, List, [], ◌∷◌, ◌++◌, length, drop, get_or, refl, sym, ap, ◌∙◌, subst, arith, inl, inr, append_assoc, append-nil, Option, Some, None}
 use Rattle.std.specs.Prelude.{⊤, flat_map, All, AllPairs}
 use Rattle.std.specs.List.{AllByRecursion}
+use Rattle.std.specs.Option.{option_map}
 use Rattle.std.proofs.lemmas.Bool.{cases_lt}
-use Rattle.std.proofs.lemmas.List.{length-append, flat_map_more, get_or_append_left, get_or_push, get_or_at, length_push, length-map, get_or-map}
-use Rattle.std.proofs.lemmas.List.Elements.{All-push, All-map}
+use Rattle.std.proofs.lemmas.List.{length-append, flat_map_more, get_or_append_left, get_or_push, get_or_at, length_push}
+use Rattle.std.proofs.lemmas.List.Elements.{All-push}
 use Rattle.client_spec.specs.Syntax.{Constant}
-use Rattle.client_spec.specs.Grammar.{constant_bytes, IsConstant, Differ}
+use Rattle.client_spec.specs.Grammar.{constant_bytes, IsConstant, IsTextConstant, NamesBy, Differ}
 use Rattle.client_spec.proofs.OneClient.{constant_front}
+use Rattle.client_code.specs.declared.constant.ConstantKind.{ConstantKind}
+use Rattle.client_code.specs.declared.constant.ConstantKind.TheVariants as kind
+use Rattle.client_code.specs.Views.{constant_by, kind_of}
 use Rattle.client_code.specs.Files.{AreConstants}
 
 -- what is spelled after the same front, where each element has one spelling
@@ -60,10 +64,10 @@ one_more file at next following cs c so_far spelled right place differs =
     }
 
 -- the last of some constants
-last_right : (cs more : List Constant) (c : Constant) → All IsConstant (cs ++ c ∷ more) → IsConstant c
-last_right cs more c all =
+pub last_of : (P : Constant → Type 0) (cs more : List Constant) (c : Constant) → All P (cs ++ c ∷ more) → P c
+last_of P cs more c all =
     let long = length-append cs (c ∷ more) in
-    subst IsConstant (get_or_at cs c more c (length cs) refl) (all (length cs) c (omega arith))
+    subst P (get_or_at cs c more c (length cs) refl) (all (length cs) c (omega arith))
 
 last_differs : (cs more : List Constant) (c : Constant) → AllPairs Differ (cs ++ c ∷ more) → All (λ other. Differ other c) cs
 last_differs cs more c pairs k d h =
@@ -84,10 +88,92 @@ none_more file at next following cs ds so_far none few all =
     found (c ∷ more) n e s =
         let each = subst (All IsConstant) e all.each in
         let different = subst (AllPairs Differ) e all.different in
-        none c (flat_map constant_bytes more ++ drop following file) (last_right cs more c each) (last_differs cs more c different) (s ∙ append_assoc (constant_bytes c) (flat_map constant_bytes more) (drop following file))
+        none c (flat_map constant_bytes more ++ drop following file) (last_of IsConstant cs more c each) (last_differs cs more c different) (s ∙ append_assoc (constant_bytes c) (flat_map constant_bytes more) (drop following file))
 
-pub all_map : {A B : Type 0} (P : B → Type 0) (f : A → B) (xs : List A) → All (λ x. P (f x)) xs → All P (map f xs)
-all_map P f xs all = All-map P f xs all
+-- ---- constants that are read again
 
-pub map_all : {A B : Type 0} (P : B → Type 0) (f : A → B) (xs : List A) → All P (map f xs) → All (λ x. P (f x)) xs
-map_all P f xs all k d h = let long = length-map xs f in subst P (get_or-map f xs k d (f d) h) (all k (f d) (omega arith))
+-- after the first of some constants, which stand up to a position
+pub record Walk (file : List ℕ) (cs : List Constant) (end next : ℕ) (front : List Constant) : Type 0 where
+  pub rest : List Constant
+  pub whole : cs ≡ front ++ rest
+  pub remaining : drop next file ≡ flat_map constant_bytes rest ++ drop end file
+
+pub walk_starts : (file : List ℕ) (at end : ℕ) (cs : List Constant) → AreConstants file at cs end → Walk file cs end at []
+walk_starts file at end cs are = record { rest = cs; whole = refl; remaining = are.spelled }
+
+pub walk_on : (file : List ℕ) (cs : List Constant) (end next following : ℕ) (front : List Constant) (c : Constant) → Walk file cs end next front → length front < length cs
+    → drop next file ≡ constant_bytes c ++ drop following file → Walk file cs end following (front ++ c ∷ [])
+walk_on file cs end next following front c walk few spelled = go walk.rest walk.whole walk.remaining
+  where
+    go : (rest : List Constant) → cs ≡ front ++ rest → drop next file ≡ flat_map constant_bytes rest ++ drop end file → Walk file cs end following (front ++ c ∷ [])
+    go [] whole remaining = absurd (let n = ap length whole in let m = length-append front [] in omega arith)
+    go (d ∷ rest) whole remaining =
+        let one = constant_front c d (drop following file) (flat_map constant_bytes rest ++ drop end file)
+        (sym spelled ∙ remaining ∙ append_assoc (constant_bytes d) (flat_map constant_bytes rest) (drop end file)) in
+        record { rest = rest; whole = whole ∙ ap (λ x. front ++ x ∷ rest) (sym one.0) ∙ sym (append_assoc front (c ∷ []) rest); remaining = one.1 }
+
+pub walk_never : (file : List ℕ) (cs : List Constant) (end next : ℕ) (front : List Constant) → Walk file cs end next front → length front < length cs → All IsConstant cs
+    → ((c : Constant) (rest : List ℕ) → IsConstant c → drop next file ≢ constant_bytes c ++ rest) → ⊥
+walk_never file cs end next front walk few right none = go walk.rest walk.whole walk.remaining
+  where
+    go : (rest : List Constant) → cs ≡ front ++ rest → drop next file ≡ flat_map constant_bytes rest ++ drop end file → ⊥
+    go [] whole remaining = let n = ap length whole in let m = length-append front [] in omega arith
+    go (d ∷ rest) whole remaining =
+        none d (flat_map constant_bytes rest ++ drop end file) (last_of IsConstant front rest d (subst (All IsConstant) whole right))
+        (remaining ∙ append_assoc (constant_bytes d) (flat_map constant_bytes rest) (drop end file))
+
+-- the last constant that was read is one of them
+pub walk_last : (P : Constant → Type 0) (file : List ℕ) (cs : List Constant) (end next : ℕ) (front : List Constant) (c : Constant) → Walk file cs end next (front ++ c ∷ []) → All P cs → P c
+walk_last P file cs end next front c walk all = last_of P front walk.rest c (subst (All P) (walk.whole ∙ append_assoc front (c ∷ []) walk.rest) all)
+
+pub walk_done : (file : List ℕ) (cs : List Constant) (end next : ℕ) (front : List Constant) → Walk file cs end next front → length front ≡ length cs → front ≡ cs
+walk_done file cs end next front walk same = go walk.rest walk.whole
+  where
+    go : (rest : List Constant) → cs ≡ front ++ rest → front ≡ cs
+    go [] whole = sym (whole ∙ append-nil front)
+    go (d ∷ rest) whole = absurd (let n = ap length whole in let m = length-append front (d ∷ rest) in omega arith)
+
+-- ---- kinds
+
+pub kind_by : (k : ConstantKind) (bytes : List ℕ) → kind_of (constant_by k bytes) ≡ k
+kind_by kind.Text bytes = refl
+kind_by kind.Name bytes = refl
+kind_by kind.Family bytes = refl
+
+-- a text differs from all others
+pub text_differs : (x : Constant) (k : ConstantKind) (bytes : List ℕ) → k ≡ kind.Text → Differ x (constant_by k bytes)
+text_differs (Constant.Text y) kind.Text bytes e = tt
+text_differs (Constant.Name y) kind.Text bytes e = tt
+text_differs (Constant.Family y) kind.Text bytes e = tt
+text_differs x kind.Name bytes e = cc
+text_differs x kind.Family bytes e = cc
+
+pub is_text_by : (o : Option Constant) → option_map kind_of o ≡ Some kind.Text → IsTextConstant o
+is_text_by None e = cc
+is_text_by (Some (Constant.Text bytes)) e = tt
+is_text_by (Some (Constant.Name bytes)) e = cc
+is_text_by (Some (Constant.Family bytes)) e = cc
+
+pub no_text_by : (o : Option Constant) (k : Option ConstantKind) → option_map kind_of o ≡ k → (k ≡ Some kind.Text → ⊥) → IsTextConstant o → ⊥
+no_text_by None k e other is = is
+no_text_by (Some (Constant.Text bytes)) k e other is = other (sym e)
+no_text_by (Some (Constant.Name bytes)) k e other is = is
+no_text_by (Some (Constant.Family bytes)) k e other is = is
+
+pub name_by : (o : Option Constant) (b : ℕ) → option_map kind_of o ≡ Some kind.Name → (b ≡ 16 → NamesBy o b) × (NamesBy o b → b ≡ 16)
+name_by None b e = cc
+name_by (Some (Constant.Text bytes)) b e = cc
+name_by (Some (Constant.Name bytes)) b e = (λ h. h, λ h. h)
+name_by (Some (Constant.Family bytes)) b e = cc
+
+pub family_by : (o : Option Constant) (b : ℕ) → option_map kind_of o ≡ Some kind.Family → (b < 16 → NamesBy o b) × (NamesBy o b → b < 16)
+family_by None b e = cc
+family_by (Some (Constant.Text bytes)) b e = cc
+family_by (Some (Constant.Name bytes)) b e = cc
+family_by (Some (Constant.Family bytes)) b e = (λ h. h, λ h. h)
+
+pub no_name_by : (o : Option Constant) (k : Option ConstantKind) (b : ℕ) → option_map kind_of o ≡ k → (k ≡ Some kind.Name → ⊥) → (k ≡ Some kind.Family → ⊥) → NamesBy o b → ⊥
+no_name_by None k b e name family is = is
+no_name_by (Some (Constant.Text bytes)) k b e name family is = is
+no_name_by (Some (Constant.Name bytes)) k b e name family is = name (sym e)
+no_name_by (Some (Constant.Family bytes)) k b e name family is = family (sym e)

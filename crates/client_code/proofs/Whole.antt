@@ -2,7 +2,7 @@
 use Rattle.std.proofs.Common.{◌≡◌, ℕ, zero, suc, ◌+◌, ◌*◌, ◌/◌, ◌%◌, ◌^◌, ◌<◌, ◌≤◌, List, [], ◌∷◌, ◌++◌, length, take, drop, get_or, refl, sym, ap, ◌∙◌, subst, arith, append_assoc, append-nil}
 use Rattle.std.specs.Prelude.{⊤, flat_map, codes, slice_get, ◌≢◌, FitsSigned, IfSome, IfNone, Option, Some, None, Result, Ok, Err, IfErr}
 use Rattle.std.specs.List.{AllByRecursion}
-use Rattle.std.proofs.lemmas.List.{length-append, drop-drop, take-append-drop, take_at, drop_at, get_or-drop, nil_from_length, length-map}
+use Rattle.std.proofs.lemmas.List.{length-append, drop-drop, take-append-drop, take_at, drop_at, get_or-drop, nil_from_length}
 use Rattle.seg_bytes.specs.Bytes.{slice, spelled, spelling, number}
 use Rattle.seg_spec.specs.Types.{Table, form_bytes}
 use Rattle.seg_bytes.proofs.BytesLaws.{number_in, length-slice, length-spelling, spelled-spelling}
@@ -17,10 +17,9 @@ use Rattle.std.specs.Int.{w32}
 use Rattle.std.specs.Option.{option_map}
 use Rattle.client_spec.proofs.Values.{Some_inj}
 use Rattle.client_code.specs.declared.instruction.Instruction as program
-use Rattle.client_code.specs.declared.constant.Constant as constant
-use Rattle.client_code.specs.Views.{instruction_of, constant_of, constants_of}
+use Rattle.client_code.specs.Views.{instruction_of}
 use Rattle.client_code.specs.Operands.{HasOperands}
-use Rattle.client_code.proofs.Constants.{fronts, any}
+use Rattle.client_code.proofs.Constants.{Walk, walk_starts, fronts, any}
 use Rattle.client_code.proofs.Operands.{all_operands}
 use Rattle.client_code.specs.Files.{code_place, IsFileHeader, AreTypes, AreConstants, IsCodeAt}
 
@@ -286,16 +285,10 @@ types_again file tree spells table n m e types = types_same file table tree.type
 pub types_there_again : (file : List ℕ) (tree : Client) → SpellsClient file tree → (n : ℕ) → n ≡ length tree.types → ((table : Table) → length table ≡ n → AreTypes file table → ⊥) → ⊥
 types_there_again file tree spells n m wrong = wrong tree.types (sym m) (spelled_parts file tree spells).types
 
-pub constants_again : (file : List ℕ) (tree : Client) → SpellsClient file tree → (cs : List Constant) (at place t n : ℕ) → t ≡ length tree.types
-    → n ≡ length tree.constants → at ≡ 20 + 16 * t → length cs ≡ n → AreConstants file at cs place → cs ≡ tree.constants
-constants_again file tree spells cs at place t n k m e l constants =
-    let there = subst (λ x. AreConstants file x tree.constants (code_place tree)) (ap (λ x. 20 + 16 * x) (sym k) ∙ sym e) (spelled_parts file tree spells).constants in
-    (constants_same file at place (code_place tree) cs tree.constants constants there (l ∙ m)).0
-
-pub constants_there_again : (file : List ℕ) (tree : Client) → SpellsClient file tree → (at t n : ℕ) → t ≡ length tree.types → n ≡ length tree.constants
-    → at ≡ 20 + 16 * t → ((cs : List Constant) (following : ℕ) → length cs ≡ n → AreConstants file at cs following → ⊥) → ⊥
-constants_there_again file tree spells at t n k m e wrong =
-    wrong tree.constants (code_place tree) (sym m) (subst (λ x. AreConstants file x tree.constants (code_place tree)) (ap (λ x. 20 + 16 * x) (sym k) ∙ sym e) (spelled_parts file tree spells).constants)
+-- in front of the constants
+pub constants_begin : (file : List ℕ) (tree : Client) → SpellsClient file tree → (at t : ℕ) → t ≡ length tree.types → at ≡ 20 + 16 * t → Walk file tree.constants (code_place tree) at []
+constants_begin file tree spells at t n e =
+    walk_starts file at (code_place tree) tree.constants (subst (λ x. AreConstants file x tree.constants (code_place tree)) (ap (λ x. 20 + 16 * x) (sym n) ∙ sym e) (spelled_parts file tree spells).constants)
 
 at_list : (is : List Instruction) (i : ℕ) → i < length is → (j : Instruction) × (more : List ℕ) × (slice_get is i ≡ Some j) × (drop (8 * i) (flat_map instruction_bytes is) ≡ instruction_bytes j ++ more)
 at_list [] i h = absurd (omega arith)
@@ -362,12 +355,3 @@ read_places file tree spells t c i at place cs header e m constants =
     let same = header_same file t c i _ _ _ header p.header in
     let there = subst (λ k. AreConstants file k tree.constants (code_place tree)) (ap (λ k. 20 + 16 * k) (sym same.0) ∙ sym e) p.constants in
     (same.0, same.1, same.2, (constants_same file at place (code_place tree) cs tree.constants constants there (m ∙ same.1)).1)
-
-pub client_there : (file : List ℕ) (t c i at place : ℕ) (table : Table) (items slice : List constant.Constant) (code : Statements)
-    → ((k : ℕ) → get_or file k 0 < 256) → IsFileHeader file t c i → c ≤ 256 → i ≤ 4096 → at ≡ 20 + 16 * t → length table ≡ t → AreTypes file table → number 4 file 4 ≡ file_version table
-    → length items ≡ c → AreConstants file at (constants_of items) place → slice ≡ items → length (listing code) ≡ i
-    → IsCodeAt file place table (constants_of slice) code → (tree : Client) × SpellsClient file tree
-client_there file t c i at place table items slice code small header few many e n types version m constants same k is_code =
-    let right = subst (λ xs. IsCodeAt file place table (constants_of xs) code) same is_code in
-    let f = found_client file t c i at place table (constants_of items) code small header few many e n types version (length-map items constant_of ∙ m) constants k right in
-    (f.0, f.1)

@@ -1,4 +1,4 @@
-ghost use Rattle.std.specs.Prelude.{◌≡◌, ◌≤◌, ◌<◌, ◌+◌, ◌*◌, ◌^◌, length};
+ghost use Rattle.std.specs.Prelude.{◌≡◌, ◌≤◌, ◌<◌, ◌+◌, ◌*◌, ◌^◌, length, IfOk};
 ghost use Rattle.client_spec.specs.Syntax as syntax;
 ghost use Rattle.client_spec.specs.Grammar.{listing, SpellsClient};
 ghost use Rattle.client_code.specs.Files.{code_place};
@@ -6,10 +6,11 @@ ghost use Rattle.client_code.specs.Files.{code_place};
 use crate::constant::Constant;
 use crate::header::{Header, MOST_INSTRUCTIONS};
 use crate::instruction::Instruction;
-use crate::parser::{instruction_at, read_constants};
+use crate::parser::instruction_at;
 use crate::types::{MOST_TYPES, read_types};
 use arrayvec::ArrayVec;
 use seg_layout::TypeTable;
+use std::alloc::{AllocError, Allocator};
 
 /// The constants of a client, in order.
 pub type Constants<'a> = ArrayVec<Constant<'a>, 256>;
@@ -64,10 +65,33 @@ impl<'a> Client<'a> {
     pub fn constants(&self) -> Constants<'a>
         ensures { OfTree self.now (λ tree. constants_of result.items ≡ tree.constants) }
     {
-        match read_constants(self.file, self.header.constants_at(), self.header.constants) {
-            Ok((constants, _)) => constants,
-            Err(_) => ArrayVec::new(),
+        let mut constants = ArrayVec::new();
+        let mut next = self.header.constants_at();
+        for _ in 0..self.header.constants {
+            let Some((constant, following)) = Constant::spelled_at(self.file, next) else {
+                return constants;
+            };
+            constants.push(constant);
+            next = following;
         }
+        constants
+    }
+
+    /// The constants, in memory for exactly so many.
+    pub fn constants_in<A: Allocator>(&self, alloc: A) -> Result<Vec<Constant<'a>, A>, AllocError>
+        ensures { IfOk result (λ constants.
+            OfTree self.now (λ tree. constants_of constants.items ≡ tree.constants)) }
+    {
+        let mut constants = Vec::with_capacity(alloc, self.header.constants as usize)?;
+        let mut next = self.header.constants_at();
+        for _ in 0..self.header.constants {
+            let Some((constant, following)) = Constant::spelled_at(self.file, next) else {
+                return Ok(constants);
+            };
+            constants.push(constant)?;
+            next = following;
+        }
+        Ok(constants)
     }
 
     /// The number of instructions, `ELSE` and `END` among them.

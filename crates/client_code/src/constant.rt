@@ -1,7 +1,7 @@
-ghost use Rattle.std.specs.Prelude.{◌≡◌, ◌≢◌, ℕ, List, ◌+◌, ◌^◌, ◌≤◌, ◌↔◌, ◌++◌, ◌∷◌, [], length, drop, slice_get, All, IsTrue, IfSome, IfNone, codes};
+ghost use Rattle.std.specs.Prelude.{◌≡◌, ◌≢◌, ℕ, List, ◌+◌, ◌^◌, ◌≤◌, ◌↔◌, ◌++◌, ◌∷◌, [], length, drop, slice_get, map, All, IsTrue, IfSome, IfNone, codes};
 ghost use Rattle.client_spec.specs.Syntax as syntax;
 ghost use Rattle.client_spec.specs.Grammar.{IsConstant, IsNameByte, IsTextConstant, NamesBy, Differ, constant_bytes};
-ghost use Rattle.client_code.specs.Views.{constant_of, constants_of, constant_by};
+ghost use Rattle.client_code.specs.Views.{constant_of, constant_by, kind_of};
 
 use crate::instruction::{Instruction, REGISTERS};
 
@@ -83,12 +83,12 @@ fn may_be(kind: ConstantKind, bytes: &[u8]) -> bool
 }
 
 impl<'a> Constant<'a> {
-    /// The constant whose spelling, a kind, a length and bytes, begins at a position of a file, and the position after it.
-    pub fn read(file: &'a [u8], at: u32) -> Option<(Constant<'a>, u32)>
+    /// The constant whose spelling, a kind, a length and bytes, begins at a position of a file, and the position after it. Its
+    /// bytes may be wrong ones for its kind.
+    pub(crate) fn spelled_at(file: &'a [u8], at: u32) -> Option<(Constant<'a>, u32)>
         requires { at ≤ 2 ^ 31 }
         ensures spelled { IfSome result (λ found. drop at file.now
             ≡ constant_bytes (constant_of found.0) ++ drop found.1 file.now) }
-        ensures right { IfSome result (λ found. IsConstant (constant_of found.0)) }
         ensures place { IfSome result (λ found. found.1
             ≡ at + length (constant_bytes (constant_of found.0))) }
         ensures near { IfSome result (λ found. found.1 ≤ at + 257) }
@@ -100,10 +100,26 @@ impl<'a> Constant<'a> {
         };
         let kind = ConstantKind::from_number(*kind)?;
         let bytes = rest.get(..usize::from(*len))?;
-        if !may_be(kind, bytes) {
+        Some((Constant { kind, bytes }, at + 2 + u32::from(*len)))
+    }
+
+    /// The same, if its bytes are right for its kind.
+    pub fn read(file: &'a [u8], at: u32) -> Option<(Constant<'a>, u32)>
+        requires { at ≤ 2 ^ 31 }
+        ensures spelled { IfSome result (λ found. drop at file.now
+            ≡ constant_bytes (constant_of found.0) ++ drop found.1 file.now) }
+        ensures right { IfSome result (λ found. IsConstant (constant_of found.0)) }
+        ensures place { IfSome result (λ found. found.1
+            ≡ at + length (constant_bytes (constant_of found.0))) }
+        ensures near { IfSome result (λ found. found.1 ≤ at + 257) }
+        ensures none { IfNone result ((c : syntax.Constant) (rest : List ℕ) → IsConstant c →
+            drop at file.now ≢ constant_bytes c ++ rest) }
+    {
+        let (constant, following) = Constant::spelled_at(file, at)?;
+        if !may_be(constant.kind, constant.bytes) {
             return None;
         }
-        Some((Constant { kind, bytes }, at + 2 + u32::from(*len)))
+        Some((constant, following))
     }
 
     /// Whether no two names of objects are the same. Texts always differ.
@@ -114,26 +130,25 @@ impl<'a> Constant<'a> {
     }
 }
 
-/// Whether the constant with this number is a text.
-pub(crate) fn is_text(constants: &[Constant], n: usize) -> bool
-    ensures { IsTrue result ↔ IsTextConstant (slice_get (constants_of constants.now) n) }
+/// Whether the constant with this number is a text, by the kinds of the constants.
+pub(crate) fn is_text(kinds: &[ConstantKind], n: usize) -> bool
+    ensures { (constants : List syntax.Constant) → map kind_of constants ≡ kinds.now →
+        (IsTrue result ↔ IsTextConstant (slice_get constants n)) }
 {
-    match constants.get(n) {
-        Some(constant) => constant.kind == ConstantKind::Text,
-        None => false,
+    match kinds.get(n) {
+        Some(ConstantKind::Text) => true,
+        Some(ConstantKind::Name | ConstantKind::Family) | None => false,
     }
 }
 
 /// Whether the constant with this number names objects, with register b: a family's number is there, and an exact name has none.
-pub(crate) fn names_by(constants: &[Constant], n: usize, b: u8) -> bool
-    ensures { IsTrue result ↔ NamesBy (slice_get (constants_of constants.now) n) b }
+pub(crate) fn names_by(kinds: &[ConstantKind], n: usize, b: u8) -> bool
+    ensures { (constants : List syntax.Constant) → map kind_of constants ≡ kinds.now →
+        (IsTrue result ↔ NamesBy (slice_get constants n) b) }
 {
-    let Some(constant) = constants.get(n) else {
-        return false;
-    };
-    match constant.kind {
-        ConstantKind::Name => b == Instruction::NONE,
-        ConstantKind::Family => b < REGISTERS,
-        ConstantKind::Text => false,
+    match kinds.get(n) {
+        Some(ConstantKind::Name) => b == Instruction::NONE,
+        Some(ConstantKind::Family) => b < REGISTERS,
+        Some(ConstantKind::Text) | None => false,
     }
 }

@@ -1,4 +1,4 @@
-ghost use Rattle.std.specs.Prelude.{◌≡◌, ◌≢◌, ◌≤◌, ◌%◌, ◌/◌, ◌↔◌, ℕ, pos, length, IsTrue, IfSome, IfNone};
+ghost use Rattle.std.specs.Prelude.{◌≡◌, ◌≢◌, ◌≤◌, ◌%◌, ◌/◌, ◌↔◌, ℕ, List, pos, length, map, IsTrue, IfSome, IfNone};
 ghost use Rattle.seg_spec.specs.Types.{Table};
 ghost use Rattle.client_spec.specs.Syntax as syntax;
 ghost use Rattle.client_spec.specs.declared.table.Number.TheVariants as number;
@@ -6,7 +6,7 @@ ghost use Rattle.client_spec.specs.Operations.{row_of};
 ghost use Rattle.client_spec.specs.Grammar.{file_version, IsOperand, IsNumber, IsInstruction, instruction_bytes};
 ghost use Rattle.client_code.specs.declared.instruction.TheConstants.{REGISTERS};
 
-use crate::constant::{Constant, is_text, names_by};
+use crate::constant::{ConstantKind, is_text, names_by};
 use client_spec::table::{Number, Operand, Operation};
 use seg_layout::TypeId;
 
@@ -39,7 +39,7 @@ fn is_operand(operand: Operand, n: u8) -> bool
 }
 
 impl Instruction {
-    ghost use Rattle.client_code.specs.Views.{constants_of, instruction_of};
+    ghost use Rattle.client_code.specs.Views.{kind_of, instruction_of};
     ghost use Rattle.client_code.specs.Operands.{HasOperands};
 
     /// The operand that stands for no register.
@@ -124,10 +124,12 @@ impl Instruction {
     }
 
     /// Whether the operation, the operands and the number may stand in a client file of this version, with so many types and
-    /// these constants.
-    pub fn is_valid(self, version: u32, types: usize, constants: &[Constant]) -> bool
-        ensures { (table : Table) → file_version table ≡ version → length table ≡ types →
-            (IsTrue result ↔ IsInstruction table (constants_of constants.now)
+    /// constants of these kinds.
+    pub fn is_valid(self, version: u32, types: usize, kinds: &[ConstantKind]) -> bool
+        ensures { (table : Table) (constants : List syntax.Constant) →
+            file_version table ≡ version → length table ≡ types →
+            map kind_of constants ≡ kinds.now →
+            (IsTrue result ↔ IsInstruction table constants
             (row_of self.operation).role (instruction_of self)) }
     {
         let row = self.operation.row();
@@ -135,13 +137,13 @@ impl Instruction {
             && is_operand(row.a, self.a)
             && is_operand(row.b, self.b)
             && is_operand(row.c, self.c)
-            && self.is_number(row.number, types, constants)
+            && self.is_number(row.number, types, kinds)
     }
 
-    fn is_number(self, number: Number, types: usize, constants: &[Constant]) -> bool
-        ensures { (table : Table) → length table ≡ types →
-            (IsTrue result ↔ IsNumber table (constants_of constants.now) self.b number
-            self.number) }
+    fn is_number(self, number: Number, types: usize, kinds: &[ConstantKind]) -> bool
+        ensures { (table : Table) (constants : List syntax.Constant) → length table ≡ types →
+            map kind_of constants ≡ kinds.now →
+            (IsTrue result ↔ IsNumber table constants self.b number self.number) }
     {
         let Ok(n) = u32::try_from(self.number) else {
             return number == Number::Any;
@@ -152,8 +154,8 @@ impl Instruction {
             Number::Any => true,
             Number::Turns => 1 <= n && n <= TURNS,
             Number::TypeId => n < types,
-            Number::Text => is_text(constants, n),
-            Number::TypedName => n / 256 < types && names_by(constants, n % 256, self.b),
+            Number::Text => is_text(kinds, n),
+            Number::TypedName => n / 256 < types && names_by(kinds, n % 256, self.b),
         }
     }
 }

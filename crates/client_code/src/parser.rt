@@ -1,16 +1,16 @@
-ghost use Rattle.std.specs.Prelude.{◌≡◌, ◌≢◌, ◌≤◌, ◌<◌, ◌+◌, ◌*◌, ◌^◌, ◌++◌, ℕ, List, length, drop, All, ◌↔◌, IsTrue, IfOk, IfErr, IfSome, IfNone, IsSome, OnOk, FitsSigned};
+ghost use Rattle.std.specs.Prelude.{◌≡◌, ◌≢◌, ◌≤◌, ◌<◌, ◌+◌, ◌*◌, ◌^◌, ◌++◌, [], ℕ, List, length, map, drop, All, ◌↔◌, IsTrue, IfOk, IfErr, IfSome, IfNone, IsSome, OnOk, FitsSigned};
 ghost use Rattle.std.specs.Int.{w32};
 ghost use Rattle.seg_bytes.specs.Bytes.{slice};
 ghost use Rattle.client_spec.specs.Syntax as syntax;
 ghost use Rattle.client_spec.specs.Syntax.{Statements};
 ghost use Rattle.client_spec.specs.Grammar.{constant_bytes, instruction_bytes, listing, IsConstant, Differ, SpellsClient};
-ghost use Rattle.client_code.specs.Views.{constant_of, constants_of, instruction_of};
+ghost use Rattle.client_code.specs.Views.{constant_of, kind_of, instruction_of};
 ghost use Rattle.client_code.specs.Operands.{HasOperands};
 ghost use Rattle.client_code.specs.Files.{AreConstants, IsCodeAt};
 ghost use Rattle.client_code.specs.Clients.{bytes_of};
 
-use crate::client::{Client, Constants};
-use crate::constant::Constant;
+use crate::client::Client;
+use crate::constant::{Constant, ConstantKind};
 use crate::header::{Header, MOST_CONSTANTS, MOST_INSTRUCTIONS, check_version};
 use crate::instruction::Instruction;
 use crate::nesting::Nesting;
@@ -19,58 +19,58 @@ use arrayvec::ArrayVec;
 use seg_layout::TypeTable;
 use seg_raw::Fault;
 
-fn differs_from(others: &[Constant], constant: Constant) -> bool
-    ensures { IsTrue result
-        ↔ All (λ other. Differ (constant_of other) (constant_of constant.entry)) others.now }
-{
-    others.iter().all(|other| other.differs(constant))
-}
+/// The kinds of a client's constants, in order.
+type Kinds = ArrayVec<ConstantKind, 256>;
 
-/// The constant that begins at a position, after these, and the position after it.
-fn next_constant<'a>(file: &'a [u8], at: u32, before: &[Constant]) -> Option<(Constant<'a>, u32)>
-    requires { at ≤ 2 ^ 31 }
-    ensures spelled { IfSome result (λ found. drop at file.now
-        ≡ constant_bytes (constant_of found.0) ++ drop found.1 file.now) }
-    ensures right { IfSome result (λ found. IsConstant (constant_of found.0)) }
-    ensures place { IfSome result (λ found. found.1
-        ≡ at + length (constant_bytes (constant_of found.0))) }
-    ensures near { IfSome result (λ found. found.1 ≤ at + 257) }
-    ensures differs { IfSome result
-        (λ found. All (λ other. Differ (constant_of other) (constant_of found.0)) before.now) }
-    ensures none { IfNone result ((c : syntax.Constant) (rest : List ℕ) → IsConstant c →
-        All (λ other. Differ (constant_of other) c) before.now →
-        drop at file.now ≢ constant_bytes c ++ rest) }
-{
-    let (constant, following) = Constant::read(file, at)?;
-    if !differs_from(before, constant) {
-        return None;
-    }
-    Some((constant, following))
-}
-
-/// The constants that begin at a position, and the position after them.
-pub fn read_constants(file: &[u8], at: u32, count: u32) -> Result<(Constants<'_>, u32), Fault>
+/// Whether a constant differs from each of those that stand from a position on, which are so many.
+fn differs_from(file: &[u8], at: u32, count: u32, constant: Constant) -> bool
     requires first { at ≤ 1000 }
     requires few { count ≤ MOST_CONSTANTS }
-    ensures near { IfOk result (λ found. found.1 ≤ at + 257 * count) }
-    ensures count { IfOk result (λ found. length found.0.items ≡ count) }
-    ensures found { IfOk result (λ found. AreConstants file.now at
-        (constants_of found.0.items) found.1) }
+    ensures { (cs : List syntax.Constant) (following : ℕ) → length cs ≡ count →
+        AreConstants file.now at cs following →
+        (IsTrue result ↔ All (λ other. Differ other (constant_of constant.entry)) cs) }
+{
+    if let ConstantKind::Text = constant.kind {
+        return true;
+    }
+    let mut next = at;
+    for _ in 0..count {
+        let Some((other, following)) = Constant::spelled_at(file, next) else {
+            return false;
+        };
+        if !other.differs(constant) {
+            return false;
+        }
+        next = following;
+    }
+    true
+}
+
+/// Finds the constants that begin at a position, and adds the kind of each. Returns the position after them.
+fn find_constants(file: &[u8], at: u32, count: u32, kinds: &mut Kinds) -> Result<u32, Fault>
+    requires first { at ≤ 1000 }
+    requires few { count ≤ MOST_CONSTANTS }
+    requires none { kinds.old.items ≡ [] }
+    ensures near { IfOk result (λ following. following ≤ at + 257 * count) }
+    ensures found { IfOk result (λ following. (cs : List syntax.Constant) × (length cs ≡ count)
+        × AreConstants file.now at cs following × (map kind_of cs ≡ kinds.new.items)) }
     ensures wrong { IfErr result (λ fault. (cs : List syntax.Constant) (following : ℕ) →
         length cs ≡ count → AreConstants file.now at cs following → ⊥) }
     ensures fault { IfErr result (λ fault. (place : ℕ) × (fault ≡ Fault.BadCode place)) }
 {
-    let mut constants = ArrayVec::new();
     let mut next = at;
-    for _ in 0..count {
+    for i in 0..count {
         let place = next;
-        let Some((constant, following)) = next_constant(file, place, constants.as_slice()) else {
+        let Some((constant, following)) = Constant::read(file, place) else {
             return Err(Fault::BadCode(place));
         };
-        constants.push(constant);
+        if !differs_from(file, at, i, constant) {
+            return Err(Fault::BadCode(place));
+        }
+        kinds.push(constant.kind);
         next = following;
     }
-    Ok((constants, next))
+    Ok(next)
 }
 
 /// The instruction whose 8 bytes begin at a position.
@@ -86,20 +86,22 @@ pub fn instruction_at(file: &[u8], at: u32) -> Option<Instruction>
     Instruction::decode(file.get(place..place + Instruction::SIZE)?)
 }
 
-/// Tests each instruction where it stands, and that the file ends where the code does.
+/// Tests each instruction where it stands, by the kinds of the constants, and that the file ends where the code does.
 fn check_code(
     file: &[u8],
     at: u32,
     count: u32,
     types: &TypeTable,
-    constants: &[Constant],
+    kinds: &[ConstantKind],
 ) -> Result<(), Fault>
     requires near { at ≤ 2 ^ 20 }
     requires few { count ≤ MOST_INSTRUCTIONS }
-    ensures found { OnOk result ((tree : Statements) × (length (listing tree) ≡ count)
-        × IsCodeAt file.now at types.now (constants_of constants.now) tree) }
-    ensures wrong { IfErr result (λ fault. (tree : Statements) → length (listing tree) ≡ count →
-        IsCodeAt file.now at types.now (constants_of constants.now) tree → ⊥) }
+    ensures found { OnOk result ((constants : List syntax.Constant) →
+        map kind_of constants ≡ kinds.now → (tree : Statements)
+        × (length (listing tree) ≡ count) × IsCodeAt file.now at types.now constants tree) }
+    ensures wrong { IfErr result (λ fault. (constants : List syntax.Constant) →
+        map kind_of constants ≡ kinds.now → (tree : Statements) →
+        length (listing tree) ≡ count → IsCodeAt file.now at types.now constants tree → ⊥) }
     ensures fault { IfErr result (λ fault. (place : ℕ) × (fault ≡ Fault.BadCode place)) }
 {
     let version = version_of(types);
@@ -109,7 +111,7 @@ fn check_code(
         let Some(instruction) = instruction_at(file, place) else {
             return Err(Fault::BadCode(place));
         };
-        if !instruction.is_valid(version, types.len(), constants)
+        if !instruction.is_valid(version, types.len(), kinds)
             || !nesting.pass(instruction.operation.row().role)
         {
             return Err(Fault::BadCode(place));
@@ -134,13 +136,8 @@ pub fn parse(file: &[u8]) -> Result<Client<'_>, Fault>
     let header = Header::read(file)?;
     let types = read_types(file, header.types)?;
     check_version(file, &types)?;
-    let (constants, code) = read_constants(file, header.constants_at(), header.constants)?;
-    check_code(
-        file,
-        code,
-        header.instructions,
-        &types,
-        constants.as_slice(),
-    )?;
+    let mut kinds = ArrayVec::new();
+    let code = find_constants(file, header.constants_at(), header.constants, &mut kinds)?;
+    check_code(file, code, header.instructions, &types, kinds.as_slice())?;
     Ok(Client { file, header, code })
 }

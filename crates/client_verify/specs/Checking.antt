@@ -220,6 +220,17 @@ is_inside ends.Moved (Some x) c = same_class (sharing x.0) (Class.Register c)
 is_inside ends.Frozen (Some x) c = same_class (sharing x.0) (Class.Register c)
 is_inside ends x c = false
 
+-- where register b leads there
+abbrev pub ended_with : (b c constant type_id : ℕ) → Option (Class × ℕ) → Ends → RegisterTypes
+    → RegisterTypes
+ended_with b c constant type_id x ends.Nothing ks = ks
+ended_with b c constant type_id x ends.Others ks = others x b ks
+ended_with b c constant type_id x ends.Name ks = ended (Class.Name constant) ks
+ended_with b c constant type_id x ends.Unique ks = ended (Class.Unique type_id) ks
+ended_with b c constant type_id x ends.Dropped ks = emptied b ks
+ended_with b c constant type_id x ends.Moved ks = emptied c (others x b ks)
+ended_with b c constant type_id x ends.Frozen ks = ended (Class.Register c) (others x b ks)
+
 -- in the success part register c owns its object no more
 abbrev pub frozen_from : Ends → ℕ → RegisterTypes → RegisterTypes
 frozen_from ends.Frozen c ks = slice_set ks c RegisterType.Undefined
@@ -255,13 +266,7 @@ module _ (s : Step) where
 
   -- where register b leads there
   abbrev pub ended_by : Option (Class × ℕ) → Ends → RegisterTypes
-  ended_by x ends.Nothing = s.before
-  ended_by x ends.Others = others x s.b s.before
-  ended_by x ends.Name = ended (Class.Name s.constant) s.before
-  ended_by x ends.Unique = ended (Class.Unique s.type_id) s.before
-  ended_by x ends.Dropped = emptied s.b s.before
-  ended_by x ends.Moved = emptied s.c (others x s.b s.before)
-  ended_by x ends.Frozen = ended (Class.Register s.c) (others x s.b s.before)
+  ended_by x ends = ended_with s.b s.c s.constant s.type_id x ends s.before
 
   abbrev pub ended_in : RegisterTypes
   ended_in = ended_by (referred held) s.row.ends

@@ -4,4 +4,5 @@ pub mod Verifiers
 pub mod Refusals
 pub mod Checking
 pub mod Steps
+pub mod Changes
 pub mod Accepted

@@ -1,7 +1,6 @@
 -- The verifier's values as the definitions know them.
 --     class_of, known_of, reason_of     a class, what is known of a register, a reason
 --     registers_of                      what is known of each register
---     both_of                           what is known after an instruction, in both parts
 --     checked                           a result, or the reason
 use Rattle.std.specs.Prelude.{map, Result, Ok, Err}
 use Rattle.client_spec.specs.Typed as typed
@@ -12,7 +11,6 @@ use Rattle.client_verify.specs.declared.register.Class.TheVariants as class
 use Rattle.client_verify.specs.declared.register.RegisterType.{RegisterType}
 use Rattle.client_verify.specs.declared.register.RegisterType.TheVariants as register
 use Rattle.client_verify.specs.declared.registers.Registers.{Registers}
-use Rattle.client_verify.specs.declared.rule.After.{After}
 
 abbrev pub class_of : Class → typed.Class
 class_of (class.Name k) = typed.Class.Name k
@@ -35,9 +33,6 @@ reason_of reason.ChangedInLoop = typed.Reason.ChangedInLoop
 
 abbrev pub registers_of : Registers → typed.RegisterTypes
 registers_of registers = map known_of registers.types
-
-abbrev pub both_of : After → typed.RegisterTypes × typed.RegisterTypes
-both_of after = (registers_of after.success, registers_of after.otherwise)
 
 abbrev pub checked : {X Y : Type 0} → (X → Y) → Result X Reason → typed.Checked Y
 checked f (Ok x) = Ok (f x)

@@ -1,6 +1,7 @@
 //! The verifier: which clients may run, and how many steps they take at most.
 #![tactic(auto)]
 
+mod after;
 mod reason;
 mod register;
 mod registers;
@@ -8,9 +9,10 @@ mod rule;
 mod verified;
 mod verifier;
 
+pub use after::After;
 pub use reason::Reason;
 pub use register::{Class, RegisterType};
 pub use registers::Registers;
-pub use rule::{After, Rule};
+pub use rule::Rule;
 pub use verified::{MOST_STEPS, Verified, verify};
 pub use verifier::Verifier;

@@ -4,21 +4,15 @@ ghost use Rattle.client_spec.specs.declared.table.Number.TheVariants as number;
 ghost use Rattle.client_spec.specs.Operations.{row_of};
 ghost use Rattle.client_spec.specs.Grammar.{IsInstruction};
 ghost use Rattle.client_code.specs.Views.{instruction_of};
-ghost use Rattle.client_verify.specs.Views.{registers_of, both_of, checked};
+ghost use Rattle.client_verify.specs.Views.{registers_of, checked};
 ghost use Rattle.client_verify.specs.Passing.{rule_at};
 
+use crate::after::After;
 use crate::reason::Reason;
 use crate::register::{Class, RegisterType};
 use crate::registers::Registers;
 use client_code::{Ends, Gives, Instruction, Kinds, Need, Role, Row};
 use seg_layout::{Fields, Type, TypeId, TypeTable};
-
-/// What is known after an instruction: in its success part, and in its else part. Both are the same where it has no parts.
-#[derive(Debug, Clone, Copy)]
-pub struct After {
-    pub success: Registers,
-    pub otherwise: Registers,
-}
 
 /// An instruction, and what is known in front of it.
 #[derive(Clone, Copy)]
@@ -44,7 +38,8 @@ impl<'a> Rule<'a> {
     ghost use Rattle.seg_spec.specs.Types.{form_at};
     ghost use Rattle.seg_layout.specs.Forms.{form_of};
     ghost use Rattle.client_verify.specs.Views.{class_of, known_of};
-    ghost use Rattle.client_verify.specs.Checking.{referred, field_at, part_of, is_kind, is_kind_at, is_inside, is_lost, shares, part_known, borrowed_from, otherwise_by, others, held, part_held as part_in, meets as meets_in, given as given_in, ended_in, checked_first, known_in_parts};
+    ghost use Rattle.client_verify.specs.Checking.{referred, field_at, part_of, is_kind, is_kind_at, is_inside, is_lost, shares, part_known, borrowed_from, held, part_held as part_in, meets as meets_in, given as given_in, checked_first, known_in_parts};
+    ghost use Rattle.client_verify.specs.Changes.{known_by};
     ghost use Rattle.client_verify.specs.Steps.{types_of, before_of, instruction_in, step_by};
 
     /// The rule of an instruction, in front of which this is known.
@@ -65,38 +60,35 @@ impl<'a> Rule<'a> {
         }
     }
 
-    /// What is known after the instruction, or the first reason to reject it.
+    /// What the instruction changes, or the first reason to reject it.
     pub fn apply(&self) -> Result<After, Reason>
         ensures { (constants : List syntax.Constant) →
             IsInstruction (types_of self.now) constants
             (row_of (instruction_in self.now).operation).role
             (instruction_of (instruction_in self.now)) →
-            checked both_of result ≡ rule_at (types_of self.now) constants
+            checked (known_by (registers_of (before_of self.now))) result
+            ≡ rule_at (types_of self.now) constants
             (instruction_of (instruction_in self.now)) (registers_of (before_of self.now)) }
     {
         self.check()?;
         Ok(self.after())
     }
 
-    /// What is known after the instruction where there is no reason to reject it.
+    /// What the instruction changes where there is no reason to reject it.
     fn after(&self) -> After
-        ensures { both_of result ≡ known_in_parts (step_by self.now) }
+        ensures { known_by (registers_of self.now.before.now) result
+            ≡ known_in_parts (step_by self.now) }
     {
-        let ended = self.ended();
-        let mut after = After {
-            success: ended,
-            otherwise: ended,
-        };
-        if self.row.ends == Ends::Frozen {
-            after
-                .success
-                .set(self.instruction.c, RegisterType::Undefined);
+        After {
+            role: self.row.role,
+            ends: self.row.ends,
+            led: self.reference(),
+            b: self.instruction.b,
+            c: self.instruction.c,
+            type_id: self.type_id,
+            constant: self.constant,
+            given: self.given(),
         }
-        if let Some((register, holds)) = self.given() {
-            after.success.set(register, holds);
-            after.otherwise.set(register, self.otherwise(holds));
-        }
-        after
     }
 
     /// The reasons in their order.
@@ -307,51 +299,6 @@ impl<'a> Rule<'a> {
         match (self.types.kind(to), self.part()) {
             (Some(kind), Some(part)) => holds.part(kind, part),
             _ => RegisterType::Int,
-        }
-    }
-
-    /// What the register that changes holds in the else part: the code.
-    fn otherwise(&self, holds: RegisterType) -> RegisterType
-        ensures { known_of result ≡ otherwise_by (step_by self.now).row.role (known_of holds) }
-    {
-        match self.row.role {
-            Role::Opener => RegisterType::Int,
-            Role::Plain | Role::Loop | Role::Else | Role::End => holds,
-        }
-    }
-
-    /// What is known once references have ended, and a register was emptied.
-    fn ended(&self) -> Registers
-        ensures { registers_of result ≡ ended_in (step_by self.now) }
-    {
-        let Instruction { b, c, .. } = self.instruction;
-        let mut registers = *self.before;
-        match self.row.ends {
-            Ends::Nothing => {}
-            Ends::Others => self.end_others(&mut registers),
-            Ends::Name => registers.end(Class::Name(self.constant)),
-            Ends::Unique => registers.end(Class::Unique(self.type_id)),
-            Ends::Dropped => registers.empty(b),
-            Ends::Moved => {
-                self.end_others(&mut registers);
-                registers.empty(c);
-            }
-            Ends::Frozen => {
-                self.end_others(&mut registers);
-                registers.end(Class::Register(c));
-            }
-        }
-        registers
-    }
-
-    /// Ends the references of the class of the one in register b, but for that one.
-    fn end_others(&self, registers: &mut Registers)
-        ensures { registers_of registers.new
-            ≡ others (referred (held (step_by self.now))) self.now.instruction.b
-            (registers_of registers.old) }
-    {
-        if let Some((class, _)) = self.reference() {
-            registers.end_others(class, self.instruction.b);
         }
     }
 }

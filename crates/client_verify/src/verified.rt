@@ -58,6 +58,6 @@ impl<'a> Verified<'a> {
     pub fn fits(&self, table: &TypeTable) -> bool
         ensures { OfTree (client_of self.now) (λ tree. IsTrue result ↔ Agree table.now tree.types) }
     {
-        table.extends(&self.types).is_ok()
+        table.agrees(&self.types).is_ok()
     }
 }

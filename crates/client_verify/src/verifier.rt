@@ -112,9 +112,9 @@ impl<'a> Verifier<'a> {
         ensures types { self.new.types.now ≡ self.old.types.now }
         ensures passes { PassesBy role.Plain self.old instruction self.new result }
     {
-        self.registers = Rule::new(self.types, &self.registers, instruction)
-            .apply()?
-            .success;
+        let after = Rule::new(self.types, &self.registers, instruction).apply()?;
+        after.end(&mut self.registers);
+        after.succeed(&mut self.registers);
         self.steps = self.steps.saturating_add(1);
         Ok(())
     }
@@ -124,10 +124,11 @@ impl<'a> Verifier<'a> {
         ensures passes { PassesBy role.Opener self.old instruction self.new result }
     {
         let after = Rule::new(self.types, &self.registers, instruction).apply()?;
-        self.push(Part::Success {
-            otherwise: after.otherwise,
-        });
-        self.registers = after.success;
+        after.end(&mut self.registers);
+        let mut otherwise = self.registers;
+        after.fail(&mut otherwise);
+        after.succeed(&mut self.registers);
+        self.push(Part::Success { otherwise });
         Ok(())
     }
 

@@ -94,10 +94,14 @@ impl<F: Fit, A: Allocator> Segment<F, A> {
             × IsFirstDifference self.old.types types.now k) }
         ensures unchanged { OnErr result (self.new ≡ self.old) }
     {
-        let types = self.types().extends(types)?;
+        let mine = self.types();
+        mine.agrees(types)?;
+        if types.len() <= mine.len() {
+            return Ok(());
+        }
         let heap = self.heap_mut();
-        write_types(heap.window_mut(), &types);
-        heap.set_types(types);
+        write_types(heap.window_mut(), types);
+        heap.set_types(types.copy());
         Ok(())
     }
 

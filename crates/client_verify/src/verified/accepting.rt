@@ -23,7 +23,7 @@ pub fn verify<'a>(client: Client<'a>, table: &TypeTable) -> Result<Verified<'a>,
         (λ tree. IsRefused table.now tree fault)) }
 {
     let types = client.types();
-    table.extends(&types)?;
+    table.agrees(&types)?;
     let bound = bound_of(client, &types)?;
     if bound > MOST_STEPS {
         return Err(Fault::TooLong);

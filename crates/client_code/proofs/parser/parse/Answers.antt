@@ -1,44 +1,41 @@
-use Rattle.std.proofs.Common.{sym, ◌∙◌, subst}
-use Rattle.std.proofs.lemmas.List.{length-map}
+use Rattle.std.proofs.Common.{sym, ◌∙◌}
 use Rattle.std.proofs.lemmas.Grind.{merely}
 use Rattle.client_spec.specs.Syntax.{Client}
 use Rattle.client_spec.specs.Grammar.{SpellsClient}
-use Rattle.client_code.specs.Views.{constant_of, constants_of}
-use Rattle.client_code.specs.Files.{IsCodeAt}
-use Rattle.client_code.proofs.Whole.{client_there, no_types, no_version, no_constants, no_code, spelled_parts, read_places, no_matter}
+use Rattle.client_code.proofs.Whole.{found_client, no_types, no_version, no_constants, no_code, spelled_parts, read_places, no_matter}
 use Rattle.client_code.proofs.parser.parse.Goals as goal
 
 pub invariant_of-result-clause-placed : goal.invariant_of-result-clause-placed
 invariant_of-result-clause-placed c tree spells =
     let file = c.args.file.now in
     let header = c.in_ok-header.header in
-    let constants = c.in_ok-constants.constants.items in
-    read_places file tree spells header.types header.constants header.instructions c.constants_at.result c.in_ok-constants.code (constants_of constants)
-    c.in_ok-header.ensures.found c.constants_at.ensures (length-map constants constant_of ∙ c.in_ok-constants.ensures.count) c.in_ok-constants.ensures.found
+    let found = c.in_ok-code.ensures.found in
+    read_places file tree spells header.types header.constants header.instructions c.constants_at.result c.in_ok-code.code found.0
+    c.in_ok-header.ensures.found c.constants_at.ensures found.1 found.2
 
 pub invariant_of-result-clause-spelled : goal.invariant_of-result-clause-spelled
 invariant_of-result-clause-spelled c =
     let file = c.args.file.now in
     let header = c.in_ok-header.header in
-    let code = c.in_ok-check_code.ensures.found in
+    let found = c.in_ok-code.ensures.found in
+    let code = c.in_ok-check_code.ensures.found found.0 (found.3 ∙ sym c.as_slice.ensures.value) in
     let tree =
-    client_there file header.types header.constants
-    header.instructions c.constants_at.result c.in_ok-constants.code c.in_ok-types.types c.in_ok-constants.constants.items c.as_slice.result.now code.0
+    found_client file header.types header.constants
+    header.instructions c.constants_at.result c.in_ok-code.code c.in_ok-types.types found.0 code.0
     (λ k. (c.type_inv.file k).fits) c.in_ok-header.ensures.found header.limits.1 header.limits.2 c.constants_at.ensures c.in_ok-types.ensures.count
-    c.in_ok-types.ensures.found c.in_ok-check_version.ensures.found c.in_ok-constants.ensures.count c.in_ok-constants.ensures.found c.as_slice.ensures.value code.1 code.2 in
+    c.in_ok-types.ensures.found c.in_ok-check_version.ensures.found found.1 found.2 code.1 code.2 in
     merely tree
 
 pub returns-clause-found : goal.returns-clause-found
 returns-clause-found c =
     let file = c.args.file.now in
     let header = c.in_ok-header.header in
-    let code = c.in_ok-check_code.ensures.found in
-    let tree =
-    client_there file header.types header.constants
-    header.instructions c.constants_at.result c.in_ok-constants.code c.in_ok-types.types c.in_ok-constants.constants.items c.as_slice.result.now code.0
+    let found = c.in_ok-code.ensures.found in
+    let code = c.in_ok-check_code.ensures.found found.0 (found.3 ∙ sym c.as_slice.ensures.value) in
+    found_client file header.types header.constants
+    header.instructions c.constants_at.result c.in_ok-code.code c.in_ok-types.types found.0 code.0
     (λ k. (c.type_inv.file k).fits) c.in_ok-header.ensures.found header.limits.1 header.limits.2 c.constants_at.ensures c.in_ok-types.ensures.count
-    c.in_ok-types.ensures.found c.in_ok-check_version.ensures.found c.in_ok-constants.ensures.count c.in_ok-constants.ensures.found c.as_slice.ensures.value code.1 code.2 in
-    tree
+    c.in_ok-types.ensures.found c.in_ok-check_version.ensures.found found.1 found.2 code.1 code.2
 
 pub returns-in_err-header-clause-wrong : goal.returns-in_err-header-clause-wrong
 returns-in_err-header-clause-wrong c =
@@ -56,19 +53,18 @@ returns-in_err-check_version-clause-wrong c =
     no_matter c.from_residual-in_err-check_version.result _ (no_version c.args.file.now header.types header.constants header.instructions c.in_ok-types.types
     c.in_ok-header.ensures.found c.in_ok-types.ensures.count c.in_ok-types.ensures.found c.in_err-check_version.ensures.wrong)
 
-pub returns-in_err-constants-clause-wrong : goal.returns-in_err-constants-clause-wrong
-returns-in_err-constants-clause-wrong c =
+pub returns-in_err-code-clause-wrong : goal.returns-in_err-code-clause-wrong
+returns-in_err-code-clause-wrong c =
     let header = c.in_ok-header.header in
-    no_matter c.from_residual-in_err-constants.result _ (no_constants c.args.file.now header.types header.constants header.instructions c.constants_at.result
-    c.in_ok-header.ensures.found c.constants_at.ensures c.in_err-constants.ensures.wrong)
+    no_matter c.from_residual-in_err-code.result _ (no_constants c.args.file.now header.types header.constants header.instructions c.constants_at.result
+    c.in_ok-header.ensures.found c.constants_at.ensures c.in_err-code.ensures.wrong)
 
 pub returns-in_err-check_code-clause-wrong : goal.returns-in_err-check_code-clause-wrong
 returns-in_err-check_code-clause-wrong c =
     let file = c.args.file.now in
     let header = c.in_ok-header.header in
-    let constants = c.in_ok-constants.constants.items in
+    let found = c.in_ok-code.ensures.found in
     no_matter c.from_residual-in_err-check_code.result _
-    (no_code file header.types header.constants header.instructions c.constants_at.result c.in_ok-constants.code c.in_ok-types.types
-    (constants_of constants) c.in_ok-header.ensures.found c.constants_at.ensures c.in_ok-types.ensures.count c.in_ok-types.ensures.found
-    (length-map constants constant_of ∙ c.in_ok-constants.ensures.count) c.in_ok-constants.ensures.found
-    (λ code n right. c.in_err-check_code.ensures.wrong code n (subst (λ cs. IsCodeAt file c.in_ok-constants.code c.in_ok-types.types (constants_of cs) code) (sym c.as_slice.ensures.value) right)))
+    (no_code file header.types header.constants header.instructions c.constants_at.result c.in_ok-code.code c.in_ok-types.types
+    found.0 c.in_ok-header.ensures.found c.constants_at.ensures c.in_ok-types.ensures.count c.in_ok-types.ensures.found found.1 found.2
+    (c.in_err-check_code.ensures.wrong found.0 (found.3 ∙ sym c.as_slice.ensures.value)))

@@ -1,10 +1,11 @@
-use Rattle.std.proofs.Common.{refl}
-use Rattle.client_code.proofs.Spelling.{constant_at}
+use Rattle.std.proofs.Common.{◌∙◌, sym, subst}
+use Rattle.std.proofs.lemmas.Bool.{false≢true}
+use Rattle.client_spec.specs.Grammar.{IsConstant}
+use Rattle.client_spec.proofs.OneClient.{constant_front}
+use Rattle.client_code.specs.Views.{constant_of}
 use Rattle.client_code.proofs.constant.Constant.read.Goals as goal
 
-pub returns-clause-spelled : goal.returns-clause-spelled
-returns-clause-spelled c =
-    let front = c.in_ok-get.ensures.lookup.0 in
-    let bytes = c.in_ok-bytes.ensures.lookup.0 in
-    constant_at c.args.file.now c.in_ok-get.field-0.now _ c.in_ok-bytes.bytes.now c.in_ok-kind.kind c.args.at c.from-2.result c.from.result front.2
-    c.in-len2-up.len_at_least refl c.from-2.ensures c.from.ensures bytes.1 bytes.2 c.in_ok-kind.ensures.found
+pub returns-then-not-may_be-clause-none : goal.returns-then-not-may_be-clause-none
+returns-then-not-may_be-clause-none c d rest right e =
+    let same = (constant_front (constant_of c.in_ok-constant.constant) d _ rest (sym c.in_ok-constant.ensures.spelled ∙ e)).0 in
+    false≢true (sym c.if-not-may_be.true ∙ c.may_be.ensures.1 (subst IsConstant (sym same) right))

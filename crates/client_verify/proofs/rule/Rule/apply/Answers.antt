@@ -6,9 +6,10 @@ use Rattle.client_spec.specs.Typed.{◌>>=◌}
 use Rattle.client_code.specs.Views.{instruction_of}
 use Rattle.client_spec.specs.Operations.{row_of}
 use Rattle.client_verify.specs.declared.rule.Rule.{Rule}
-use Rattle.client_verify.specs.Views.{registers_of, both_of, checked}
+use Rattle.client_verify.specs.Views.{registers_of, checked}
 use Rattle.client_verify.specs.Passing.{rule_at}
 use Rattle.client_verify.specs.Checking.{known_in_parts, applied}
+use Rattle.client_verify.specs.Changes.{known_by}
 use Rattle.client_verify.specs.Steps.{step_by}
 use Rattle.client_verify.proofs.Numbers.{are_named}
 use Rattle.client_verify.proofs.Rules.{rule_same}
@@ -26,7 +27,7 @@ returns-in_err-check c constants right =
     let e = c.in_err-check.field-0.0 in
     let failed = err_from_is_err_and c.from_residual.result c.from_residual.ensures.1 in
     let same : failed.0 ≡ e = failed.2 in
-    ap (checked both_of) (failed.1 ∙ ap Err same)
+    ap (checked (known_by (registers_of c.args.self.now.before.now))) (failed.1 ∙ ap Err same)
     ∙ ap (λ r. r >>= λ _. Ok (known_in_parts (step_by c.args.self.now))) c.in_err-check.ensures
     ∙ columns_say c.args.self.now constants right
 

@@ -1,0 +1,33 @@
+-- What the verifier's rule changes, as the definitions know it.
+--     ended_after after ks        what is known once references have ended
+--     success_after after ks      what is known then in the success part
+--     otherwise_after after ks    and in the else part
+--     known_by ks after           what is known in both parts, from what was in front of them
+use Rattle.std.specs.Prelude.{ℕ, Option}
+use Rattle.std.specs.Option.{option_map}
+use Rattle.client_spec.specs.Typed as typed
+use Rattle.client_verify.specs.declared.after.After.{After}
+use Rattle.client_verify.specs.Views.{class_of, known_of}
+use Rattle.client_verify.specs.Checking.{ended_with, frozen_from, changed, changed_by}
+
+abbrev pub led_of : After → Option (typed.Class × ℕ)
+led_of after = option_map (λ x. (class_of x.0, x.1)) after.led
+
+abbrev pub given_of : After → Option (ℕ × typed.RegisterType)
+given_of after = option_map (λ x. (x.0, known_of x.1)) after.given
+
+abbrev pub ended_after : After → typed.RegisterTypes → typed.RegisterTypes
+ended_after after ks =
+    ended_with after.b after.c after.constant after.type_id (led_of after) after.ends ks
+
+abbrev pub success_after : After → typed.RegisterTypes → typed.RegisterTypes
+success_after after ks = changed (given_of after) (frozen_from after.ends after.c ks)
+
+abbrev pub otherwise_after : After → typed.RegisterTypes → typed.RegisterTypes
+otherwise_after after ks = changed_by after.role (given_of after) ks
+
+abbrev pub known_by : typed.RegisterTypes → After → typed.RegisterTypes × typed.RegisterTypes
+known_by ks after = (
+  success_after after (ended_after after ks),
+  otherwise_after after (ended_after after ks),
+)
