@@ -15,4 +15,6 @@ mod OwningLaws
 mod IndexLaws
 mod CourseLaws
 mod UnnamedLaws
+mod RestLaws
+mod ProgramLaws
 mod RunLaws

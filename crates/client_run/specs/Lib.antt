@@ -7,4 +7,5 @@ pub mod Named
 pub mod Positions
 pub mod Courses
 pub mod Owners
+pub mod Passing
 pub mod Stepping

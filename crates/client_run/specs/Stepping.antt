@@ -1,28 +1,21 @@
 -- A client's run that goes on one instruction at a time.
---     StandsAt stepper                 it stands at an instruction or at the end of the code
 --     EndsAt stepper                   it stands at the end of the code
---     Passes lines at to               a run that comes to a line goes past jumps to this one
 --     StepsOn allocator old new ..     the instruction of the line where it stood was performed, with
 --                                      the segment and the output before and after
-use Rattle.std.specs.Prelude.{◌≡◌, ◌≢◌, ℕ, suc, List, Option, Some, false, slice_get}
+use Rattle.std.specs.Prelude.{◌≡◌, ℕ, List, Option, Some, slice_get}
 use Rattle.seg_value.specs.Stored.{Stored}
 use Rattle.client_program.specs.declared.jump.Jump.{Jump}
 use Rattle.client_program.specs.declared.line.Line.{Line}
 use Rattle.client_program.specs.declared.way.Way.{Way}
-use Rattle.client_program.specs.Lines.{JumpIs, line_at, is_jump}
+use Rattle.client_program.specs.Lines.{JumpIs}
 use Rattle.client_program.specs.Places.{led}
 use Rattle.client_program.specs.Programs.{lines_in}
 use Rattle.client_stages.specs.Stages.{TellsStep}
 use Rattle.client_run.specs.declared.stepper.Stepper.{Stepper}
 use Rattle.client_run.specs.declared.stepper.Stepped.{Stepped}
 use Rattle.client_run.specs.Machines.{control_of}
+use Rattle.client_run.specs.Passing.{Passes}
 use Rattle.client_run.specs.Worlds.{DoesOn}
-
-module _ (lines : List Line) where
-  pub data Passes : ℕ → ℕ → Type 0 where
-    at_line : (at : ℕ) → is_jump (line_at lines at) ≡ false → Passes at at
-    at_end : (at : ℕ) → JumpIs lines at 0 → Passes at at
-    along : (at n to : ℕ) → JumpIs lines at (suc n) → Passes (suc n) to → Passes at to
 
 -- it stands at the end of the code
 abbrev pub EndsAt : {A : _} → Stepper A → Type 0

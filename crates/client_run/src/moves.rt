@@ -85,6 +85,7 @@ impl<'a> Moves<'a> {
         is_step: bool,
         w: &mut Window<A>,
     ) -> u64
+        ensures some { 0 < result }
         ensures made { (room len : ℕ) → AreMoves room len steps (moves_of self.old.rest.now) →
             MakesDue (moves_of self.old.rest.now) steps is_step w.old
             (moves_of self.new.rest.now) w.new }
