@@ -9,7 +9,7 @@ use Rattle.client_verify.specs.declared.rule.Rule.{Rule}
 use Rattle.client_verify.specs.Views.{registers_of, checked}
 use Rattle.client_verify.specs.Passing.{rule_at}
 use Rattle.client_verify.specs.Checking.{held, referred, checked_by, known_in_parts, applied}
-use Rattle.client_verify.specs.Changes.{led_of, given_of, known_by}
+use Rattle.client_verify.specs.Changes.{given_of, known_by}
 use Rattle.client_verify.specs.Steps.{step_by}
 use Rattle.client_verify.proofs.Numbers.{are_named}
 use Rattle.client_verify.proofs.Rules.{rule_same}
