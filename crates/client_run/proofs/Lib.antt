@@ -16,5 +16,6 @@ mod IndexLaws
 mod CourseLaws
 mod UnnamedLaws
 mod RestLaws
+mod PassLaws
 mod ProgramLaws
 mod RunLaws
