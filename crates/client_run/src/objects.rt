@@ -1,11 +1,12 @@
 //! Named, unique and anonymous objects.
 
-ghost use Rattle.std.specs.Prelude.{◌≡◌, FitsSigned};
+ghost use Rattle.std.specs.Prelude.{◌≡◌, ◌≤◌, FitsSigned};
 ghost use Rattle.std.specs.Int.{w64};
 ghost use Rattle.seg_spec.specs.Pointer.{target};
 ghost use Rattle.seg_spec.specs.Types.{form_at};
 ghost use Rattle.seg_spec.specs.Window.{KeepsHost};
 ghost use Rattle.client_spec.specs.declared.table.Operation.{Operation};
+ghost use Rattle.client_code.specs.declared.instruction.TheConstants.{REGISTERS};
 ghost use Rattle.client_program.specs.Paths.{number_at};
 ghost use Rattle.client_run.specs.Machines.{KeepsLoops};
 ghost use Rattle.client_run.specs.Named.{NamedIn, optional_in, IsOptional, FindsItem};
@@ -36,6 +37,7 @@ impl Machine<'_> {
 
     /// The number in register c as a count or an index, or what stands for it where there is no register.
     fn optional(&self, c: u8, none: u32) -> Result<u32, Code>
+        requires { c ≤ REGISTERS }
         ensures { IsOptional (optional_in self.now c none) result }
     {
         if c == Instruction::NONE {
