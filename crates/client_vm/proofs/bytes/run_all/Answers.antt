@@ -5,7 +5,6 @@ use Rattle.client_code.specs.Clients.{bytes_of}
 use Rattle.client_output.specs.declared.report.Report.{Report}
 use Rattle.client_run.specs.Moves.{moves_of}
 use Rattle.client_run.specs.ReadyClients.{client_in, texts_in}
-use Rattle.client_run.specs.declared.ready.Ready.{Ready}
 use Rattle.client_vm.specs.Reports.{AreReportsOf}
 use Rattle.client_vm.proofs.ReportLaws.{pushed_there, program_ran, some_ran}
 use Rattle.client_vm.proofs.TogetherLaws.{Midway, begins, next_ran, stops, ends}
@@ -34,19 +33,18 @@ loop-program-preserved g c empty room =
       (let capacity = h.1 in let more = c.push.ensures.capacity in omega (arith, capacity, more)),
       ran.1,
       λ works trees accepted ready.
-          let text : Ready g.B → List ℕ = λ p. bytes_of (client_in p) in
           let k = c.loop-program.program-index in
           let now = c.loop-program.segment in
           let new = c.run-report.new in
           let taken = g.W.Sink.taken c.loop-program.out in
           let left = c.loop-program.left.now in
           let texts : List (List ℕ) = texts_in (drop (k + 1) c.args.programs.now) in
-          let these : texts_in (drop k c.args.programs.now) ≡ text c.program-item.result ∷ texts =
-          ap texts_in (drop-cons c.args.programs.now k c.program-item.result c.loop-program-test.true) ∙ ap (λ p. text p ∷ texts_in (drop (suc k) c.args.programs.now)) (sym c.program-item.is)
-          ∙ ap (λ n. text c.program-item.result ∷ texts_in (drop n c.args.programs.now)) (sym (add-one k)) in
-          let m : Midway g.F.Fit.allocator trees (moves_of c.args.moves.now) c.args.input.now c.args.segment.now.window (g.W.Sink.taken c.args.out.now) (text c.program-item.result ∷ texts)
+          let these : texts_in (drop k c.args.programs.now) ≡ bytes_of (client_in c.program-item.result) ∷ texts =
+          ap texts_in (drop-cons c.args.programs.now k c.program-item.result c.loop-program-test.true) ∙ ap (λ p. bytes_of (client_in p) ∷ texts_in (drop (suc k) c.args.programs.now)) (sym c.program-item.is)
+          ∙ ap (λ n. bytes_of (client_in c.program-item.result) ∷ texts_in (drop n c.args.programs.now)) (sym (add-one k)) in
+          let m : Midway g.F.Fit.allocator trees (moves_of c.args.moves.now) c.args.input.now c.args.segment.now.window (g.W.Sink.taken c.args.out.now) (bytes_of (client_in c.program-item.result) ∷ texts)
           left now.window now.types taken c.loop-program.reports.items false =
-          subst (Midway g.F.Fit.allocator trees (moves_of c.args.moves.now) c.args.input.now c.args.segment.now.window (g.W.Sink.taken c.args.out.now) (text c.program-item.result ∷ texts)
+          subst (Midway g.F.Fit.allocator trees (moves_of c.args.moves.now) c.args.input.now c.args.segment.now.window (g.W.Sink.taken c.args.out.now) (bytes_of (client_in c.program-item.result) ∷ texts)
           left now.window now.types taken c.loop-program.reports.items)
           (sym c.failed.ensures ∙ c.if-failed.false)
           (subst (λ ts. Midway g.F.Fit.allocator trees (moves_of c.args.moves.now) c.args.input.now c.args.segment.now.window (g.W.Sink.taken c.args.out.now) ts
@@ -55,7 +53,7 @@ loop-program-preserved g c empty room =
           subst (λ rs. Midway g.F.Fit.allocator trees (moves_of c.args.moves.now) c.args.input.now c.args.segment.now.window (g.W.Sink.taken c.args.out.now) texts c.rest-left.result.now
           new.segment.window new.segment.types (g.W.Sink.taken new.out) rs
           (g.W.Sink.has_failed new.out)) (sym pushed)
-          (next_ran g.F.Fit.allocator trees (moves_of c.args.moves.now) c.args.input.now c.args.segment.now.window (g.W.Sink.taken c.args.out.now) (text c.program-item.result) texts left c.rest-left.result.now now.window new.segment.window
+          (next_ran g.F.Fit.allocator trees (moves_of c.args.moves.now) c.args.input.now c.args.segment.now.window (g.W.Sink.taken c.args.out.now) (bytes_of (client_in c.program-item.result)) texts left c.rest-left.result.now now.window new.segment.window
           now.types new.segment.types taken (g.W.Sink.taken new.out) c.loop-program.reports.items c.run-report.result
           (g.W.Sink.has_failed new.out) (λ tree spells may. c.run-report.ensures.runs tree spells [] may) c.rest-left.ensures c.run-report.ensures.ended m),
     )

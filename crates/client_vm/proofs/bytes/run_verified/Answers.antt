@@ -5,7 +5,6 @@ use Rattle.seg_spec.specs.Window.{Placement}
 use Rattle.client_spec.specs.Run.{Ending}
 use Rattle.client_spec.specs.Clients.{AreAccepted}
 use Rattle.client_run.specs.ReadyClients.{client_in, texts_in}
-use Rattle.client_run.specs.declared.ready.Ready.{Ready}
 use Rattle.client_run.specs.Moves.{moves_of}
 use Rattle.client_run.specs.Runs.{ending_of}
 use Rattle.client_vm.specs.Reports.{AreReportsOf}
@@ -23,7 +22,7 @@ returns-clause-reports g c =
       all = λ done. elim c.if-failed.branch [
         | then-failed w ↦ absurd (let is = w.ended-is in cc)
         | else-failed w ↦
-            c.run_all.ensures.all c.requires.empty room (sym c.failed.ensures ∙ w.if-failed.false) ∙ same ∙ sym (length-map c.args.programs.items (λ (p : Ready g.A). bytes_of (client_in p)))
+            c.run_all.ensures.all c.requires.empty room (sym c.failed.ensures ∙ w.if-failed.false) ∙ same ∙ sym (length-map c.args.programs.items (λ p. bytes_of (client_in p)))
       ];
     }
 
