@@ -11,8 +11,8 @@ use std::process::Abort;
 use std::test::Fail;
 use support_data::{INCREMENT_FILE, Limited, chain, counter, counter_saved};
 use support_runs::{
-    KINDS, PLAIN, Ran, SEQ_FLAT, Setting, empty, opened, outcome_of, placed, run_files, run_in,
-    ready,
+    KINDS, PLAIN, Ran, SEQ_FLAT, Setting, empty, opened, outcome_of, placed, ready, run_files,
+    run_in,
 };
 
 /// The bytes of the host, all of them 0xa5 but for the segment.
