@@ -3,7 +3,6 @@ ghost use Rattle.std.specs.Prelude.{◌≡◌, false};
 use crate::clients::{assemble_file, print_file, trace_file, verify_file};
 use crate::explaining::explain_failure;
 use crate::images::{image_file, new_file};
-use client_vm::ImageRunner;
 use lezgauri::Sink;
 use seg_files::Files;
 use seg_program::{Failure, print, report, run_files};
@@ -66,7 +65,7 @@ fn perform<'a, F: Files, O: Sink>(
         Request::New(new) => new_file(alloc, new, files),
         Request::Image { file, task } => image_file(alloc, file, *task, files, out),
         Request::Verify { image, client } => verify_file(alloc, image, client, files, out),
-        Request::Run(run) => run_files(alloc, &ImageRunner, run, files, out),
+        Request::Run(run) => run_files(alloc, run, files, out),
         Request::Trace(trace) => trace_file(alloc, trace, files, out),
         Request::Assemble(assembly) => assemble_file(alloc, assembly, files),
         Request::Print { client } => print_file(alloc, client, files, out),

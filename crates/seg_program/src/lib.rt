@@ -1,8 +1,7 @@
-//! The command that runs clients, which is the whole of the program `segrun` but for the call that runs them, with what the
-//! programs share: the host's words, the files that a run reads and writes, why a command failed, and what is printed.
+//! The command that runs clients, with what all commands share: the host's words, the files that a run reads and writes, why a
+//! command failed, and what is printed.
 #![tactic(auto)]
 
-mod command;
 mod failure;
 mod host;
 mod inputs;
@@ -11,7 +10,6 @@ mod run;
 mod saving;
 
 pub use client_output::Through;
-pub use command::run_command;
 pub use failure::Failure;
 pub use host::{refuse, words};
 pub use inputs::{read_input, slices};

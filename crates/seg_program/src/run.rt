@@ -3,17 +3,15 @@ ghost use Rattle.std.specs.Prelude.{◌≡◌, false};
 use crate::failure::Failure;
 use crate::inputs::{Inputs, read_inputs, slices};
 use crate::saving::save;
-use client_output::{Refused, Sink};
-use client_runner::{Batch, Runner, Saved};
+use client_vm::{Outcome, Refused, Schedule, Sink, run_image};
 use seg_files::Files;
 use seg_words::Run;
 use std::alloc::Global;
 
 /// `run IMAGE OUT CLIENT.. [--base N] [--room N] [--input FILE]`: runs the clients, and writes the saved image also where
 /// their output failed.
-pub fn run_files<'a, R: Runner, F: Files, O: Sink>(
+pub fn run_files<'a, F: Files, O: Sink>(
     alloc: Global,
-    runner: &R,
     run: &Run<'a>,
     files: &mut F,
     out: &mut O,
@@ -21,18 +19,17 @@ pub fn run_files<'a, R: Runner, F: Files, O: Sink>(
     requires works { O.has_failed out.old ≡ false }
 {
     let inputs = read_inputs(alloc, files, run)?;
-    let saved = saved_of(alloc, runner, run, inputs, out)?;
-    save(files, run.out, saved.image.as_slice(), saved.ended)
+    let outcome = outcome_of(alloc, run, inputs, out)?;
+    save(files, run.out, outcome.image.as_slice(), outcome.ended)
 }
 
 /// Runs the clients on an image.
-fn saved_of<R: Runner, O: Sink>(
+fn outcome_of<O: Sink>(
     alloc: Global,
-    runner: &R,
     run: &Run,
     inputs: Inputs,
     out: &mut O,
-) -> Result<Saved, Refused>
+) -> Result<Outcome<Global>, Refused>
     requires works { O.has_failed out.old ≡ false }
 {
     let Inputs {
@@ -41,13 +38,12 @@ fn saved_of<R: Runner, O: Sink>(
         input,
     } = inputs;
     let clients = slices(alloc, clients.as_slice())?;
-    let batch = Batch {
-        clients: clients.as_slice(),
-        input: input.as_slice(),
+    let schedule = Schedule {
         room: room_of(run, image.len()),
         base: run.base,
+        moves: &[],
     };
-    runner.run(alloc, image, &batch, out)
+    run_image(alloc, image, clients.as_slice(), input.as_slice(), &schedule, out)
 }
 
 /// The bytes of the region of an image of so many: the image ends it, where the words say nothing else.

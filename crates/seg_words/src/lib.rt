@@ -1,4 +1,4 @@
-//! The words of a command line: what a command takes, how it is read, and what the words of `segrun` ask for.
+//! The words of a command line: what a command takes, how it is read, and what a run of clients takes.
 #![tactic(auto)]
 
 mod line;
@@ -7,4 +7,4 @@ mod run;
 
 pub use line::{Argument, Line, Takes, number, parser, parser_of, word};
 pub use misread::Misread;
-pub use run::{FORCE, INPUT, RUN, Run, RunRequest, read_run, run_of};
+pub use run::{FORCE, INPUT, RUN, Run, run_of};

@@ -7,6 +7,5 @@ mod language;
 mod overwriting;
 mod problems;
 mod rows;
-mod runner;
 mod segments;
 mod views;
