@@ -2,7 +2,7 @@ ghost use Rattle.std.specs.Prelude.{◌≡◌, false};
 
 use crate::discarded::Discarded;
 use lezgauri::{Image, prepare, run, verify};
-use seg_files::{Files, read_file, read_image};
+use cli_files::{Files, read_file, read_image};
 use std::alloc::Global;
 
 /// Verifies and prepares the client in a file on an open image, so many times.

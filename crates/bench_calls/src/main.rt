@@ -9,7 +9,7 @@ mod discarded;
 use crate::clients::{prepare_client, run_client};
 use seg_bestfit::BestFit;
 use seg_block::Fit;
-use seg_files::HostFiles;
+use cli_files::HostFiles;
 use seg_layout::{ENTRY, Type, TypeId, TypeTable};
 use seg_manager::{IndexKind, Segment};
 use seg_raw::{Code, Fault, Region};

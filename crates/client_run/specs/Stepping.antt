@@ -10,7 +10,7 @@ use Rattle.client_program.specs.declared.way.Way.{Way}
 use Rattle.client_program.specs.Lines.{JumpIs}
 use Rattle.client_program.specs.Places.{led}
 use Rattle.client_program.specs.Programs.{lines_in}
-use Rattle.client_stages.specs.Stages.{TellsStep}
+use Rattle.client_program.specs.Stages.{TellsStep}
 use Rattle.client_run.specs.declared.stepper.Stepper.{Stepper}
 use Rattle.client_run.specs.declared.stepper.Stepped.{Stepped}
 use Rattle.client_run.specs.Machines.{control_of}

@@ -1,7 +1,7 @@
 ghost use Rattle.std.specs.Prelude.{◌≡◌, ℕ, ◌+◌, ◌-◌, ◌%◌, ◌^◌, ◌<◌, ◌≤◌, ◌↔◌, length, IsTrue, MatchOption};
 ghost use Rattle.seg_spec.specs.Window.{region_of, IsPlace};
 ghost use Rattle.client_spec.specs.Clients.{AreMoves, IsFirstBadMove};
-ghost use Rattle.client_stages.specs.Moving.{first_step, MakesNext, MakesDue, Waits};
+ghost use Rattle.client_program.specs.Moving.{first_step, MakesNext, MakesDue, Waits};
 ghost use Rattle.client_run.specs.Moves.{moves_of};
 
 use seg_block::Fit;

@@ -62,3 +62,6 @@ pub mod Ended
 pub mod Owners
 pub mod Uniques
 pub mod UniqueRows
+pub mod LeftInPlace
+pub mod Sizes
+pub mod Anywhere

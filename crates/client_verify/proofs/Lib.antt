@@ -8,3 +8,4 @@ pub mod Rules
 pub mod Counting
 pub mod Walking
 pub mod Accepting
+pub mod TextsLaws

@@ -6,3 +6,4 @@ pub mod Checking
 pub mod Steps
 pub mod Changes
 pub mod Accepted
+pub mod Texts

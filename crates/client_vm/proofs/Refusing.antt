@@ -21,7 +21,7 @@ use Rattle.client_spec.specs.OnImages.{Move}
 use Rattle.client_spec.specs.Outcome.{CanMove, IsTurnOf}
 use Rattle.client_verify.specs.Refusals.{IsRefused}
 use Rattle.client_output.specs.declared.refused.Refused.{Refused}
-use Rattle.client_accept.specs.Texts.{IsWrongAt, IsWrongBy, AreWrong}
+use Rattle.client_verify.specs.Texts.{IsWrongAt, IsWrongBy, AreWrong}
 use Rattle.client_vm.specs.Admitted.{LiesIn, IsWrongFor, IsWrong}
 use Rattle.client_vm.specs.Outcomes.{IsBadImage, IsFault, IsFaultOfCall, IsFaultOfClient, IsRefusedFor}
 use Rattle.seg_spec.proofs.Failures.{unsound}

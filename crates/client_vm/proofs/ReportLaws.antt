@@ -2,7 +2,7 @@
 use Rattle.std.proofs.Common.{◌≡◌, ℕ, ◌+◌, ◌<◌, Bool, true, false, List, [], ◌∷◌, ◌++◌, length, map, take, drop, get_or, sym, ap, ◌∙◌, subst, arith, length-append}
 use Rattle.std.specs.Prelude.{if◌then◌else◌}
 use Rattle.std.proofs.lemmas.List.{map-append, length-map, length-take-le, take-append-drop}
-use Rattle.client_accept.proofs.TextsLaws.{mapped_front}
+use Rattle.client_verify.proofs.TextsLaws.{mapped_front}
 use Rattle.client_output.specs.declared.report.Report.{Report}
 use Rattle.client_vm.specs.Reports.{IsReportOf, AreReportsOf}
 

@@ -11,7 +11,7 @@ use Rattle.seg_check.specs.Faults.{IsFaultOf}
 use Rattle.client_spec.specs.Syntax.{Client}
 use Rattle.client_spec.specs.Clients.{AreAccepted}
 use Rattle.client_output.specs.declared.refused.Refused.{Refused}
-use Rattle.client_accept.specs.Texts.{IsWrongAt}
+use Rattle.client_verify.specs.Texts.{IsWrongAt}
 
 abbrev pub LiesIn : List ℕ → ℕ → List ℕ → Type 0
 LiesIn host base image = IsPlace (length host) base (length image) × IsPlaced host base image

@@ -11,7 +11,7 @@ ghost use Rattle.client_code.specs.Clients.{OfTree, bytes_of};
 ghost use Rattle.client_verify.specs.Accepted.{client_of};
 ghost use Rattle.client_run.specs.ReadyClients.{client_in};
 ghost use Rattle.client_run.specs.Runs.{MayRun, HasRun};
-ghost use Rattle.client_accept.specs.Texts.{IsWrongText};
+ghost use Rattle.client_verify.specs.Texts.{IsWrongText};
 ghost use Rattle.seg_image.specs.Images.{segment_of, allocator_of};
 
 use client_code::parse;

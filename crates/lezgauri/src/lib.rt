@@ -19,7 +19,7 @@ pub use seg_bestfit::BestFit;
 pub use seg_image::{AllocatorKind, Error, Image, Unopened, check, type_table};
 pub use seg_layout::{Fields, MAX_TYPES, Type, TypeId, TypeTable};
 pub use seg_manager::{IndexKind, MAX_NAME, MIN_LEN, Segment};
-pub use seg_names::Named;
+pub use seg_manager::Named;
 pub use seg_ptr::MAX_LEN;
 pub use seg_raw::{Code, Fault};
 pub use seg_seq::Numbers;

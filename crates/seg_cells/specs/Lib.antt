@@ -3,3 +3,4 @@ pub mod Cells
 pub mod Entries
 pub mod Pointers
 pub mod Search
+pub mod Contents

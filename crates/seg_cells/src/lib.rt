@@ -4,12 +4,14 @@
 
 mod cell;
 mod cells;
+mod content;
 mod entry;
 mod place;
 mod search;
 
 pub use cell::{count, load, start};
 pub use cells::{Cells, IDS, point_each_again, set_default};
+pub use content::{Content, FROZEN_WORDS, Shape};
 pub use entry::{Entry, Held, KEY, LIST_LINKS, PREVIOUS};
 pub use place::Place;
 pub use search::binary_search;

@@ -17,7 +17,7 @@ use crate::fault::ContentFault;
 use crate::image::Image;
 use crate::marks::Turn;
 use crate::walk::{Tree, Visit};
-use seg_content::Content;
+use seg_cells::Content;
 use seg_entry::{ENTRY, IndexKind, MAX_NAME, NameEntry, name_count, named_tag};
 use seg_layout::TypeId;
 use seg_ptr::header;

@@ -1,4 +1,5 @@
-//! The checker: whether an image is one that the library could have made, and if not, the first fault.
+//! The checker: whether an image is one that the library could have made, and if not, the first fault; and how a sound image is
+//! opened and saved.
 #![tactic(auto)]
 
 mod bytes;
@@ -13,9 +14,13 @@ mod index;
 mod lists;
 mod maps;
 mod marks;
+mod opening;
+mod saving;
 mod tiles;
 mod uniques;
 mod values;
 mod walk;
 
 pub use checker::{check, read_types};
+pub use opening::open;
+pub use saving::save;

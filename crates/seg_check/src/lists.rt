@@ -8,8 +8,7 @@ ghost use Rattle.seg_check.specs.Cells.{NamesBy};
 use crate::claims::Claims;
 use crate::fault::ContentFault;
 use crate::image::Image;
-use seg_cells::PREVIOUS;
-use seg_content::Content;
+use seg_cells::{Content, PREVIOUS};
 use seg_ptr::View;
 use std::alloc::Allocator;
 

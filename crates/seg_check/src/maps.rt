@@ -9,8 +9,7 @@ use crate::claims::Claims;
 use crate::fault::ContentFault;
 use crate::image::Image;
 use crate::walk::{Tree, Visit};
-use seg_cells::KEY;
-use seg_content::Content;
+use seg_cells::{Content, KEY};
 use std::alloc::Allocator;
 
 impl<A: Allocator> Image<'_, A> {

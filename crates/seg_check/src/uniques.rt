@@ -4,7 +4,7 @@ ghost use Rattle.seg_check.specs.Roots.{StepsUniques};
 use crate::claims::Claims;
 use crate::fault::ContentFault;
 use crate::image::Image;
-use seg_content::Content;
+use seg_cells::Content;
 use seg_entry::{unique, unique_word};
 use seg_layout::{MAX_TYPES, TypeId};
 use std::alloc::Allocator;

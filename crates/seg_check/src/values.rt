@@ -14,8 +14,7 @@ use crate::fault::ContentFault;
 use crate::image::Image;
 use crate::marks::Turn;
 use seg_block::{Kind, Tag, block_of, tag_word};
-use seg_cells::{Entry, Place, count};
-use seg_content::Content;
+use seg_cells::{Content, Entry, Place, count};
 use seg_layout::{Type, TypeId};
 use std::alloc::Allocator;
 

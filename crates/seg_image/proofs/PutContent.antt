@@ -20,7 +20,7 @@ use Rattle.seg_spec.proofs.OneRequest.{counts_one}
 use Rattle.seg_spec.proofs.Standing.{each_live_at, live_at, stands_still, still_home}
 use Rattle.seg_value.specs.Contents.{GivesBlock}
 use Rattle.seg_cells.specs.Places.{object_at}
-use Rattle.seg_owner.specs.Places.{SetsOwn}
+use Rattle.seg_value.specs.Places.{SetsOwn}
 use Rattle.seg_image.specs.Owners.{PutsNew}
 
 module _ (allocator : ℕ) (old mid new : List ℕ) (table : Table) (own : Place) (U at : ℕ) (v : Value) (blocks : List ℕ)

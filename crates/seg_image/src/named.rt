@@ -12,8 +12,7 @@ ghost use Rattle.seg_image.specs.Places.{position_of, first_place, item_place, v
 use crate::image::{Image, on};
 use crate::places::placed;
 use seg_layout::{MAX_TYPES, TypeId};
-use seg_manager::Found;
-use seg_names::{Named, first_name, next_name, num_named};
+use seg_manager::{Found, Named, first_name, next_name, num_named};
 use seg_raw::Code;
 use seg_value::Place;
 use std::alloc::Allocator;

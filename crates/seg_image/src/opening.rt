@@ -77,7 +77,7 @@ fn open_on<F: Fit, A: Allocator + Copy>(
         IfErr result (λ unopened. IsFaultOf window.bytes unopened.fault) }
     ensures refused { IfErr result (λ unopened. unopened.bytes.items ≡ window.bytes) }
 {
-    match seg_open::open::<F, A, A>(alloc, &mut window) {
+    match seg_check::open::<F, A, A>(alloc, &mut window) {
         Ok(types) => Ok(Segment::new(window, types)),
         Err(fault) => Err(Unopened {
             fault,

@@ -12,3 +12,4 @@ pub mod UniqueCount
 pub mod ObjectAsks
 pub mod ClearedItems
 pub mod NamedLeaves
+mod Counting

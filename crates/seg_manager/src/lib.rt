@@ -4,10 +4,12 @@
 mod anonymous;
 mod cursor;
 mod keys;
+mod listing;
 mod names;
 mod segment;
 mod uniques;
 
+pub use listing::{Named, first_name, next_name, num_named};
 pub use names::Found;
 pub use seg_index::{IndexKind, MAX_NAME};
 pub use seg_ptr::MIN_LEN;

@@ -5,10 +5,10 @@ use Rattle.std.specs.Result.{result_ok}
 use Rattle.seg_spec.specs.Block.{tag_of, Kind as block}
 use Rattle.seg_raw.specs.declared.code.Code.{Code}
 use Rattle.seg_spec.specs.Types.{Form, Table}
-use Rattle.seg_content.specs.Contents.{ContentOf, IsContent}
-use Rattle.seg_content.specs.declared.content.Content.{Content}
-use Rattle.seg_content.specs.declared.content.Shape.{Shape}
-use Rattle.seg_content.specs.declared.content.Shape.TheVariants as shape
+use Rattle.seg_cells.specs.Contents.{ContentOf, IsContent}
+use Rattle.seg_cells.specs.declared.content.Content.{Content}
+use Rattle.seg_cells.specs.declared.content.Shape.{Shape}
+use Rattle.seg_cells.specs.declared.content.Shape.TheVariants as shape
 use Rattle.seg_raw.specs.declared.code.Code.TheVariants as code
 use Rattle.seg_map.specs.declared.map.Kind.TheVariants as kind
 use Rattle.seg_map.specs.EitherMap.{KindOf, IsMapOf, has_keys, key_asks, KeepsTreePaths, KeepsKeysBut}

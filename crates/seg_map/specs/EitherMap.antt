@@ -15,9 +15,9 @@ use Rattle.seg_spec.specs.Reads.{Place}
 use Rattle.seg_spec.specs.Owning.{Stands}
 use Rattle.seg_spec.specs.Demand.{Ask, block_for}
 use Rattle.seg_spec.specs.Shrinking.{KeepsPathsInside}
-use Rattle.seg_content.specs.Contents.{IsContent}
+use Rattle.seg_cells.specs.Contents.{IsContent}
 use Rattle.seg_value.specs.Entries.{flat_asks}
-use Rattle.seg_content.specs.declared.content.Shape.TheVariants as shape
+use Rattle.seg_cells.specs.declared.content.Shape.TheVariants as shape
 use Rattle.seg_raw.specs.declared.code.Code.{Code}
 use Rattle.seg_raw.specs.declared.code.Code.TheVariants as code
 use Rattle.seg_map.specs.declared.map.Kind as map

@@ -9,9 +9,9 @@ use Rattle.seg_spec.specs.Types.{Table}
 use Rattle.seg_spec.specs.Value.{Selector}
 use Rattle.seg_spec.specs.Reads.{Place, Leads}
 use Rattle.seg_spec.specs.Block.{Kind, tag_of}
-use Rattle.seg_content.specs.Contents.{IsContent}
-use Rattle.seg_content.specs.declared.content.Content.{Content}
-use Rattle.seg_content.specs.declared.content.Shape.TheVariants as shape
+use Rattle.seg_cells.specs.Contents.{IsContent}
+use Rattle.seg_cells.specs.declared.content.Content.{Content}
+use Rattle.seg_cells.specs.declared.content.Shape.TheVariants as shape
 
 -- the bytes of a node before its value: the tree words and the key
 abbrev pub VALUE : ℕ

@@ -25,9 +25,9 @@ use Rattle.seg_value.specs.Contents.{numbers_in}
 use Rattle.seg_cells.specs.Places.{object_at}
 use Rattle.seg_value.specs.Buffers.{NamesBuffer}
 use Rattle.seg_cells.specs.Entries.{IsEntryOf}
-use Rattle.seg_content.specs.Contents.{ContentOf}
-use Rattle.seg_content.specs.declared.content.Content.{Content}
-use Rattle.seg_content.specs.declared.content.Shape.TheVariants as shape
+use Rattle.seg_cells.specs.Contents.{ContentOf}
+use Rattle.seg_cells.specs.declared.content.Content.{Content}
+use Rattle.seg_cells.specs.declared.content.Shape.TheVariants as shape
 use Rattle.seg_cells.specs.declared.entry.Held.TheVariants as held
 use Rattle.seg_value.proofs.Buffers.{of_form, has_room}
 use Rattle.seg_seq.specs.Buffers.{IsShort, LacksEntry, HasEntry}

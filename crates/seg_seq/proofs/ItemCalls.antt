@@ -19,7 +19,7 @@ use Rattle.seg_value.specs.Stored.{Stored}
 use Rattle.seg_cells.specs.Places.{object_at}
 use Rattle.seg_cells.specs.Entries.{IsEntryOf}
 use Rattle.seg_value.specs.Buffers.{NamesBuffer}
-use Rattle.seg_content.specs.declared.content.Content.{Content}
+use Rattle.seg_cells.specs.declared.content.Content.{Content}
 use Rattle.seg_cells.specs.declared.place.Place.{Place as Where}
 use Rattle.seg_seq.specs.Buffers.{NamesNone}
 use Rattle.seg_seq.specs.Sequences.{HasItems, IsFull, LacksRoom, CountsItem, PushesItem, PushesBack, PopsBack, push_asks}

@@ -2,8 +2,8 @@
 use Rattle.std.proofs.Common.{◌≡◌, ◌⊎◌, inl, inr, ℕ, Option, Some, None, Ok, refl, sym, ◌∙◌, ap, subst}
 use Rattle.seg_spec.specs.Types.{Form, Table, form_at}
 use Rattle.seg_value.specs.Buffers.{NamesBuffer}
-use Rattle.seg_content.specs.Contents.{ContentOf}
-use Rattle.seg_content.specs.declared.content.Content.{Content}
+use Rattle.seg_cells.specs.Contents.{ContentOf}
+use Rattle.seg_cells.specs.declared.content.Content.{Content}
 use Rattle.seg_cells.specs.declared.entry.Held.TheVariants as held
 use Rattle.seg_seq.specs.Kinds.{KindOf}
 use Rattle.seg_seq.specs.Lists.{IsList}

@@ -19,7 +19,7 @@ use Rattle.seg_spec.proofs.Standing.{stands_after}
 use Rattle.seg_raw.specs.declared.code.Code.TheVariants.{BadAlloc}
 use Rattle.seg_value.specs.Stored.{Stored}
 use Rattle.seg_value.specs.Buffers.{NamesBuffer}
-use Rattle.seg_content.specs.declared.content.Content.{Content}
+use Rattle.seg_cells.specs.declared.content.Content.{Content}
 use Rattle.seg_cells.specs.declared.entry.Held.TheVariants.{Bytes}
 use Rattle.seg_seq.specs.Buffers.{NamesNone}
 use Rattle.seg_seq.specs.Sequences.{HasText, LacksRoom, LacksByte, ComesToHold, ExtendsText, text_asks}

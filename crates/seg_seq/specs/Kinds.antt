@@ -7,9 +7,9 @@ use Rattle.seg_spec.specs.Types.{Form, Table, form_at}
 use Rattle.seg_spec.specs.Block.{Kind, tag_of}
 use Rattle.seg_raw.specs.declared.code.Code.{Code}
 use Rattle.seg_raw.specs.declared.code.Code.TheVariants as code
-use Rattle.seg_content.specs.Contents.{IsContent, IsText}
-use Rattle.seg_content.specs.declared.content.Content.{Content}
-use Rattle.seg_content.specs.declared.content.Shape.TheVariants as shape
+use Rattle.seg_cells.specs.Contents.{IsContent, IsText}
+use Rattle.seg_cells.specs.declared.content.Content.{Content}
+use Rattle.seg_cells.specs.declared.content.Shape.TheVariants as shape
 use Rattle.seg_seq.specs.declared.kind.Kind as sequence
 use Rattle.seg_seq.specs.declared.kind.Kind.TheVariants as kind
 

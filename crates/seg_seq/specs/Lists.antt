@@ -21,9 +21,9 @@ use Rattle.seg_spec.specs.Frozen.{Frozen}
 use Rattle.seg_spec.specs.Shared.{named_in}
 use Rattle.seg_spec.specs.Owning.{Stands}
 use Rattle.seg_value.specs.Stored.{Stored}
-use Rattle.seg_content.specs.Contents.{IsContent}
-use Rattle.seg_content.specs.declared.content.Content.{Content}
-use Rattle.seg_content.specs.declared.content.Shape.TheVariants as shape
+use Rattle.seg_cells.specs.Contents.{IsContent}
+use Rattle.seg_cells.specs.declared.content.Content.{Content}
+use Rattle.seg_cells.specs.declared.content.Shape.TheVariants as shape
 
 -- the cell of the type names the nodes of a list with values of a type
 pub record IsList (table : Table) (T U : ℕ) (content : Content) : Type 0 where

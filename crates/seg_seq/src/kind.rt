@@ -1,8 +1,8 @@
 ghost use Rattle.std.specs.Prelude.{◌≡◌, ℕ, Option, Some, Ok, Err, MatchResult};
 ghost use Rattle.seg_spec.specs.Types.{Form, Table, form_at};
-ghost use Rattle.seg_content.specs.Contents.{ContentOf};
-ghost use Rattle.seg_content.specs.declared.content.Content.{Content as Named};
-ghost use Rattle.seg_content.specs.declared.content.Shape.TheVariants as shape;
+ghost use Rattle.seg_cells.specs.Contents.{ContentOf};
+ghost use Rattle.seg_cells.specs.declared.content.Content.{Content as Named};
+ghost use Rattle.seg_cells.specs.declared.content.Shape.TheVariants as shape;
 
 use seg_block::Fit;
 use seg_raw::Code;

@@ -35,11 +35,11 @@ use Rattle.seg_block.specs.Blocks.{IsSized, IsLiveBlock}
 use Rattle.seg_block.specs.Tags.{word_of}
 use Rattle.seg_block.specs.Request.{Grants, GrantsNew}
 use Rattle.seg_block.specs.declared.grant.Grant.{Grant}
-use Rattle.seg_content.specs.declared.content.Content.{Content}
-use Rattle.seg_content.specs.declared.content.Shape.TheVariants as shape
+use Rattle.seg_cells.specs.declared.content.Content.{Content}
+use Rattle.seg_cells.specs.declared.content.Shape.TheVariants as shape
 use Rattle.seg_cells.specs.declared.entry.Held.TheVariants as held
 use Rattle.seg_cells.specs.Entries.{IsEntryOf}
-use Rattle.seg_content.specs.Contents.{IsContent, ContentOf}
+use Rattle.seg_cells.specs.Contents.{IsContent, ContentOf}
 use Rattle.seg_cells.specs.Places.{object_at}
 use Rattle.seg_value.proofs.Enlarging as by_request
 use Rattle.seg_value.proofs.Enlarging.{ask, asks_nothing, NewFor}

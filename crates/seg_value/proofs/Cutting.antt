@@ -37,8 +37,8 @@ use Rattle.seg_spec.proofs.PlaceSteps.{home_live, owned_live, owned_other, place
 use Rattle.seg_spec.proofs.Paths.{opened_as}
 use Rattle.seg_spec.proofs.Leading.{Leads-each}
 use Rattle.seg_spec.proofs.Standing.{Frames, frames_twice, each_live_at, live_at, same_place, written_stands, written_frames, written_home, left_stands, left_frames, changes_of}
-use Rattle.seg_content.specs.declared.content.Content.{Content}
-use Rattle.seg_content.specs.Contents.{ContentOf}
+use Rattle.seg_cells.specs.declared.content.Content.{Content}
+use Rattle.seg_cells.specs.Contents.{ContentOf}
 use Rattle.seg_spec.proofs.Buffered.{HoldsEntries, Buffered, buffered, holds_buffered, entries_kept, entries_none}
 
 -- ---- entries that stay where they are

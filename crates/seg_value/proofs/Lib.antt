@@ -19,3 +19,9 @@ pub mod IndexGrows
 pub mod NewNodes
 pub mod Enlarging
 pub mod Stores
+pub mod Owns
+pub mod Setting
+pub mod Pointed
+pub mod SharedCells
+pub mod Freezing
+pub mod FrozenCells

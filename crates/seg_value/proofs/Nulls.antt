@@ -16,8 +16,8 @@ use Rattle.seg_spec.proofs.CellSteps.{one_cell, length_fields}
 use Rattle.seg_spec.proofs.CellOwed.{same_form}
 use Rattle.seg_spec.proofs.PartsOwed.{named_inside}
 use Rattle.seg_layout.specs.Forms.{has_cells}
-use Rattle.seg_content.specs.Contents.{ContentOf}
-use Rattle.seg_content.specs.declared.content.Content.{Content}
+use Rattle.seg_cells.specs.Contents.{ContentOf}
+use Rattle.seg_cells.specs.declared.content.Content.{Content}
 
 -- these blocks and names are none
 pub record Nothing (xs ns : List ℕ) : Type 0 where

@@ -21,12 +21,12 @@ use Rattle.seg_block.specs.declared.tag.Tag.{Tag}
 use Rattle.seg_block.specs.declared.tag.Kind.{Kind}
 use Rattle.seg_block.specs.declared.tag.Kind.TheVariants as kind
 use Rattle.seg_cells.specs.Entries.{IsEntryOf}
-use Rattle.seg_content.specs.Contents.{OfBlock}
+use Rattle.seg_cells.specs.Contents.{OfBlock}
 use Rattle.seg_value.specs.Waiting.{AddsIn, links_of}
 use Rattle.seg_value.proofs.Nulls.{Nothing}
 use Rattle.seg_value.proofs.Links.{no_further}
-use Rattle.seg_content.specs.declared.content.Content.{Content}
-use Rattle.seg_content.specs.declared.content.Shape.TheVariants as shape
+use Rattle.seg_cells.specs.declared.content.Content.{Content}
+use Rattle.seg_cells.specs.declared.content.Shape.TheVariants as shape
 use Rattle.seg_cells.specs.declared.entry.Held.TheVariants as held
 
 -- ---- one word spells one tag

@@ -13,9 +13,9 @@ use Rattle.seg_spec.proofs.Destruction.{others_none}
 use Rattle.seg_spec.proofs.CellOwed.{own_goes, tree_goes, text_goes, vector_goes, flat_map_goes}
 use Rattle.seg_spec.proofs.RingOwed.{list_goes}
 use Rattle.seg_cells.specs.Entries.{IsEntryOf}
-use Rattle.seg_content.specs.Contents.{ContentOf}
-use Rattle.seg_content.specs.declared.content.Content.{Content}
-use Rattle.seg_content.specs.declared.content.Shape.TheVariants as shape
+use Rattle.seg_cells.specs.Contents.{ContentOf}
+use Rattle.seg_cells.specs.declared.content.Content.{Content}
+use Rattle.seg_cells.specs.declared.content.Shape.TheVariants as shape
 use Rattle.seg_cells.specs.declared.entry.Held.TheVariants as held
 use Rattle.seg_value.proofs.Nulls.{vector_named, flat_map_named}
 

@@ -8,9 +8,9 @@ use Rattle.seg_spec.specs.Reads.{Place}
 use Rattle.seg_spec.specs.Spending.{buffer_asks}
 use Rattle.seg_spec.specs.Value.{Value}
 use Rattle.seg_spec.specs.Types.{Table, form_at}
-use Rattle.seg_content.specs.Contents.{ContentOf}
-use Rattle.seg_content.specs.declared.content.Content.{Content}
-use Rattle.seg_content.specs.declared.content.Shape.TheVariants as shape
+use Rattle.seg_cells.specs.Contents.{ContentOf}
+use Rattle.seg_cells.specs.declared.content.Content.{Content}
+use Rattle.seg_cells.specs.declared.content.Shape.TheVariants as shape
 
 -- the cell of the type names a buffer, with these entries
 abbrev pub NamesBuffer : Table → ℕ → Content → Type 0

@@ -15,8 +15,8 @@ use Rattle.seg_spec.specs.Types.{Form, Table, IsTable, form_at, size}
 use Rattle.seg_spec.specs.Block as block
 use Rattle.seg_cells.specs.declared.cells.Cells.{Cells}
 use Rattle.seg_cells.specs.Cells.{AreCells}
-use Rattle.seg_content.specs.Contents.{ContentOf}
-use Rattle.seg_content.specs.declared.content.Content.{Content}
+use Rattle.seg_cells.specs.Contents.{ContentOf}
+use Rattle.seg_cells.specs.declared.content.Content.{Content}
 
 -- what the cell of each type names, one after the other
 abbrev pub AreContents : Table → List (Option Content) → Type 0

@@ -21,9 +21,9 @@ use Rattle.seg_spec.specs.Shrinking.{KeepsPathsInside}
 use Rattle.seg_spec.specs.Spending.{buffer_asks}
 use Rattle.seg_spec.specs.Types.{Form, Table, form_at, size}
 use Rattle.seg_spec.specs.Value.{Value, Values, Map, IsAscending}
-use Rattle.seg_content.specs.declared.content.Content.{Content}
-use Rattle.seg_content.specs.declared.content.Shape.TheVariants as shape
-use Rattle.seg_content.specs.Contents.{IsContent}
+use Rattle.seg_cells.specs.declared.content.Content.{Content}
+use Rattle.seg_cells.specs.declared.content.Shape.TheVariants as shape
+use Rattle.seg_cells.specs.Contents.{IsContent}
 
 -- the cell of the type names the entries of a flat map, with values of the type U
 abbrev pub NamesFlatMap : Table → ℕ → ℕ → Content → Type 0

@@ -5,3 +5,4 @@ pub mod Entries
 pub mod Names
 pub mod Waiting
 pub mod Nodes
+pub mod Places

@@ -30,8 +30,8 @@ use Rattle.seg_spec.specs.Calls.{Refuses}
 use Rattle.seg_spec.specs.Spending.{buffer_asks, entry_asks, spent}
 use Rattle.seg_spec.specs.Reads.{count_at, named, start, NamesRoom}
 use Rattle.seg_spec.specs.Sound.{times, positions}
-use Rattle.seg_content.specs.Contents.{IsIndexBuffer}
-use Rattle.seg_content.specs.declared.content.Content.{Content}
+use Rattle.seg_cells.specs.Contents.{IsIndexBuffer}
+use Rattle.seg_cells.specs.declared.content.Content.{Content}
 
 -- the position of an entry
 abbrev pub name_entry : List ℕ → ℕ → ℕ

@@ -14,8 +14,8 @@ use Rattle.seg_spec.specs.Frozen.{Frozen}
 use Rattle.seg_spec.specs.Sound.{SameBlocks}
 use Rattle.seg_spec.specs.Destroying.{AreLive, Awaits, Adds}
 use Rattle.seg_value.specs.Stored.{Stored}
-use Rattle.seg_content.specs.declared.content.Shape.{Shape}
-use Rattle.seg_content.specs.declared.content.Shape.TheVariants as shape
+use Rattle.seg_cells.specs.declared.content.Shape.{Shape}
+use Rattle.seg_cells.specs.declared.content.Shape.TheVariants as shape
 
 -- where all these blocks are live, each once: xs go with what waits now, beside what went with it
 -- before, and the names ns are no longer to be released beside it

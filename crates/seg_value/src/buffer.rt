@@ -19,10 +19,10 @@ ghost use Rattle.seg_spec.specs.Window.{with_bytes, KeepsHost};
 ghost use Rattle.seg_block.specs.Blocks.{IsSized};
 ghost use Rattle.seg_block.specs.Tags.{word_of};
 ghost use Rattle.seg_value.specs.Buffers.{NamesBuffer, MakesRoom};
-ghost use Rattle.seg_content.specs.Contents.{IsContent};
+ghost use Rattle.seg_cells.specs.Contents.{IsContent};
 ghost use Rattle.seg_value.specs.Contents.{GivesBlock};
 ghost use Rattle.seg_value.specs.Names.{index_cell, FindsNames, FindsIndex, MakesIndexRoom, MovesIndex, EmptiesIndex};
-ghost use Rattle.seg_content.specs.Contents.{IsIndexNode};
+ghost use Rattle.seg_cells.specs.Contents.{IsIndexNode};
 ghost use Rattle.seg_value.specs.Nodes.{GivesNode};
 ghost use Rattle.seg_cells.specs.Places.{place_of, object_at as place_at};
 
@@ -30,8 +30,7 @@ use crate::cell::room;
 use crate::entry::need;
 use crate::heap::Heap;
 use seg_block::{Fit, Grant, UNIT, block_of, preferred, request};
-use seg_cells::{Entry, Place};
-use seg_content::{Content, Shape};
+use seg_cells::{Content, Entry, Place, Shape};
 use seg_raw::Code;
 use std::alloc::Allocator;
 

@@ -2,8 +2,7 @@ ghost use Rattle.std.specs.Prelude.{◌≡◌, get_or, None};
 ghost use Rattle.seg_spec.specs.Types.{IsTable};
 ghost use Rattle.seg_value.specs.Contents.{AreNumbers, numbers_in};
 
-use seg_cells::{Cells, IDS};
-use seg_content::Content;
+use seg_cells::{Cells, Content, IDS};
 use seg_layout::{MAX_TYPES, Type, TypeId, TypeTable};
 
 /// What the cells of each type of a table name, and what its values are made of, worked out once.

@@ -11,7 +11,7 @@ ghost use Rattle.seg_cells.specs.Places.{object_at as place_at};
 
 use crate::heap::Heap;
 use seg_block::Fit;
-use seg_content::Content;
+use seg_cells::Content;
 use seg_raw::Code;
 use std::alloc::Allocator;
 

@@ -1,12 +1,11 @@
 ghost use Rattle.std.specs.Prelude.{◌≡◌};
 ghost use Rattle.seg_spec.specs.Types.{IsTable, form_at};
 ghost use Rattle.seg_cells.specs.Cells.{cells_of};
-ghost use Rattle.seg_content.specs.Contents.{ContentOf};
+ghost use Rattle.seg_cells.specs.Contents.{ContentOf};
 
 use crate::contents::Contents;
 use seg_block::Fit;
-use seg_cells::Cells;
-use seg_content::Content;
+use seg_cells::{Cells, Content};
 use seg_layout::{TypeId, TypeTable};
 use seg_ptr::Window;
 use std::alloc::Allocator;

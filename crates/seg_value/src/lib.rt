@@ -10,12 +10,16 @@ mod entries;
 mod entry;
 mod heap;
 mod moving;
+mod own;
 mod pending;
+mod sharing;
 
 pub use cell::room;
 pub use heap::Heap;
+pub use own::{set_own, take_own};
 pub use seg_block::block_of;
 pub use seg_cells::{
-    Entry, Held, KEY, LIST_LINKS, PREVIOUS, Place, binary_search, count, load, start,
+    Content, Entry, FROZEN_WORDS, Held, KEY, LIST_LINKS, PREVIOUS, Place, Shape, binary_search,
+    count, load, start,
 };
-pub use seg_content::{Content, FROZEN_WORDS, Shape};
+pub use sharing::{freeze, frozen, share};

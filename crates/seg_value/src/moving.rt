@@ -12,8 +12,7 @@ ghost use Rattle.seg_cells.specs.Pointers.{MovesPointers};
 
 use crate::heap::Heap;
 use seg_block::Fit;
-use seg_cells::{Entry, Held, point_each_again};
-use seg_content::Content;
+use seg_cells::{Content, Entry, Held, point_each_again};
 use seg_layout::TypeId;
 use std::alloc::Allocator;
 

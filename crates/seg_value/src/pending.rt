@@ -16,14 +16,13 @@ ghost use Rattle.seg_spec.specs.Window.{with_bytes, KeepsHost};
 ghost use Rattle.seg_block.specs.Blocks.{IsSized};
 ghost use Rattle.seg_layout.specs.Forms.{has_cells};
 ghost use Rattle.seg_cells.specs.Entries.{IsEntryOf};
-ghost use Rattle.seg_content.specs.Contents.{ContentOf};
+ghost use Rattle.seg_cells.specs.Contents.{ContentOf};
 ghost use Rattle.seg_cells.specs.Places.{place_of, object_at};
 ghost use Rattle.seg_value.specs.Waiting.{AddsWaiting, OpensPending, links_of};
 
 use crate::heap::Heap;
 use seg_block::{Fit, LINK, Tag, UNIT, block_of, link, tag_word};
-use seg_cells::{Entry, Held, PREVIOUS, Place};
-use seg_content::{Content, Shape};
+use seg_cells::{Content, Entry, Held, PREVIOUS, Place, Shape};
 use std::alloc::Allocator;
 
 /// Where a map's node points to its right child, in bytes from its start.

@@ -2,9 +2,9 @@
 //! files and outputs are put after the commands.
 #![tactic(auto)]
 
-use seg_command::command;
-use seg_files::HostFiles;
-use seg_program::{Through, refuse, words};
+use cli_commands::command;
+use cli_files::HostFiles;
+use cli_program::{Through, refuse, words};
 use std::process::ExitCode;
 
 fn main(rt: HostRuntime) -> ExitCode {

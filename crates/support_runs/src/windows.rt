@@ -2,7 +2,7 @@
 
 use seg_block::Fit;
 use seg_manager::Segment;
-use seg_open::open;
+use seg_check::open;
 use seg_ptr::Window;
 use seg_raw::{Fault, Region};
 use std::alloc::Global;

@@ -9,3 +9,11 @@ pub mod NoRoots
 pub mod Denials
 pub mod CutBuffers
 pub mod WorkedCalls
+pub mod Simulated
+pub mod Worked
+pub mod Following
+pub mod Stopped
+pub mod Several
+pub mod Whole
+pub mod CounterRun
+pub mod SharedCells

@@ -21,8 +21,8 @@ use Rattle.client_spec.specs.Outcome.{CanLie, CanMove, CanRun, Refusal, IsTurnOf
 use Rattle.client_spec.specs.Fixtures.{increment, move_to}
 use Rattle.client_verify.specs.Refusals.{IsRefused}
 use Rattle.client_spec.proofs.OneClient.{one_client}
-use Rattle.test_machine.proofs.Worked.{increment_spelled}
-use Rattle.test_machine.proofs.Whole as whole
+use Rattle.test_definitions.proofs.Worked.{increment_spelled}
+use Rattle.test_definitions.proofs.Whole as whole
 use Rattle.client_output.specs.declared.report.Report.{Report}
 use Rattle.client_output.specs.declared.refused.Refused.{Refused}
 use Rattle.client_output.specs.declared.report.Ended.{Ended}

@@ -2,8 +2,8 @@
 
 use client_text::assemble;
 use client_vm::Through;
-use seg_command::command;
-use seg_files::{FileFault, FileProblem, Files};
+use cli_commands::command;
+use cli_files::{FileFault, FileProblem, Files};
 use std::alloc::{AllocError, Global};
 use std::process::Abort;
 use std::str;

@@ -1,7 +1,7 @@
 //! Files that can't be read or written: the line, and why.
 
 use crate::tests::files::{Stored, counter_files, follow};
-use seg_files::FileProblem;
+use cli_files::FileProblem;
 use std::alloc::Global;
 use std::test::Fail;
 

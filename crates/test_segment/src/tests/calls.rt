@@ -11,8 +11,7 @@ use crate::tests::support::{I64, INDEXES, first_fault, given, map_of, pair, segm
 use seg_bestfit::BestFit;
 use seg_block::Fit;
 use seg_layout::TypeId;
-use seg_manager::{IndexKind, Segment};
-use seg_names::{Named, first_name, next_name, num_named};
+use seg_manager::{IndexKind, Named, Segment, first_name, next_name, num_named};
 use seg_raw::{Code, Fault};
 use seg_seqfit::SeqFit;
 use seg_space::{

@@ -7,10 +7,9 @@ use crate::tests::support::{
 };
 use seg_bestfit::BestFit;
 use seg_layout::TypeId;
-use seg_manager::{Found, IndexKind, Segment};
-use seg_names::num_named;
-use seg_open::{open, save};
-use seg_owner::{freeze, share};
+use seg_manager::{Found, IndexKind, Segment, num_named};
+use seg_check::{open, save};
+use seg_value::{freeze, share};
 use seg_ptr::Window;
 use seg_raw::{Code, Fault};
 use seg_seqfit::SeqFit;

@@ -16,10 +16,9 @@ use crate::tests::tiles::are_live;
 use seg_bestfit::BestFit;
 use seg_block::Fit;
 use seg_layout::TypeId;
-use seg_owner::frozen;
+use seg_value::{Content, Place, frozen};
 use seg_raw::Code;
 use seg_seqfit::SeqFit;
-use seg_value::{Content, Place};
 use std::alloc::Global;
 use std::test::Fail;
 
@@ -87,12 +86,12 @@ fn new<F: Fit>(s: &mut Rooted<F>) -> Result<i64, Code> {
 }
 
 fn freeze<F: Fit>(s: &mut Rooted<F>, object: u32) -> Result<i64, Code> {
-    seg_owner::freeze(&mut s.heap, s.root, object)?;
+    seg_value::freeze(&mut s.heap, s.root, object)?;
     Ok(0)
 }
 
 fn share<F: Fit>(s: &mut Rooted<F>, to: Place, from: Place) -> Answer {
-    seg_owner::share(&mut s.heap, to, from);
+    seg_value::share(&mut s.heap, to, from);
     Ok(0)
 }
 
@@ -166,8 +165,8 @@ fn refuses_to_freeze(rt: HostRuntime) -> Result<(), Fail> {
 fn freeze_on_top<F: Fit>(s: &mut Rooted<F>) -> Result<(), Fail> {
     let object = s.heap.new_block(&Content::object(s.heap.types(), PAIR))?;
     let field = place_of(SHARED, object.wrapping_add(8));
-    seg_owner::share(&mut s.heap, field, s.root);
-    seg_owner::freeze(&mut s.heap, s.root, object)?;
+    seg_value::share(&mut s.heap, field, s.root);
+    seg_value::freeze(&mut s.heap, s.root, object)?;
     Ok(())
 }
 

@@ -1,7 +1,7 @@
 use Rattle.std.proofs.Common.{◌≡◌, ℕ, Option, Some, None, subst}
 use Rattle.seg_spec.specs.Types.{Form, Table, form_at}
-use Rattle.seg_content.specs.Contents.{ContentOf}
-use Rattle.seg_content.specs.declared.content.Content.{Content}
+use Rattle.seg_cells.specs.Contents.{ContentOf}
+use Rattle.seg_cells.specs.declared.content.Content.{Content}
 use Rattle.client_run.specs.Worlds.{held_in, shared_in}
 use Rattle.client_run.proofs.values.held_type.Goals as goal
 

@@ -1,5 +1,5 @@
 use Rattle.std.proofs.Common.{◌≡◌}
-use Rattle.client_accept.specs.Texts.{texts_of}
+use Rattle.client_verify.specs.Texts.{texts_of}
 use Rattle.client_run.specs.ReadyClients.{texts_in}
 use Rattle.client_vm.proofs.bytes.all_ready.Given as goal
 

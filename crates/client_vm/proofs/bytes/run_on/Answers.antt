@@ -5,7 +5,7 @@ use Rattle.seg_spec.specs.Window.{Placement}
 use Rattle.client_spec.specs.Syntax.{Client}
 use Rattle.client_spec.specs.Run.{Ending}
 use Rattle.client_spec.specs.Clients.{AreAccepted}
-use Rattle.client_accept.specs.Texts.{AreWrong}
+use Rattle.client_verify.specs.Texts.{AreWrong}
 use Rattle.client_output.specs.declared.report.Report.{Report}
 use Rattle.client_run.specs.Moves.{moves_of}
 use Rattle.client_run.specs.Runs.{ending_of, IsReady}

@@ -2,7 +2,7 @@ use Rattle.std.proofs.Common.{rules, ◌≡◌, ◌+◌, ◌^◌, ◌<◌, Err, 
 use Rattle.seg_spec.specs.Types.{Form, size}
 use Rattle.seg_spec.specs.Block.{Kind, tag_of}
 use Rattle.seg_cells.specs.Places.{place_of}
-use Rattle.seg_content.specs.declared.content.Shape.TheVariants as shape
+use Rattle.seg_cells.specs.declared.content.Shape.TheVariants as shape
 use Rattle.seg_image.proofs.PutContent.{holds_new}
 use Rattle.seg_image.proofs.owners.put_new.Goals as goal
 

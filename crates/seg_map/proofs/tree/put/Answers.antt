@@ -10,7 +10,7 @@ use Rattle.seg_spec.specs.Items.{key_place}
 use Rattle.seg_spec.specs.Window.{Placement, with_bytes}
 use Rattle.seg_raw.specs.declared.code.Code.{Code}
 use Rattle.seg_cells.specs.Places.{object_at}
-use Rattle.seg_content.specs.declared.content.Shape.TheVariants as shape
+use Rattle.seg_cells.specs.declared.content.Shape.TheVariants as shape
 use Rattle.seg_rbtree.specs.Paths.{node_at}
 use Rattle.seg_map.proofs.Adding.{AddsFrom}
 use Rattle.seg_map.specs.Maps.{PutsKey}

@@ -2,7 +2,7 @@ use crate::tests::explain::sources::{clients_alone, is, parts, run_of};
 use client_code::parse;
 use client_text::assemble;
 use client_verify::verify;
-use seg_explain::explain;
+use cli_explain::explain;
 use seg_layout::TypeTable;
 use seg_raw::Fault;
 use std::alloc::Global;

@@ -1,4 +1,4 @@
-use seg_explain::Sources;
+use cli_explain::Sources;
 use std::str;
 use std::test::Fail;
 

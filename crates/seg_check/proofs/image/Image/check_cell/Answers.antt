@@ -3,7 +3,7 @@ use Rattle.seg_spec.specs.Types.{Form, form_at}
 use Rattle.seg_layout.specs.Forms.{form_of}
 use Rattle.seg_layout.specs.declared.kind.«Type».{«Type»}
 use Rattle.seg_layout.specs.declared.kind.«Type».TheVariants as kind
-use Rattle.seg_content.specs.Contents.{ContentOf}
+use Rattle.seg_cells.specs.Contents.{ContentOf}
 use Rattle.seg_check.proofs.StructLaws.{no_cell}
 use Rattle.seg_check.proofs.image.Image.check_cell.Goals as goal
 

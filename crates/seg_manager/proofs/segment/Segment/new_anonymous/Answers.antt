@@ -1,5 +1,5 @@
 use Rattle.std.proofs.Common.{◌≡◌, ◌+◌, ap, ◌∙◌, arith}
-use Rattle.seg_content.specs.declared.content.Shape.TheVariants as shape
+use Rattle.seg_cells.specs.declared.content.Shape.TheVariants as shape
 use Rattle.seg_spec.specs.Types.{IsTable, size}
 use Rattle.seg_spec.specs.Block.{Kind, tag_of}
 use Rattle.seg_manager.proofs.Answering.{by_result}

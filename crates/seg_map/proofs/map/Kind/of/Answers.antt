@@ -1,7 +1,7 @@
 use Rattle.std.proofs.Common.{rules, ◌≡◌, Err, inl, inr}
 use Rattle.seg_spec.specs.Types.{form_at}
 use Rattle.seg_raw.specs.declared.code.Code.TheVariants as code
-use Rattle.seg_content.specs.declared.content.Shape.TheVariants as shape
+use Rattle.seg_cells.specs.declared.content.Shape.TheVariants as shape
 use Rattle.seg_map.proofs.MapKinds.{no_kind, flat_kind, tree_kind, other_kind, found_content, found_none}
 use Rattle.seg_map.proofs.map.Kind.of.Goals as goal
 

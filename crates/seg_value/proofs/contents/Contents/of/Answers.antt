@@ -3,8 +3,8 @@ use Rattle.std.proofs.lemmas.Bool.{cases_lt}
 use Rattle.std.proofs.lemmas.List.{get_or-replicate, get_or_past}
 use Rattle.std.proofs.lemmas.Option.{slice_get_past}
 use Rattle.seg_spec.specs.Types.{Form, Table, form_at}
-use Rattle.seg_content.specs.Contents.{ContentOf}
-use Rattle.seg_content.specs.declared.content.Content.{Content}
+use Rattle.seg_cells.specs.Contents.{ContentOf}
+use Rattle.seg_cells.specs.declared.content.Content.{Content}
 use Rattle.seg_value.proofs.contents.Contents.of.Goals as goal
 
 all_none : (T : ℕ) → get_or (replicate {A = Option Content} 32 None) T None ≡ None

@@ -1,6 +1,6 @@
 use Rattle.std.proofs.Common.{◌≡◌, ℕ, ◌<◌, ◌≤◌, get_or, None, length}
 use Rattle.seg_spec.specs.Types.{form_at}
-use Rattle.seg_content.specs.Contents.{ContentOf}
+use Rattle.seg_cells.specs.Contents.{ContentOf}
 use Rattle.seg_value.proofs.contents.Contents.of.Given as goal
 
 abbrev pub invariant-loop-t : goal.invariant-loop-t

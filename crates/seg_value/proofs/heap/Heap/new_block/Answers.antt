@@ -4,12 +4,12 @@ use Rattle.seg_bytes.specs.Bytes.{set_word}
 use Rattle.seg_spec.specs.Heap.{IsHeap}
 use Rattle.seg_spec.specs.Types.{IsTable}
 use Rattle.seg_block.specs.Tags.{word_of}
-use Rattle.seg_content.specs.declared.content.Shape.{Shape}
+use Rattle.seg_cells.specs.declared.content.Shape.{Shape}
 use Rattle.seg_cells.specs.declared.place.Place.{Place}
-use Rattle.seg_content.specs.Contents.{IsContent}
+use Rattle.seg_cells.specs.Contents.{IsContent}
 use Rattle.seg_value.specs.Contents.{GivesBlock}
 use Rattle.seg_value.specs.Stored.{Stored}
-use Rattle.seg_content.specs.Contents.{IsIndexNode}
+use Rattle.seg_cells.specs.Contents.{IsIndexNode}
 use Rattle.seg_value.specs.Nodes.{GivesNode}
 use Rattle.seg_value.proofs.NewBlocks.{gives_block_for}
 use Rattle.seg_value.proofs.NewNodes.{gives_node_at}

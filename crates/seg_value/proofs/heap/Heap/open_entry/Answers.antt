@@ -9,9 +9,9 @@ use Rattle.seg_spec.specs.Types.{Table, size}
 use Rattle.seg_spec.specs.Value.{Map}
 use Rattle.seg_spec.specs.Window.{with_bytes}
 use Rattle.seg_value.specs.Buffers.{NamesBuffer}
-use Rattle.seg_content.specs.Contents.{ContentOf}
+use Rattle.seg_cells.specs.Contents.{ContentOf}
 use Rattle.seg_value.specs.Entries.{NamesFlatMap, OpensEntry}
-use Rattle.seg_content.specs.declared.content.Content.{Content}
+use Rattle.seg_cells.specs.declared.content.Content.{Content}
 use Rattle.seg_cells.specs.Places.{object_at}
 use Rattle.seg_value.proofs.Between.{one_more, opened_by}
 use Rattle.seg_spec.specs.Spending.{entry_asks}

@@ -2,7 +2,7 @@ use Rattle.std.proofs.Common.{◌≡◌, [], Some, None, ap, ◌∙◌, sym, sub
 use Rattle.seg_spec.specs.Pointer.{target}
 use Rattle.seg_spec.specs.Types.{form_at}
 use Rattle.seg_spec.specs.Window.{Placement}
-use Rattle.seg_content.specs.Contents.{ContentOf}
+use Rattle.seg_cells.specs.Contents.{ContentOf}
 use Rattle.seg_cells.specs.Places.{place_of}
 use Rattle.seg_value.specs.Waiting.{AddsWaiting}
 use Rattle.seg_value.proofs.Nulls.{null_owns, shared_there, held_there}

@@ -4,7 +4,7 @@ use Rattle.seg_spec.specs.Block.{block_of}
 use Rattle.seg_spec.specs.Window.{Placement}
 use Rattle.seg_spec.proofs.LiveLaws.{times-append}
 use Rattle.seg_spec.proofs.Destruction.{same_adds, awaits_names}
-use Rattle.seg_content.specs.Contents.{OfBlock}
+use Rattle.seg_cells.specs.Contents.{OfBlock}
 use Rattle.seg_value.proofs.Opening.{parted, some_content, unread, links_fit, inside_links, links_waiting, all_added}
 use Rattle.seg_spec.proofs.Placements.{bytes_of}
 use Rattle.seg_value.proofs.pending.Pending.open.Goals as goal

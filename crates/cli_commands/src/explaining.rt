@@ -1,0 +1,164 @@
+ghost use Rattle.std.specs.Prelude.{◌≡◌, false};
+
+use crate::problems::told;
+use lezgauri::{Refused, Sink};
+use cli_explain::{Sources, explain};
+use cli_files::{Files, read_file, read_files, read_image};
+use cli_program::{Failure, slices, tell};
+use cli_words::{ImageTask, Request};
+use std::alloc::{AllocError, Global};
+
+/// Writes in words why a command failed. The files that it worked on are read again for that; one that can't be read any more
+/// is left out of the words.
+pub fn explain_failure<'a, F: Files, E: Sink>(
+    alloc: Global,
+    request: &Request<'a>,
+    failure: &Failure,
+    files: &mut F,
+    err: &mut E,
+) -> Result<(), AllocError>
+    requires works { E.has_failed err.old ≡ false }
+{
+    let words = words_of(alloc, request, failure, files)?;
+    tell(err, words.as_slice());
+    Ok(())
+}
+
+/// Why a command failed. Nothing where the line has the words already.
+fn words_of<'a, F: Files>(
+    alloc: Global,
+    request: &Request<'a>,
+    failure: &Failure,
+    files: &mut F,
+) -> Result<Vec<u8>, AllocError> {
+    match failure {
+        Failure::Refused(refused) => {
+            let read = Read::again(alloc, request, files)?;
+            explained(alloc, refused, &read)
+        }
+        Failure::Absent(name) => absent(alloc, name),
+        Failure::File(name, problem) => told(alloc, name, *problem),
+        Failure::Output => Vec::from_slice(alloc, failed_output(request).as_bytes()),
+        Failure::Words(_) => Ok(Vec::new(alloc)),
+    }
+}
+
+/// What a refusal of the library is, where what it worked on was read.
+fn explained(alloc: Global, refused: &Refused, read: &Read) -> Result<Vec<u8>, AllocError> {
+    let clients = slices(alloc, read.clients.as_slice())?;
+    let sources = Sources {
+        image: read.image.as_deref(),
+        clients: clients.as_slice(),
+        text: read.text.as_deref(),
+    };
+    // of one client alone it needn't be said which
+    let client = if clients.len() > 1 {
+        refused.client
+    } else {
+        None
+    };
+    explain(alloc, refused.fault, client, &sources)
+}
+
+/// What a command worked on, where it can be read again.
+#[derive(Drop)]
+struct Read {
+    image: Option<Vec<u8>>,
+    clients: Vec<Vec<u8>>,
+    text: Option<Vec<u8>>,
+}
+
+impl Read {
+    fn again<F: Files>(
+        alloc: Global,
+        request: &Request,
+        files: &mut F,
+    ) -> Result<Read, AllocError> {
+        let image = match image_of(request) {
+            Some(name) => read_image(alloc, files, name).ok(),
+            None => None,
+        };
+        let text = match text_of(request) {
+            Some(name) => read_file(alloc, files, name).ok(),
+            None => None,
+        };
+        let names = clients_of(alloc, request)?;
+        let clients = match read_files(alloc, files, names.as_slice()) {
+            Ok(clients) => clients,
+            Err(_) => Vec::new(alloc),
+        };
+        Ok(Read {
+            image,
+            clients,
+            text,
+        })
+    }
+}
+
+/// The file of the text that a command works on.
+fn text_of<'a>(request: &Request<'a>) -> Option<&'a str> {
+    match request {
+        Request::Assemble(assembly) => Some(assembly.text),
+        Request::New(_)
+        | Request::Image { .. }
+        | Request::Verify { .. }
+        | Request::Run(_)
+        | Request::Trace(_)
+        | Request::Print { .. }
+        | Request::Help(_) => None,
+    }
+}
+
+/// The file of the image that a command works on.
+fn image_of<'a>(request: &Request<'a>) -> Option<&'a str> {
+    match request {
+        Request::Image { file, .. } => Some(file),
+        Request::Verify { image, .. } => Some(image),
+        Request::Run(run) => Some(run.image),
+        Request::Trace(trace) => Some(trace.image),
+        Request::New(_) | Request::Assemble(_) | Request::Print { .. } | Request::Help(_) => {
+            None
+        }
+    }
+}
+
+/// The files of the clients that a command works on.
+fn clients_of<'a>(alloc: Global, request: &Request<'a>) -> Result<Vec<&'a str>, AllocError> {
+    match request {
+        Request::Verify { client, .. } | Request::Print { client } => {
+            Vec::from_slice(alloc, &[*client])
+        }
+        Request::Trace(trace) => Vec::from_slice(alloc, &[trace.client]),
+        Request::Run(run) => Vec::from_slice(alloc, run.clients.as_slice()),
+        Request::New(_) | Request::Image { .. } | Request::Assemble(_) | Request::Help(_) => Ok(
+            Vec::new(alloc),
+        ),
+    }
+}
+
+fn absent(alloc: Global, name: &str) -> Result<Vec<u8>, AllocError> {
+    let words = format!(in alloc;
+        "no object of the image has the name `{name}`; `segtool list` prints those that it has\n"
+    )?;
+    Ok(words.into_bytes())
+}
+
+/// What a failed output means for a command.
+fn failed_output(request: &Request) -> &'static str {
+    match request {
+        Request::Run(_) => {
+            "the output couldn't be written, and the run ended there; the image as it was then was saved, unless its file failed too\n"
+        }
+        Request::Image {
+            task: ImageTask::Grow { .. } | ImageTask::Shrink | ImageTask::Upgrade,
+            ..
+        } => "the output couldn't be written; the image was saved, unless its file failed too\n",
+        Request::New(_)
+        | Request::Image { .. }
+        | Request::Verify { .. }
+        | Request::Trace(_)
+        | Request::Assemble(_)
+        | Request::Print { .. }
+        | Request::Help(_) => "the output couldn't be written\n",
+    }
+}

@@ -1,0 +1,112 @@
+//! What a segment has, as text.
+
+use crate::made::Unmade;
+use lezgauri::{Image, MAX_TYPES, Named, TypeId};
+use cli_show::{Extent, all_objects, heap_lines, one_object, picture};
+use std::alloc::{AllocError, Global};
+
+/// The bytes of a segment, of its free memory and of its largest gap, and how many objects it has, a line each.
+pub(crate) fn statistics(alloc: Global, image: &Image<Global>) -> Result<Vec<u8>, AllocError> {
+    let size = image.size();
+    let free = image.free_memory();
+    let largest = image.largest_gap();
+    let named = image.num_named();
+    let unique = image.num_unique();
+    let lines = format!(in alloc;
+        "size {size}\nfree {free}\nlargest {largest}\nnamed {named}\nunique {unique}\n"
+    )?;
+    Ok(lines.into_bytes())
+}
+
+/// The names in ascending order with types and counts, then the types of unique objects, a line each.
+pub(crate) fn objects(alloc: Global, image: &Image<Global>) -> Result<Vec<u8>, AllocError> {
+    let mut lines = Vec::new(alloc);
+    add_named(&mut lines, alloc, image)?;
+    for t in 0..MAX_TYPES as TypeId {
+        if has_unique(image, t) {
+            lines.extend_from_slice(format!(in alloc; "unique {t}\n")?.as_bytes())?;
+        }
+    }
+    Ok(lines)
+}
+
+fn add_named(lines: &mut Vec<u8>, alloc: Global, image: &Image<Global>) -> Result<(), AllocError> {
+    let mut next = image.first_name();
+    for _ in 0..image.num_named() {
+        let Some(named) = next else {
+            break;
+        };
+        let Named {
+            name,
+            type_id,
+            count,
+        } = named;
+        lines.extend_from_slice(name)?;
+        lines.extend_from_slice(format!(in alloc; " {type_id} {count}\n")?.as_bytes())?;
+        next = image.next_name(name);
+    }
+    Ok(())
+}
+
+fn has_unique(image: &Image<Global>, t: TypeId) -> bool {
+    image.find_unique(t).is_ok()
+}
+
+/// The objects with their values, all or the one with a name, a line each value.
+pub(crate) fn shown<'a>(
+    alloc: Global,
+    image: &Image<Global>,
+    name: Option<&'a str>,
+    whole: bool,
+) -> Result<Vec<u8>, Unmade<'a>> {
+    let extent = if whole { Extent::All } else { Extent::Cut };
+    match name {
+        Some(name) => match named(alloc, image, name, extent)? {
+            Some(text) => Ok(text),
+            None => Err(Unmade::Absent(name)),
+        },
+        None => Ok(all(alloc, image, extent)?),
+    }
+}
+
+/// All objects and their values.
+fn all(alloc: Global, image: &Image<Global>, extent: Extent) -> Result<Vec<u8>, AllocError> {
+    match image {
+        Image::Seq(segment) => all_objects(alloc, segment, extent),
+        Image::Best(segment) => all_objects(alloc, segment, extent),
+    }
+}
+
+/// The object with a name and its values, if there is one.
+fn named(
+    alloc: Global,
+    image: &Image<Global>,
+    name: &str,
+    extent: Extent,
+) -> Result<Option<Vec<u8>>, AllocError> {
+    match image {
+        Image::Seq(segment) => one_object(alloc, segment, name.as_bytes(), extent),
+        Image::Best(segment) => one_object(alloc, segment, name.as_bytes(), extent),
+    }
+}
+
+/// The heap block by block.
+pub(crate) fn blocks(alloc: Global, image: &Image<Global>) -> Result<Vec<u8>, AllocError> {
+    match image {
+        Image::Seq(segment) => heap_lines(alloc, segment),
+        Image::Best(segment) => heap_lines(alloc, segment),
+    }
+}
+
+/// The heap as a picture.
+pub(crate) fn pictured(alloc: Global, image: &Image<Global>) -> Result<Vec<u8>, AllocError> {
+    match image {
+        Image::Seq(segment) => picture(alloc, segment),
+        Image::Best(segment) => picture(alloc, segment),
+    }
+}
+
+/// The new size of a segment, as a line.
+pub(crate) fn size(alloc: Global, size: u32) -> Result<Vec<u8>, AllocError> {
+    Ok(format!(in alloc; "size {size}\n")?.into_bytes())
+}

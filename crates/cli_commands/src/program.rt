@@ -1,0 +1,74 @@
+ghost use Rattle.std.specs.Prelude.{◌≡◌, false};
+
+use crate::clients::{assemble_file, print_file, trace_file, verify_file};
+use crate::explaining::explain_failure;
+use crate::images::{image_file, new_file};
+use lezgauri::Sink;
+use cli_files::Files;
+use cli_program::{Failure, print, report, run_files};
+use cli_words::{Asked, Request};
+use std::alloc::Global;
+use std::convert::AsStr;
+
+/// Does what the words say, the program's name first, and returns the status: 0 success, 1 a fault of the library, 2 a wrong
+/// command line, 3 a file or an output that failed.
+pub fn command<S: AsStr, F: Files, O: Sink, E: Sink>(
+    alloc: Global,
+    words: &[S],
+    files: &mut F,
+    out: &mut O,
+    err: &mut E,
+) -> u8
+    requires out_works { O.has_failed out.old ≡ false }
+    requires err_works { E.has_failed err.old ≡ false }
+{
+    match cli_words::read(alloc, words) {
+        Ok(asked) => answer(alloc, &asked, files, out, err),
+        Err(misread) => report(alloc, &Failure::from(misread), err),
+    }
+}
+
+/// Does what is asked for, and returns the status.
+fn answer<F: Files, O: Sink, E: Sink>(
+    alloc: Global,
+    asked: &Asked,
+    files: &mut F,
+    out: &mut O,
+    err: &mut E,
+) -> u8
+    requires out_works { O.has_failed out.old ≡ false }
+    requires err_works { E.has_failed err.old ≡ false }
+{
+    match perform(alloc, &asked.request, files, out) {
+        Ok(()) => 0,
+        Err(failure) => {
+            let status = report(alloc, &failure, err);
+            if asked.explained && !err.failed() {
+                // where there is no memory for the words, the line says it alone
+                let _ = explain_failure(alloc, &asked.request, &failure, files, err);
+            }
+            status
+        }
+    }
+}
+
+/// What is asked for.
+fn perform<'a, F: Files, O: Sink>(
+    alloc: Global,
+    request: &Request<'a>,
+    files: &mut F,
+    out: &mut O,
+) -> Result<(), Failure<'a>>
+    requires works { O.has_failed out.old ≡ false }
+{
+    match request {
+        Request::New(new) => new_file(alloc, new, files),
+        Request::Image { file, task } => image_file(alloc, file, *task, files, out),
+        Request::Verify { image, client } => verify_file(alloc, image, client, files, out),
+        Request::Run(run) => run_files(alloc, run, files, out),
+        Request::Trace(trace) => trace_file(alloc, trace, files, out),
+        Request::Assemble(assembly) => assemble_file(alloc, assembly, files),
+        Request::Print { client } => print_file(alloc, client, files, out),
+        Request::Help(text) => print(out, text.as_bytes()),
+    }
+}

@@ -1,0 +1,17 @@
+use crate::failure::Failure;
+use client_output::Ended;
+use cli_files::{Files, write_file};
+
+/// Writes the saved image, also where the clients' output failed, which is the failure then.
+pub fn save<'a, F: Files>(
+    files: &mut F,
+    name: &'a str,
+    image: &[u8],
+    ended: Ended,
+) -> Result<(), Failure<'a>> {
+    let saved = write_file(files, name, image);
+    match ended {
+        Ended::Done => Ok(saved?),
+        Ended::OutputFailed => Err(Failure::Output),
+    }
+}

@@ -1,0 +1,209 @@
+//! The objects of a segment with their values, as indented lines.
+
+use crate::extent::Extent;
+use crate::lines::Lines;
+use crate::parts::Step;
+use crate::roots::{Root, RootName, frozen_number, roots};
+use crate::walk::{Met, Walk, most_turns};
+use seg_block::{Fit, UNIT};
+use seg_layout::Type;
+use seg_manager::Segment;
+use seg_value::{Heap, Place, frozen};
+use std::alloc::{AllocError, Global};
+
+/// All objects that the index names: those with a name in ascending order, then the unique ones by type. Then the frozen ones
+/// by falling numbers.
+pub fn all_objects<F: Fit>(
+    alloc: Global,
+    segment: &Segment<F, Global>,
+    extent: Extent,
+) -> Result<Vec<u8>, AllocError> {
+    let roots = roots(alloc, segment)?;
+    let mut shown = Shown::new(alloc, segment.heap(), extent, roots.as_slice())?;
+    for root in &roots {
+        shown.add_object(root)?;
+    }
+    Ok(shown.lines.into_bytes())
+}
+
+/// The object with a name, if there is one, and each frozen one that a cell of what is shown names.
+pub fn one_object<F: Fit>(
+    alloc: Global,
+    segment: &Segment<F, Global>,
+    name: &[u8],
+    extent: Extent,
+) -> Result<Option<Vec<u8>>, AllocError> {
+    let roots = roots(alloc, segment)?;
+    let mut shown = Shown::new(alloc, segment.heap(), extent, roots.as_slice())?;
+    let mut found = false;
+    for root in &roots {
+        if root.is_named(name) || shown.names(root.first.at) {
+            shown.add_object(root)?;
+            found = true;
+        }
+    }
+    Ok(found.then_some(shown.lines.into_bytes()))
+}
+
+/// Objects of a heap as lines.
+#[derive(Drop)]
+struct Shown<'h, F: Fit> {
+    heap: &'h Heap<F, Global>,
+    extent: Extent,
+    lines: Lines,
+    /// For each unit of the segment, whether a cell in these lines names the frozen object whose value begins in it. Empty where
+    /// no object is frozen.
+    named: Vec<bool>,
+}
+
+impl<'h, F: Fit> Shown<'h, F> {
+    fn new(
+        alloc: Global,
+        heap: &'h Heap<F, Global>,
+        extent: Extent,
+        roots: &[Root],
+    ) -> Result<Shown<'h, F>, AllocError> {
+        let units = if roots.iter().any(|root| root.is_frozen()) {
+            heap.window().len() / UNIT
+        } else {
+            0
+        };
+        Ok(Shown {
+            heap,
+            extent,
+            lines: Lines::new(alloc),
+            named: Vec::from_elem(alloc, false, units as usize)?,
+        })
+    }
+
+    /// Whether a cell in the lines names the frozen object with its value at this position.
+    fn names(&self, value: u32) -> bool {
+        self.named.get((value / UNIT) as usize) == Some(&true)
+    }
+
+    /// Adds an object, each of its values with all inside it.
+    fn add_object(&mut self, root: &Root) -> Result<(), AllocError> {
+        let size = self.heap.types().size(root.first.type_id);
+        for index in 0..root.count {
+            add_root_name(&mut self.lines, root, index)?;
+            self.add_value(root.value(index, size))?;
+        }
+        Ok(())
+    }
+
+    /// Ends the line of a value, and adds those of all inside it.
+    fn add_value(&mut self, value: Place) -> Result<(), AllocError> {
+        self.end_line(value)?;
+        let mut walk = Walk::new(self.lines.alloc(), self.heap, value, self.extent)?;
+        for _ in 0..most_turns(self.heap.window().len()) {
+            let Some(met) = walk.next(self.heap)? else {
+                break;
+            };
+            match met {
+                Met::Part { level, part } => {
+                    self.lines.begin(level)?;
+                    add_step(&mut self.lines, part.step)?;
+                    self.end_line(part.place)?;
+                }
+                Met::End { level, rest } => add_rest(&mut self.lines, level, rest)?,
+            }
+        }
+        Ok(())
+    }
+
+    /// Ends a line with a value: a number, a text, or what it is and how many parts it has.
+    fn end_line(&mut self, value: Place) -> Result<(), AllocError> {
+        self.lines.add(b": ")?;
+        self.add_content(value)?;
+        self.lines.end()
+    }
+
+    fn add_content(&mut self, value: Place) -> Result<(), AllocError> {
+        let word = match self.heap.types().kind(value.type_id) {
+            Some(Type::I64) => return self.lines.add_number("", self.heap.load(value.at)),
+            Some(Type::Str) => return self.add_text(value),
+            Some(Type::Vec(_)) => "vector of ",
+            Some(Type::List(_)) => "list of ",
+            Some(Type::FlatMap(_)) => "flat map of ",
+            Some(Type::Map(_)) => "map of ",
+            Some(Type::Own(_)) => return self.lines.add(own_word(self.heap.count(value.at))),
+            Some(Type::Struct(_)) => return self.lines.add(b"struct"),
+            Some(Type::Shared(_)) => return self.add_shared(value),
+            // a sound image has no value of another type
+            None => return Ok(()),
+        };
+        self.lines
+            .add_number(word, i64::from(self.heap.count(value.at)))
+    }
+
+    /// Adds which frozen object a cell names, by its number.
+    fn add_shared(&mut self, cell: Place) -> Result<(), AllocError> {
+        match frozen(self.heap, cell) {
+            Some(value) => {
+                if let Some(named) = self.named.get_mut((value / UNIT) as usize) {
+                    *named = true;
+                }
+                let number = frozen_number(self.heap.window(), value);
+                self.lines.add_number("frozen ", i64::from(number))
+            }
+            None => self.lines.add(b"nothing"),
+        }
+    }
+
+    /// Adds a string's bytes in quotation marks, and how many it has where some aren't shown.
+    fn add_text(&mut self, text: Place) -> Result<(), AllocError> {
+        let len = self.heap.count(text.at) as usize;
+        let shown = len.min(self.extent.bytes());
+        let from = self.heap.start(text.at) as usize;
+        self.lines
+            .add_quoted(self.heap.window().slice(from, shown))?;
+        if shown < len {
+            self.lines
+                .add_number(".. of ", i64::from(self.heap.count(text.at)))?;
+        }
+        Ok(())
+    }
+}
+
+/// Begins the line of one of an object's values.
+fn add_root_name(lines: &mut Lines, root: &Root, index: u16) -> Result<(), AllocError> {
+    match root.name {
+        RootName::Named(name) => lines.add(name)?,
+        RootName::Unique => {
+            lines.add_number("unique t", i64::from(root.first.type_id))?;
+        }
+        RootName::Frozen { count, number } => {
+            lines.add_number("frozen ", i64::from(number))?;
+            lines.add_number(", count ", i64::from(count))?;
+        }
+    }
+    if root.count > 1 {
+        lines.add_index(u32::from(index))?;
+    }
+    Ok(())
+}
+
+/// Says how many parts aren't shown, if there are any.
+fn add_rest(lines: &mut Lines, level: usize, rest: u32) -> Result<(), AllocError> {
+    if rest == 0 {
+        return Ok(());
+    }
+    lines.begin(level)?;
+    lines.add_number("and ", i64::from(rest))?;
+    lines.add(b" more")?;
+    lines.end()
+}
+
+fn add_step(lines: &mut Lines, step: Step) -> Result<(), AllocError> {
+    match step {
+        Step::Index(index) => lines.add_index(index),
+        Step::Key(key) => lines.add_number("", key),
+        Step::Field(index) => lines.add_number("field ", i64::from(index)),
+        Step::Content => lines.add(b"content"),
+    }
+}
+
+/// What an own of so many objects holds.
+fn own_word(count: u32) -> &'static [u8] {
+    if count == 0 { b"nothing" } else { b"an object" }
+}

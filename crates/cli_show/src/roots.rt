@@ -1,0 +1,155 @@
+use crate::blocks::{blocks, live_tag};
+use seg_block::{Fit, Kind, UNIT};
+use seg_layout::{MAX_TYPES, TypeId};
+use seg_manager::{Named, Segment, first_name, next_name, num_named};
+use seg_ptr::Window;
+use seg_value::{Content, Heap, Place};
+use std::alloc::{AllocError, Global};
+
+/// What an object is found by.
+#[derive(Clone, Copy)]
+pub(crate) enum RootName<'a> {
+    Named(&'a [u8]),
+    /// The unique object of its type.
+    Unique,
+    /// Cells that share it: how many, and its number.
+    Frozen { count: u32, number: u32 },
+}
+
+/// An object that a segment's index names or that is frozen, with so many values.
+#[derive(Clone, Copy)]
+pub(crate) struct Root<'a> {
+    pub(crate) name: RootName<'a>,
+    pub(crate) first: Place,
+    pub(crate) count: u16,
+}
+
+impl Root<'_> {
+    pub(crate) fn is_named(&self, name: &[u8]) -> bool {
+        match self.name {
+            RootName::Named(it) => it == name,
+            RootName::Unique | RootName::Frozen { .. } => false,
+        }
+    }
+
+    pub(crate) fn is_frozen(&self) -> bool {
+        matches!(self.name, RootName::Frozen { .. })
+    }
+
+    /// A frozen object's number, 0 of any other.
+    fn number(&self) -> u32 {
+        match self.name {
+            RootName::Frozen { number, .. } => number,
+            RootName::Named(_) | RootName::Unique => 0,
+        }
+    }
+
+    /// The value with an index, where each has so many bytes.
+    pub(crate) fn value(&self, index: u16, size: u32) -> Place {
+        let from = u32::from(index).saturating_mul(size);
+        Place {
+            at: self.first.at.saturating_add(from),
+            type_id: self.first.type_id,
+        }
+    }
+}
+
+/// The named objects in ascending order of their names, then the unique ones by type, then the frozen ones by falling numbers,
+/// so that each comes before those that it names.
+pub(crate) fn roots<F: Fit>(
+    alloc: Global,
+    segment: &Segment<F, Global>,
+) -> Result<Vec<Root<'_>>, AllocError> {
+    let mut roots = named_roots(alloc, segment)?;
+    for type_id in 0..MAX_TYPES as TypeId {
+        if let Some(root) = unique_root(segment, type_id) {
+            roots.push(root)?;
+        }
+    }
+    for root in &frozen_roots(alloc, segment.heap())? {
+        roots.push(*root)?;
+    }
+    Ok(roots)
+}
+
+/// The frozen objects by falling numbers.
+fn frozen_roots<F: Fit>(
+    alloc: Global,
+    heap: &Heap<F, Global>,
+) -> Result<Vec<Root<'static>>, AllocError> {
+    let mut frozen = Vec::new(alloc);
+    for block in &blocks(alloc, heap.window())? {
+        if let Some(root) = frozen_root(heap, block.at) {
+            frozen.push(root)?;
+        }
+    }
+    frozen.sort_unstable_by_key(|root| !root.number());
+    Ok(frozen)
+}
+
+fn frozen_root<F: Fit>(heap: &Heap<F, Global>, block: u32) -> Option<Root<'static>> {
+    let w = heap.window();
+    let tag = live_tag(w, block)?;
+    if tag.kind != Kind::Frozen {
+        return None;
+    }
+    let start = block.saturating_add(UNIT);
+    let content = Content::frozen(heap.types(), tag.type_id);
+    let first = content.entry.value(start, 0)?;
+    Some(Root {
+        name: RootName::Frozen {
+            count: frozen_count(w, first.at),
+            number: frozen_number(w, first.at),
+        },
+        first,
+        count: 1,
+    })
+}
+
+/// How many cells name the frozen object whose value stands at a position. Its count and its number stand right before it.
+fn frozen_count(w: &Window<Global>, value: u32) -> u32 {
+    w.get32(value.saturating_sub(8) as usize)
+}
+
+pub(crate) fn frozen_number(w: &Window<Global>, value: u32) -> u32 {
+    w.get32(value.saturating_sub(4) as usize)
+}
+
+fn unique_root<F: Fit>(segment: &Segment<F, Global>, type_id: TypeId) -> Option<Root<'_>> {
+    let at = segment.find_unique(type_id).ok()?;
+    Some(Root {
+        name: RootName::Unique,
+        first: Place { at, type_id },
+        count: 1,
+    })
+}
+
+fn named_roots<F: Fit>(
+    alloc: Global,
+    segment: &Segment<F, Global>,
+) -> Result<Vec<Root<'_>>, AllocError> {
+    let mut roots = Vec::new(alloc);
+    let mut next = first_name(segment);
+    for _ in 0..num_named(segment) {
+        let Some(named) = next else {
+            break;
+        };
+        if let Some(root) = named_root(segment, named) {
+            roots.push(root)?;
+        }
+        next = next_name(segment, named.name);
+    }
+    Ok(roots)
+}
+
+fn named_root<'a, F: Fit>(segment: &'a Segment<F, Global>, named: Named<'a>) -> Option<Root<'a>> {
+    let found = segment.find(named.name, named.type_id).ok()?;
+    Some(Root {
+        name: RootName::Named(named.name),
+        first: Place {
+            at: found.at,
+            type_id: named.type_id,
+        },
+        count: found.count,
+    })
+}

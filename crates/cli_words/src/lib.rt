@@ -1,0 +1,17 @@
+//! The words of the command line: what each command takes, and what the words ask for.
+#![tactic(auto)]
+
+mod command_line;
+mod line;
+mod misread;
+mod reading;
+mod request;
+mod run;
+
+pub use line::{Argument, Line, Takes, number, parser, parser_of, word};
+pub use misread::Misread;
+pub use reading::read;
+pub use request::{
+    Allocator, Asked, Assembly, ImageTask, Index, NewImage, Picture, Request, Trace,
+};
+pub use run::{FORCE, INPUT, RUN, Run, run_of};

@@ -1,0 +1,114 @@
+use crate::command_line::command_line;
+use crate::request::{
+    Allocator, Asked, Assembly, ImageTask, Index, NewImage, Picture, Request, Trace,
+};
+use clap::ArgMatches;
+use crate::{Misread, number, run_of, word};
+use std::alloc::{AllocError, Global};
+use std::convert::AsStr;
+
+/// What the words of `segtool` ask for, the program's name first.
+pub fn read<'a, S: AsStr>(alloc: Global, words: &'a [S]) -> Result<Asked<'a>, Misread> {
+    match command_line(alloc)?.try_get_matches_from(words) {
+        Ok(matches) => Ok(Asked {
+            request: request_of(alloc, &matches)?,
+            explained: is_explained(&matches),
+        }),
+        Err(error) if !error.use_stderr() => Ok(Asked {
+            request: Request::Help(error.to_string(alloc)?),
+            explained: false,
+        }),
+        Err(error) => Err(Misread::of(alloc, &error)),
+    }
+}
+
+/// Whether a fault of the command is to be told in words.
+fn is_explained(matches: &ArgMatches) -> bool {
+    match matches.subcommand() {
+        Some((_, arguments)) => arguments.get_flag("explain"),
+        None => false,
+    }
+}
+
+fn request_of<'a>(alloc: Global, matches: &ArgMatches<'a>) -> Result<Request<'a>, AllocError> {
+    match matches.subcommand() {
+        Some(("run", arguments)) => Ok(Request::Run(run_of(alloc, arguments)?)),
+        Some(("new", arguments)) => Ok(Request::New(new_of(arguments))),
+        Some((command, arguments)) => match task_of(command, arguments) {
+            Some(task) => Ok(Request::Image {
+                file: word(arguments, "FILE"),
+                task,
+            }),
+            None => Ok(client_request(alloc, command, arguments)),
+        },
+        // the command line requires a command
+        None => Ok(Request::Help(String::new(alloc))),
+    }
+}
+
+/// What a command asks of an image, if it is one on an image alone.
+fn task_of<'a>(command: &str, arguments: &ArgMatches<'a>) -> Option<ImageTask<'a>> {
+    match command {
+        "check" => Some(ImageTask::Check),
+        "stat" => Some(ImageTask::Stat),
+        "list" => Some(ImageTask::List),
+        "show" => Some(ImageTask::Show {
+            name: arguments.get_str("NAME"),
+            whole: arguments.get_flag("all"),
+        }),
+        "map" => Some(match arguments.get_str("svg") {
+            Some(file) => ImageTask::Picture(Picture {
+                file,
+                forced: arguments.get_flag("force"),
+            }),
+            None => ImageTask::Map,
+        }),
+        "grow" => Some(ImageTask::Grow {
+            extra: number(arguments, "EXTRA"),
+        }),
+        "shrink" => Some(ImageTask::Shrink),
+        "upgrade" => Some(ImageTask::Upgrade),
+        _ => None,
+    }
+}
+
+/// What a command with a client asks for.
+fn client_request<'a>(alloc: Global, command: &str, arguments: &ArgMatches<'a>) -> Request<'a> {
+    match command {
+        "verify" => Request::Verify {
+            image: word(arguments, "FILE"),
+            client: word(arguments, "CLIENT"),
+        },
+        "trace" => Request::Trace(Trace {
+            image: word(arguments, "FILE"),
+            client: word(arguments, "CLIENT"),
+            input: arguments.get_str("input"),
+        }),
+        "asm" => Request::Assemble(Assembly {
+            text: word(arguments, "TEXT"),
+            client: word(arguments, "OUT"),
+            forced: arguments.get_flag("force"),
+        }),
+        "print" => Request::Print {
+            client: word(arguments, "CLIENT"),
+        },
+        // the command line has no other
+        _ => Request::Help(String::new(alloc)),
+    }
+}
+
+fn new_of<'a>(arguments: &ArgMatches<'a>) -> NewImage<'a> {
+    NewImage {
+        file: word(arguments, "FILE"),
+        size: number(arguments, "SIZE"),
+        allocator: match word(arguments, "ALG") {
+            "best" => Allocator::Best,
+            _ => Allocator::Seq,
+        },
+        index: match word(arguments, "INDEX") {
+            "tree" => Index::Tree,
+            _ => Index::Flat,
+        },
+        forced: arguments.get_flag("force"),
+    }
+}

@@ -1,0 +1,67 @@
+ghost use Rattle.std.specs.Prelude.{◌≡◌, List, map, IfOk, IfErr};
+ghost use Rattle.seg_spec.specs.Types.{longer};
+ghost use Rattle.client_spec.specs.Syntax as syntax;
+ghost use Rattle.client_spec.specs.Grammar.{SpellsClient};
+ghost use Rattle.client_spec.specs.Clients.{IsVerified, AreAccepted};
+ghost use Rattle.client_code.specs.Clients.{bytes_of};
+ghost use Rattle.client_verify.specs.Accepted.{client_of};
+ghost use Rattle.client_verify.specs.Texts.{texts_of, IsWrongText, AreWrong};
+
+use client_code::parse;
+use client_output::Refused;
+use crate::{Verified, verify};
+use seg_layout::TypeTable;
+use seg_raw::Fault;
+use std::alloc::Allocator;
+
+/// The clients, each verified against the types as the ones before extend them.
+pub fn verify_all<'a, A: Allocator + Copy>(
+    alloc: A,
+    clients: &[&'a [u8]],
+    types: &TypeTable,
+) -> Result<Vec<Verified<'a>, A>, Refused>
+    ensures texts { IfOk result
+        (λ programs. texts_of programs.items ≡ map (λ c. c.now) clients.now) }
+    ensures accepted { IfOk result (λ programs. (trees : List syntax.Client) ×
+        AreAccepted types.now (map (λ c. c.now) clients.now) trees) }
+    ensures refused { IfErr result (λ refused.
+        AreWrong types.now (map (λ c. c.now) clients.now) refused) }
+{
+    let mut types = types.copy();
+    let mut programs = Vec::with_capacity(alloc, clients.len())?;
+    for (i, bytes) in clients.iter().enumerate() {
+        match verify_one(bytes, &types) {
+            Ok(program) => {
+                extend(&mut types, program.types());
+                programs.push(program)?;
+            }
+            Err(fault) => {
+                return Err(Refused {
+                    client: Some(i),
+                    fault,
+                });
+            }
+        }
+    }
+    Ok(programs)
+}
+
+/// The client of a file, verified against types.
+fn verify_one<'a>(bytes: &'a [u8], types: &TypeTable) -> Result<Verified<'a>, Fault>
+    ensures text { IfOk result (λ program. bytes_of (client_of program) ≡ bytes.now) }
+    ensures accepted { IfOk result (λ program. (tree : syntax.Client) × SpellsClient bytes.now tree
+        × IsVerified types.now tree) }
+    ensures wrong { IfErr result (IsWrongText types.now bytes.now) }
+{
+    let client = parse(bytes)?;
+    verify(client, types)
+}
+
+/// Makes a table the longer one of itself and another.
+fn extend(types: &mut TypeTable, more: &TypeTable)
+    ensures { types.new ≡ longer types.old more.now }
+{
+    if types.len() < more.len() {
+        *types = more.copy();
+    }
+}

@@ -1,8 +1,0 @@
-use Rattle.std.proofs.Common.{◌∙◌}
-use Rattle.seg_names.proofs.Counting.{names_counted}
-use Rattle.seg_names.proofs.names.num_named.Goals as goal
-
-pub returns : goal.returns
-returns g c = λ picture is.
-    let read = rw c.window.ensures at c.name_count.ensures in
-    read ∙ names_counted c.args.segment.now.window.bytes picture is.held

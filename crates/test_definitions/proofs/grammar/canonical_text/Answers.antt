@@ -1,0 +1,5 @@
+use Rattle.client_spec.proofs.TextLaws.{canonical}
+use Rattle.test_definitions.proofs.grammar.canonical_text.Goals as goal
+
+pub returns : goal.returns
+returns c = canonical

@@ -1,0 +1,5 @@
+use Rattle.client_spec.proofs.Outside.{outside_stays as law}
+use Rattle.test_definitions.proofs.pictures.outside_stays.Goals as goal
+
+pub returns : goal.returns
+returns c = law

@@ -1,0 +1,5 @@
+use Rattle.client_sim.proofs.LeftInPlace.{left_in_place}
+use Rattle.test_definitions.proofs.pictures.placed_at_last.Goals as goal
+
+pub returns : goal.returns
+returns c = left_in_place

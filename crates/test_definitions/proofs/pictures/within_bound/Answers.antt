@@ -1,0 +1,5 @@
+use Rattle.test_definitions.proofs.Simulated.{client_within_bound as law}
+use Rattle.test_definitions.proofs.pictures.within_bound.Goals as goal
+
+pub returns : goal.returns
+returns c = law

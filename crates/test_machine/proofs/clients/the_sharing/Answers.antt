@@ -1,8 +1,0 @@
-use Rattle.std.proofs.Common.{refl}
-use Rattle.std.specs.Fmt.{digits}
-use Rattle.client_spec.specs.Grammar.{listing}
-use Rattle.test_machine.proofs.clients.the_sharing.Goals as goal
-
-pub returns-clause-text : goal.returns-clause-text
-unfolding listing digits
-returns-clause-text c = refl

@@ -1,5 +1,0 @@
-use Rattle.client_spec.proofs.TextLaws.{canonical}
-use Rattle.test_machine.proofs.grammar.canonical_text.Goals as goal
-
-pub returns : goal.returns
-returns c = canonical

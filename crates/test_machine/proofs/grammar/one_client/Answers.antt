@@ -1,9 +1,0 @@
-use Rattle.std.proofs.Common.{◌∙◌, sym}
-use Rattle.client_spec.proofs.OneClient.{one_client as same_client}
-use Rattle.test_machine.proofs.grammar.one_client.Goals as goal
-
-pub returns : goal.returns
-returns c = record {
-  trees = same_client;
-  bytes = λ bytes x y h k. same_client x y h.valid k.valid (sym h.spelled ∙ k.spelled);
-}

@@ -1,5 +1,0 @@
-use Rattle.client_spec.proofs.OneText.{one_text as same_client}
-use Rattle.test_machine.proofs.grammar.one_text.Goals as goal
-
-pub returns : goal.returns
-returns c = same_client

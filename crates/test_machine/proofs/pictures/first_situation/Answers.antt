@@ -1,5 +1,0 @@
-use Rattle.client_spec.proofs.PicturedTrees.{begins_first}
-use Rattle.test_machine.proofs.pictures.first_situation.Goals as goal
-
-pub returns : goal.returns
-returns c = begins_first

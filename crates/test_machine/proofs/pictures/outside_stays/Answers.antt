@@ -1,5 +1,0 @@
-use Rattle.client_spec.proofs.Outside.{outside_stays as law}
-use Rattle.test_machine.proofs.pictures.outside_stays.Goals as goal
-
-pub returns : goal.returns
-returns c = law

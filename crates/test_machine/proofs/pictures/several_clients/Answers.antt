@@ -1,5 +1,0 @@
-use Rattle.test_machine.proofs.Several.{all_within, held_after}
-use Rattle.test_machine.proofs.pictures.several_clients.Goals as goal
-
-pub returns : goal.returns
-returns c = record { within = all_within; held = held_after }

@@ -1,6 +1,0 @@
-use Rattle.client_spec.proofs.Held.{held_shape}
-use Rattle.client_spec.proofs.PictureLaws.{shape_of}
-use Rattle.test_machine.proofs.pictures.shape_of_a_value.Goals as goal
-
-pub returns : goal.returns
-returns c = record { fits = λ table T v h. shape_of table h; held = λ bytes table place v blocks h. held_shape bytes table h }

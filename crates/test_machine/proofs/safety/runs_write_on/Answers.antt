@@ -1,5 +1,0 @@
-use Rattle.test_machine.proofs.Stopped.{run_writes}
-use Rattle.test_machine.proofs.safety.runs_write_on.Goals as goal
-
-pub returns : goal.returns
-returns c = run_writes

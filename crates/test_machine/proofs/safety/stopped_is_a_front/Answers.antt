@@ -1,5 +1,0 @@
-use Rattle.test_machine.proofs.Stopped.{front_of_whole}
-use Rattle.test_machine.proofs.safety.stopped_is_a_front.Goals as goal
-
-pub returns : goal.returns
-returns c = front_of_whole
