@@ -1,11 +1,10 @@
 #!/usr/bin/env bash
-# Runs each command of the programs once for each request for host memory that it makes, with that request refused. Then the
+# Runs each command of the program once for each request for host memory that it makes, with that request refused. Then the
 # status is 1, the error `fault 1`, and each file as before; or, where the program can do without, all is as with that memory.
-# Needs a C compiler, and the programs that build.py leaves in crates/segtool/out and crates/segrun/out, or others that are given.
+# Needs a C compiler, and the program that build.py leaves in crates/segtool/out, or another that is given.
 set -eu
 here=$(cd "$(dirname "$0")" && pwd)
 segtool=$(realpath "${1:-$here/../crates/segtool/out/segtool}")
-segrun=$(realpath "${2:-$here/../crates/segrun/out/segrun}")
 work=$(mktemp -d)
 trap 'rm -rf "$work"' EXIT
 
@@ -29,19 +28,18 @@ is_done() {
   [ "$1" = 0 ] && cmp -s "$work/wanted_out" "$work/out" && diff -r "$work/wanted" "$work/now" > "$work/diff"
 }
 
-# tries a command of a program: first with all memory, which counts the requests, and then once for each of them
-try_on() {
-  local program=$1 all n status refused=0
-  shift
+# tries a command: first with all memory, which counts the requests, and then once for each of them
+try() {
+  local all n status refused=0
   renew
-  REQUESTS="$work/requests" LD_PRELOAD="$work/refuse.so" "$program" "$@" > "$work/wanted_out"
+  REQUESTS="$work/requests" LD_PRELOAD="$work/refuse.so" "$segtool" "$@" > "$work/wanted_out"
   all=$(cat "$work/requests")
   rm -rf "$work/wanted"
   cp -r "$work/now" "$work/wanted"
   for n in $(seq 1 "$all"); do
     renew
     status=0
-    REFUSE=$n LD_PRELOAD="$work/refuse.so" "$program" "$@" > "$work/out" 2> "$work/err" || status=$?
+    REFUSE=$n LD_PRELOAD="$work/refuse.so" "$segtool" "$@" > "$work/out" 2> "$work/err" || status=$?
     if is_refused "$status"; then
       refused=$((refused + 1))
     elif ! is_done "$status"; then
@@ -50,11 +48,7 @@ try_on() {
       exit 1
     fi
   done
-  echo "$(basename "$program") $*: $all requests, $refused of them needed"
-}
-
-try() {
-  try_on "$segtool" "$@"
+  echo "$*: $all requests, $refused of them needed"
 }
 
 try new fresh.image 1024 seq flat
@@ -77,4 +71,3 @@ try upgrade counter.image
 try asm increment.text assembled.client
 try asm increment.text increment.client
 try print increment.client
-try_on "$segrun" counter.image saved.image increment.client
