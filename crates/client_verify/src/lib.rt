@@ -1,7 +1,7 @@
 //! The verifier: which clients may run, and how many steps they take at most.
 #![tactic(auto)]
 
-mod accepting;
+mod files;
 mod after;
 mod reason;
 mod register;
@@ -10,7 +10,7 @@ mod rule;
 mod verified;
 mod verifier;
 
-pub use accepting::verify_all;
+pub use files::verify_all;
 pub use after::After;
 pub use reason::Reason;
 pub use register::{Class, RegisterType};

@@ -3,7 +3,7 @@ use Rattle.seg_spec.specs.Types.{longer}
 use Rattle.client_spec.specs.Grammar.{SpellsClient}
 use Rattle.client_verify.specs.Texts.{texts_of}
 use Rattle.client_verify.proofs.TextsLaws.{text_added, client_added, first_wrong}
-use Rattle.client_verify.proofs.accepting.verify_all.Goals as goal
+use Rattle.client_verify.proofs.files.verify_all.Goals as goal
 
 pub returns-in-Err-clause-refused : goal.returns-in-Err-clause-refused
 returns-in-Err-clause-refused g c =

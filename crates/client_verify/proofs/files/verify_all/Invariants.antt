@@ -2,7 +2,7 @@ use Rattle.std.proofs.Common.{◌≡◌, List, map, take}
 use Rattle.client_spec.specs.Syntax.{Client}
 use Rattle.client_spec.specs.Clients.{AreAccepted, table_after}
 use Rattle.client_verify.specs.Texts.{texts_of}
-use Rattle.client_verify.proofs.accepting.verify_all.Given as goal
+use Rattle.client_verify.proofs.files.verify_all.Given as goal
 
 abbrev pub invariant-loop-i : goal.invariant-loop-i
 invariant-loop-i g l =
