@@ -24,7 +24,8 @@ pub pushed_there : {X : Type 0} (ok : Bool) (xs ys new : List X) → new ≡ (if
 pushed_there true xs ys new e h = e
 pushed_there false xs ys new e h = cc
 
-pub program_ran : {P : Type 0} (text : P → List ℕ) (programs : List P) (k : ℕ) (program : P) (old new : List Report) (report : Report) → k < length programs → program ≡ get_or programs k program → length old ≡ k → AreReportsOf (map text (take k programs)) old
+pub program_ran : {P : Type 0} (text : P → List ℕ) (programs : List P) (k : ℕ) (program : P) (old new : List Report) (report : Report) → k < length programs → program ≡ get_or programs k program → length old ≡ k → AreReportsOf
+    (map text (take k programs)) old
     → IsReportOf (text program) report → new ≡ old ++ report ∷ [] → (length new ≡ k + 1) × AreReportsOf (map text (take (k + 1) programs)) new
 program_ran text programs k program old new report there is count h ran e =
     let size : length (map text (take k programs)) ≡ k = length-map (take k programs) text ∙ length-take-le k programs (omega arith) in (

@@ -11,7 +11,7 @@ ghost use Rattle.seg_seq.specs.Kinds.{is_sequence, HasNumbers};
 ghost use Rattle.seg_seq.specs.Lists.{HasList, IsNoList, AddsItem, LosesItem};
 ghost use Rattle.seg_seq.specs.Sequences.{HasText, HasItems, item_type, Declines, HasNone, ComesToHold, LacksRoom, Rewrites, push_asks, PushesNumber, PushesBack, PopsBack, IsPast, ShowsItem};
 ghost use Rattle.seg_image.specs.Images.{segment_of, allocator_of, bytes_in, types_of, ChangesBytes};
-ghost use Rattle.seg_image.specs.Places.{position_of, is_counted};
+ghost use Rattle.seg_image.specs.Places.{position_of, is_counted, WhereMap};
 
 use crate::image::{Image, on};
 use crate::places::placed;
@@ -70,18 +70,29 @@ impl<A: Allocator> Image<A> {
 impl<A: Allocator> Image<A> {
     /// How many bytes a string has, items a vector or a list, keys a map, and objects an own. `OtherType` elsewhere.
     pub fn len(&self, place: Place) -> Result<u32, Code>
+        ensures text { (xs blocks : List ℕ) →
+            HasText (allocator_of self.now) (segment_of self.now) (place_of place) xs blocks →
+            result ≡ Ok (length xs) }
+        ensures vector { (U : ℕ) (vs : Values) (blocks : List ℕ) →
+            HasItems (allocator_of self.now) (segment_of self.now) (place_of place) U vs blocks →
+            result ≡ Ok (count vs) }
+        ensures list { (U : ℕ) (vs : Values) (blocks : List ℕ) →
+            HasList (allocator_of self.now) (segment_of self.now) (place_of place) U vs blocks →
+            result ≡ Ok (count vs) }
+        ensures keys { WhereMap self.now place (λ U keys vs blocks. result ≡ Ok (length keys)) }
         ensures counted { is_counted (form_at (types_of self.now) place.type_id) ≡ true →
             result ≡ Ok (count_at (bytes_in self.now) place.at) }
         ensures other { is_counted (form_at (types_of self.now) place.type_id) ≡ false →
             result ≡ Err Code.OtherType }
     {
         match self.kind(place)? {
-            Type::Str
-            | Type::Vec(_)
-            | Type::List(_)
-            | Type::FlatMap(_)
-            | Type::Map(_)
-            | Type::Own(_) => Ok(count(self.window(), place.at)),
+            Type::Str | Type::Vec(_) | Type::List(_) => {
+                on!(self, segment => seg_seq::len(segment.heap(), place))
+            }
+            Type::FlatMap(_) | Type::Map(_) => {
+                on!(self, segment => seg_map::len(segment.heap(), place))
+            }
+            Type::Own(_) => Ok(count(self.window(), place.at)),
             Type::I64 | Type::Struct(_) | Type::Shared(_) => Err(Code::OtherType),
         }
     }
