@@ -1,8 +1,8 @@
 ghost use Rattle.std.specs.Prelude.{◌≡◌, false};
 
 use crate::discarded::Discarded;
-use lezgauri::{Image, prepare, run, verify};
 use cli_files::{Files, read_file, read_image};
+use lezgauri::{Image, prepare, run, verify};
 use std::alloc::Global;
 
 /// Verifies and prepares the client in a file on an open image, so many times.

@@ -7,9 +7,9 @@ mod clients;
 mod discarded;
 
 use crate::clients::{prepare_client, run_client};
+use cli_files::HostFiles;
 use seg_bestfit::BestFit;
 use seg_block::Fit;
-use cli_files::HostFiles;
 use seg_layout::{ENTRY, Type, TypeId, TypeTable};
 use seg_manager::{IndexKind, Segment};
 use seg_raw::{Code, Fault, Region};

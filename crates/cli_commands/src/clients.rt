@@ -3,13 +3,13 @@
 ghost use Rattle.std.specs.Prelude.{◌≡◌, false};
 
 use crate::door::{assembled, opened, printed, ready, verified};
-use client_trace::{Untraced, trace};
-use lezgauri::{Fault, Image, Ready, Sink};
 use cli_files::{
     Files, Format, read_file, read_image, refuse_input, refuse_other_format, write_file,
 };
 use cli_program::{Failure, print, read_input};
 use cli_words::{Assembly, Trace};
+use client_trace::{Untraced, trace};
+use lezgauri::{Fault, Image, Ready, Sink};
 use std::alloc::Global;
 
 /// `verify FILE CLIENT`: prints the steps that the client takes at most on the image.

@@ -1,11 +1,11 @@
 ghost use Rattle.std.specs.Prelude.{◌≡◌, false};
 
 use crate::problems::told;
-use lezgauri::{Refused, Sink};
 use cli_explain::{Sources, explain};
 use cli_files::{Files, read_file, read_files, read_image};
 use cli_program::{Failure, slices, tell};
 use cli_words::{ImageTask, Request};
+use lezgauri::{Refused, Sink};
 use std::alloc::{AllocError, Global};
 
 /// Writes in words why a command failed. The files that it worked on are read again for that; one that can't be read any more

@@ -3,12 +3,12 @@
 ghost use Rattle.std.specs.Prelude.{◌≡◌, false};
 
 use crate::made::{Made, made_of, new_image};
-use lezgauri::Sink;
 use cli_files::{
     FileFailure, Files, Format, read_image, refuse_input, refuse_other_format, write_file,
 };
 use cli_program::{Failure, print};
 use cli_words::{ImageTask, NewImage, Picture};
+use lezgauri::Sink;
 use std::alloc::Global;
 
 /// `new FILE SIZE ALG INDEX [--force]`: writes the image of an empty segment.

@@ -1,8 +1,8 @@
 //! What a segment has, as text.
 
 use crate::made::Unmade;
-use lezgauri::{Image, MAX_TYPES, Named, TypeId};
 use cli_show::{Extent, all_objects, heap_lines, one_object, picture};
+use lezgauri::{Image, MAX_TYPES, Named, TypeId};
 use std::alloc::{AllocError, Global};
 
 /// The bytes of a segment, of its free memory and of its largest gap, and how many objects it has, a line each.

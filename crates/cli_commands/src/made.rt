@@ -1,8 +1,8 @@
 use crate::door::{created, grown, opened, shrunk};
 use crate::listing::{blocks, objects, pictured, shown, size, statistics};
-use lezgauri::{AllocatorKind, Fault, Image, IndexKind};
 use cli_program::Failure;
 use cli_words::{Allocator, ImageTask, Index, NewImage};
+use lezgauri::{AllocatorKind, Fault, Image, IndexKind};
 use std::alloc::{AllocError, Global};
 
 /// What is made of an image: a text, and the image that is saved where it changes.

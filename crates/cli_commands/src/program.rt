@@ -3,10 +3,10 @@ ghost use Rattle.std.specs.Prelude.{◌≡◌, false};
 use crate::clients::{assemble_file, print_file, trace_file, verify_file};
 use crate::explaining::explain_failure;
 use crate::images::{image_file, new_file};
-use lezgauri::Sink;
 use cli_files::Files;
 use cli_program::{Failure, print, report, run_files};
 use cli_words::{Asked, Request};
+use lezgauri::Sink;
 use std::alloc::Global;
 use std::convert::AsStr;
 

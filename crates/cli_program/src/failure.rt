@@ -1,7 +1,7 @@
-use client_output::Refused;
 use cli_files::{FileFailure, FileProblem};
-use seg_raw::Fault;
 use cli_words::Misread;
+use client_output::Refused;
+use seg_raw::Fault;
 use std::alloc::{AllocError, Global};
 
 /// Why a command failed.

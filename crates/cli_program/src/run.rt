@@ -3,9 +3,9 @@ ghost use Rattle.std.specs.Prelude.{◌≡◌, false};
 use crate::failure::Failure;
 use crate::inputs::{Inputs, read_inputs, slices};
 use crate::saving::save;
-use client_vm::{Outcome, Refused, Schedule, Sink, run_image};
 use cli_files::Files;
 use cli_words::Run;
+use client_vm::{Outcome, Refused, Schedule, Sink, run_image};
 use std::alloc::Global;
 
 /// `run IMAGE OUT CLIENT.. [--base N] [--room N] [--input FILE]`: runs the clients, and writes the saved image also where
@@ -43,7 +43,14 @@ fn outcome_of<O: Sink>(
         base: run.base,
         moves: &[],
     };
-    run_image(alloc, image, clients.as_slice(), input.as_slice(), &schedule, out)
+    run_image(
+        alloc,
+        image,
+        clients.as_slice(),
+        input.as_slice(),
+        &schedule,
+        out,
+    )
 }
 
 /// The bytes of the region of an image of so many: the image ends it, where the words say nothing else.

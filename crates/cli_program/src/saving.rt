@@ -1,6 +1,6 @@
 use crate::failure::Failure;
-use client_output::Ended;
 use cli_files::{Files, write_file};
+use client_output::Ended;
 
 /// Writes the saved image, also where the clients' output failed, which is the failure then.
 pub fn save<'a, F: Files>(

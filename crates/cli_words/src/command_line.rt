@@ -1,5 +1,5 @@
-use clap::Command;
 use crate::{Argument, FORCE, INPUT, Line, RUN, Takes, parser, parser_of};
+use clap::Command;
 use std::alloc::{AllocError, Global};
 
 /// What each command takes beside its own arguments.

@@ -2,8 +2,8 @@ use crate::command_line::command_line;
 use crate::request::{
     Allocator, Asked, Assembly, ImageTask, Index, NewImage, Picture, Request, Trace,
 };
-use clap::ArgMatches;
 use crate::{Misread, number, run_of, word};
+use clap::ArgMatches;
 use std::alloc::{AllocError, Global};
 use std::convert::AsStr;
 

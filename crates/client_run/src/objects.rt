@@ -20,8 +20,8 @@ use client_program::Jump;
 use seg_block::Fit;
 use seg_layout::{Type, TypeId};
 use seg_manager::Segment;
-use seg_value::{Place, freeze, frozen, set_own, share, take_own};
 use seg_raw::Code;
+use seg_value::{Place, freeze, frozen, set_own, share, take_own};
 use std::alloc::Allocator;
 
 /// Named objects.

@@ -1,8 +1,8 @@
 //! The verifier: which clients may run, and how many steps they take at most.
 #![tactic(auto)]
 
-mod files;
 mod after;
+mod files;
 mod reason;
 mod register;
 mod registers;
@@ -10,8 +10,8 @@ mod rule;
 mod verified;
 mod verifier;
 
-pub use files::verify_all;
 pub use after::After;
+pub use files::verify_all;
 pub use reason::Reason;
 pub use register::{Class, RegisterType};
 pub use registers::Registers;

@@ -5,8 +5,8 @@ ghost use Rattle.seg_spec.specs.Block.{tag_of};
 ghost use Rattle.seg_spec.specs.Frozen.{frozen_words};
 ghost use Rattle.seg_block.specs.Tags.{word_of};
 
-use seg_block::{Kind, Tag};
 use crate::{Entry, KEY, LIST_LINKS};
+use seg_block::{Kind, Tag};
 use seg_layout::{Type, TypeId, TypeTable};
 
 /// The bytes of a tree's node before what it holds.

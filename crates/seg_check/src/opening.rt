@@ -6,8 +6,8 @@ ghost use Rattle.seg_spec.specs.Window.{with_bytes};
 ghost use Rattle.seg_raw.specs.declared.fault.Fault.TheVariants.{Memory};
 ghost use Rattle.seg_check.specs.Faults.{IsImageOf, IsFaultOfOpening, IsFrontRight};
 
-use seg_block::Fit;
 use crate::check;
+use seg_block::Fit;
 use seg_layout::TypeTable;
 use seg_ptr::{Window, header};
 use seg_raw::Fault;

@@ -17,8 +17,8 @@ use crate::image::{Image, on};
 use crate::places::placed;
 use seg_block::Fit;
 use seg_layout::TypeId;
-use seg_value::{Content, Heap, Place, set_own};
 use seg_raw::Code;
+use seg_value::{Content, Heap, Place, set_own};
 use std::alloc::Allocator;
 
 /// Owns: values that hold an object without a name, or none.

@@ -5,10 +5,10 @@ ghost use Rattle.seg_index.specs.Lists.{IsNamed, entry_of, root_after};
 ghost use Rattle.seg_manager.specs.Segments.{IsSegment};
 ghost use Rattle.seg_manager.specs.NamedObjects.{Says};
 
+use crate::Segment;
 use seg_block::Fit;
 use seg_index::{NameEntry, name_count};
 use seg_layout::TypeId;
-use crate::Segment;
 use std::alloc::Allocator;
 
 /// A name of a segment, with the type and the number of values of its object.

@@ -12,9 +12,9 @@ ghost use Rattle.seg_spec.specs.Window.{KeepsHost};
 ghost use Rattle.seg_cells.specs.Places.{place_of, object_at};
 ghost use Rattle.seg_value.specs.Places.{TakesOwn, SetsOwn};
 
+use crate::Heap;
 use seg_block::Fit;
 use seg_cells::Place;
-use crate::Heap;
 use std::alloc::Allocator;
 
 /// Makes an own hold an object, given by the position of its value, that nothing holds and that doesn't reach the own's

@@ -21,12 +21,12 @@ ghost use Rattle.seg_spec.specs.Window.{with_bytes, KeepsHost};
 ghost use Rattle.seg_cells.specs.Places.{place_of, object_at};
 ghost use Rattle.seg_spec.specs.Sharing.{FrozenBeside, cell_count, MovesFrozen, Freezes};
 
+use crate::{Content, FROZEN_WORDS, Heap};
 use seg_block::Fit;
 use seg_cells::Place;
 use seg_layout::{Type, TypeId};
 use seg_ptr::header::NEXT_NUMBER;
 use seg_raw::Code;
-use crate::{Content, FROZEN_WORDS, Heap};
 use std::alloc::Allocator;
 
 /// The value of the object that a cell names, by its position, if it names one.

@@ -1,8 +1,8 @@
 //! Images in windows, and the segments that are opened there.
 
 use seg_block::Fit;
-use seg_manager::Segment;
 use seg_check::open;
+use seg_manager::Segment;
 use seg_ptr::Window;
 use seg_raw::{Fault, Region};
 use std::alloc::Global;

@@ -1,9 +1,9 @@
 //! The programs on files in memory, and what they print.
 
-use client_text::assemble;
-use client_vm::Through;
 use cli_commands::command;
 use cli_files::{FileFault, FileProblem, Files};
+use client_text::assemble;
+use client_vm::Through;
 use std::alloc::{AllocError, Global};
 use std::process::Abort;
 use std::str;

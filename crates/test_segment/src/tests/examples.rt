@@ -6,14 +6,14 @@ use crate::tests::support::{
     window,
 };
 use seg_bestfit::BestFit;
+use seg_check::{open, save};
 use seg_layout::TypeId;
 use seg_manager::{Found, IndexKind, Segment, num_named};
-use seg_check::{open, save};
-use seg_value::{freeze, share};
 use seg_ptr::Window;
 use seg_raw::{Code, Fault};
 use seg_seqfit::SeqFit;
 use seg_space::{create, free_memory, zero_free_memory};
+use seg_value::{freeze, share};
 use std::alloc::Global;
 use std::process::Abort;
 use std::test::Fail;

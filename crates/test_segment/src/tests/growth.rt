@@ -4,9 +4,9 @@ use crate::tests::heaps::calls_on;
 use crate::tests::rooted::{ROOT, Rooted, with_root};
 use crate::tests::support::{I64, STR, own_of, pair, place_of, vec_of};
 use crate::tests::tiles::{is_one_gap, live_are, tiles};
-use seg_value::{Content, set_own, take_own};
 use seg_seq::{assign, push_back};
 use seg_seqfit::SeqFit;
+use seg_value::{Content, set_own, take_own};
 use std::test::Fail;
 
 /// A text that is assigned keeps the buffer.

@@ -15,8 +15,8 @@ use crate::tests::support::{I64, STR, flat_map_of, given, list_of, map_of, own_o
 use crate::tests::tiles::{are_live, have_tags};
 use seg_block::Fit;
 use seg_layout::TypeId;
-use seg_value::{Content, set_own, take_own};
 use seg_raw::Code;
+use seg_value::{Content, set_own, take_own};
 use std::alloc::Global;
 use std::test::Fail;
 

@@ -16,9 +16,9 @@ use crate::tests::tiles::are_live;
 use seg_bestfit::BestFit;
 use seg_block::Fit;
 use seg_layout::TypeId;
-use seg_value::{Content, Place, frozen};
 use seg_raw::Code;
 use seg_seqfit::SeqFit;
+use seg_value::{Content, Place, frozen};
 use std::alloc::Global;
 use std::test::Fail;
 

@@ -28,7 +28,7 @@ loop-program-preserved g c empty room =
     let ok = c.push.ensures.succeeds (let size = h.0 in let capacity = h.1 in let there = c.loop-program-test.true in omega (arith, size, capacity, there, room)) in
     let pushed = pushed_there _ _ _ _ c.push.ensures.items ok in
     let ran = program_ran (λ p. bytes_of (client_in p)) c.args.programs.now c.loop-program.program-index c.program-item.result c.loop-program.reports.items c.push.new.self.items c.run-report.result c.loop-program-test.true
-        c.program-item.is h.0 h.2
+    c.program-item.is h.0 h.2
     (record { path = c.run-report.ensures.path; within = c.run-report.ensures.steps }) pushed in (
       ran.0,
       (let capacity = h.1 in let more = c.push.ensures.capacity in omega (arith, capacity, more)),
@@ -55,7 +55,7 @@ loop-program-preserved g c empty room =
           new.segment.window new.segment.types (g.W.Sink.taken new.out) rs
           (g.W.Sink.has_failed new.out)) (sym pushed)
           (next_ran g.F.Fit.allocator trees (moves_of c.args.moves.now) c.args.input.now c.args.segment.now.window (g.W.Sink.taken c.args.out.now) (bytes_of (client_in c.program-item.result)) texts left c.rest-left.result.now
-              now.window new.segment.window
+          now.window new.segment.window
           now.types new.segment.types taken (g.W.Sink.taken new.out) c.loop-program.reports.items c.run-report.result
           (g.W.Sink.has_failed new.out) (λ tree spells may. c.run-report.ensures.runs tree spells [] may) c.rest-left.ensures c.run-report.ensures.ended m),
     )

@@ -1,7 +1,7 @@
 use crate::tests::explain::sources::{clients_alone, image_alone, is};
 use crate::tests::files::{FROZEN_PAIR, counter_where};
-use lezgauri::check;
 use cli_explain::explain;
+use lezgauri::check;
 use seg_raw::Fault;
 use std::alloc::Global;
 use std::test::Fail;

@@ -1,8 +1,8 @@
 use crate::tests::explain::sources::{clients_alone, is, parts, run_of};
+use cli_explain::explain;
 use client_code::parse;
 use client_text::assemble;
 use client_verify::verify;
-use cli_explain::explain;
 use seg_layout::TypeTable;
 use seg_raw::Fault;
 use std::alloc::Global;

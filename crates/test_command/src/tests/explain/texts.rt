@@ -1,6 +1,6 @@
 use crate::tests::explain::sources::{is, parts};
-use client_text::assemble;
 use cli_explain::{Sources, explain};
+use client_text::assemble;
 use std::alloc::Global;
 use std::test::Fail;
 
