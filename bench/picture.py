@@ -1,0 +1,230 @@
+#!/usr/bin/env python3
+"""Draws docs/speed.svg from the tables of docs/SPEED.md: a bar for each ratio of instructions, and a tick for the ratio of times.
+
+    picture.py           writes the picture
+    picture.py --check   writes nothing, and fails if docs/speed.svg is another picture
+
+It reads each table whose first column is Work. A column `ratio` belongs to the peer whose column is before it, and to the last
+column before both whose header begins with Lezgauri. Both modes fail if a ratio isn't the quotient of the two numbers, as far as their
+rounding shows."""
+import math
+import re
+import sys
+from dataclasses import dataclass
+from pathlib import Path
+
+DOCS = Path(__file__).resolve().parent.parent / "docs"
+PAGE, PICTURE = DOCS / "SPEED.md", DOCS / "speed.svg"
+
+# Every shape is filled with the colour of its class. All differ also for those who see few colours.
+LIGHT = {"page": "#ffffff", "stripe": "#f4f6f8", "grid": "#d3d9df", "ink": "#1f2328", "quiet": "#59636e"}
+LIGHT |= {"bar0": "#0072b2", "bar1": "#e69f00", "alone": "#009e73"}
+DARK = {"page": "#0d1117", "stripe": "#161b22", "grid": "#3d444d", "ink": "#f0f6fc", "quiet": "#9198a1"}
+DARK |= {"bar0": "#56b4e9", "bar1": "#e69f00", "alone": "#2fb98c"}
+
+# In pixels: the picture, the part with the bars, and a bar's distance to the next one.
+WIDTH, LEFT, RIGHT, TOP, LANE = 880, 290, 850, 112, 12
+
+# The ends of the scale, as powers of two.
+LEAST, MOST = -3, 3
+
+TITLE = "What an operation costs, compared to other libraries"
+
+
+@dataclass
+class Ratio:
+    ours: str
+    theirs: str
+    shown: str
+
+    @property
+    def value(self):
+        return float(self.shown)
+
+    def is_quotient(self):
+        """Whether two rounded numbers can have this rounded quotient."""
+        (least, most), (their_least, their_most) = bounds(self.ours), bounds(self.theirs)
+        least_ratio, most_ratio = bounds(self.shown)
+        return least / their_most <= most_ratio and least_ratio <= most / their_least
+
+
+def bounds(number):
+    """The least and the most that is rounded to a number."""
+    digits = number.replace(",", "")
+    half = 0.5 * 10.0 ** -len(digits.partition(".")[2])
+    return float(digits) - half, float(digits) + half
+
+
+def cells(line):
+    return [cell.strip() for cell in line.strip().strip("|").split("|")]
+
+
+def plain(words):
+    """The words of a cell without code and without what is in parentheses."""
+    return re.sub(r"\s*\([^)]*\)|`", "", words)
+
+
+def read_section(page, heading):
+    """The ratios of a section: by the peer, then by the work, then by our build, whose name is empty if there is only one."""
+    section = page.partition(f"\n## {heading}\n")[2].partition("\n## ")[0]
+    peers = {}
+    for table in re.findall(r"(?m)^\| Work \|.*\n\|[-|]+\n(?:\|.*\n)+", section):
+        header, _, *rows = map(cells, table.splitlines())
+        for row in rows:
+            read_row(peers, header, row)
+    return peers
+
+
+def read_row(peers, header, row):
+    build, ours = "", ""
+    for index, column in enumerate(header):
+        if column.startswith("Lezgauri"):
+            build, ours = column.partition(", ")[2], row[index]
+        elif column == "ratio" and row[index]:
+            found = Ratio(ours, row[index - 1], row[index])
+            if not found.is_quotient():
+                raise SystemExit(f"{PAGE.name}: {row[0]}: {found.shown} isn't {found.ours} / {found.theirs}")
+            peers.setdefault(header[index - 1], {}).setdefault(plain(row[0]), {})[build] = found
+
+
+def place(ratio):
+    """Where a ratio is on the scale."""
+    return LEFT + (RIGHT - LEFT) * (math.log2(ratio) - LEAST) / (MOST - LEAST)
+
+
+def box(kind, x, y, width, height, corner=0.0):
+    rounded = f' rx="{corner:g}"' if corner else ""
+    return f'<rect class="{kind}" x="{x:.1f}" y="{y:.1f}" width="{width:.1f}" height="{height:.1f}"{rounded}/>'
+
+
+def write(kind, x, y, words, size, more=""):
+    escaped = words.replace("&", "&amp;").replace("<", "&lt;")
+    return f'<text class="{kind}" x="{x:.1f}" y="{y:.1f}" font-size="{size}"{more}>{escaped}</text>'
+
+
+END, MIDDLE, BOLD = ' text-anchor="end"', ' text-anchor="middle"', ' font-weight="600"'
+
+
+def tick(x, y, height):
+    """A tick with a rim, so that it shows on a bar too."""
+    return box("page", x - 2.5, y, 5, height) + box("ink", x - 1, y, 2, height)
+
+
+def bar(kind, y, ratio, time):
+    """A bar from 1 to a ratio, with the tick of its time if there is one, and the ratio written beyond both."""
+    ends = [place(ratio.value), *([place(time.value)] if time else [])]
+    one, end = place(1), ends[0]
+    parts = [box(kind, min(one, end), y - 4, abs(end - one), 8, 1.5)]
+    parts += [tick(x, y - 6, 12) for x in ends[1:]]
+    if ratio.value < 1:
+        parts.append(write("ink", min(ends) - 6, y + 4, ratio.shown, 11, END))
+    else:
+        parts.append(write("ink", max(ends) + 6, y + 4, ratio.shown, 11))
+    return "".join(parts)
+
+
+def sentence(work, peer, builds, times):
+    """A row of the picture in words."""
+    said = [
+        f"{ratio.shown}{f' with {build}' if build else ''} ({ratio.ours} instructions, {peer} {ratio.theirs}"
+        + (f"; time {times[build].shown})" if build in times else ")")
+        for build, ratio in builds.items()
+    ]
+    return f"{work}: {', '.join(said)}"
+
+
+def legend(kinds, y):
+    """The builds' names behind their colours, from the right."""
+    parts, x = [], RIGHT
+    for build, kind in reversed(kinds.items()):
+        parts.append(write("quiet", x, y, build, 12, END))
+        x -= 6.6 * len(build) + 18
+        parts.append(box(kind, x, y - 9, 12, 9, 1.5))
+        x -= 18
+    return parts
+
+
+def block(y, peer, works, times):
+    """The rows of a peer, beginning at a height. Returns them, the height after them, and their words."""
+    builds = list(dict.fromkeys(build for row in works.values() for build in row))
+    kinds = {build: f"bar{index}" if build else "alone" for index, build in enumerate(builds)}
+    parts = [write("ink", 16, y + 19, f"Beside {peer}", 14, BOLD), *legend({it: kinds[it] for it in builds if it}, y + 19)]
+    words = []
+    y += 28
+    ordered = sorted(works, key=lambda work: max(ratio.value for ratio in works[work].values()))
+    for index, work in enumerate(ordered):
+        row, beside = works[work], times.get(work, {})
+        height = LANE * len(builds) + 6
+        words.append(sentence(work, peer, row, beside))
+        if index % 2 == 0:
+            parts.append(box("stripe", 8, y, WIDTH - 16, height, 3))
+        parts.append(write("ink", 16, y + height / 2 + 4.5, work, 13))
+        first = y + (height - LANE * (len(row) - 1)) / 2
+        parts += [bar(kinds[build], first + LANE * lane, ratio, beside.get(build)) for lane, (build, ratio) in enumerate(row.items())]
+        y += height
+    return parts, y + 6, words
+
+
+def scale(bottom):
+    """The lines of the scale, with their ratios above and below. The line of 1 comes later, over the stripes."""
+    parts = []
+    for power in range(LEAST, MOST + 1):
+        x, words = place(2.0**power), f"1/{2**-power}" if power < 0 else f"{2**power}"
+        parts.append(box("ink" if power == 0 else "grid", x - 0.5, TOP - 8, 1, bottom - TOP + 8))
+        parts += [write("ink" if power == 0 else "quiet", x, y, words, 12, MIDDLE + (BOLD if power == 0 else "")) for y in (TOP - 13, bottom + 16)]
+    return parts
+
+
+def head():
+    """The titles, and what a bar, a tick and a side mean."""
+    y, one = 58, place(1)
+    return [
+        write("ink", 16, 32, TITLE, 19, BOLD),
+        box("quiet", 16, y - 8, 26, 8, 1.5),
+        write("quiet", 48, y, "instructions of one operation: Lezgauri's divided by those of the other library, on a log scale", 13),
+        tick(29, y + 8, 12),
+        write("quiet", 48, y + 19, "the same ratio of times", 13),
+        write("quiet", one - 12, y + 19, "\u2190 Lezgauri needs less", 12, END),
+        write("quiet", one + 12, y + 19, "Lezgauri needs more \u2192", 12),
+    ]
+
+
+def style():
+    def rules(colours):
+        return "".join(f".{kind}{{fill:{colour}}}" for kind, colour in colours.items())
+
+    return f"<style>{rules(LIGHT)}\n@media (prefers-color-scheme: dark){{{rules(DARK)}}}</style>"
+
+
+def picture(page):
+    instructions, times = read_section(page, "Instructions"), read_section(page, "Times")
+    rows, words, y = [], [], TOP
+    for peer, works in instructions.items():
+        parts, y, said = block(y, peer, works, times.get(peer, {}))
+        rows, words = rows + parts, words + said
+    stripes = [it for it in rows if 'class="stripe"' in it]
+    others = [it for it in rows if 'class="stripe"' not in it]
+    font = "system-ui, -apple-system, 'Segoe UI', 'DejaVu Sans', Helvetica, Arial, sans-serif"
+    return "\n".join([
+        f'<svg xmlns="http://www.w3.org/2000/svg" viewBox="0 0 {WIDTH} {y + 28}" role="img" aria-labelledby="title desc" font-family="{font}">',
+        f'<title id="title">{TITLE}</title>',
+        f'<desc id="desc">Ratios below 1 mean that Lezgauri needs less. {". ".join(words)}.</desc>',
+        style(),
+        box("page", 0, 0, WIDTH, y + 28, 8),
+        *stripes, *scale(y), *head(), *others,
+        "</svg>\n",
+    ])
+
+
+def main():
+    if sys.argv[1:] not in ([], ["--check"]):
+        raise SystemExit(__doc__)
+    drawn = picture(PAGE.read_text(encoding="utf-8"))
+    if not sys.argv[1:]:
+        PICTURE.write_text(drawn, encoding="utf-8")
+    elif PICTURE.read_text(encoding="utf-8") != drawn:
+        raise SystemExit(f"{PICTURE.name} isn't the picture of the tables in {PAGE.name}; bench/picture.py draws it")
+
+
+if __name__ == "__main__":
+    main()
