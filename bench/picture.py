@@ -23,12 +23,14 @@ DARK = {"page": "#0d1117", "stripe": "#161b22", "grid": "#3d444d", "ink": "#f0f6
 DARK |= {"bar0": "#56b4e9", "bar1": "#e69f00", "alone": "#2fb98c"}
 
 # In pixels: the picture, the part with the bars, and a bar's distance to the next one.
-WIDTH, LEFT, RIGHT, TOP, LANE = 880, 290, 850, 112, 12
+WIDTH, LEFT, RIGHT, TOP, LANE = 880, 280, 730, 112, 12
+
+# Where the columns of numbers end.
+INSTRUCTIONS, TIMES = 818, 864
 
 # The ends of the scale, as powers of two.
 LEAST, MOST = -3, 3
 
-TITLE = "What an operation costs, compared to other libraries"
 
 
 @dataclass
@@ -111,15 +113,12 @@ def tick(x, y, height):
 
 
 def bar(kind, y, ratio, time):
-    """A bar from 1 to a ratio, with the tick of its time if there is one, and the ratio written beyond both."""
-    ends = [place(ratio.value), *([place(time.value)] if time else [])]
-    one, end = place(1), ends[0]
-    parts = [box(kind, min(one, end), y - 4, abs(end - one), 8, 1.5)]
-    parts += [tick(x, y - 6, 12) for x in ends[1:]]
-    if ratio.value < 1:
-        parts.append(write("ink", min(ends) - 6, y + 4, ratio.shown, 11, END))
-    else:
-        parts.append(write("ink", max(ends) + 6, y + 4, ratio.shown, 11))
+    """A bar from 1 to a ratio, with the tick of its time if there is one, and both ratios as numbers."""
+    one, end = place(1), place(ratio.value)
+    parts = [box(kind, min(one, end), y - 4, abs(end - one), 8, 1.5), write("ink", INSTRUCTIONS, y + 4, ratio.shown, 11, END)]
+    if time:
+        parts.append(tick(place(time.value), y - 6, 12))
+    parts.append(write("ink" if time else "quiet", TIMES, y + 4, time.shown if time else "\u2013", 11, END))
     return "".join(parts)
 
 
@@ -134,58 +133,57 @@ def sentence(work, peer, builds, times):
 
 
 def legend(kinds, y):
-    """The builds' names behind their colours, from the right."""
-    parts, x = [], RIGHT
-    for build, kind in reversed(kinds.items()):
-        parts.append(write("quiet", x, y, build, 12, END))
-        x -= 6.6 * len(build) + 18
-        parts.append(box(kind, x, y - 9, 12, 9, 1.5))
-        x -= 18
-    return parts
+    """The builds' names behind their colours."""
+    parts, x = [], LEFT + 10
+    for build, kind in kinds.items():
+        parts += [box(kind, x, y - 8, 26, 8, 1.5), write("quiet", x + 32, y, build, 12)]
+        x += 7 * len(build) + 60
+    return parts if len(kinds) > 1 else []
 
 
-def block(y, peer, works, times):
+def block(top, peer, works, times):
     """The rows of a peer, beginning at a height. Returns them, the height after them, and their words."""
     builds = list(dict.fromkeys(build for row in works.values() for build in row))
     kinds = {build: f"bar{index}" if build else "alone" for index, build in enumerate(builds)}
-    parts = [write("ink", 16, y + 19, f"Beside {peer}", 14, BOLD), *legend({it: kinds[it] for it in builds if it}, y + 19)]
-    words = []
-    y += 28
-    ordered = sorted(works, key=lambda work: max(ratio.value for ratio in works[work].values()))
-    for index, work in enumerate(ordered):
+    heading = [write("ink", 16, top + 19, peer, 14, BOLD), *legend(kinds, top + 19)]
+    stripes, rows, words = [], [], []
+    y, height = top + 28, LANE * len(builds) + 6
+    for index, work in enumerate(sorted(works, key=lambda it: max(ratio.value for ratio in works[it].values()))):
         row, beside = works[work], times.get(work, {})
-        height = LANE * len(builds) + 6
         words.append(sentence(work, peer, row, beside))
         if index % 2 == 0:
-            parts.append(box("stripe", 8, y, WIDTH - 16, height, 3))
-        parts.append(write("ink", 16, y + height / 2 + 4.5, work, 13))
+            stripes.append(box("stripe", 8, y, WIDTH - 16, height, 3))
+        rows.append(write("ink", 16, y + height / 2 + 4.5, work, 13))
         first = y + (height - LANE * (len(row) - 1)) / 2
-        parts += [bar(kinds[build], first + LANE * lane, ratio, beside.get(build)) for lane, (build, ratio) in enumerate(row.items())]
+        rows += [bar(kinds[build], first + LANE * lane, ratio, beside.get(build)) for lane, (build, ratio) in enumerate(row.items())]
         y += height
-    return parts, y + 6, words
+    return [*heading, *stripes, *lines(top + 28, y), *rows], y + 6, words
 
 
-def scale(bottom):
-    """The lines of the scale, with their ratios above and below. The line of 1 comes later, over the stripes."""
-    parts = []
-    for power in range(LEAST, MOST + 1):
-        x, words = place(2.0**power), f"1/{2**-power}" if power < 0 else f"{2**power}"
-        parts.append(box("ink" if power == 0 else "grid", x - 0.5, TOP - 8, 1, bottom - TOP + 8))
-        parts += [write("ink" if power == 0 else "quiet", x, y, words, 12, MIDDLE + (BOLD if power == 0 else "")) for y in (TOP - 13, bottom + 16)]
-    return parts
+def lines(top, bottom):
+    """The lines of the scale."""
+    return [box("grid" if power else "ink", place(2.0**power) - 0.5, top, 1, bottom - top) for power in range(LEAST, MOST + 1)]
 
 
-def head():
-    """The titles, and what a bar, a tick and a side mean."""
+def scale(y):
+    """The numbers of the scale."""
+    names = {power: f"1/{2**-power}" if power < 0 else str(2**power) for power in range(LEAST, MOST + 1)}
+    return [write("quiet" if power else "ink", place(2.0**power), y, name, 12, MIDDLE) for power, name in names.items()]
+
+
+def head(title):
+    """The title, and what a bar, a tick, a side and a column mean."""
     y, one = 58, place(1)
     return [
-        write("ink", 16, 32, TITLE, 19, BOLD),
+        write("ink", 16, 32, title, 19, BOLD),
         box("quiet", 16, y - 8, 26, 8, 1.5),
-        write("quiet", 48, y, "instructions of one operation: Lezgauri's divided by those of the other library, on a log scale", 13),
-        tick(29, y + 8, 12),
-        write("quiet", 48, y + 19, "the same ratio of times", 13),
-        write("quiet", one - 12, y + 19, "\u2190 Lezgauri needs less", 12, END),
-        write("quiet", one + 12, y + 19, "Lezgauri needs more \u2192", 12),
+        write("quiet", 50, y, "Instructions of one operation: Lezgauri's divided by those of the other library, on a log scale", 13),
+        tick(29, y + 9, 12),
+        write("quiet", 50, y + 20, "The same ratio of times", 13),
+        write("quiet", one - 12, y + 24, "\u2190 Lezgauri needs less", 12, END),
+        write("quiet", one + 12, y + 24, "Lezgauri needs more \u2192", 12),
+        write("quiet", INSTRUCTIONS, TOP - 13, "instructions", 11, END),
+        write("quiet", TIMES, TOP - 13, "time", 11, END),
     ]
 
 
@@ -200,18 +198,18 @@ def picture(page):
     instructions, times = read_section(page, "Instructions"), read_section(page, "Times")
     rows, words, y = [], [], TOP
     for peer, works in instructions.items():
-        parts, y, said = block(y, peer, works, times.get(peer, {}))
-        rows, words = rows + parts, words + said
-    stripes = [it for it in rows if 'class="stripe"' in it]
-    others = [it for it in rows if 'class="stripe"' not in it]
+        parts, y, sentences = block(y, peer, works, times.get(peer, {}))
+        rows, words = rows + parts, words + sentences
+    *most, last = instructions
+    title = f"Lezgauri compared to {', '.join(most)} and {last}"
     font = "system-ui, -apple-system, 'Segoe UI', 'DejaVu Sans', Helvetica, Arial, sans-serif"
     return "\n".join([
-        f'<svg xmlns="http://www.w3.org/2000/svg" viewBox="0 0 {WIDTH} {y + 28}" role="img" aria-labelledby="title desc" font-family="{font}">',
-        f'<title id="title">{TITLE}</title>',
+        f'<svg xmlns="http://www.w3.org/2000/svg" viewBox="0 0 {WIDTH} {y + 24}" role="img" aria-labelledby="title desc" font-family="{font}">',
+        f'<title id="title">{title}</title>',
         f'<desc id="desc">Ratios below 1 mean that Lezgauri needs less. {". ".join(words)}.</desc>',
         style(),
-        box("page", 0, 0, WIDTH, y + 28, 8),
-        *stripes, *scale(y), *head(), *others,
+        box("page", 0, 0, WIDTH, y + 24, 8),
+        *head(title), *scale(TOP - 13), *rows, *scale(y + 10),
         "</svg>\n",
     ])
 
