@@ -16,7 +16,7 @@ from pathlib import Path
 DOCS = Path(__file__).resolve().parent.parent / "docs"
 PAGE, PICTURE = DOCS / "SPEED.md", DOCS / "speed.svg"
 
-# Every shape is filled with the colour of its class. All differ also for those who see few colours.
+# A class has one colour, which fills shapes and letters. Readers who see few colours can tell the bars apart too.
 LIGHT = {"page": "#ffffff", "stripe": "#f4f6f8", "grid": "#d3d9df", "ink": "#1f2328", "quiet": "#59636e"}
 LIGHT |= {"bar0": "#0072b2", "bar1": "#e69f00", "alone": "#009e73"}
 DARK = {"page": "#0d1117", "stripe": "#161b22", "grid": "#3d444d", "ink": "#f0f6fc", "quiet": "#9198a1"}
@@ -31,6 +31,7 @@ INSTRUCTIONS, TIMES = 818, 864
 # The ends of the scale, as powers of two.
 LEAST, MOST = -3, 3
 
+END, MIDDLE, BOLD = ' text-anchor="end"', ' text-anchor="middle"', ' font-weight="600"'
 
 
 @dataclass
@@ -91,6 +92,8 @@ def read_row(peers, header, row):
 
 def place(ratio):
     """Where a ratio is on the scale."""
+    if not 2.0**LEAST <= ratio <= 2.0**MOST:
+        raise SystemExit(f"{ratio} isn't on the scale of the picture")
     return LEFT + (RIGHT - LEFT) * (math.log2(ratio) - LEAST) / (MOST - LEAST)
 
 
@@ -102,9 +105,6 @@ def box(kind, x, y, width, height, corner=0.0):
 def write(kind, x, y, words, size, more=""):
     escaped = words.replace("&", "&amp;").replace("<", "&lt;")
     return f'<text class="{kind}" x="{x:.1f}" y="{y:.1f}" font-size="{size}"{more}>{escaped}</text>'
-
-
-END, MIDDLE, BOLD = ' text-anchor="end"', ' text-anchor="middle"', ' font-weight="600"'
 
 
 def tick(x, y, height):
@@ -168,7 +168,7 @@ def lines(top, bottom):
 def scale(y):
     """The numbers of the scale."""
     names = {power: f"1/{2**-power}" if power < 0 else str(2**power) for power in range(LEAST, MOST + 1)}
-    return [write("quiet" if power else "ink", place(2.0**power), y, name, 12, MIDDLE) for power, name in names.items()]
+    return [write("quiet" if power else "ink", place(2.0**power), y, name, 12, MIDDLE + ("" if power else BOLD)) for power, name in names.items()]
 
 
 def head(title):
@@ -195,7 +195,10 @@ def style():
 
 
 def picture(page):
-    instructions, times = read_section(page, "Instructions"), read_section(page, "Times")
+    instructions, times = read_section(page, "Instructions"), read_section(page, "Times in nanoseconds")
+    timed = {(peer, work) for peer, works in times.items() for work in works}
+    if alone := timed - {(peer, work) for peer, works in instructions.items() for work in works}:
+        raise SystemExit(f"{PAGE.name}: rows with times and no instructions: {sorted(alone)}")
     rows, words, y = [], [], TOP
     for peer, works in instructions.items():
         parts, y, sentences = block(y, peer, works, times.get(peer, {}))
@@ -204,7 +207,7 @@ def picture(page):
     title = f"Lezgauri compared to {', '.join(most)} and {last}"
     font = "system-ui, -apple-system, 'Segoe UI', 'DejaVu Sans', Helvetica, Arial, sans-serif"
     return "\n".join([
-        f'<svg xmlns="http://www.w3.org/2000/svg" viewBox="0 0 {WIDTH} {y + 24}" role="img" aria-labelledby="title desc" font-family="{font}">',
+        f'<svg xmlns="http://www.w3.org/2000/svg" viewBox="0 0 {WIDTH} {y + 24}" role="img" aria-labelledby="title" aria-describedby="desc" font-family="{font}">',
         f'<title id="title">{title}</title>',
         f'<desc id="desc">Ratios below 1 mean that Lezgauri needs less. {". ".join(words)}.</desc>',
         style(),
