@@ -179,7 +179,7 @@ def head(title):
         box("quiet", 16, y - 8, 26, 8, 1.5),
         write("quiet", 50, y, "Instructions of one operation: Lezgauri's divided by those of the other library, on a log scale", 13),
         tick(29, y + 9, 12),
-        write("quiet", 50, y + 20, "The same ratio of times", 13),
+        write("quiet", 50, y + 20, "The same ratio of times, if it was measured", 13),
         write("quiet", one - 12, y + 24, "\u2190 Lezgauri needs less", 12, END),
         write("quiet", one + 12, y + 24, "Lezgauri needs more \u2192", 12),
         write("quiet", INSTRUCTIONS, TOP - 13, "instructions", 11, END),
