@@ -167,8 +167,12 @@ def lines(top, bottom):
 
 def scale(y):
     """The numbers of the scale."""
-    names = {power: f"1/{2**-power}" if power < 0 else str(2**power) for power in range(LEAST, MOST + 1)}
-    return [write("quiet" if power else "ink", place(2.0**power), y, name, 12, MIDDLE + ("" if power else BOLD)) for power, name in names.items()]
+    parts = []
+    for power in range(LEAST, MOST + 1):
+        kind, weight = ("quiet", "") if power else ("ink", BOLD)
+        number = f"1/{2**-power}" if power < 0 else str(2**power)
+        parts.append(write(kind, place(2.0**power), y, number, 12, MIDDLE + weight))
+    return parts
 
 
 def head(title):
@@ -205,9 +209,10 @@ def picture(page):
         rows, words = rows + parts, words + sentences
     *most, last = instructions
     title = f"Lezgauri compared to {', '.join(most)} and {last}"
-    font = "system-ui, -apple-system, 'Segoe UI', 'DejaVu Sans', Helvetica, Arial, sans-serif"
+    font = "font-family=\"system-ui, -apple-system, 'Segoe UI', 'DejaVu Sans', Helvetica, Arial, sans-serif\""
+    described = 'role="img" aria-labelledby="title" aria-describedby="desc"'
     return "\n".join([
-        f'<svg xmlns="http://www.w3.org/2000/svg" viewBox="0 0 {WIDTH} {y + 24}" role="img" aria-labelledby="title" aria-describedby="desc" font-family="{font}">',
+        f'<svg xmlns="http://www.w3.org/2000/svg" viewBox="0 0 {WIDTH} {y + 24}" {described} {font}>',
         f'<title id="title">{title}</title>',
         f'<desc id="desc">Ratios below 1 mean that Lezgauri needs less. {". ".join(words)}.</desc>',
         style(),
