@@ -122,14 +122,14 @@ def bar(kind, y, ratio, time):
     return "".join(parts)
 
 
-def sentence(work, peer, builds, times):
+def sentence(work, row, times):
     """A row of the picture in words."""
-    said = [
-        f"{ratio.shown}{f' with {build}' if build else ''} ({ratio.ours} instructions, {peer} {ratio.theirs}"
-        + (f"; time {times[build].shown})" if build in times else ")")
-        for build, ratio in builds.items()
-    ]
-    return f"{work}: {', '.join(said)}"
+    ratios = []
+    for build, ratio in row.items():
+        name = f" with {build}" if build else ""
+        time = f", time {times[build].shown}" if build in times else ""
+        ratios.append(f"{ratio.shown}{name} ({ratio.ours} to {ratio.theirs} instructions{time})")
+    return f"{work}: {', '.join(ratios)}."
 
 
 def legend(kinds, y):
@@ -146,11 +146,11 @@ def block(top, peer, works, times):
     builds = list(dict.fromkeys(build for row in works.values() for build in row))
     kinds = {build: f"bar{index}" if build else "alone" for index, build in enumerate(builds)}
     heading = [write("ink", 16, top + 19, peer, 14, BOLD), *legend(kinds, top + 19)]
-    stripes, rows, words = [], [], []
+    stripes, rows, words = [], [], [f"Compared to {peer}."]
     y, height = top + 28, LANE * len(builds) + 6
     for index, work in enumerate(sorted(works, key=lambda it: max(ratio.value for ratio in works[it].values()))):
         row, beside = works[work], times.get(work, {})
-        words.append(sentence(work, peer, row, beside))
+        words.append(sentence(work, row, beside))
         if index % 2 == 0:
             stripes.append(box("stripe", 8, y, WIDTH - 16, height, 3))
         rows.append(write("ink", 16, y + height / 2 + 4.5, work, 13))
@@ -214,7 +214,7 @@ def picture(page):
     return "\n".join([
         f'<svg xmlns="http://www.w3.org/2000/svg" viewBox="0 0 {WIDTH} {y + 24}" {described} {font}>',
         f'<title id="title">{title}</title>',
-        f'<desc id="desc">Ratios below 1 mean that Lezgauri needs less. {". ".join(words)}.</desc>',
+        f'<desc id="desc">Ratios below 1 mean that Lezgauri needs less. {" ".join(words)}</desc>',
         style(),
         box("page", 0, 0, WIDTH, y + 24, 8),
         *head(title), *scale(TOP - 13), *rows, *scale(y + 10),
