@@ -62,13 +62,8 @@ def cells(line):
     return [cell.strip() for cell in line.strip().strip("|").split("|")]
 
 
-def plain(words):
-    """The words of a cell without code and without what is in parentheses."""
-    return re.sub(r"\s*\([^)]*\)|`", "", words)
-
-
 def read_section(page, heading):
-    """The ratios of a section: by the peer, then by the work, then by our build, whose name is empty if there is only one."""
+    """The ratios of a section: by the peer, then by the work, then by our build, whose name is empty if it is the only one."""
     section = page.partition(f"\n## {heading}\n")[2].partition("\n## ")[0]
     peers = {}
     for table in re.findall(r"(?m)^\| Work \|.*\n\|[-|]+\n(?:\|.*\n)+", section):
@@ -87,7 +82,7 @@ def read_row(peers, header, row):
             found = Ratio(ours, row[index - 1], row[index])
             if not found.is_quotient():
                 raise SystemExit(f"{PAGE.name}: {row[0]}: {found.shown} isn't {found.ours} / {found.theirs}")
-            peers.setdefault(header[index - 1], {}).setdefault(plain(row[0]), {})[build] = found
+            peers.setdefault(header[index - 1], {}).setdefault(row[0], {})[build] = found
 
 
 def place(ratio):
