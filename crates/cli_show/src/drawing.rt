@@ -23,6 +23,9 @@ const HEIGHT: u32 = 12;
 /// The height above the first row, with the legend, in pixels.
 const TOP: u32 = 40;
 
+/// The space beside and below the cells, in pixels.
+const MARGIN: u32 = 8;
+
 /// A cell of the picture: a run of units, all of one length.
 #[derive(Clone, Copy)]
 struct Cell {
@@ -93,13 +96,25 @@ fn paint(cells: &mut [Cell], it: &OwnedBlock, scale: u32)
     }
 }
 
+/// What the picture is called, and its colours on a light and on a dark page.
+const HEAD: &str = "<title>The heap of a segment</title>
+<style>.page{fill:#ffffff}text{fill:#1f2328}@media(prefers-color-scheme:dark){.page{fill:#0d1117}text{fill:#f0f6fc}[fill=\"#e8e8e8\"]{fill:#30363d}}</style>
+";
+
+/// Begins a picture of so many rows, with its background.
 fn begin(lines: &mut Lines, rows: u32) -> Result<(), AllocError> {
-    let (width, height) = (
-        COLUMNS * WIDTH,
-        rows.saturating_mul(HEIGHT).saturating_add(TOP),
-    );
+    let margin = MARGIN;
+    let width = COLUMNS * WIDTH + 2 * MARGIN;
+    let height = rows
+        .saturating_mul(HEIGHT)
+        .saturating_add(TOP)
+        .saturating_add(MARGIN);
     lines.add(format!(in lines.alloc();
-        "<svg xmlns=\"http://www.w3.org/2000/svg\" viewBox=\"0 0 {width} {height}\" font-family=\"sans-serif\" font-size=\"14\">\n"
+        "<svg xmlns=\"http://www.w3.org/2000/svg\" viewBox=\"-{margin} 0 {width} {height}\" font-family=\"sans-serif\" font-size=\"14\">\n"
+    )?.as_bytes())?;
+    lines.add(HEAD.as_bytes())?;
+    lines.add(format!(in lines.alloc();
+        "<rect class=\"page\" x=\"-{margin}\" y=\"0\" width=\"{width}\" height=\"{height}\" rx=\"{margin}\"/>\n"
     )?.as_bytes())
 }
 

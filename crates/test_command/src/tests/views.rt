@@ -424,7 +424,10 @@ $ segtool map saved
 
 /// The picture of the counter: a row of two cells for the number and three for the index.
 const PICTURE: &str =
-    "<svg xmlns=\"http://www.w3.org/2000/svg\" viewBox=\"0 0 1024 52\" font-family=\"sans-serif\" font-size=\"14\">
+    "<svg xmlns=\"http://www.w3.org/2000/svg\" viewBox=\"-8 0 1040 60\" font-family=\"sans-serif\" font-size=\"14\">
+<title>The heap of a segment</title>
+<style>.page{fill:#ffffff}text{fill:#1f2328}@media(prefers-color-scheme:dark){.page{fill:#0d1117}text{fill:#f0f6fc}[fill=\"#e8e8e8\"]{fill:#30363d}}</style>
+<rect class=\"page\" x=\"-8\" y=\"0\" width=\"1040\" height=\"60\" rx=\"8\"/>
 <rect x=\"0\" y=\"8\" width=\"16\" height=\"16\" fill=\"#0072b2\"/><text x=\"20\" y=\"21\">object</text>
 <rect x=\"90\" y=\"8\" width=\"16\" height=\"16\" fill=\"#56b4e9\"/><text x=\"110\" y=\"21\">buffer</text>
 <rect x=\"180\" y=\"8\" width=\"16\" height=\"16\" fill=\"#009e73\"/><text x=\"200\" y=\"21\">node</text>
