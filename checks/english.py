@@ -13,7 +13,7 @@ from pathlib import Path
 
 ROOT = Path(__file__).resolve().parent.parent
 LIMITS = Path(__file__).with_suffix(".limits")
-FILES = ("README.md", "docs/*.md", "crates/*/CALLING.md", "crates/*/src/**/*.rt", "crates/*/specs/**/*.antt", "crates/*/proofs/**/*.antt")
+FILES = ("README.md", "docs/*.md", "crates/*/CALLING.md", "crates/*/README.md", "crates/*/src/**/*.rt", "crates/*/specs/**/*.antt", "crates/*/proofs/**/*.antt")
 
 # What begins a comment, by the file's suffix.
 COMMENTS = {".rt": r"(?:^|\s)//[/!]? ?(.*)", ".antt": r"(?:^|\s)-- ?(.*)"}
