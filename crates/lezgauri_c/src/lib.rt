@@ -7,6 +7,7 @@ mod checking;
 mod fault;
 mod open;
 mod report;
+mod run_in_place;
 mod running;
 mod status;
 
