@@ -5,12 +5,17 @@ mod accepting;
 mod buffer;
 mod checking;
 mod fault;
+mod kept;
 mod open;
+mod prepared;
+mod preparing;
 mod report;
 mod run_in_place;
 mod running;
 mod status;
 
 pub use fault::Fault;
+pub use kept::Kept;
+pub use prepared::Prepared;
 pub use report::Report;
 pub use running::Client;

@@ -1,4 +1,4 @@
-ghost use Rattle.std.specs.Prelude.{◌≡◌, ◌↔◌, true, false, Ok, [], ◌∷◌, length, IfOk, IfErr, OnErr};
+ghost use Rattle.std.specs.Prelude.{◌≡◌, ◌↔◌, true, false, Ok, [], ◌∷◌, length, IfOk, IfErr, OnErr, ℕ};
 ghost use Rattle.seg_bytes.specs.Bytes.{word};
 ghost use Rattle.seg_spec.specs.Header.{allocator_word};
 ghost use Rattle.seg_spec.specs.Types.{Table};
@@ -62,6 +62,52 @@ pub(crate) fn verify_and_run<A: Allocator, W: Sink>(
             (Ok(told), image)
         }
         Err(refused) => (Err(refused), window.into_bytes()),
+    }
+}
+
+/// Runs a client that is ready on an image, in the image's own memory. If its types and the image's differ, nothing is written, and
+/// the bytes come back as they were.
+pub(crate) fn run_again<A: Allocator, W: Sink>(
+    image: Vec<u8, A>,
+    client: &Ready<Global>,
+    input: &[u8],
+    sink: &mut W,
+) -> (Result<Told, Refused>, Vec<u8, A>)
+    requires works { W.has_failed sink.old ≡ false }
+    ensures within { IfOk result.0 (IsReportOf (bytes_of (client_in client.now))) }
+    ensures outcome { OfTree (client_in client.now) (λ _. IfOk result.0 (λ told.
+        IsSound image.items →
+        HasOutcome image.items (bytes_of (client_in client.now) ∷ []) input.now
+        (length image.items) 0 [] (W.taken sink.old) (W.taken sink.new) result.1.items
+        (told ∷ []) told.ended)) }
+    ensures refused { OfTree (client_in client.now) (λ _. IfErr result.0 (λ refused.
+        IsSound image.items →
+        IsWrong image.items (bytes_of (client_in client.now) ∷ []) refused)) }
+    ensures mismatch { IfErr result.0 (λ refused. IsSound image.items →
+        (k : ℕ) × (refused.fault ≡ Reason.TypeMismatch k)) }
+    ensures kept { OnErr result.0 (result.1.items ≡ image.items) }
+    ensures unwritten { OnErr result.0 (sink.new ≡ sink.old) }
+{
+    let window = match window_of(image) {
+        Ok(window) => window,
+        Err(image) => return (Err(Refused::from(Reason::BadHeader)), image),
+    };
+    let types = match types_of(&window) {
+        Ok(types) => types,
+        Err(fault) => return (Err(Refused::from(fault)), window.into_bytes()),
+    };
+    match types.agrees(client.verified().types()) {
+        Ok(()) => {
+            let (told, image) = run_ready(window, types, client, input, sink);
+            (Ok(told), image)
+        }
+        Err(fault) => {
+            let refused = Refused {
+                client: Some(0),
+                fault,
+            };
+            (Err(refused), window.into_bytes())
+        }
     }
 }
 
