@@ -61,6 +61,7 @@ pub(crate) struct Counter<A: Allocator> {
     whole: bool,
     failed: bool,
     written: Log,
+    ghost small: { room < 2 ^ 63 },
     ghost counted: { count ≡ length written.bytes },
     ghost within: { room ≤ vec_capacity kept },
     ghost all_kept: { whole ≡ true → kept.items ≡ written.bytes },
@@ -72,6 +73,7 @@ impl<A: Allocator> Counter<A> {
     /// A sink over a `Vec`, which it never grows.
     pub(crate) fn new(bytes: Vec<u8, A>) -> Counter<A>
         ensures works { result.failed ≡ false }
+        ensures whole { result.whole ≡ true }
         ensures bytes { result.written.bytes ≡ bytes.items }
         ensures room { result.room ≡ vec_capacity bytes }
     {
@@ -96,14 +98,17 @@ impl<A: Allocator> Counter<A> {
     /// Whether it kept all bytes, and then those bytes; else none.
     pub(crate) fn into_whole(self) -> (bool, Vec<u8, A>)
         ensures whole { result.0 ≡ true → result.1.items ≡ self.written.bytes }
+        ensures works { result.0 ≡ true → self.failed ≡ false }
         ensures none { result.0 ≡ false → result.1.items ≡ [] }
         ensures full { result.0 ≡ false → self.room < length self.written.bytes }
+        ensures kept { self.whole ≡ true → self.failed ≡ false → result.0 ≡ true }
     {
+        let whole = self.whole && !self.failed;
         let mut kept = self.kept;
-        if !self.whole {
+        if !whole {
             kept.clear();
         }
-        (self.whole, kept)
+        (whole, kept)
     }
 }
 
