@@ -36,12 +36,15 @@ void *__real_realloc(void *block, size_t size);
 
 static size_t asked;
 static size_t requests;
+static size_t image_requests; /* those for as many bytes as the image has */
+static size_t image_len;
 static void (*at_request)(size_t request);
 
 static void note(size_t size)
 {
     asked += size;
     requests++;
+    image_requests += size == image_len;
     if (at_request != NULL) {
         at_request(requests);
     }
@@ -64,6 +67,7 @@ static void watch(void (*call)(size_t request))
 {
     asked = 0;
     requests = 0;
+    image_requests = 0;
     at_request = call;
 }
 
@@ -93,7 +97,6 @@ static uint8_t *read_file(const char *name, size_t *len)
 }
 
 static uint8_t *image;
-static size_t image_len;
 static uint8_t *client;
 static size_t client_len;
 
@@ -268,6 +271,110 @@ static void run_on_calls(void)
     lezgauri_close(handle);
 }
 
+static void run_whole_calls(void)
+{
+    lezgauri_handle *handle = opened();
+    lezgauri_report report = {.steps = 7};
+    lezgauri_fault fault;
+    size_t needed;
+    char *output = room(3);
+    expect("run whole, no room", lezgauri_run_whole(handle, client, client_len, NULL, 0, NULL, 0, &needed, &report, &fault),
+           LEZGAURI_OUTPUT_FULL);
+    expect("run whole, no room: needed", needed, 3);
+    expect("run whole, no room: number", fault.number, 0);
+    expect("run whole, no room: report", report.steps, 7);
+    expect("run whole, no room: as before", x_of(handle), 41);
+    expect("run whole, a byte too small", lezgauri_run_whole(handle, client, client_len, NULL, 0, output, 2, &needed, &report, NULL),
+           LEZGAURI_OUTPUT_FULL);
+    expect("run whole, a byte too small: needed", needed, 3);
+    expect("run whole, a byte too small: as before", x_of(handle), 41);
+    expect("run whole, needed null", lezgauri_run_whole(handle, client, client_len, NULL, 0, output, 2, NULL, NULL, NULL),
+           LEZGAURI_OUTPUT_FULL);
+    expect("run whole", lezgauri_run_whole(handle, client, client_len, NULL, 0, output, needed, &needed, &report, &fault),
+           LEZGAURI_OK);
+    expect("run whole: needed", needed, 3);
+    expect("run whole: output", (uint64_t)memcmp(output, "42\n", 3), 0);
+    expect("run whole: steps", report.steps, 6);
+    expect("run whole: ended", report.ended, 0);
+    expect("run whole: x", x_of(handle), 42);
+    expect("run whole, all null", lezgauri_run_whole(handle, client, client_len, NULL, 0, output, 3, NULL, NULL, NULL), LEZGAURI_OK);
+    expect("run whole, cut client",
+           lezgauri_run_whole(handle, client, client_len - 1, NULL, 0, output, 3, &needed, &report, &fault), LEZGAURI_BAD_CODE);
+    expect("run whole, cut client: needed", needed, 0);
+    expect("run whole, cut client: number", fault.number, LEZGAURI_BAD_CODE);
+    expect("run whole, cut client: as before", x_of(handle), 43);
+    free(output);
+    lezgauri_close(handle);
+}
+
+/* What runs on an open segment ask of malloc: no copy of the image, unless they run whole, and no room for the output. */
+static void memory_of_runs(void)
+{
+    lezgauri_handle *handle = opened();
+    char *output = room(1 << 20);
+    watch(NULL);
+    expect("memory of run on", lezgauri_run_on(handle, client, client_len, NULL, 0, output, 3, NULL, NULL, NULL), LEZGAURI_OK);
+    size_t little = asked;
+    expect("memory of run on: the image", image_requests, 0);
+    watch(NULL);
+    expect("memory of run on, more room", lezgauri_run_on(handle, client, client_len, NULL, 0, output, 1 << 20, NULL, NULL, NULL),
+           LEZGAURI_OK);
+    expect("memory of run on, more room: as much", asked, little);
+    watch(NULL);
+    expect("memory of run whole", lezgauri_run_whole(handle, client, client_len, NULL, 0, output, 1 << 20, NULL, NULL, NULL),
+           LEZGAURI_OK);
+    expect("memory of run whole: the image", image_requests, 1);
+    expect("memory of run whole: no more", asked, little + image_len);
+    watch(NULL);
+    free(output);
+    lezgauri_close(handle);
+}
+
+/* An export and the memory that it takes, as include/lezgauri.c declares them. */
+typedef struct lent {
+    uint8_t *at;
+    size_t len;
+    size_t room;
+} lent;
+
+uint32_t lezgauri_raw_run_on(lent *image, const uint8_t *client, size_t client_len, const uint8_t *input, size_t input_len,
+                             lent *output, lezgauri_report *report, lezgauri_fault *fault);
+
+static void came_back(const char *name, lent memory, const uint8_t *at, size_t len, size_t capacity)
+{
+    expect(name, memory.at == at && memory.len == len && memory.room == capacity, 1);
+}
+
+/* Memory that the library is lent comes back where it was, with an image as long as before. */
+static void lent_memory(void)
+{
+    uint8_t *bytes = room(image_len);
+    uint8_t *output = room(16);
+    lezgauri_report report;
+    lezgauri_fault fault;
+    memcpy(bytes, image, image_len);
+    memset(output, 0x55, 16);
+    lent segment = {bytes, image_len, image_len};
+    lent printed = {output, 0, 16};
+    expect("lent", lezgauri_raw_run_on(&segment, client, client_len, output, 0, &printed, &report, &fault), LEZGAURI_OK);
+    came_back("lent: the image", segment, bytes, image_len, image_len);
+    came_back("lent: the output", printed, output, 3, 16);
+    expect("lent: printed", (uint64_t)memcmp(output, "42\n\x55", 4), 0);
+    expect("lent: more behind it", lezgauri_raw_run_on(&segment, client, client_len, output, 0, &printed, &report, &fault),
+           LEZGAURI_OK);
+    came_back("lent: more behind it: the output", printed, output, 6, 16);
+    expect("lent: more behind it: printed", (uint64_t)memcmp(output, "42\n43\n\x55", 7), 0);
+    expect("lent, a cut client", lezgauri_raw_run_on(&segment, client, client_len - 1, output, 0, &printed, &report, &fault),
+           LEZGAURI_BAD_CODE);
+    came_back("lent, a cut client: the image", segment, bytes, image_len, image_len);
+    came_back("lent, a cut client: the output", printed, output, 6, 16);
+    memset(bytes, 0xFF, image_len);
+    lezgauri_raw_run_on(&segment, client, client_len, output, 0, &printed, &report, &fault);
+    came_back("lent bytes that are no image", segment, bytes, image_len, image_len);
+    free(bytes);
+    free(output);
+}
+
 static void save_calls(void)
 {
     lezgauri_handle *handle = opened();
@@ -341,6 +448,12 @@ static uint32_t make_run_on(const argument *a)
 {
     return lezgauri_run_on((lezgauri_handle *)a[6].at, a[4].at, a[4].len, a[5].at, a[5].len, a[3].at, a[3].len,
                            (size_t *)a[1].at, (lezgauri_report *)a[2].at, (lezgauri_fault *)a[0].at);
+}
+
+static uint32_t make_run_whole(const argument *a)
+{
+    return lezgauri_run_whole((lezgauri_handle *)a[6].at, a[4].at, a[4].len, a[5].at, a[5].len, a[3].at, a[3].len,
+                              (size_t *)a[1].at, (lezgauri_report *)a[2].at, (lezgauri_fault *)a[0].at);
 }
 
 static uint32_t make_save(const argument *a)
@@ -513,6 +626,12 @@ static void arguments(void)
          {FAULT, PLACE(size_t, "written"), PLACE(lezgauri_report, "report"), OUTPUT, CLIENT, INPUT, SEGMENT},
          true,
          true},
+        {"run whole",
+         make_run_whole,
+         7,
+         {FAULT, PLACE(size_t, "needed"), PLACE(lezgauri_report, "report"), OUTPUT, CLIENT, INPUT, SEGMENT},
+         true,
+         true},
         {"save",
          make_save,
          3,
@@ -593,6 +712,9 @@ static void use_meanwhile(size_t request)
     expect("run on a busy segment: number", fault.number, LEZGAURI_BUSY);
     expect("run on a busy segment: client", fault.client, LEZGAURI_NO_CLIENT);
     expect("run on a busy segment: written", count, 7);
+    expect("run whole on a busy segment",
+           lezgauri_run_whole(shared, client, client_len, NULL, 0, output, 3, &count, NULL, &fault), LEZGAURI_BUSY);
+    expect("run whole on a busy segment: needed", count, 7);
     expect("save of a busy segment, no room", lezgauri_save(shared, saved, 1, NULL), LEZGAURI_TOO_SMALL);
     uint8_t whole[4096];
     expect("save of a busy segment", lezgauri_save(shared, whole, image_len, NULL), LEZGAURI_BUSY);
@@ -673,6 +795,9 @@ int main(int argc, char **argv)
     run_calls();
     open_calls();
     run_on_calls();
+    run_whole_calls();
+    memory_of_runs();
+    lent_memory();
     save_calls();
     arguments();
     changing_image();

@@ -9,17 +9,26 @@
 #include <stdlib.h>
 #include <string.h>
 
+/* Memory that a call lends to the library: where it begins, how many of its bytes are in use, and how many it has. It is Lent of
+ * the crate seg_lent. The library uses the memory where it lies, and gives it back with as many bytes in use as there are then; it
+ * doesn't move, and an image's length stays. */
+typedef struct lent {
+    uint8_t *at;
+    size_t len;
+    size_t room;
+} lent;
+
 /* The exports of the library. A slice is a pointer, never null, and a length. */
 uint32_t lezgauri_raw_check(const uint8_t *image, size_t len, lezgauri_fault *fault);
 uint32_t lezgauri_raw_verify(const uint8_t *image, size_t len, const uint8_t *client, size_t client_len, uint64_t *bound,
                              lezgauri_fault *fault);
 uint32_t lezgauri_raw_run(const uint8_t *image, size_t image_len, const lezgauri_bytes *clients, size_t count,
-                          const uint8_t *input, size_t input_len, uint8_t *output, size_t capacity, size_t *written,
-                          uint8_t *saved, size_t saved_len, lezgauri_report *reports, size_t reports_len,
-                          lezgauri_fault *fault);
-uint32_t lezgauri_raw_run_on(uint8_t *image, size_t len, const uint8_t *client, size_t client_len, const uint8_t *input,
-                             size_t input_len, uint8_t *output, size_t capacity, size_t *written, lezgauri_report *report,
-                             lezgauri_fault *fault);
+                          const uint8_t *input, size_t input_len, lent *output, uint8_t *saved, size_t saved_len,
+                          lezgauri_report *reports, size_t reports_len, lezgauri_fault *fault);
+uint32_t lezgauri_raw_run_on(lent *image, const uint8_t *client, size_t client_len, const uint8_t *input, size_t input_len,
+                             lent *output, lezgauri_report *report, lezgauri_fault *fault);
+uint32_t lezgauri_raw_run_whole(lent *image, const uint8_t *client, size_t client_len, const uint8_t *input, size_t input_len,
+                                lent *output, size_t *needed, lezgauri_report *report, lezgauri_fault *fault);
 
 /* The most bytes of an image. */
 #define MOST_IMAGE ((size_t)1 << 30)
@@ -237,13 +246,12 @@ uint32_t lezgauri_run(const void *image, size_t image_len, const lezgauri_bytes 
     if (!are_apart(of) || !may_read_clients(clients, count, of)) {
         return refuse_run(LEZGAURI_BAD_ARGUMENT, fault, of, clients, count);
     }
-    size_t taken = 0;
+    lent printed = {or_room(output), 0, capacity};
     lezgauri_fault told;
-    uint32_t status = lezgauri_raw_run(or_empty(image), image_len, or_empty(clients), count, or_empty(input), input_len,
-                                       or_room(output), capacity, &taken, or_room(saved), image_len, or_room(reports),
-                                       reports_len, &told);
+    uint32_t status = lezgauri_raw_run(or_empty(image), image_len, or_empty(clients), count, or_empty(input), input_len, &printed,
+                                       or_room(saved), image_len, or_room(reports), reports_len, &told);
     if (written != NULL) {
-        *written = taken;
+        *written = printed.len;
     }
     tell(fault, &told);
     return status;
@@ -309,35 +317,76 @@ uint32_t lezgauri_open(const void *image, size_t len, lezgauri_handle **handle, 
     return status;
 }
 
+/* What lezgauri_run_on and lezgauri_run_whole take. `length` is where the output's length goes. */
+typedef struct run_arguments {
+    lezgauri_handle *handle;
+    const void *client;
+    size_t client_len;
+    const void *input;
+    size_t input_len;
+    void *output;
+    size_t capacity;
+    size_t *length;
+    lezgauri_report *report;
+    lezgauri_fault *fault;
+} run_arguments;
+
+/* Runs a client on an open segment: all or nothing if it is to run whole. */
+static uint32_t run_on(const run_arguments *with, bool is_whole)
+{
+    span spans[] = {one(with->fault, sizeof *with->fault),
+                    one(with->length, sizeof *with->length),
+                    one(with->report, sizeof *with->report),
+                    one(with->output, with->capacity),
+                    segment_at(with->handle),
+                    one(with->client, with->client_len),
+                    one(with->input, with->input_len)};
+    memory of = MEMORY(spans, 5);
+    if (with->handle == NULL || !may_be_bytes(with->client, with->client_len) || !may_be_bytes(with->input, with->input_len) ||
+        !may_be_bytes(with->output, with->capacity) || !may_tell(with->length, _Alignof(size_t)) ||
+        !may_tell(with->report, _Alignof(lezgauri_report)) || !may_tell(with->fault, _Alignof(lezgauri_fault)) || !are_apart(of)) {
+        return refuse(LEZGAURI_BAD_ARGUMENT, with->fault, of);
+    }
+    if (!acquire(with->handle)) {
+        return refuse(LEZGAURI_BUSY, with->fault, of);
+    }
+    lent image = {with->handle->image, with->handle->len, with->handle->len};
+    lent printed = {or_room(with->output), 0, with->capacity};
+    size_t length = 0;
+    lezgauri_report reported = {0};
+    lezgauri_fault told;
+    uint32_t status;
+    if (is_whole) {
+        status = lezgauri_raw_run_whole(&image, or_empty(with->client), with->client_len, or_empty(with->input), with->input_len, &printed,
+                                        &length, &reported, &told);
+    } else {
+        status = lezgauri_raw_run_on(&image, or_empty(with->client), with->client_len, or_empty(with->input), with->input_len, &printed,
+                                     &reported, &told);
+        length = printed.len;
+    }
+    release(with->handle);
+    if (with->length != NULL) {
+        *with->length = length;
+    }
+    if (with->report != NULL && (status == LEZGAURI_OK || (status == LEZGAURI_OUTPUT_FULL && !is_whole))) {
+        *with->report = reported;
+    }
+    tell(with->fault, &told);
+    return status;
+}
+
 uint32_t lezgauri_run_on(lezgauri_handle *handle, const void *client, size_t client_len, const void *input,
                          size_t input_len, void *output, size_t capacity, size_t *written, lezgauri_report *report,
                          lezgauri_fault *fault)
 {
-    span spans[] = {one(fault, sizeof *fault), one(written, sizeof *written), one(report, sizeof *report), one(output, capacity),
-                    segment_at(handle),        one(client, client_len),       one(input, input_len)};
-    memory of = MEMORY(spans, 5);
-    if (handle == NULL || !may_be_bytes(client, client_len) || !may_be_bytes(input, input_len) ||
-        !may_be_bytes(output, capacity) || !may_tell(written, _Alignof(size_t)) ||
-        !may_tell(report, _Alignof(lezgauri_report)) || !may_tell(fault, _Alignof(lezgauri_fault)) || !are_apart(of)) {
-        return refuse(LEZGAURI_BAD_ARGUMENT, fault, of);
-    }
-    if (!acquire(handle)) {
-        return refuse(LEZGAURI_BUSY, fault, of);
-    }
-    size_t taken = 0;
-    lezgauri_report reported = {0};
-    lezgauri_fault told;
-    uint32_t status = lezgauri_raw_run_on(handle->image, handle->len, or_empty(client), client_len, or_empty(input),
-                                          input_len, or_room(output), capacity, &taken, &reported, &told);
-    release(handle);
-    if (written != NULL) {
-        *written = taken;
-    }
-    if (report != NULL && (status == LEZGAURI_OK || status == LEZGAURI_OUTPUT_FULL)) {
-        *report = reported;
-    }
-    tell(fault, &told);
-    return status;
+    return run_on(&(run_arguments){handle, client, client_len, input, input_len, output, capacity, written, report, fault}, false);
+}
+
+uint32_t lezgauri_run_whole(lezgauri_handle *handle, const void *client, size_t client_len, const void *input,
+                            size_t input_len, void *output, size_t capacity, size_t *needed, lezgauri_report *report,
+                            lezgauri_fault *fault)
+{
+    return run_on(&(run_arguments){handle, client, client_len, input, input_len, output, capacity, needed, report, fault}, true);
 }
 
 uint32_t lezgauri_save(const lezgauri_handle *handle, void *buffer, size_t capacity, size_t *needed)

@@ -6,7 +6,7 @@
  * said.
  *
  * Each call returns a status: LEZGAURI_OK, the number of a fault, or one of the numbers from 100 on below. With a fault,
- * LEZGAURI_BAD_ARGUMENT or LEZGAURI_BUSY nothing ran, and the caller's memory is unchanged but for *fault, *written and
+ * LEZGAURI_BAD_ARGUMENT or LEZGAURI_BUSY nothing ran, and the caller's memory is unchanged but for *fault, *written, *needed and
  * *handle. No call aborts, unwinds, prints, or reads or writes beyond the lengths that it is given. Memory that a call takes
  * comes from malloc, and has gone back to free when it returns, but for an open segment; LEZGAURI_MEMORY says that malloc refused.
  *
@@ -65,7 +65,7 @@ enum {
 enum {
     LEZGAURI_STACK_CHECK = 32 * 1024,  /* lezgauri_check, lezgauri_open */
     LEZGAURI_STACK_VERIFY = 48 * 1024, /* lezgauri_verify */
-    LEZGAURI_STACK_RUN = 384 * 1024,   /* lezgauri_run, lezgauri_run_on */
+    LEZGAURI_STACK_RUN = 384 * 1024,   /* lezgauri_run, lezgauri_run_on, lezgauri_run_whole */
     LEZGAURI_STACK_SAVE = 4 * 1024     /* lezgauri_save, lezgauri_close */
 };
 
@@ -144,10 +144,27 @@ uint32_t lezgauri_open(const void *image, size_t len, lezgauri_handle **handle, 
  * Verifies a client and runs it on an open segment; the memory is that of lezgauri_run. `report`, `written` and `fault` may be
  * null. With a fault nothing ran, and the segment is as before. With LEZGAURI_OUTPUT_FULL the client ran up to the output that had no
  * room, and the segment is as it was there.
+ *
+ * The client works on the segment and prints to `output` where they lie: nothing of the image or of the output's room is copied or
+ * taken from malloc, which is asked for the decoded client alone. So a run that a crash cuts off leaves a segment that is half
+ * changed: save it before, or use lezgauri_run_whole.
  */
 uint32_t lezgauri_run_on(lezgauri_handle *handle, const void *client, size_t client_len, const void *input,
                          size_t input_len, void *output, size_t capacity, size_t *written, lezgauri_report *report,
                          lezgauri_fault *fault);
+
+/*
+ * As lezgauri_run_on, but all or nothing: the client runs to its end on a copy of the image, which malloc is asked for, and the
+ * segment becomes the saved image only if `output` has room for all that the client prints. *needed is the length of the whole
+ * output; `needed` may be null.
+ *
+ * LEZGAURI_OUTPUT_FULL if `capacity` is less than *needed: then the segment and *report are as before, and what `output` holds means
+ * nothing. A call with that much room and the same input succeeds, unless the segment was changed meanwhile or malloc refuses.
+ * With a fault *needed is 0.
+ */
+uint32_t lezgauri_run_whole(lezgauri_handle *handle, const void *client, size_t client_len, const void *input,
+                            size_t input_len, void *output, size_t capacity, size_t *needed, lezgauri_report *report,
+                            lezgauri_fault *fault);
 
 /*
  * Copies the image of an open segment to `buffer`, which has room for `capacity` bytes. *needed is the image's length; `needed`

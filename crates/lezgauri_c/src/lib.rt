@@ -13,6 +13,7 @@ mod report;
 mod run_in_place;
 mod running;
 mod status;
+mod whole;
 
 pub use fault::Fault;
 pub use kept::Kept;

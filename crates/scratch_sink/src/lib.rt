@@ -1,0 +1,3 @@
+#![tactic(auto)]
+
+mod buffer;
