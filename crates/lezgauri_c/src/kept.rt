@@ -23,6 +23,8 @@ impl Model for Kept {
     ghost also_owns = { λ kept. may_own kept.at kept.value };
 }
 
+unsafe impl Send for Kept {}
+
 impl Kept {
     /// No client.
     pub(crate) fn none() -> Kept
