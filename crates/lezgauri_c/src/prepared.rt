@@ -24,7 +24,7 @@ impl Prepared {
     /// Takes the client, and leaves none.
     pub(crate) fn take(&mut self, alloc: Global) -> Box<Ready<'static, Global>>
         requires { is_some self.old.kept.value ≡ true }
-        ensures { self.old.kept.value ≡ Some result.value }
+        ensures client { self.old.kept.value ≡ Some result.value }
         ensures none { self.new.kept.value ≡ None }
     {
         let Prepared { kept, is_there: _ } = replace(self, none());
