@@ -357,11 +357,11 @@ static uint32_t run_on(const run_arguments *with, bool is_whole)
     lezgauri_fault told;
     uint32_t status;
     if (is_whole) {
-        status = lezgauri_raw_run_whole(&image, or_empty(with->client), with->client_len, or_empty(with->input), with->input_len, &printed,
-                                        &length, &reported, &told);
+        status = lezgauri_raw_run_whole(&image, or_empty(with->client), with->client_len, or_empty(with->input), with->input_len,
+                                        &printed, &length, &reported, &told);
     } else {
-        status = lezgauri_raw_run_on(&image, or_empty(with->client), with->client_len, or_empty(with->input), with->input_len, &printed,
-                                     &reported, &told);
+        status = lezgauri_raw_run_on(&image, or_empty(with->client), with->client_len, or_empty(with->input), with->input_len,
+                                     &printed, &reported, &told);
         length = printed.len;
     }
     release(with->handle);
