@@ -452,15 +452,15 @@ static uint32_t run_on(const run_arguments *with, run_kind kind)
     lezgauri_fault told;
     uint32_t status;
     if (kind == RUN_WHOLE) {
-        status = lezgauri_raw_run_whole(&image, or_empty(with->client), with->client_len, or_empty(with->input), with->input_len, &printed,
-                                        &length, &reported, &told);
+        status = lezgauri_raw_run_whole(&image, or_empty(with->client), with->client_len, or_empty(with->input), with->input_len,
+                                        &printed, &length, &reported, &told);
     } else if (kind == RUN_CLIENT) {
-        status = lezgauri_raw_run_client(&image, &with->prepared->prepared, or_empty(with->input), with->input_len, &printed, &reported,
-                                         &told);
+        status = lezgauri_raw_run_client(&image, &with->prepared->prepared, or_empty(with->input), with->input_len, &printed,
+                                         &reported, &told);
         length = printed.len;
     } else {
-        status = lezgauri_raw_run_on(&image, or_empty(with->client), with->client_len, or_empty(with->input), with->input_len, &printed,
-                                     &reported, &told);
+        status = lezgauri_raw_run_on(&image, or_empty(with->client), with->client_len, or_empty(with->input), with->input_len,
+                                     &printed, &reported, &told);
         length = printed.len;
     }
     release_both(with);
