@@ -44,4 +44,10 @@ module _ (ready : Ready Global) (client : Client) (spells : SpellsClient (text_o
   pub differs_on : (image : List ℕ) → IsImageOf image table → (k : ℕ) → IsFirstDifference table client.types k
       → IsWrong image (text_of ready ∷ []) (record { client = Some 0; fault = fault.TypeMismatch k })
   differs_on image is k first =
-      if_wrong {A = Unit {0}} image (text_of ready ∷ []) table is (Err (record { client = Some 0; fault = fault.TypeMismatch k })) (only_wrong table (text_of ready) (fault.TypeMismatch k) (client, spells, first))
+      let refused : Refused = record { client = Some 0; fault = fault.TypeMismatch k } in
+      let result : Result (Unit {0}) Refused = Err refused in
+      if_wrong image (text_of ready ∷ []) table is result (only_wrong table (text_of ready) (fault.TypeMismatch k) (client, spells, first))
+
+-- the client that is kept is one
+pub one_kept : (x y : Ready Global) → Some x ≡ Some y → x ≡ y
+one_kept x y is = cc
