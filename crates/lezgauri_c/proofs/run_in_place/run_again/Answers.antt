@@ -1,4 +1,4 @@
-use Rattle.std.proofs.Common.{◌≡◌, ◌∷◌, [], List, ℕ, Some, length, sym, ap, ◌∙◌, subst}
+use Rattle.std.proofs.Common.{◌∷◌, [], List, ℕ, Some, length, refl, sym, ap, subst}
 use Rattle.std.specs.Prelude.{IsOk, Result}
 use Rattle.seg_spec.specs.Types.{Table, Agree, IsFirstDifference}
 use Rattle.seg_spec.specs.Faulty.{Failure}
@@ -57,7 +57,7 @@ returns-in-Ok-agrees-clause-outcome g c tree spells sound =
     let is = has_types image window.bytes sound c.types_of.result c.in-Ok.ensures.bytes c.types_of.ensures types c.in-Ok-types_of.is in
     let here : IsImageOf window.bytes types = subst (λ (b : List ℕ). IsImageOf b types) (sym c.in-Ok.ensures.bytes) is in
     let same = subst (λ (v : Verified). SpellsClient (bytes_of (client_of v)) tree) (sym c.verified.ensures) spells in
-    let agree = subst (λ (t : Table). Agree types t) (c.types.ensures tree same) (c.agrees.ensures.agree.0 (subst (λ r. IsOk r) (sym c.in-Ok-agrees.is) tt)) in
+    let agree = subst (λ (t : Table). Agree types t) (c.types.ensures tree same) (c.agrees.ensures.agree.0 (subst (λ r. IsOk r) (sym c.in-Ok-agrees.is) refl)) in
     let ran = c.run_ready-image.ensures.runs here tree spells (verified_on client tree spells types agree) in
     has_outcome (text_of client ∷ []) [] input window taken saved taken_then (told ∷ []) told.ended ran image (length image) 0 c.in-Ok.ensures.bytes
     (ap length c.in-Ok.ensures.region) c.in-Ok.ensures.base (can_move image sound)
