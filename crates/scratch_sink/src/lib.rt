@@ -1,3 +1,0 @@
-#![tactic(auto)]
-
-mod buffer;
