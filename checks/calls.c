@@ -36,12 +36,15 @@ void *__real_realloc(void *block, size_t size);
 
 static size_t asked;
 static size_t requests;
+static size_t image_requests; /* those for as many bytes as the image has */
+static size_t image_len;
 static void (*at_request)(size_t request);
 
 static void note(size_t size)
 {
     asked += size;
     requests++;
+    image_requests += size == image_len;
     if (at_request != NULL) {
         at_request(requests);
     }
@@ -64,6 +67,7 @@ static void watch(void (*call)(size_t request))
 {
     asked = 0;
     requests = 0;
+    image_requests = 0;
     at_request = call;
 }
 
@@ -93,7 +97,6 @@ static uint8_t *read_file(const char *name, size_t *len)
 }
 
 static uint8_t *image;
-static size_t image_len;
 static uint8_t *client;
 static size_t client_len;
 
@@ -268,6 +271,248 @@ static void run_on_calls(void)
     lezgauri_close(handle);
 }
 
+static void run_whole_calls(void)
+{
+    lezgauri_handle *handle = opened();
+    lezgauri_report report = {.steps = 7};
+    lezgauri_fault fault;
+    size_t needed;
+    char *output = room(3);
+    expect("run whole, no room", lezgauri_run_whole(handle, client, client_len, NULL, 0, NULL, 0, &needed, &report, &fault),
+           LEZGAURI_OUTPUT_FULL);
+    expect("run whole, no room: needed", needed, 3);
+    expect("run whole, no room: number", fault.number, 0);
+    expect("run whole, no room: report", report.steps, 7);
+    expect("run whole, no room: as before", x_of(handle), 41);
+    expect("run whole, a byte too small", lezgauri_run_whole(handle, client, client_len, NULL, 0, output, 2, &needed, &report, NULL),
+           LEZGAURI_OUTPUT_FULL);
+    expect("run whole, a byte too small: needed", needed, 3);
+    expect("run whole, a byte too small: as before", x_of(handle), 41);
+    expect("run whole, needed null", lezgauri_run_whole(handle, client, client_len, NULL, 0, output, 2, NULL, NULL, NULL),
+           LEZGAURI_OUTPUT_FULL);
+    expect("run whole", lezgauri_run_whole(handle, client, client_len, NULL, 0, output, needed, &needed, &report, &fault),
+           LEZGAURI_OK);
+    expect("run whole: needed", needed, 3);
+    expect("run whole: output", (uint64_t)memcmp(output, "42\n", 3), 0);
+    expect("run whole: steps", report.steps, 6);
+    expect("run whole: ended", report.ended, 0);
+    expect("run whole: x", x_of(handle), 42);
+    expect("run whole, all null", lezgauri_run_whole(handle, client, client_len, NULL, 0, output, 3, NULL, NULL, NULL), LEZGAURI_OK);
+    expect("run whole, cut client",
+           lezgauri_run_whole(handle, client, client_len - 1, NULL, 0, output, 3, &needed, &report, &fault), LEZGAURI_BAD_CODE);
+    expect("run whole, cut client: needed", needed, 0);
+    expect("run whole, cut client: number", fault.number, LEZGAURI_BAD_CODE);
+    expect("run whole, cut client: as before", x_of(handle), 43);
+    free(output);
+    lezgauri_close(handle);
+}
+
+/* What runs on an open segment ask of malloc: no copy of the image, unless they run whole, and no room for the output. */
+static void memory_of_runs(void)
+{
+    lezgauri_handle *handle = opened();
+    char *output = room(1 << 20);
+    watch(NULL);
+    expect("memory of run on", lezgauri_run_on(handle, client, client_len, NULL, 0, output, 3, NULL, NULL, NULL), LEZGAURI_OK);
+    size_t little = asked;
+    expect("memory of run on: the image", image_requests, 0);
+    watch(NULL);
+    expect("memory of run on, more room", lezgauri_run_on(handle, client, client_len, NULL, 0, output, 1 << 20, NULL, NULL, NULL),
+           LEZGAURI_OK);
+    expect("memory of run on, more room: as much", asked, little);
+    watch(NULL);
+    expect("memory of run whole", lezgauri_run_whole(handle, client, client_len, NULL, 0, output, 1 << 20, NULL, NULL, NULL),
+           LEZGAURI_OK);
+    expect("memory of run whole: the image", image_requests, 1);
+    expect("memory of run whole: no more", asked, little + image_len);
+    watch(NULL);
+    free(output);
+    lezgauri_close(handle);
+}
+
+static lezgauri_client *prepared_on(const lezgauri_handle *handle)
+{
+    lezgauri_client *prepared = NULL;
+    expect("prepare", lezgauri_prepare(handle, client, client_len, &prepared, NULL), LEZGAURI_OK);
+    if (prepared == NULL) {
+        exit(2);
+    }
+    return prepared;
+}
+
+/* What two segments hold. */
+static bool are_same(lezgauri_handle *one, lezgauri_handle *other)
+{
+    uint8_t *saved = room(2 * image_len);
+    expect("save", lezgauri_save(one, saved, image_len, NULL), LEZGAURI_OK);
+    expect("save", lezgauri_save(other, saved + image_len, image_len, NULL), LEZGAURI_OK);
+    bool are = memcmp(saved, saved + image_len, image_len) == 0;
+    free(saved);
+    return are;
+}
+
+static void prepare_calls(void)
+{
+    lezgauri_handle *handle = opened();
+    lezgauri_client *prepared = (lezgauri_client *)image;
+    lezgauri_fault fault;
+    expect("prepare of a cut client", lezgauri_prepare(handle, client, client_len - 1, &prepared, &fault), LEZGAURI_BAD_CODE);
+    expect("prepare of a cut client: no client", prepared != NULL, 0);
+    expect("prepare of a cut client: which", fault.client, 0);
+    prepared = (lezgauri_client *)image;
+    expect("prepare of 0 bytes", lezgauri_prepare(handle, NULL, 0, &prepared, &fault), LEZGAURI_BAD_CODE);
+    expect("prepare of 0 bytes: no client", prepared != NULL, 0);
+    prepared = (lezgauri_client *)image;
+    expect("prepare for no segment", lezgauri_prepare(NULL, client, client_len, &prepared, &fault), LEZGAURI_BAD_ARGUMENT);
+    expect("prepare for no segment: no client", prepared != NULL, 0);
+    expect("prepare, prepared null", lezgauri_prepare(handle, client, client_len, NULL, &fault), LEZGAURI_BAD_ARGUMENT);
+    expect("prepare, prepared null: number", fault.number, LEZGAURI_BAD_ARGUMENT);
+    lezgauri_client_close(NULL);
+    expect("prepare: the segment is as before", x_of(handle), 41);
+    lezgauri_close(handle);
+}
+
+/* Runs of a client that is kept do what runs of its bytes do. */
+static void run_client_calls(void)
+{
+    lezgauri_handle *handle = opened();
+    lezgauri_handle *other = opened();
+    uint8_t *bytes = room(client_len);
+    memcpy(bytes, client, client_len);
+    lezgauri_client *prepared = NULL;
+    lezgauri_fault fault;
+    expect("prepare", lezgauri_prepare(handle, bytes, client_len, &prepared, &fault), LEZGAURI_OK);
+    expect("prepare: number", fault.number, 0);
+    memset(bytes, 0, client_len);
+    free(bytes);
+    lezgauri_report reports[2];
+    size_t written[2];
+    char *output = room(6);
+    watch(NULL);
+    for (size_t capacity = 0; capacity < 5; capacity++) {
+        for (int i = 0; i < 10; i++) {
+            memset(output, 0x55, 6);
+            memset(reports, 0, sizeof reports);
+            uint32_t status = lezgauri_run_on(other, client, client_len, NULL, 0, output, capacity, &written[0], &reports[0], NULL);
+            requests = 0;
+            expect("run client", lezgauri_run_client(handle, prepared, NULL, 0, output + 3, capacity < 3 ? capacity : 3, &written[1],
+                   &reports[1], &fault), status);
+            expect("run client: no request for memory", requests, 0);
+            expect("run client: number", fault.number, 0);
+            expect("run client: written", written[1], written[0]);
+            expect("run client: output", (uint64_t)memcmp(output, output + 3, 3), 0);
+            expect("run client: report", (uint64_t)memcmp(&reports[0], &reports[1], sizeof reports[0]), 0);
+            expect("run client: the image", are_same(handle, other), 1);
+        }
+    }
+    expect("run client: x", x_of(handle), 91);
+    expect("run client, no client", lezgauri_run_client(handle, NULL, NULL, 0, output, 3, &written[0], &reports[0], &fault),
+           LEZGAURI_BAD_ARGUMENT);
+    expect("run client, no segment", lezgauri_run_client(NULL, prepared, NULL, 0, output, 3, &written[0], &reports[0], &fault),
+           LEZGAURI_BAD_ARGUMENT);
+    lezgauri_close(handle);
+    expect("run client after its segment was closed", lezgauri_run_client(other, prepared, NULL, 0, output, 3, NULL, NULL, NULL),
+           LEZGAURI_OK);
+    expect("run client after its segment was closed: x", x_of(other), 92);
+    free(output);
+    lezgauri_client_close(prepared);
+    lezgauri_close(other);
+}
+
+enum { TYPED_CLIENT = 52 };
+
+/* A client without instructions whose types are i64, and another of a kind with no parts. */
+static void put_typed_client(uint8_t bytes[TYPED_CLIENT], uint8_t kind)
+{
+    static const uint8_t header[20] = {'S', 'E', 'G', 'C', 1, 0, 0, 0, 2};
+    memset(bytes, 0, TYPED_CLIENT);
+    memcpy(bytes, header, sizeof header);
+    bytes[20] = 1;
+    bytes[36] = kind;
+}
+
+/* A client that is kept runs where the types agree with its own, which another client may change. */
+static void client_types(void)
+{
+    lezgauri_handle *handle = opened();
+    lezgauri_handle *other = opened();
+    uint8_t numbers[TYPED_CLIENT], texts[TYPED_CLIENT];
+    put_typed_client(numbers, 1);
+    put_typed_client(texts, 2);
+    lezgauri_client *prepared = NULL;
+    lezgauri_client *refused_one = (lezgauri_client *)image;
+    lezgauri_report report = {.steps = 7};
+    lezgauri_fault fault;
+    size_t written = 7;
+    char output[3] = "ab";
+    expect("types: prepare", lezgauri_prepare(handle, numbers, TYPED_CLIENT, &prepared, &fault), LEZGAURI_OK);
+    expect("types: another client", lezgauri_run_on(handle, texts, TYPED_CLIENT, NULL, 0, NULL, 0, NULL, NULL, NULL), LEZGAURI_OK);
+    uint8_t x = x_of(handle);
+    expect("types differ", lezgauri_run_client(handle, prepared, NULL, 0, output, 3, &written, &report, &fault),
+           LEZGAURI_TYPE_MISMATCH);
+    expect("types differ: number", fault.number, LEZGAURI_TYPE_MISMATCH);
+    expect("types differ: position", fault.position, 1);
+    expect("types differ: client", fault.client, 0);
+    expect("types differ: written", written, 0);
+    expect("types differ: report", report.steps, 7);
+    expect("types differ: output", (uint64_t)memcmp(output, "ab", 3), 0);
+    expect("types differ: x", x_of(handle), x);
+    expect("types differ: prepare", lezgauri_prepare(handle, numbers, TYPED_CLIENT, &refused_one, &fault), LEZGAURI_TYPE_MISMATCH);
+    expect("types differ: no client", refused_one != NULL, 0);
+    expect("types agree", lezgauri_run_client(other, prepared, NULL, 0, NULL, 0, NULL, NULL, NULL), LEZGAURI_OK);
+    expect("types agree: again", lezgauri_run_client(other, prepared, NULL, 0, NULL, 0, NULL, NULL, NULL), LEZGAURI_OK);
+    expect("types agree: the others", lezgauri_run_on(other, texts, TYPED_CLIENT, NULL, 0, NULL, 0, NULL, NULL, NULL),
+           LEZGAURI_TYPE_MISMATCH);
+    lezgauri_client_close(prepared);
+    lezgauri_close(handle);
+    lezgauri_close(other);
+}
+
+/* An export and the memory that it takes, as include/lezgauri.c declares them. */
+typedef struct lent {
+    uint8_t *at;
+    size_t len;
+    size_t room;
+} lent;
+
+uint32_t lezgauri_raw_run_on(lent *image, const uint8_t *client, size_t client_len, const uint8_t *input, size_t input_len,
+                             lent *output, lezgauri_report *report, lezgauri_fault *fault);
+
+static void came_back(const char *name, lent memory, const uint8_t *at, size_t len, size_t capacity)
+{
+    expect(name, memory.at == at && memory.len == len && memory.room == capacity, 1);
+}
+
+/* Memory that the library is lent comes back where it was, with an image as long as before. */
+static void lent_memory(void)
+{
+    uint8_t *bytes = room(image_len);
+    uint8_t *output = room(16);
+    lezgauri_report report;
+    lezgauri_fault fault;
+    memcpy(bytes, image, image_len);
+    memset(output, 0x55, 16);
+    lent segment = {bytes, image_len, image_len};
+    lent printed = {output, 0, 16};
+    expect("lent", lezgauri_raw_run_on(&segment, client, client_len, output, 0, &printed, &report, &fault), LEZGAURI_OK);
+    came_back("lent: the image", segment, bytes, image_len, image_len);
+    came_back("lent: the output", printed, output, 3, 16);
+    expect("lent: printed", (uint64_t)memcmp(output, "42\n\x55", 4), 0);
+    expect("lent: more behind it", lezgauri_raw_run_on(&segment, client, client_len, output, 0, &printed, &report, &fault),
+           LEZGAURI_OK);
+    came_back("lent: more behind it: the output", printed, output, 6, 16);
+    expect("lent: more behind it: printed", (uint64_t)memcmp(output, "42\n43\n\x55", 7), 0);
+    expect("lent, a cut client", lezgauri_raw_run_on(&segment, client, client_len - 1, output, 0, &printed, &report, &fault),
+           LEZGAURI_BAD_CODE);
+    came_back("lent, a cut client: the image", segment, bytes, image_len, image_len);
+    came_back("lent, a cut client: the output", printed, output, 6, 16);
+    memset(bytes, 0xFF, image_len);
+    lezgauri_raw_run_on(&segment, client, client_len, output, 0, &printed, &report, &fault);
+    came_back("lent bytes that are no image", segment, bytes, image_len, image_len);
+    free(bytes);
+    free(output);
+}
+
 static void save_calls(void)
 {
     lezgauri_handle *handle = opened();
@@ -298,14 +543,15 @@ typedef struct argument {
 
 enum { MOST_ARGUMENTS = 8 };
 
-/* A call, and memory that it succeeds on. All of it is in one block, each part right after the one before, but for an open segment. */
+/* A call, and memory that it succeeds on. All of it is in one block, each part right after the one before, but for an open segment and a
+ * client that is kept. */
 typedef struct call {
     const char *name;
     uint32_t (*make)(const argument *arguments);
     size_t count;
     argument arguments[MOST_ARGUMENTS];
     bool has_fault; /* as its first argument */
-    bool has_segment; /* as its last argument */
+    size_t outside; /* the last arguments, which lie outside of the block */
 } call;
 
 static uint8_t *block;
@@ -343,12 +589,34 @@ static uint32_t make_run_on(const argument *a)
                            (size_t *)a[1].at, (lezgauri_report *)a[2].at, (lezgauri_fault *)a[0].at);
 }
 
+static uint32_t make_run_whole(const argument *a)
+{
+    return lezgauri_run_whole((lezgauri_handle *)a[6].at, a[4].at, a[4].len, a[5].at, a[5].len, a[3].at, a[3].len,
+                              (size_t *)a[1].at, (lezgauri_report *)a[2].at, (lezgauri_fault *)a[0].at);
+}
+
+static uint32_t make_prepare(const argument *a)
+{
+    uint32_t status = lezgauri_prepare((lezgauri_handle *)a[3].at, a[2].at, a[2].len, (lezgauri_client **)a[1].at,
+                                       (lezgauri_fault *)a[0].at);
+    if (status == LEZGAURI_OK) {
+        lezgauri_client_close(*(lezgauri_client **)a[1].at);
+    }
+    return status;
+}
+
+static uint32_t make_run_client(const argument *a)
+{
+    return lezgauri_run_client((lezgauri_handle *)a[6].at, (lezgauri_client *)a[5].at, a[4].at, a[4].len, a[3].at, a[3].len,
+                               (size_t *)a[1].at, (lezgauri_report *)a[2].at, (lezgauri_fault *)a[0].at);
+}
+
 static uint32_t make_save(const argument *a)
 {
     return lezgauri_save((lezgauri_handle *)a[2].at, a[1].at, a[1].len, (size_t *)a[0].at);
 }
 
-/* Whether a place that a refused call writes was written: *fault, which then has the status, or *handle, which is null. */
+/* Whether a place that a refused call writes was written: *fault, which then has the status, or *handle or *prepared, which is null. */
 typedef enum telling { TOLD, UNTOLD, EITHER } telling;
 
 static void told_in(const char *name, uint8_t *at, size_t len, bool is_right, telling how)
@@ -373,7 +641,7 @@ static void refused(const call *of, const char *how, const char *with, const arg
         lezgauri_fault *fault = (lezgauri_fault *)of->arguments[0].at;
         told_in(name, (uint8_t *)fault, sizeof *fault, fault->number == status && fault->client == LEZGAURI_NO_CLIENT, fault_is);
     }
-    if (of->make == make_open) {
+    if (of->make == make_open || of->make == make_prepare) {
         lezgauri_handle **handle = (lezgauri_handle **)of->arguments[1].at;
         told_in(name, (uint8_t *)handle, sizeof *handle, *handle == NULL, handle_is);
     }
@@ -384,7 +652,7 @@ static void refused(const call *of, const char *how, const char *with, const arg
 /* Lays each place that a call writes over the start, and over the end, of each other memory of the call. */
 static void overlaps(const call *of)
 {
-    for (size_t i = 0; i < of->count - of->has_segment; i++) {
+    for (size_t i = 0; i < of->count - of->outside; i++) {
         for (size_t j = 0; j < of->count; j++) {
             argument changed[MOST_ARGUMENTS];
             memcpy(changed, of->arguments, sizeof changed);
@@ -401,8 +669,8 @@ static void overlaps(const call *of)
             refused(of, "", with, changed, LEZGAURI_BAD_ARGUMENT, fault_is, handle_is);
             over->at = under->at + (under->len - 1) / over->align * over->align;
             /* it may be over what comes next too */
-            bool is_segment = of->has_segment && j + 1 == of->count;
-            refused(of, "the end: ", with, changed, LEZGAURI_BAD_ARGUMENT, is_segment ? EITHER : fault_is,
+            bool is_outside = j + of->outside >= of->count;
+            refused(of, "the end: ", with, changed, LEZGAURI_BAD_ARGUMENT, is_outside ? EITHER : fault_is,
                     j == 0 ? EITHER : handle_is);
         }
     }
@@ -426,7 +694,7 @@ static void nulls(const call *of)
 
 static void odd_addresses(const call *of)
 {
-    for (size_t i = 0; i < of->count - of->has_segment; i++) {
+    for (size_t i = 0; i < of->count - of->outside; i++) {
         argument changed[MOST_ARGUMENTS];
         memcpy(changed, of->arguments, sizeof changed);
         if (changed[i].align > 1) {
@@ -460,7 +728,7 @@ static void lay_out(call *of)
 {
     size_t at = 0;
     memset(block, 0x55, block_len);
-    for (size_t i = 0; i < of->count - of->has_segment; i++) {
+    for (size_t i = 0; i < of->count - of->outside; i++) {
         argument *argument = &of->arguments[i];
         argument->at = block + at;
         at += (argument->len + 15) / 16 * 16;
@@ -485,9 +753,10 @@ static void lay_out(call *of)
 static void arguments(void)
 {
     lezgauri_handle *handle = opened();
+    lezgauri_client *prepared = prepared_on(handle);
     call calls[] = {
-        {"check", make_check, 2, {FAULT, IMAGE}, true, false},
-        {"verify", make_verify, 4, {FAULT, PLACE(uint64_t, "bound"), IMAGE, CLIENT}, true, false},
+        {"check", make_check, 2, {FAULT, IMAGE}, true, 0},
+        {"verify", make_verify, 4, {FAULT, PLACE(uint64_t, "bound"), IMAGE, CLIENT}, true, 0},
         {"run",
          make_run,
          8,
@@ -500,25 +769,49 @@ static void arguments(void)
           {"clients", NULL, sizeof(lezgauri_bytes), alignof(lezgauri_bytes), false, false, false, false},
           INPUT},
          true,
-         false},
+         0},
         {"open",
          make_open,
          3,
          {FAULT, {"handle", NULL, sizeof(lezgauri_handle *), alignof(lezgauri_handle *), true, false, false, false}, IMAGE},
          true,
-         false},
+         0},
         {"run on",
          make_run_on,
          7,
          {FAULT, PLACE(size_t, "written"), PLACE(lezgauri_report, "report"), OUTPUT, CLIENT, INPUT, SEGMENT},
          true,
-         true},
+         1},
+        {"run whole",
+         make_run_whole,
+         7,
+         {FAULT, PLACE(size_t, "needed"), PLACE(lezgauri_report, "report"), OUTPUT, CLIENT, INPUT, SEGMENT},
+         true,
+         1},
+        {"prepare",
+         make_prepare,
+         4,
+         {FAULT, {"prepared", NULL, sizeof(lezgauri_client *), alignof(lezgauri_client *), true, false, false, false}, CLIENT, SEGMENT},
+         true,
+         1},
+        {"run client",
+         make_run_client,
+         7,
+         {FAULT,
+          PLACE(size_t, "written"),
+          PLACE(lezgauri_report, "report"),
+          OUTPUT,
+          INPUT,
+          {"prepared", (uint8_t *)prepared, client_len, 1, true, false, false, false},
+          SEGMENT},
+         true,
+         2},
         {"save",
          make_save,
          3,
          {PLACE(size_t, "needed"), {"buffer", NULL, image_len, 1, true, false, true, false}, SEGMENT},
          false,
-         true},
+         1},
     };
     block_len = 4 * image_len + 4096;
     block = aligned_alloc(16, (block_len + 15) / 16 * 16);
@@ -537,6 +830,7 @@ static void arguments(void)
     }
     free(block);
     free(before);
+    lezgauri_client_close(prepared);
     lezgauri_close(handle);
 }
 
@@ -578,6 +872,7 @@ static void changing_image(void)
 /* ---- a segment that two calls use at once */
 
 static lezgauri_handle *shared;
+static lezgauri_client *shared_client;
 
 static void use_meanwhile(size_t request)
 {
@@ -593,6 +888,15 @@ static void use_meanwhile(size_t request)
     expect("run on a busy segment: number", fault.number, LEZGAURI_BUSY);
     expect("run on a busy segment: client", fault.client, LEZGAURI_NO_CLIENT);
     expect("run on a busy segment: written", count, 7);
+    expect("run whole on a busy segment",
+           lezgauri_run_whole(shared, client, client_len, NULL, 0, output, 3, &count, NULL, &fault), LEZGAURI_BUSY);
+    expect("run whole on a busy segment: needed", count, 7);
+    lezgauri_client *prepared = (lezgauri_client *)image;
+    expect("prepare for a busy segment", lezgauri_prepare(shared, client, client_len, &prepared, &fault), LEZGAURI_BUSY);
+    expect("prepare for a busy segment: no client", prepared != NULL, 0);
+    expect("run client on a busy segment",
+           lezgauri_run_client(shared, shared_client, NULL, 0, output, 3, &count, NULL, &fault), LEZGAURI_BUSY);
+    expect("run client on a busy segment: written", count, 7);
     expect("save of a busy segment, no room", lezgauri_save(shared, saved, 1, NULL), LEZGAURI_TOO_SMALL);
     uint8_t whole[4096];
     expect("save of a busy segment", lezgauri_save(shared, whole, image_len, NULL), LEZGAURI_BUSY);
@@ -602,6 +906,11 @@ static void use_meanwhile(size_t request)
 static void busy_calls(void)
 {
     shared = opened();
+    shared_client = prepared_on(shared);
+    watch(use_meanwhile);
+    lezgauri_client *meanwhile = NULL;
+    expect("prepare, others meanwhile", lezgauri_prepare(shared, client, client_len, &meanwhile, NULL), LEZGAURI_OK);
+    lezgauri_client_close(meanwhile);
     watch(use_meanwhile);
     char output[3];
     expect("run on, others meanwhile", lezgauri_run_on(shared, client, client_len, NULL, 0, output, 3, NULL, NULL, NULL),
@@ -610,6 +919,8 @@ static void busy_calls(void)
     watch(NULL);
     expect("busy calls: x", x_of(shared), 42);
     expect("run on, no longer busy", lezgauri_run_on(shared, client, client_len, NULL, 0, output, 3, NULL, NULL, NULL), LEZGAURI_OK);
+    expect("run client, no longer busy", lezgauri_run_client(shared, shared_client, NULL, 0, output, 3, NULL, NULL, NULL), LEZGAURI_OK);
+    lezgauri_client_close(shared_client);
     lezgauri_close(shared);
 }
 
@@ -638,6 +949,45 @@ static uint64_t number_of(lezgauri_handle *handle)
     }
     free(saved);
     return number;
+}
+
+/* A thread's own segment, and how many runs of the client that is kept it made there; -1 is a wrong status. */
+typedef struct own_runs {
+    lezgauri_handle *handle;
+    int ran;
+} own_runs;
+
+static void *count_client_runs(void *given)
+{
+    own_runs *own = given;
+    for (int i = 0; i < RUNS && own->ran >= 0; i++) {
+        char output[24];
+        uint32_t status = lezgauri_run_client(own->handle, shared_client, NULL, 0, output, sizeof output, NULL, NULL, NULL);
+        if (status == LEZGAURI_OK) {
+            own->ran++;
+        } else if (status != LEZGAURI_BUSY) {
+            own->ran = -1;
+        }
+    }
+    return NULL;
+}
+
+/* Two threads that run one client, each on a segment of its own: each run that says that it ran has counted. */
+static void client_threads(void)
+{
+    own_runs own[2] = {{opened(), 0}, {opened(), 0}};
+    pthread_t thread[2];
+    shared_client = prepared_on(own[0].handle);
+    for (int i = 0; i < 2; i++) {
+        pthread_create(&thread[i], NULL, count_client_runs, &own[i]);
+    }
+    for (int i = 0; i < 2; i++) {
+        pthread_join(thread[i], NULL);
+        expect("two threads with a client", own[i].ran >= 0, 1);
+        expect("two threads with a client: number", number_of(own[i].handle), 41 + (uint64_t)own[i].ran);
+        lezgauri_close(own[i].handle);
+    }
+    lezgauri_client_close(shared_client);
 }
 
 /* Two threads at once: each run that says that it ran has counted. Then a segment that one thread after the other uses. */
@@ -673,11 +1023,18 @@ int main(int argc, char **argv)
     run_calls();
     open_calls();
     run_on_calls();
+    run_whole_calls();
+    memory_of_runs();
+    lent_memory();
+    prepare_calls();
+    run_client_calls();
+    client_types();
     save_calls();
     arguments();
     changing_image();
     busy_calls();
     threads();
+    client_threads();
     free(image);
     free(client);
     printf("%d calls and results, %d wrong\n", made, wrong);

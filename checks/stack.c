@@ -79,6 +79,17 @@ static void *run_on(void *given)
     return NULL;
 }
 
+static void *run_whole(void *given)
+{
+    work *of = given;
+    lezgauri_fault fault;
+    lezgauri_report report;
+    size_t needed;
+    of->status = lezgauri_run_whole(of->segment, of->client.bytes, of->client.len, "AB", 2, of->output, MOST_OUTPUT, &needed, &report,
+                                    &fault);
+    return NULL;
+}
+
 static void *save(void *given)
 {
     work *of = given;
@@ -102,8 +113,8 @@ static const struct {
 } calls[] = {
     {"lezgauri_check", check, LEZGAURI_STACK_CHECK},       {"lezgauri_verify", verify, LEZGAURI_STACK_VERIFY},
     {"lezgauri_run", run, LEZGAURI_STACK_RUN},             {"lezgauri_open", open_segment, LEZGAURI_STACK_CHECK},
-    {"lezgauri_run_on", run_on, LEZGAURI_STACK_RUN},       {"lezgauri_save", save, LEZGAURI_STACK_SAVE},
-    {"lezgauri_close", close_segment, LEZGAURI_STACK_SAVE},
+    {"lezgauri_run_on", run_on, LEZGAURI_STACK_RUN},       {"lezgauri_run_whole", run_whole, LEZGAURI_STACK_RUN},
+    {"lezgauri_save", save, LEZGAURI_STACK_SAVE},          {"lezgauri_close", close_segment, LEZGAURI_STACK_SAVE},
 };
 
 enum { CALLS = sizeof calls / sizeof *calls };

@@ -9,17 +9,37 @@
 #include <stdlib.h>
 #include <string.h>
 
+/* Memory that a call lends to the library: where it begins, how many of its bytes are in use, and how many it has. It is Lent of
+ * the crate seg_lent. The library uses the memory where it lies, and gives it back with as many bytes in use as there are then; it
+ * doesn't move, and an image's length stays. */
+typedef struct lent {
+    uint8_t *at;
+    size_t len;
+    size_t room;
+} lent;
+
+/* A client that the library keeps for a caller, or none. It is Prepared of the crate lezgauri_c: where `at` leads, only the library reads
+ * and writes. */
+typedef struct kept {
+    void *at;
+    bool is_there;
+} kept;
+
 /* The exports of the library. A slice is a pointer, never null, and a length. */
 uint32_t lezgauri_raw_check(const uint8_t *image, size_t len, lezgauri_fault *fault);
 uint32_t lezgauri_raw_verify(const uint8_t *image, size_t len, const uint8_t *client, size_t client_len, uint64_t *bound,
                              lezgauri_fault *fault);
 uint32_t lezgauri_raw_run(const uint8_t *image, size_t image_len, const lezgauri_bytes *clients, size_t count,
-                          const uint8_t *input, size_t input_len, uint8_t *output, size_t capacity, size_t *written,
-                          uint8_t *saved, size_t saved_len, lezgauri_report *reports, size_t reports_len,
-                          lezgauri_fault *fault);
-uint32_t lezgauri_raw_run_on(uint8_t *image, size_t len, const uint8_t *client, size_t client_len, const uint8_t *input,
-                             size_t input_len, uint8_t *output, size_t capacity, size_t *written, lezgauri_report *report,
-                             lezgauri_fault *fault);
+                          const uint8_t *input, size_t input_len, lent *output, uint8_t *saved, size_t saved_len,
+                          lezgauri_report *reports, size_t reports_len, lezgauri_fault *fault);
+uint32_t lezgauri_raw_run_on(lent *image, const uint8_t *client, size_t client_len, const uint8_t *input, size_t input_len,
+                             lent *output, lezgauri_report *report, lezgauri_fault *fault);
+uint32_t lezgauri_raw_run_whole(lent *image, const uint8_t *client, size_t client_len, const uint8_t *input, size_t input_len,
+                                lent *output, size_t *needed, lezgauri_report *report, lezgauri_fault *fault);
+uint32_t lezgauri_raw_prepare(lent *image, const uint8_t *client, size_t client_len, kept *prepared, lezgauri_fault *fault);
+uint32_t lezgauri_raw_run_client(lent *image, kept *prepared, const uint8_t *input, size_t input_len, lent *output,
+                                 lezgauri_report *report, lezgauri_fault *fault);
+void lezgauri_raw_client_close(kept *prepared);
 
 /* The most bytes of an image. */
 #define MOST_IMAGE ((size_t)1 << 30)
@@ -237,13 +257,12 @@ uint32_t lezgauri_run(const void *image, size_t image_len, const lezgauri_bytes 
     if (!are_apart(of) || !may_read_clients(clients, count, of)) {
         return refuse_run(LEZGAURI_BAD_ARGUMENT, fault, of, clients, count);
     }
-    size_t taken = 0;
+    lent printed = {or_room(output), 0, capacity};
     lezgauri_fault told;
-    uint32_t status = lezgauri_raw_run(or_empty(image), image_len, or_empty(clients), count, or_empty(input), input_len,
-                                       or_room(output), capacity, &taken, or_room(saved), image_len, or_room(reports),
-                                       reports_len, &told);
+    uint32_t status = lezgauri_raw_run(or_empty(image), image_len, or_empty(clients), count, or_empty(input), input_len, &printed,
+                                       or_room(saved), image_len, or_room(reports), reports_len, &told);
     if (written != NULL) {
-        *written = taken;
+        *written = printed.len;
     }
     tell(fault, &told);
     return status;
@@ -262,15 +281,15 @@ static span segment_at(const lezgauri_handle *handle)
     return (span){handle, handle != NULL ? sizeof *handle + handle->len : 0};
 }
 
-/* Whether the segment was free; then it is the call's until it is released. */
-static bool acquire(lezgauri_handle *handle)
+/* Whether a segment or a client was free; then it is the call's until it is released. */
+static bool acquire(atomic_flag *busy)
 {
-    return !atomic_flag_test_and_set_explicit(&handle->busy, memory_order_acquire);
+    return !atomic_flag_test_and_set_explicit(busy, memory_order_acquire);
 }
 
-static void release(lezgauri_handle *handle)
+static void release(atomic_flag *busy)
 {
-    atomic_flag_clear_explicit(&handle->busy, memory_order_release);
+    atomic_flag_clear_explicit(busy, memory_order_release);
 }
 
 uint32_t lezgauri_open(const void *image, size_t len, lezgauri_handle **handle, lezgauri_fault *fault)
@@ -309,35 +328,178 @@ uint32_t lezgauri_open(const void *image, size_t len, lezgauri_handle **handle, 
     return status;
 }
 
+/* A client that is kept, with its bytes, to which what the library keeps refers. */
+struct lezgauri_client {
+    kept prepared;
+    size_t len;
+    atomic_flag busy; /* while a call runs the client */
+    uint8_t bytes[];
+};
+
+static span client_at(const lezgauri_client *prepared)
+{
+    return (span){prepared, prepared != NULL ? sizeof *prepared + prepared->len : 0};
+}
+
+uint32_t lezgauri_prepare(const lezgauri_handle *handle, const void *client, size_t client_len, lezgauri_client **prepared,
+                          lezgauri_fault *fault)
+{
+    span spans[] = {one(fault, sizeof *fault), one(prepared, sizeof *prepared), segment_at(handle), one(client, client_len)};
+    memory of = MEMORY(spans, 2);
+    bool is_place = prepared != NULL && may_tell(prepared, _Alignof(lezgauri_client *));
+    if (is_place && is_apart(spans[1], of, 1)) {
+        *prepared = NULL;
+    }
+    if (handle == NULL || !is_place || !may_be_bytes(client, client_len) || !may_tell(fault, _Alignof(lezgauri_fault)) ||
+        !are_apart(of)) {
+        return refuse(LEZGAURI_BAD_ARGUMENT, fault, of);
+    }
+    /* to a caller that may only read the segment, its flag is no part of it, and the library writes nothing of the image */
+    lezgauri_handle *flagged = (lezgauri_handle *)handle;
+    if (!acquire(&flagged->busy)) {
+        return refuse(LEZGAURI_BUSY, fault, of);
+    }
+    lezgauri_client *made = malloc(sizeof *made + client_len);
+    if (made == NULL) {
+        release(&flagged->busy);
+        return refuse(LEZGAURI_MEMORY, fault, of);
+    }
+    made->prepared = (kept){NULL, false};
+    made->len = client_len;
+    atomic_flag_clear(&made->busy);
+    memcpy(made->bytes, or_empty(client), client_len);
+    lent image = {flagged->image, flagged->len, flagged->len};
+    lezgauri_fault told;
+    uint32_t status = lezgauri_raw_prepare(&image, made->bytes, client_len, &made->prepared, &told);
+    release(&flagged->busy);
+    if (status == LEZGAURI_OK) {
+        *prepared = made;
+    } else {
+        free(made);
+    }
+    tell(fault, &told);
+    return status;
+}
+
+/* What runs. */
+typedef enum run_kind {
+    RUN_ON,
+    RUN_WHOLE,
+    RUN_CLIENT
+} run_kind;
+
+/* What lezgauri_run_on, lezgauri_run_whole and lezgauri_run_client take. The client is `prepared` for the last of them. `length` is
+ * where the output's length goes. */
+typedef struct run_arguments {
+    lezgauri_handle *handle;
+    lezgauri_client *prepared;
+    const void *client;
+    size_t client_len;
+    const void *input;
+    size_t input_len;
+    void *output;
+    size_t capacity;
+    size_t *length;
+    lezgauri_report *report;
+    lezgauri_fault *fault;
+} run_arguments;
+
+/* Whether both were free. */
+static bool acquire_both(const run_arguments *with)
+{
+    if (!acquire(&with->handle->busy)) {
+        return false;
+    }
+    if (with->prepared != NULL && !acquire(&with->prepared->busy)) {
+        release(&with->handle->busy);
+        return false;
+    }
+    return true;
+}
+
+static void release_both(const run_arguments *with)
+{
+    if (with->prepared != NULL) {
+        release(&with->prepared->busy);
+    }
+    release(&with->handle->busy);
+}
+
+/* Runs a client on an open segment: all or nothing if it is to run whole. */
+static uint32_t run_on(const run_arguments *with, run_kind kind)
+{
+    span spans[] = {one(with->fault, sizeof *with->fault),
+                    one(with->length, sizeof *with->length),
+                    one(with->report, sizeof *with->report),
+                    one(with->output, with->capacity),
+                    segment_at(with->handle),
+                    client_at(with->prepared),
+                    one(with->client, with->client_len),
+                    one(with->input, with->input_len)};
+    memory of = MEMORY(spans, 6);
+    if (with->handle == NULL || (kind == RUN_CLIENT && with->prepared == NULL) || !may_be_bytes(with->client, with->client_len) || !may_be_bytes(with->input, with->input_len) ||
+        !may_be_bytes(with->output, with->capacity) || !may_tell(with->length, _Alignof(size_t)) ||
+        !may_tell(with->report, _Alignof(lezgauri_report)) || !may_tell(with->fault, _Alignof(lezgauri_fault)) || !are_apart(of)) {
+        return refuse(LEZGAURI_BAD_ARGUMENT, with->fault, of);
+    }
+    if (!acquire_both(with)) {
+        return refuse(LEZGAURI_BUSY, with->fault, of);
+    }
+    lent image = {with->handle->image, with->handle->len, with->handle->len};
+    lent printed = {or_room(with->output), 0, with->capacity};
+    size_t length = 0;
+    lezgauri_report reported = {0};
+    lezgauri_fault told;
+    uint32_t status;
+    if (kind == RUN_WHOLE) {
+        status = lezgauri_raw_run_whole(&image, or_empty(with->client), with->client_len, or_empty(with->input), with->input_len,
+                                        &printed, &length, &reported, &told);
+    } else if (kind == RUN_CLIENT) {
+        status = lezgauri_raw_run_client(&image, &with->prepared->prepared, or_empty(with->input), with->input_len, &printed,
+                                         &reported, &told);
+        length = printed.len;
+    } else {
+        status = lezgauri_raw_run_on(&image, or_empty(with->client), with->client_len, or_empty(with->input), with->input_len,
+                                     &printed, &reported, &told);
+        length = printed.len;
+    }
+    release_both(with);
+    if (with->length != NULL) {
+        *with->length = length;
+    }
+    if (with->report != NULL && (status == LEZGAURI_OK || (status == LEZGAURI_OUTPUT_FULL && kind != RUN_WHOLE))) {
+        *with->report = reported;
+    }
+    tell(with->fault, &told);
+    return status;
+}
+
 uint32_t lezgauri_run_on(lezgauri_handle *handle, const void *client, size_t client_len, const void *input,
                          size_t input_len, void *output, size_t capacity, size_t *written, lezgauri_report *report,
                          lezgauri_fault *fault)
 {
-    span spans[] = {one(fault, sizeof *fault), one(written, sizeof *written), one(report, sizeof *report), one(output, capacity),
-                    segment_at(handle),        one(client, client_len),       one(input, input_len)};
-    memory of = MEMORY(spans, 5);
-    if (handle == NULL || !may_be_bytes(client, client_len) || !may_be_bytes(input, input_len) ||
-        !may_be_bytes(output, capacity) || !may_tell(written, _Alignof(size_t)) ||
-        !may_tell(report, _Alignof(lezgauri_report)) || !may_tell(fault, _Alignof(lezgauri_fault)) || !are_apart(of)) {
-        return refuse(LEZGAURI_BAD_ARGUMENT, fault, of);
+    return run_on(&(run_arguments){handle, NULL, client, client_len, input, input_len, output, capacity, written, report, fault}, RUN_ON);
+}
+
+uint32_t lezgauri_run_whole(lezgauri_handle *handle, const void *client, size_t client_len, const void *input,
+                            size_t input_len, void *output, size_t capacity, size_t *needed, lezgauri_report *report,
+                            lezgauri_fault *fault)
+{
+    return run_on(&(run_arguments){handle, NULL, client, client_len, input, input_len, output, capacity, needed, report, fault}, RUN_WHOLE);
+}
+
+uint32_t lezgauri_run_client(lezgauri_handle *handle, lezgauri_client *prepared, const void *input, size_t input_len,
+                             void *output, size_t capacity, size_t *written, lezgauri_report *report, lezgauri_fault *fault)
+{
+    return run_on(&(run_arguments){handle, prepared, NULL, 0, input, input_len, output, capacity, written, report, fault}, RUN_CLIENT);
+}
+
+void lezgauri_client_close(lezgauri_client *prepared)
+{
+    if (prepared != NULL) {
+        lezgauri_raw_client_close(&prepared->prepared);
+        free(prepared);
     }
-    if (!acquire(handle)) {
-        return refuse(LEZGAURI_BUSY, fault, of);
-    }
-    size_t taken = 0;
-    lezgauri_report reported = {0};
-    lezgauri_fault told;
-    uint32_t status = lezgauri_raw_run_on(handle->image, handle->len, or_empty(client), client_len, or_empty(input),
-                                          input_len, or_room(output), capacity, &taken, &reported, &told);
-    release(handle);
-    if (written != NULL) {
-        *written = taken;
-    }
-    if (report != NULL && (status == LEZGAURI_OK || status == LEZGAURI_OUTPUT_FULL)) {
-        *report = reported;
-    }
-    tell(fault, &told);
-    return status;
 }
 
 uint32_t lezgauri_save(const lezgauri_handle *handle, void *buffer, size_t capacity, size_t *needed)
@@ -355,11 +517,11 @@ uint32_t lezgauri_save(const lezgauri_handle *handle, void *buffer, size_t capac
     }
     /* to a caller that may only read the segment, its flag is no part of it */
     lezgauri_handle *flagged = (lezgauri_handle *)handle;
-    if (!acquire(flagged)) {
+    if (!acquire(&flagged->busy)) {
         return LEZGAURI_BUSY;
     }
     memcpy(buffer, handle->image, handle->len);
-    release(flagged);
+    release(&flagged->busy);
     return LEZGAURI_OK;
 }
 

@@ -6,14 +6,15 @@
  * said.
  *
  * Each call returns a status: LEZGAURI_OK, the number of a fault, or one of the numbers from 100 on below. With a fault,
- * LEZGAURI_BAD_ARGUMENT or LEZGAURI_BUSY nothing ran, and the caller's memory is unchanged but for *fault, *written and
- * *handle. No call aborts, unwinds, prints, or reads or writes beyond the lengths that it is given. Memory that a call takes
- * comes from malloc, and has gone back to free when it returns, but for an open segment; LEZGAURI_MEMORY says that malloc refused.
+ * LEZGAURI_BAD_ARGUMENT or LEZGAURI_BUSY nothing ran, and the caller's memory is unchanged but for *fault, *written, *needed,
+ * *handle and *prepared. No call aborts, unwinds, prints, or reads or writes beyond the lengths that it is given. Memory that a call
+ * takes comes from malloc, and has gone back to free when it returns, but for an open segment and a client that is kept;
+ * LEZGAURI_MEMORY says that malloc refused.
  *
  * Tested by each call: null pointers where a length isn't 0, lengths above PTRDIFF_MAX, pointers to numbers or structs that
- * aren't aligned, and places that the call writes (*fault, *bound, *written, *needed, reports, *handle, an output, a saved image,
- * an open segment) that overlap any other memory of the call. Each returns LEZGAURI_BAD_ARGUMENT. A pointer with a length of 0 may
- * be null, if nothing else is said. An image's length above 2^30 returns LEZGAURI_BAD_HEADER, and nothing of the image is read or
+ * aren't aligned, and places that the call writes (*fault, *bound, *written, *needed, reports, *handle, *prepared, an output, a
+ * saved image, an open segment, a client that is kept) that overlap any other memory of the call. Each returns
+ * LEZGAURI_BAD_ARGUMENT. A pointer with a length of 0 may be null, if nothing else is said. An image's length above 2^30 returns LEZGAURI_BAD_HEADER, and nothing of the image is read or
  * copied. *fault isn't written where it overlaps other memory of the call, so the status alone says why.
  *
  * Promised by the caller, as no call can test it: at each pointer are as many bytes as its length says; they may be written
@@ -21,9 +22,10 @@
  * runs. Only lezgauri_open may be given bytes that others write: what it opens is the copy that it checked. A call isn't made
  * from a signal handler, nor from the forked child of a process with threads.
  *
- * Threads: calls share nothing but an open segment, so several may run at a time, each on memory of its own. Images, clients and
- * inputs may be shared by calls that run at a time, since they are only read. One call at a time uses an open segment: another
- * returns LEZGAURI_BUSY at once, having done nothing.
+ * Threads: calls share nothing but an open segment and a client that is kept, so several may run at a time, each on memory of its
+ * own. Images, clients and inputs may be shared by calls that run at a time, since they are only read. One call at a time uses an open
+ * segment, and one runs a client that is kept: another returns LEZGAURI_BUSY at once, having done nothing. Threads that run the
+ * same client at a time, each on a segment of its own, prepare it once each.
  *
  * Stack: each call touches at most LEZGAURI_STACK_.. bytes of its thread's stack, beside what malloc and the caller use.
  */
@@ -58,15 +60,15 @@ enum {
     LEZGAURI_BAD_ARGUMENT = 100, /* a pointer or a length that the call can't take; nothing else was looked at */
     LEZGAURI_OUTPUT_FULL = 101,  /* the output had no room for what a client prints */
     LEZGAURI_TOO_SMALL = 102,    /* the memory for a saved image has fewer bytes than the image */
-    LEZGAURI_BUSY = 103          /* another call uses the open segment */
+    LEZGAURI_BUSY = 103          /* another call uses the open segment, or runs the client that is kept */
 };
 
 /* The most bytes of stack that a call touches. */
 enum {
     LEZGAURI_STACK_CHECK = 32 * 1024,  /* lezgauri_check, lezgauri_open */
-    LEZGAURI_STACK_VERIFY = 48 * 1024, /* lezgauri_verify */
-    LEZGAURI_STACK_RUN = 384 * 1024,   /* lezgauri_run, lezgauri_run_on */
-    LEZGAURI_STACK_SAVE = 4 * 1024     /* lezgauri_save, lezgauri_close */
+    LEZGAURI_STACK_VERIFY = 48 * 1024, /* lezgauri_verify, lezgauri_prepare */
+    LEZGAURI_STACK_RUN = 384 * 1024,   /* lezgauri_run, lezgauri_run_on, lezgauri_run_whole, lezgauri_run_client */
+    LEZGAURI_STACK_SAVE = 4 * 1024     /* lezgauri_save, lezgauri_close, lezgauri_client_close */
 };
 
 /* No client has the fault. */
@@ -144,10 +146,53 @@ uint32_t lezgauri_open(const void *image, size_t len, lezgauri_handle **handle, 
  * Verifies a client and runs it on an open segment; the memory is that of lezgauri_run. `report`, `written` and `fault` may be
  * null. With a fault nothing ran, and the segment is as before. With LEZGAURI_OUTPUT_FULL the client ran up to the output that had no
  * room, and the segment is as it was there.
+ *
+ * The client works on the segment and prints to `output` where they lie: nothing of the image or of the output's room is copied or
+ * taken from malloc, which is asked for the decoded client alone. So a run that a crash cuts off leaves a segment that is half
+ * changed: save it before, or use lezgauri_run_whole.
  */
 uint32_t lezgauri_run_on(lezgauri_handle *handle, const void *client, size_t client_len, const void *input,
                          size_t input_len, void *output, size_t capacity, size_t *written, lezgauri_report *report,
                          lezgauri_fault *fault);
+
+/*
+ * As lezgauri_run_on, but all or nothing: the client runs to its end on a copy of the image, which malloc is asked for, and the
+ * segment becomes the saved image only if `output` has room for all that the client prints. *needed is the length of the whole
+ * output; `needed` may be null.
+ *
+ * LEZGAURI_OUTPUT_FULL if `capacity` is less than *needed: then the segment and *report are as before, and what `output` holds means
+ * nothing. A call with that much room and the same input succeeds, unless the segment was changed meanwhile or malloc refuses.
+ * With a fault *needed is 0.
+ */
+uint32_t lezgauri_run_whole(lezgauri_handle *handle, const void *client, size_t client_len, const void *input,
+                            size_t input_len, void *output, size_t capacity, size_t *needed, lezgauri_report *report,
+                            lezgauri_fault *fault);
+
+/*
+ * A client that is kept verified and decoded, so that it is prepared once for many runs. It has a copy of the client's bytes, and the
+ * caller owns it: its memory goes back with lezgauri_client_close. It isn't tied to the segment that it was prepared for: it runs on
+ * each open segment whose types agree with the client's, and may stay open when that segment is closed.
+ */
+typedef struct lezgauri_client lezgauri_client;
+
+/*
+ * Copies a client, verifies it against the types of an open segment, and keeps it ready to run: LEZGAURI_OK, and *prepared is the client.
+ * Else *prepared is null, unless `prepared` is null, isn't aligned, or overlaps other memory of the call. Nothing of the segment
+ * changes. `prepared` isn't null, `fault` may be.
+ */
+uint32_t lezgauri_prepare(const lezgauri_handle *handle, const void *client, size_t client_len, lezgauri_client **prepared,
+                          lezgauri_fault *fault);
+
+/*
+ * Runs a client that is kept on an open segment, as lezgauri_run_on does one that it is given: but the client isn't verified or decoded
+ * again, and nothing is taken from malloc. LEZGAURI_TYPE_MISMATCH if the segment's types and the client's differ, as after another
+ * client added types; no other fault is returned, and with it nothing ran.
+ */
+uint32_t lezgauri_run_client(lezgauri_handle *handle, lezgauri_client *prepared, const void *input, size_t input_len,
+                             void *output, size_t capacity, size_t *written, lezgauri_report *report, lezgauri_fault *fault);
+
+/* Gives the memory of a client that is kept back, while no call runs it. Null is no client, and nothing happens. */
+void lezgauri_client_close(lezgauri_client *prepared);
 
 /*
  * Copies the image of an open segment to `buffer`, which has room for `capacity` bytes. *needed is the image's length; `needed`

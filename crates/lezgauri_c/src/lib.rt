@@ -5,11 +5,18 @@ mod accepting;
 mod buffer;
 mod checking;
 mod fault;
+mod kept;
 mod open;
+mod prepared;
+mod preparing;
 mod report;
+mod run_in_place;
 mod running;
 mod status;
+mod whole;
 
 pub use fault::Fault;
+pub use kept::Kept;
+pub use prepared::Prepared;
 pub use report::Report;
 pub use running::Client;

@@ -17,7 +17,7 @@ use std_alloc::vec::{Lodged, lodge};
 pub struct Lent {
     at: *mut u8,
     len: usize,
-    room: usize,
+    pub room: usize,
     pub ghost bytes: { List ℕ },
     ghost counted: { (len ≡ length bytes) × (len ≤ room) },
     ghost small: { room < 2 ^ 63 },
@@ -37,14 +37,16 @@ impl Lent {
 
     /// Takes the memory's bytes, where they lie, and leaves no memory.
     pub fn take(&mut self) -> Vec<u8, Lodged>
-        ensures { result.items ≡ self.old.bytes }
+        ensures bytes { result.items ≡ self.old.bytes }
+        ensures room { vec_capacity result ≡ self.old.room }
     {
         replace(self, Lent::none()).into_vec()
     }
 
     /// Gives bytes back whose memory was taken.
     pub fn give_back(&mut self, bytes: Vec<u8, Lodged>)
-        ensures { self.new.bytes ≡ bytes.items }
+        ensures bytes { self.new.bytes ≡ bytes.items }
+        ensures room { self.new.room ≡ vec_capacity bytes }
     {
         let none = replace(self, Lent::from_vec(bytes));
         let _ = none.into_vec();

@@ -1,0 +1,53 @@
+-- A client that is ready was accepted, so it is verified wherever its types agree with a table.
+use Rattle.std.proofs.Common.{◌≡◌, ◌≤◌, ℕ, ◌^◌, List, [], ◌∷◌, replicate, refl, sym, ◌∙◌, arith}
+use Rattle.std.specs.Prelude.{Ok, Err, Result, Some, IfErr}
+use Rattle.std.specs.Global.{Global}
+use Rattle.std.proofs.Math.Logic.{∥∥₁_elim}
+use Rattle.seg_spec.specs.Types.{Table, Agree, IsFirstDifference}
+use Rattle.seg_raw.specs.declared.fault.Fault.TheVariants as fault
+use Rattle.seg_check.specs.Faults.{IsImageOf}
+use Rattle.client_spec.specs.Syntax.{Client}
+use Rattle.client_spec.specs.Grammar.{SpellsClient}
+use Rattle.client_spec.specs.Run.{bound}
+use Rattle.client_spec.specs.Safe.{IsAccepted}
+use Rattle.client_spec.specs.Typed.{Checked, RegisterType, RegisterTypes, types_after}
+use Rattle.client_spec.specs.Clients.{IsVerified}
+use Rattle.client_verify.specs.declared.verified.TheConstants.{MOST_STEPS}
+use Rattle.client_run.specs.declared.ready.Ready.{Ready}
+use Rattle.client_output.specs.declared.refused.Refused.{Refused}
+use Rattle.client_vm.specs.Admitted.{IsWrong}
+use Rattle.client_vm.proofs.Refusing.{if_wrong}
+use Rattle.lezgauri_c.specs.Prepared.{text_of}
+use Rattle.lezgauri_c.proofs.OneClient.{only_wrong}
+
+-- the rules tell what is known after a client, so one that can't but be accepted is
+accepted_so : (client : Client) → ((IsAccepted client → ⊥) → ⊥) → IsAccepted client
+accepted_so client some = go (types_after client.types client.constants client.code (replicate 16 RegisterType.Undefined)) refl
+  where
+    go : (known : Checked RegisterTypes) → types_after client.types client.constants client.code (replicate 16 RegisterType.Undefined) ≡ known → IsAccepted client
+    go (Ok after) e = (after, e)
+    go (Err reason) e = absurd (some (λ a. let f : Ok a.0 ≡ Err reason = sym a.1 ∙ e in cc))
+
+module _ (ready : Ready Global) (client : Client) (spells : SpellsClient (text_of ready) client) (table : Table) where
+  pub verified_on : Agree table client.types → IsVerified table client
+  verified_on agree =
+      let few = ready.client.within in
+      let is = ready.client.bounded client spells in
+      let most : MOST_STEPS ≡ 10 ^ 9 = refl in
+      record {
+        agree = agree;
+        typed = accepted_so client (λ none. ∥∥₁_elim (ready.client.accepted client spells) (λ x y. absurd x) none);
+        bounded = omega (arith, few, is, most);
+      }
+
+  -- where they don't, the first type that differs is the fault
+  pub differs_on : (image : List ℕ) → IsImageOf image table → (k : ℕ) → IsFirstDifference table client.types k
+      → IsWrong image (text_of ready ∷ []) (record { client = Some 0; fault = fault.TypeMismatch k })
+  differs_on image is k first =
+      let refused : Refused = record { client = Some 0; fault = fault.TypeMismatch k } in
+      let result : Result (Unit {0}) Refused = Err refused in
+      if_wrong image (text_of ready ∷ []) table is result (only_wrong table (text_of ready) (fault.TypeMismatch k) (client, spells, first))
+
+-- the client that is kept is one
+pub one_kept : (x y : Ready Global) → Some x ≡ Some y → x ≡ y
+one_kept x y is = cc

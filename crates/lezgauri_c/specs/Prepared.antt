@@ -1,0 +1,41 @@
+-- Clients that C keeps.
+--     in_hand prepared            the client, where there is one
+--     text_of ready               its file
+--     IsReadyOn image text ready  it was verified against the types of an image
+--     HoldsClient image text prepared     and C keeps it
+--     OfClient prepared P         where C keeps one, P holds of its file
+use Rattle.std.specs.Prelude.{◌≡◌, ℕ, List, Option, Some}
+use Rattle.std.specs.Global.{Global}
+use Rattle.seg_spec.specs.Types.{Table}
+use Rattle.seg_spec.specs.Images.{IsSound}
+use Rattle.client_spec.specs.Syntax.{Client}
+use Rattle.client_spec.specs.Grammar.{SpellsClient}
+use Rattle.client_spec.specs.Clients.{IsVerified}
+use Rattle.client_code.specs.Clients.{bytes_of}
+use Rattle.client_run.specs.declared.ready.Ready.{Ready}
+use Rattle.client_run.specs.ReadyClients.{client_in}
+use Rattle.lezgauri_c.specs.declared.prepared.Prepared.{Prepared}
+
+abbrev pub in_hand : Prepared → Option (Ready Global)
+in_hand prepared = prepared.kept.value
+
+abbrev pub text_of : Ready Global → List ℕ
+text_of ready = bytes_of (client_in ready)
+
+-- The client of a text, which the types of an image accept: those of a sound one are its table.
+pub record IsReadyOn (image text : List ℕ) (ready : Ready Global) : Type 0 where
+  pub text_is : text_of ready ≡ text
+  pub table : Table
+  pub client : Client
+  pub spells : SpellsClient text client
+  pub verified : IsVerified table client
+  pub table_is : (sound : IsSound image) → table ≡ sound.picture.table
+
+abbrev pub HoldsClient : List ℕ → List ℕ → Prepared → Type 0
+HoldsClient image text prepared =
+    (ready : Ready Global) × (in_hand prepared ≡ Some ready) × IsReadyOn image text ready
+
+-- where C keeps a client, this holds of its text, which spells one
+abbrev pub OfClient : Prepared → (List ℕ → Type 0) → Type 0
+OfClient prepared P = (ready : Ready Global) → in_hand prepared ≡ Some ready →
+    (client : Client) → SpellsClient (text_of ready) client → P (text_of ready)

@@ -1,0 +1,73 @@
+ghost use Rattle.std.specs.Prelude.{◌≡◌, Option, Some, None, true, is_some};
+ghost use Rattle.std.specs.Global.{Global};
+ghost use Rattle.client_run.specs.declared.ready.Ready.{Ready};
+
+use box_parts::BoxParts;
+use client_vm::Ready;
+use std::alloc::Global;
+use std::marker::Model;
+use std::ptr::null_mut;
+
+/// A client that C keeps, ready to run, or none: where it lies.
+///
+/// It isn't `Drop`, so code that loses the client is refused.
+#[repr(C)]
+pub struct Kept {
+    at: *mut u8,
+    pub ghost value: { Option (Ready Global) },
+}
+
+impl Model for Kept {
+    ghost use Rattle.lezgauri_c.specs.Kept.{may_own};
+
+    ghost also_owns = { λ kept. may_own kept.at kept.value };
+}
+
+unsafe impl Send for Kept {}
+
+impl Kept {
+    /// No client.
+    pub(crate) fn none() -> Kept
+        ensures { result.value ≡ None }
+    {
+        Kept { at: null_mut() }
+    }
+
+    /// Takes no client apart.
+    pub(crate) fn let_go(self)
+        requires { self.value ≡ None }
+    {
+        let Kept { at: _ } = self;
+    }
+
+    pub(crate) fn of(client: Box<Ready<'static, Global>>) -> Kept
+        ensures { result.value ≡ Some client.entry.value }
+    {
+        Kept::of_parts(BoxParts::of(client))
+    }
+
+    pub(crate) fn into_box(self, alloc: Global) -> Box<Ready<'static, Global>>
+        requires { is_some self.value ≡ true }
+        ensures { self.value ≡ Some result.value }
+    {
+        self.into_parts(alloc).into_box()
+    }
+
+    fn of_parts(parts: BoxParts<Ready<'static, Global>, Global>) -> Kept
+        ensures { result.value ≡ Some parts.entry.value }
+    {
+        let BoxParts { at, alloc: _ } = parts;
+        Kept { at: at as *mut u8 }
+    }
+
+    fn into_parts(self, alloc: Global) -> BoxParts<Ready<'static, Global>, Global>
+        requires { is_some self.value ≡ true }
+        ensures { self.value ≡ Some result.value }
+    {
+        let Kept { at } = self;
+        BoxParts {
+            at: at as *mut Ready<'static, Global>,
+            alloc,
+        }
+    }
+}

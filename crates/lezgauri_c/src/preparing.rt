@@ -1,0 +1,151 @@
+ghost use Rattle.std.specs.Prelude.{◌≡◌, ◌<◌, ◌≤◌, ◌↔◌, None, [], ◌∷◌, IfOk, IfErr};
+ghost use Rattle.seg_spec.specs.Images.{IsSound};
+ghost use Rattle.client_output.specs.declared.report.Ended.{Ended};
+ghost use Rattle.client_vm.specs.Admitted.{IsWrong};
+ghost use Rattle.lezgauri_c.specs.Calls.{HasRunOn, IsWrongAs, IsRefusedAs};
+ghost use Rattle.lezgauri_c.specs.Prepared.{in_hand, IsReadyOn, HoldsClient, OfClient};
+ghost use Rattle.lezgauri_c.specs.Told.{no_fault, status_number};
+
+use crate::accepting::ready;
+use crate::buffer::Buffer;
+use crate::fault::Fault;
+use crate::prepared::Prepared;
+use crate::report::Report;
+use crate::run_in_place::{run_again, types_of, window_of};
+use crate::running::status_of;
+use crate::status::{BAD_ARGUMENT, OK};
+use client_vm::{Ready, Refused};
+use seg_lent::Lent;
+use seg_ptr::Window;
+use seg_raw::Fault as Reason;
+use std::alloc::{Allocator, Global};
+
+/// Verifies a client against the types of an image that an earlier call found sound, or left behind, and makes it ready to run any number of
+/// times: `OK`, and `prepared` keeps it, or the number of the first fault, and `prepared` keeps none. Nothing is written to the image.
+///
+/// The client's bytes must stay as they are until it is closed, since what is kept refers to them.
+#[tactic(auto, using(crate::proofs::Numbers::number_above))]
+#[unsafe(no_mangle)]
+pub extern "C" fn lezgauri_raw_prepare(
+    alloc: Global,
+    image: &mut Lent,
+    client: &'static [u8],
+    prepared: &mut Prepared,
+    fault: &mut Fault,
+) -> u32
+    ensures ready { result ≡ 0 → HoldsClient image.old.bytes client.now prepared.new }
+    ensures refused { 0 < result → IsSound image.old.bytes →
+        IsWrongAs image.old.bytes (client.now ∷ []) fault.new }
+    ensures none { 0 < result → in_hand prepared.new ≡ None }
+    ensures number { fault.new.number ≡ result }
+    ensures no_fault { result ≡ 0 → fault.new ≡ no_fault }
+    ensures kept { image.new.bytes ≡ image.old.bytes }
+{
+    let (made, bytes) = made_ready(alloc, image.take(), client);
+    image.give_back(bytes);
+    match made {
+        Ok(client) => {
+            prepared.keep(alloc, client);
+            *fault = Fault::NONE;
+            OK
+        }
+        Err(refused) => {
+            prepared.close(alloc);
+            *fault = Fault::from(refused);
+            fault.number
+        }
+    }
+}
+
+/// Runs the client that is kept on an image that an earlier call found sound, or left behind, in the image's own memory, as
+/// `lezgauri_raw_run_on`, but that nothing is verified or decoded, and no memory is taken: `OK`, `OUTPUT_FULL`, or the number of the fault,
+/// `TYPE_MISMATCH` where the client's types and the image's differ, and then nothing ran. `BAD_ARGUMENT` where no client is kept.
+#[tactic(auto, using(crate::proofs::Numbers::numbers))]
+#[unsafe(no_mangle)]
+pub extern "C" fn lezgauri_raw_run_client(
+    alloc: Global,
+    image: &mut Lent,
+    prepared: &mut Prepared,
+    input: &[u8],
+    output: &mut Lent,
+    report: &mut Report,
+    fault: &mut Fault,
+) -> u32
+    ensures outcome { (ended : Ended) → result ≡ status_number ended → OfClient prepared.old
+        (λ text. HasRunOn image.old.bytes text input.now ended output.old.bytes
+        output.new.bytes image.new.bytes report.new) }
+    ensures refused { (0 < result) × (result ≤ 99) → IsSound image.old.bytes →
+        OfClient prepared.old (λ text. IsRefusedAs image.old.bytes (text ∷ []) fault.new) }
+    ensures mismatch { (0 < result) × (result ≤ 99) → IsSound image.old.bytes → result ≡ 4 }
+    ensures number { (0 < result) × (result ≤ 100) → fault.new.number ≡ result }
+    ensures no_fault { (ended : Ended) → result ≡ status_number ended → fault.new ≡ no_fault }
+    ensures kept { (0 < result) × (result ≤ 100) → image.new.bytes ≡ image.old.bytes }
+    ensures unwritten { (0 < result) × (result ≤ 100) →
+        (output.new.bytes ≡ output.old.bytes) × (report.new ≡ report.old) }
+    ensures none { (result ≡ 100) ↔ (in_hand prepared.old ≡ None) }
+    ensures same { in_hand prepared.new ≡ in_hand prepared.old }
+    ensures status { result ≤ 101 }
+{
+    if !prepared.is_there() {
+        *fault = Fault::ARGUMENT;
+        return BAD_ARGUMENT;
+    }
+    let client = prepared.take(alloc);
+    let mut sink = Buffer::new(output.take());
+    let (ran, bytes) = run_again(image.take(), &client, input, &mut sink);
+    prepared.keep(alloc, client);
+    image.give_back(bytes);
+    output.give_back(sink.into_bytes());
+    match ran {
+        Ok(told) => {
+            *fault = Fault::NONE;
+            *report = Report::from(told);
+            status_of(told.ended)
+        }
+        Err(refused) => {
+            *fault = Fault::from(refused);
+            fault.number
+        }
+    }
+}
+
+/// Gives the memory of the client that is kept back, if there is one.
+#[unsafe(no_mangle)]
+pub extern "C" fn lezgauri_raw_client_close(alloc: Global, prepared: &mut Prepared)
+    ensures { in_hand prepared.new ≡ None }
+{
+    prepared.close(alloc);
+}
+
+/// A client verified against the types of an image, and made ready in memory of its own; and the image's bytes.
+fn made_ready<A: Allocator>(
+    alloc: Global,
+    image: Vec<u8, A>,
+    client: &'static [u8],
+) -> (Result<Box<Ready<'static, Global>>, Refused>, Vec<u8, A>)
+    ensures ready { IfOk result.0 (λ made. IsReadyOn image.items client.now made.value) }
+    ensures wrong { IfErr result.0 (λ refused. IsSound image.items →
+        IsWrong image.items (client.now ∷ []) refused) }
+    ensures kept { result.1.items ≡ image.items }
+{
+    let window = match window_of(image) {
+        Ok(window) => window,
+        Err(image) => return (Err(Refused::from(Reason::BadHeader)), image),
+    };
+    let made = ready_on(alloc, &window, client);
+    (made, window.into_bytes())
+}
+
+fn ready_on<A: Allocator>(
+    alloc: Global,
+    window: &Window<A>,
+    client: &'static [u8],
+) -> Result<Box<Ready<'static, Global>>, Refused>
+    ensures ready { IfOk result (λ made. IsReadyOn window.now.bytes client.now made.value) }
+    ensures wrong { IfErr result (λ refused. IsSound window.now.bytes →
+        IsWrong window.now.bytes (client.now ∷ []) refused) }
+{
+    let types = types_of(window)?;
+    let client = ready(alloc, client, &types)?;
+    Ok(Box::new(alloc, client)?)
+}

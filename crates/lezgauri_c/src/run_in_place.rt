@@ -1,0 +1,179 @@
+ghost use Rattle.std.specs.Prelude.{◌≡◌, ◌↔◌, true, false, Ok, [], ◌∷◌, length, IfOk, IfErr, OnErr, ℕ};
+ghost use Rattle.seg_bytes.specs.Bytes.{word};
+ghost use Rattle.seg_spec.specs.Header.{allocator_word};
+ghost use Rattle.seg_spec.specs.Types.{Table};
+ghost use Rattle.seg_spec.specs.Images.{IsSound};
+ghost use Rattle.seg_spec.specs.Window.{region_of};
+ghost use Rattle.seg_check.specs.Faults.{IsImageOf, IsFaultOf};
+ghost use Rattle.client_spec.specs.Clients.{IsVerified};
+ghost use Rattle.client_code.specs.Clients.{OfTree, bytes_of};
+ghost use Rattle.client_run.specs.ReadyClients.{client_in};
+ghost use Rattle.client_output.specs.declared.report.Ended.{Ended};
+ghost use Rattle.client_vm.specs.Admitted.{IsWrong};
+ghost use Rattle.client_vm.specs.Outcomes.{HasOutcome};
+ghost use Rattle.client_vm.specs.Reports.{IsReportOf};
+ghost use Rattle.client_run.specs.Runs.{ending_of};
+ghost use Rattle.client_vm.specs.Together.{HaveRunOn};
+
+use crate::accepting::ready;
+use client_vm::{Ready, Refused, Report as Told, Sink, run};
+use seg_bestfit::BestFit;
+use seg_block::Fit;
+use seg_check::read_types;
+use seg_layout::TypeTable;
+use seg_manager::Segment;
+use seg_ptr::{MAX_LEN, Window, header};
+use seg_raw::{Fault as Reason, Region};
+use seg_seqfit::SeqFit;
+use std::alloc::{Allocator, Global};
+
+/// Verifies a client and runs it on an image, in the image's own memory. If it is refused, nothing is written, and the bytes come
+/// back as they were.
+pub(crate) fn verify_and_run<A: Allocator, W: Sink>(
+    alloc: Global,
+    image: Vec<u8, A>,
+    client: &[u8],
+    input: &[u8],
+    sink: &mut W,
+) -> (Result<Told, Refused>, Vec<u8, A>)
+    requires works { W.has_failed sink.old ≡ false }
+    ensures within { IfOk result.0 (IsReportOf client.now) }
+    ensures outcome { IfOk result.0 (λ told. IsSound image.items →
+        HasOutcome image.items (client.now ∷ []) input.now (length image.items) 0 []
+        (W.taken sink.old) (W.taken sink.new) result.1.items (told ∷ []) told.ended) }
+    ensures ended { IfOk result.0
+        (λ told. (told.ended ≡ Ended.OutputFailed) ↔ (W.has_failed sink.new ≡ true)) }
+    ensures refused { IfErr result.0 (λ refused. IsSound image.items →
+        IsWrong image.items (client.now ∷ []) refused) }
+    ensures kept { OnErr result.0 (result.1.items ≡ image.items) }
+    ensures unwritten { OnErr result.0 (sink.new ≡ sink.old) }
+{
+    let window = match window_of(image) {
+        Ok(window) => window,
+        Err(image) => return (Err(Refused::from(Reason::BadHeader)), image),
+    };
+    let types = match types_of(&window) {
+        Ok(types) => types,
+        Err(fault) => return (Err(Refused::from(fault)), window.into_bytes()),
+    };
+    match ready(alloc, client, &types) {
+        Ok(client) => {
+            let (told, image) = run_ready(window, types, &client, input, sink);
+            (Ok(told), image)
+        }
+        Err(refused) => (Err(refused), window.into_bytes()),
+    }
+}
+
+/// Runs a client that is ready on an image, in the image's own memory. If its types and the image's differ, nothing is written, and
+/// the bytes come back as they were.
+pub(crate) fn run_again<A: Allocator, W: Sink>(
+    image: Vec<u8, A>,
+    client: &Ready<Global>,
+    input: &[u8],
+    sink: &mut W,
+) -> (Result<Told, Refused>, Vec<u8, A>)
+    requires works { W.has_failed sink.old ≡ false }
+    ensures within { IfOk result.0 (IsReportOf (bytes_of (client_in client.now))) }
+    ensures outcome { OfTree (client_in client.now) (λ _. IfOk result.0 (λ told.
+        IsSound image.items →
+        HasOutcome image.items (bytes_of (client_in client.now) ∷ []) input.now
+        (length image.items) 0 [] (W.taken sink.old) (W.taken sink.new) result.1.items
+        (told ∷ []) told.ended)) }
+    ensures refused { OfTree (client_in client.now) (λ _. IfErr result.0 (λ refused.
+        IsSound image.items →
+        IsWrong image.items (bytes_of (client_in client.now) ∷ []) refused)) }
+    ensures mismatch { IfErr result.0 (λ refused. IsSound image.items →
+        (k : ℕ) × (refused.fault ≡ Reason.TypeMismatch k)) }
+    ensures kept { OnErr result.0 (result.1.items ≡ image.items) }
+    ensures unwritten { OnErr result.0 (sink.new ≡ sink.old) }
+{
+    let window = match window_of(image) {
+        Ok(window) => window,
+        Err(image) => return (Err(Refused::from(Reason::BadHeader)), image),
+    };
+    let types = match types_of(&window) {
+        Ok(types) => types,
+        Err(fault) => return (Err(Refused::from(fault)), window.into_bytes()),
+    };
+    match types.agrees(client.verified().types()) {
+        Ok(()) => {
+            let (told, image) = run_ready(window, types, client, input, sink);
+            (Ok(told), image)
+        }
+        Err(fault) => {
+            let refused = Refused {
+                client: Some(0),
+                fault,
+            };
+            (Err(refused), window.into_bytes())
+        }
+    }
+}
+
+/// A window on an image, in the image's own memory. Bytes that are too many for a segment are no image, and come back.
+pub(crate) fn window_of<A: Allocator>(image: Vec<u8, A>) -> Result<Window<A>, Vec<u8, A>>
+    ensures bytes { IfOk result (λ window. window.bytes ≡ image.items) }
+    ensures region { IfOk result (λ window. region_of window ≡ image.items) }
+    ensures base { IfOk result (λ window. length window.before ≡ 0) }
+    ensures fault { OnErr result (IsFaultOf image.items Reason.BadHeader) }
+    ensures kept { IfErr result (λ bytes. bytes.items ≡ image.items) }
+{
+    let len = match u32::try_from(image.len()) {
+        Ok(len) if len <= MAX_LEN => len,
+        _ => return Err(image),
+    };
+    Ok(Window::place(Region::from_vec(image), 0, len).unwrap())
+}
+
+/// The types of the image in a window.
+pub(crate) fn types_of<A: Allocator>(window: &Window<A>) -> Result<TypeTable, Reason>
+    ensures { (table : Table) → IsImageOf window.now.bytes table → result ≡ Ok table }
+{
+    read_types(window)
+}
+
+/// Runs a client on the segment in a window, with the allocator that the image names, and gives the image's memory back.
+pub(crate) fn run_ready<A: Allocator, W: Sink>(
+    window: Window<A>,
+    types: TypeTable,
+    client: &Ready<Global>,
+    input: &[u8],
+    sink: &mut W,
+) -> (Told, Vec<u8, A>)
+    requires works { W.has_failed sink.old ≡ false }
+    ensures within { IsReportOf (bytes_of (client_in client.now)) result.0 }
+    ensures runs { IsImageOf window.bytes types →
+        OfTree (client_in client.now) (λ tree. IsVerified types tree →
+        HaveRunOn (bytes_of (client_in client.now) ∷ []) [] input.now window (W.taken sink.old)
+        result.1.items (W.taken sink.new) (result.0 ∷ []) (ending_of result.0.ended)) }
+    ensures ended { (result.0.ended ≡ Ended.OutputFailed) ↔ (W.has_failed sink.new ≡ true) }
+{
+    if window.get32(header::ALLOCATOR) == BestFit::word() {
+        run_on::<BestFit, A, W>(window, types, client, input, sink)
+    } else {
+        run_on::<SeqFit, A, W>(window, types, client, input, sink)
+    }
+}
+
+/// Runs a client on the segment in a window.
+fn run_on<F: Fit, A: Allocator, W: Sink>(
+    mut window: Window<A>,
+    types: TypeTable,
+    client: &Ready<Global>,
+    input: &[u8],
+    sink: &mut W,
+) -> (Told, Vec<u8, A>)
+    requires works { W.has_failed sink.old ≡ false }
+    ensures within { IsReportOf (bytes_of (client_in client.now)) result.0 }
+    ensures runs { IsImageOf window.bytes types → word window.bytes allocator_word ≡ F.allocator →
+        OfTree (client_in client.now) (λ tree. IsVerified types tree →
+        HaveRunOn (bytes_of (client_in client.now) ∷ []) [] input.now window (W.taken sink.old)
+        result.1.items (W.taken sink.new) (result.0 ∷ []) (ending_of result.0.ended)) }
+    ensures ended { (result.0.ended ≡ Ended.OutputFailed) ↔ (W.has_failed sink.new ≡ true) }
+{
+    header::upgrade(&mut window);
+    let mut segment: Segment<F, A> = Segment::new(window, types);
+    let told = run(&mut segment, client, input, &[], sink);
+    (told, segment.into_window().into_bytes())
+}
