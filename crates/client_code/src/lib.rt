@@ -9,7 +9,7 @@ mod nesting;
 mod parser;
 mod types;
 
-pub use client::{Client, Constants};
+pub use client::{Client, Constants, TypedClient};
 pub use client_spec::table::{Ends, Gives, Kinds, Need, Number, Operand, Operation, Role, Row};
 pub use constant::{Constant, ConstantKind, LONGEST};
 pub use header::{
@@ -17,5 +17,5 @@ pub use header::{
 };
 pub use instruction::{Instruction, REGISTERS};
 pub use nesting::{DEPTH, Nesting};
-pub use parser::parse;
+pub use parser::{parse, parse_typed};
 pub use types::{MOST_TYPES, TYPES_AT};
