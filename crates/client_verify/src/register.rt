@@ -86,10 +86,7 @@ impl RegisterType {
     pub fn joined(self, other: RegisterType) -> Result<RegisterType, Reason>
         ensures { checked known_of result ≡ typed.joined_one (known_of self) (known_of other) }
     {
-        // most registers hold nothing
-        if let (RegisterType::Undefined, RegisterType::Undefined) = (self, other) {
-            Ok(RegisterType::Undefined)
-        } else if self == other {
+        if self == other {
             Ok(self)
         } else if self.is_owner() || other.is_owner() {
             Err(Reason::OwnerLost)

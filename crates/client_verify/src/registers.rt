@@ -79,7 +79,13 @@ impl Registers {
             ≡ typed.joined (registers_of success.now) (registers_of self.old) }
     {
         for i in 0..COUNT {
-            self.types[i] = success.types[i].joined(self.types[i])?;
+            if let RegisterType::Undefined = self.types[i] {
+                if success.types[i].is_owner() {
+                    return Err(Reason::OwnerLost);
+                }
+            } else {
+                self.types[i] = success.types[i].joined(self.types[i])?;
+            }
         }
         Ok(())
     }

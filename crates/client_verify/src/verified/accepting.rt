@@ -45,8 +45,8 @@ pub fn verify_typed<'a>(typed: TypedClient<'a>, table: &TypeTable) -> Result<Ver
     })
 }
 
-#[inline(never)]
 /// The most steps of a client's code, or the first instruction that is rejected.
+#[inline(never)]
 fn bound_of(client: Client, types: &TypeTable) -> Result<u64, Fault>
     ensures accepted { IfOk result (λ bound. OfTree client.entry (λ tree. types.now ≡ tree.types →
         IsAccepted tree × (bound ≡ at_most (run.bound tree.code)))) }
