@@ -2,7 +2,6 @@ ghost use Rattle.std.specs.Prelude.{◌≡◌, ◌≤◌, ◌<◌, ◌+◌, ◌*
 ghost use Rattle.client_spec.specs.Syntax as syntax;
 ghost use Rattle.client_spec.specs.Grammar.{listing, SpellsClient};
 ghost use Rattle.client_code.specs.Files.{code_place};
-ghost use Rattle.client_code.specs.Clients.{OfTree};
 
 use crate::constant::Constant;
 use crate::header::{Header, MOST_INSTRUCTIONS};
@@ -31,19 +30,11 @@ pub struct Client<'a> {
         × (header.instructions ≡ length (listing tree.code)) × (code ≡ code_place tree) },
 }
 
-/// A client and its types, read from its file.
-#[derive(Drop)]
-pub struct TypedClient<'a> {
-    pub client: Client<'a>,
-    pub types: TypeTable,
-    ghost same_types: { OfTree client (λ tree. types ≡ tree.types) },
-}
-
 impl<'a> Client<'a> {
     ghost use Rattle.std.specs.Prelude.{slice_get};
     ghost use Rattle.std.specs.Option.{option_map};
     ghost use Rattle.client_code.specs.Views.{constants_of, instruction_of};
-    ghost use Rattle.client_code.specs.Clients.{bytes_of};
+    ghost use Rattle.client_code.specs.Clients.{bytes_of, OfTree};
 
     /// The whole file.
     pub fn bytes(&self) -> &'a [u8]
@@ -59,17 +50,6 @@ impl<'a> Client<'a> {
         match read_types(self.file, self.header.types) {
             Ok(types) => types,
             Err(_) => TypeTable::new(),
-        }
-    }
-
-    /// The same client, with its types.
-    pub fn typed(self) -> TypedClient<'a>
-        ensures { result.client ≡ self }
-    {
-        let types = self.types();
-        TypedClient {
-            client: self,
-            types,
         }
     }
 

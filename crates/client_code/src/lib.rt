@@ -7,9 +7,10 @@ mod header;
 mod instruction;
 mod nesting;
 mod parser;
+mod typed;
 mod types;
 
-pub use client::{Client, Constants, TypedClient};
+pub use client::{Client, Constants};
 pub use client_spec::table::{Ends, Gives, Kinds, Need, Number, Operand, Operation, Role, Row};
 pub use constant::{Constant, ConstantKind, LONGEST};
 pub use header::{
@@ -18,4 +19,5 @@ pub use header::{
 pub use instruction::{Instruction, REGISTERS};
 pub use nesting::{DEPTH, Nesting};
 pub use parser::{parse, parse_typed};
+pub use typed::TypedClient;
 pub use types::{MOST_TYPES, TYPES_AT};

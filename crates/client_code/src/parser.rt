@@ -9,11 +9,12 @@ ghost use Rattle.client_code.specs.Operands.{HasOperands};
 ghost use Rattle.client_code.specs.Files.{AreConstants, IsCodeAt};
 ghost use Rattle.client_code.specs.Clients.{bytes_of};
 
-use crate::client::{Client, TypedClient};
+use crate::client::Client;
 use crate::constant::{Constant, ConstantKind};
 use crate::header::{Header, MOST_CONSTANTS, MOST_INSTRUCTIONS, check_version};
 use crate::instruction::Instruction;
 use crate::nesting::Nesting;
+use crate::typed::TypedClient;
 use crate::types::{read_types, version_of};
 use arrayvec::ArrayVec;
 use seg_layout::TypeTable;

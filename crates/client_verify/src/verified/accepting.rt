@@ -22,7 +22,7 @@ pub fn verify<'a>(client: Client<'a>, table: &TypeTable) -> Result<Verified<'a>,
     ensures refused { IfErr result (λ fault. OfTree client.entry
         (λ tree. IsRefused table.now tree fault)) }
 {
-    verify_typed(client.typed(), table)
+    verify_typed(TypedClient::of(client), table)
 }
 
 /// The same of a client whose types were read with it.
