@@ -27,9 +27,9 @@ pub fn verify<'a>(client: Client<'a>, table: &TypeTable) -> Result<Verified<'a>,
 
 /// The same of a client whose types were read with it.
 pub fn verify_typed<'a>(typed: TypedClient<'a>, table: &TypeTable) -> Result<Verified<'a>, Fault>
-    ensures client { IfOk result (λ verified. client_of verified ≡ typed.client) }
-    ensures accepted { IfOk result (λ verified. OfTree typed.client (IsVerified table.now)) }
-    ensures refused { IfErr result (λ fault. OfTree typed.client
+    ensures client { IfOk result (λ verified. client_of verified ≡ typed.entry.client) }
+    ensures accepted { IfOk result (λ verified. OfTree typed.entry.client (IsVerified table.now)) }
+    ensures refused { IfErr result (λ fault. OfTree typed.entry.client
         (λ tree. IsRefused table.now tree fault)) }
 {
     let TypedClient { client, types } = typed;
