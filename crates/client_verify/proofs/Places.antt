@@ -90,9 +90,9 @@ module _ {X : Type 0} (view : X → RegisterType) where
       → get_or both i d ≡ get_or ys i d → view (get_or both i d) ≡ RegisterType.Undefined → is_owner (view (get_or xs i d)) ≡ false → JoinedTo xs ys both (i + 1)
   joined_stays xs ys both i d near_xs near_ys near so_far same nothing free =
       subst (λ zs. JoinedTo xs ys zs (i + 1)) (set-get_or both i d) (
-          joined_more xs ys both i d (get_or both i d) near_xs near_ys near so_far
-          (ap Ok nothing ∙ sym (nothing_stays (view (get_or xs i d)) free) ∙ ap (joined_one (view (get_or xs i d))) (sym nothing ∙ ap view same))
-          )
+      joined_more xs ys both i d (get_or both i d) near_xs near_ys near so_far
+      (ap Ok nothing ∙ sym (nothing_stays (view (get_or xs i d)) free) ∙ ap (joined_one (view (get_or xs i d))) (sym nothing ∙ ap view same))
+      )
 
   pub joined_lost : (xs ys both : List X) (i : ℕ) (d : X) → i < length xs → i < length ys → JoinedTo xs ys both i
       → get_or both i d ≡ get_or ys i d → view (get_or both i d) ≡ RegisterType.Undefined → is_owner (view (get_or xs i d)) ≡ true → joined (map view xs) (map view ys) ≡ Err Reason.OwnerLost

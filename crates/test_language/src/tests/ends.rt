@@ -236,5 +236,9 @@ fn owners_at_the_end_of_a_part(rt: HostRuntime) {
     );
     other.set(3, RegisterType::Reference(Class::Name(0), 1));
     assert_eq!(rt; int.join(&other), Ok(()));
-    assert_eq!(rt; int, undefined, "of no register the same is known at both ends");
+    assert_eq!(rt;
+        int,
+        undefined,
+        "of no register the same is known at both ends"
+    );
 }

@@ -22,7 +22,7 @@ invariant_of-result c =
     record {
       same_types = λ tree spells.
           let places = read_places file tree spells header.types header.constants header.instructions c.constants_at.result c.in_ok-code.code found.0
-              c.in_ok-header.ensures.found c.constants_at.ensures found.1 found.2 in
+          c.in_ok-header.ensures.found c.constants_at.ensures found.1 found.2 in
           types_again file tree spells c.in_ok-types.types header.types places.0 types.count types.found;
     }
 

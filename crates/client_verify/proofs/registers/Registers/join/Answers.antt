@@ -1,4 +1,4 @@
-use Rattle.std.proofs.Common.{◌≡◌, ◌+◌, length, get_or, set, refl, sym, ap, ◌∙◌, subst, arith, Err}
+use Rattle.std.proofs.Common.{◌≡◌, ◌+◌, length, get_or, refl, sym, ap, ◌∙◌, subst, arith, Err}
 use Rattle.std.proofs.lemmas.List.{length-set, get_or-set_other}
 use Rattle.std.proofs.lemmas.Result.{err_from_is_err_and}
 use Rattle.client_spec.specs.Typed.{joined_one}
@@ -28,19 +28,19 @@ loop-i-preserved c =
     let long = before.long in
     elim c.match-self-i.branch [
       | in-Undefined+else-is_owner w ↦ record {
-          long = ap (λ s. length s.types) w.self-is ∙ long;
-          so_far = subst (λ s. JoinedTo known_of first second s.types (i + 1)) (sym w.self-is)
-              (joined_stays known_of first second both i _ (omega arith) (omega arith) (omega arith) before.so_far (before.rest i _ (omega arith))
-              (ap known_of w.in-Undefined.is) (sym w.is_owner.ensures ∙ w.if-is_owner.false));
-          rest = λ j d from. ap (λ s. get_or s.types j d) w.self-is ∙ before.rest j d (omega arith);
-        }
+        long = ap (λ s. length s.types) w.self-is ∙ long;
+        so_far = subst (λ s. JoinedTo known_of first second s.types (i + 1)) (sym w.self-is)
+            (joined_stays known_of first second both i _ (omega arith) (omega arith) (omega arith) before.so_far (before.rest i _ (omega arith))
+            (ap known_of w.in-Undefined.is) (sym w.is_owner.ensures ∙ w.if-is_owner.false));
+        rest = λ j d from. ap (λ s. get_or s.types j d) w.self-is ∙ before.rest j d (omega arith);
+      }
       | in_default+in_ok-self w ↦ record {
-          long = ap (λ s. length s.types) w.self-is ∙ length-set both i w.in_ok-self.field-0 ∙ long;
-          so_far = subst (λ s. JoinedTo known_of first second s.types (i + 1)) (sym w.self-is)
-              (joined_more known_of first second both i register.Undefined w.in_ok-self.field-0 (omega arith) (omega arith) (omega arith) before.so_far
-              (w.in_ok-self.ensures ∙ ap (λ y. joined_one (known_of (get_or first i register.Undefined)) (known_of y)) (before.rest i register.Undefined (omega arith))));
-          rest = λ j d from. ap (λ s. get_or s.types j d) w.self-is ∙ get_or-set_other both i j w.in_ok-self.field-0 d (λ e. absurd (omega arith)) ∙ before.rest j d (omega arith);
-        }
+        long = ap (λ s. length s.types) w.self-is ∙ length-set both i w.in_ok-self.field-0 ∙ long;
+        so_far = subst (λ s. JoinedTo known_of first second s.types (i + 1)) (sym w.self-is)
+            (joined_more known_of first second both i register.Undefined w.in_ok-self.field-0 (omega arith) (omega arith) (omega arith) before.so_far
+            (w.in_ok-self.ensures ∙ ap (λ y. joined_one (known_of (get_or first i register.Undefined)) (known_of y)) (before.rest i register.Undefined (omega arith))));
+        rest = λ j d from. ap (λ s. get_or s.types j d) w.self-is ∙ get_or-set_other both i j w.in_ok-self.field-0 d (λ e. absurd (omega arith)) ∙ before.rest j d (omega arith);
+      }
     ]
 
 pub returns-in_err-self : goal.returns-in_err-self
