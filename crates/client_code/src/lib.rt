@@ -7,6 +7,7 @@ mod header;
 mod instruction;
 mod nesting;
 mod parser;
+mod typed;
 mod types;
 
 pub use client::{Client, Constants};
@@ -17,5 +18,6 @@ pub use header::{
 };
 pub use instruction::{Instruction, REGISTERS};
 pub use nesting::{DEPTH, Nesting};
-pub use parser::parse;
+pub use parser::{parse, parse_typed};
+pub use typed::TypedClient;
 pub use types::{MOST_TYPES, TYPES_AT};

@@ -14,6 +14,7 @@ use crate::constant::{Constant, ConstantKind};
 use crate::header::{Header, MOST_CONSTANTS, MOST_INSTRUCTIONS, check_version};
 use crate::instruction::Instruction;
 use crate::nesting::Nesting;
+use crate::typed::TypedClient;
 use crate::types::{read_types, version_of};
 use arrayvec::ArrayVec;
 use seg_layout::TypeTable;
@@ -133,11 +134,23 @@ pub fn parse(file: &[u8]) -> Result<Client<'_>, Fault>
         ⊥) }
     ensures fault { IfErr result (λ fault. (place : ℕ) × (fault ≡ Fault.BadCode place)) }
 {
+    Ok(parse_typed(file)?.client)
+}
+
+/// The client as `parse` finds it, with its types, which are read once.
+pub fn parse_typed(file: &[u8]) -> Result<TypedClient<'_>, Fault>
+    ensures file { IfOk result (λ typed. bytes_of typed.client ≡ file.now) }
+    ensures found { IfOk result (λ typed. (tree : syntax.Client) × SpellsClient file.now tree) }
+    ensures wrong { IfErr result (λ fault. (tree : syntax.Client) → SpellsClient file.now tree →
+        ⊥) }
+    ensures fault { IfErr result (λ fault. (place : ℕ) × (fault ≡ Fault.BadCode place)) }
+{
     let header = Header::read(file)?;
     let types = read_types(file, header.types)?;
     check_version(file, &types)?;
     let mut kinds = ArrayVec::new();
     let code = find_constants(file, header.constants_at(), header.constants, &mut kinds)?;
     check_code(file, code, header.instructions, &types, kinds.as_slice())?;
-    Ok(Client { file, header, code })
+    let client = Client { file, header, code };
+    Ok(TypedClient { client, types })
 }

@@ -1,12 +1,13 @@
 -- Lists that a loop changes or asks place by place.
 --     map_more                             a map, one place more
 --     JoinedTo, joined_more, joined_all    what is known at two ends, up to a place, one place more, and at all places
+--     joined_stays, joined_lost            one place more where nothing is known at the second end
 --     KeptTo, kept_more, kept_all          what a body kept: the same
-use Rattle.std.proofs.Common.{◌≡◌, ℕ, ◌+◌, ◌<◌, ◌≤◌, List, [], ◌∷◌, ◌++◌, length, map, take, drop, get_or, set, refl, sym, ap, ◌∙◌, arith, drop-cons, add-one, suc, append_assoc, append-nil, Ok, Err}
+use Rattle.std.proofs.Common.{◌≡◌, ℕ, ◌+◌, ◌<◌, ◌≤◌, List, [], ◌∷◌, ◌++◌, length, map, take, drop, get_or, set, refl, sym, ap, ◌∙◌, arith, drop-cons, add-one, suc, append_assoc, append-nil, subst, true, false, rules, Ok, Err}
 use Rattle.std.specs.Prelude.{⊤}
-use Rattle.std.proofs.lemmas.List.{map-set, length-map, get_or-map, take_more_set, take_all, drop_all, map-append}
+use Rattle.std.proofs.lemmas.List.{map-set, length-map, get_or-map, set-get_or, take_more_set, take_all, drop_all, map-append}
 use Rattle.std.proofs.lemmas.List.Edits.{map_over_more}
-use Rattle.client_spec.specs.Typed.{Reason, Checked, ◌>>=◌, RegisterType, RegisterTypes, joined_one, joined, kept_one, kept}
+use Rattle.client_spec.specs.Typed.{Reason, Checked, ◌>>=◌, RegisterType, RegisterTypes, is_owner, joined_one, joined, kept_one, kept}
 
 -- a map over a list of another's images, one place more
 pub map_more : {X Y : Type 0} (view : X → Y) (f : Y → Y) (xs : List X) (ys : List Y) (i : ℕ) (d y : X) → i < length xs → length ys ≡ length xs
@@ -42,6 +43,18 @@ joined_step front xs ys x y k e = ap (λ r. after front (r >>= λ z. joined xs y
 joined_stop : (front xs ys : RegisterTypes) (x y : RegisterType) (reason : Reason) → joined_one x y ≡ Err reason → after front (joined (x ∷ xs) (y ∷ ys)) ≡ Err reason
 joined_stop front xs ys x y reason e = ap (λ r. after front (r >>= λ z. joined xs ys >>= λ zs. Ok (z ∷ zs))) e
 
+nothing_stays : (x : RegisterType) → is_owner x ≡ false → joined_one x RegisterType.Undefined ≡ Ok RegisterType.Undefined
+nothing_stays RegisterType.Undefined e = refl
+nothing_stays RegisterType.Int e = refl
+nothing_stays (RegisterType.Reference x t) e = refl
+nothing_stays (RegisterType.Owner t) e = search rules
+
+owner_lost : (x : RegisterType) → is_owner x ≡ true → joined_one x RegisterType.Undefined ≡ Err Reason.OwnerLost
+owner_lost RegisterType.Undefined e = search rules
+owner_lost RegisterType.Int e = search rules
+owner_lost (RegisterType.Reference x t) e = search rules
+owner_lost (RegisterType.Owner t) e = refl
+
 after_none : (r : Checked RegisterTypes) → r ≡ after [] r
 after_none (Ok ks) = refl
 after_none (Err e) = refl
@@ -72,6 +85,20 @@ module _ {X : Type 0} (view : X → RegisterType) where
       → Err reason ≡ joined_one (view (get_or xs i d)) (view (get_or ys i d)) → joined (map view xs) (map view ys) ≡ Err reason
   joined_not xs ys both i d reason near_xs near_ys so_far e =
       so_far ∙ at_place (map view (take i both)) xs ys i d near_xs near_ys ∙ joined_stop (map view (take i both)) (drop (i + 1) (map view xs)) (drop (i + 1) (map view ys)) (view (get_or xs i d)) (view (get_or ys i d)) reason (sym e)
+
+  pub joined_stays : (xs ys both : List X) (i : ℕ) (d : X) → i < length xs → i < length ys → i < length both → JoinedTo xs ys both i
+      → get_or both i d ≡ get_or ys i d → view (get_or both i d) ≡ RegisterType.Undefined → is_owner (view (get_or xs i d)) ≡ false → JoinedTo xs ys both (i + 1)
+  joined_stays xs ys both i d near_xs near_ys near so_far same nothing free =
+      subst (λ zs. JoinedTo xs ys zs (i + 1)) (set-get_or both i d) (
+      joined_more xs ys both i d (get_or both i d) near_xs near_ys near so_far
+      (ap Ok nothing ∙ sym (nothing_stays (view (get_or xs i d)) free) ∙ ap (joined_one (view (get_or xs i d))) (sym nothing ∙ ap view same))
+      )
+
+  pub joined_lost : (xs ys both : List X) (i : ℕ) (d : X) → i < length xs → i < length ys → JoinedTo xs ys both i
+      → get_or both i d ≡ get_or ys i d → view (get_or both i d) ≡ RegisterType.Undefined → is_owner (view (get_or xs i d)) ≡ true → joined (map view xs) (map view ys) ≡ Err Reason.OwnerLost
+  joined_lost xs ys both i d near_xs near_ys so_far same nothing owned =
+      joined_not xs ys both i d Reason.OwnerLost near_xs near_ys so_far
+      (sym (owner_lost (view (get_or xs i d)) owned) ∙ ap (joined_one (view (get_or xs i d))) (sym nothing ∙ ap view same))
 
   pub joined_all : (xs ys both : List X) (i : ℕ) → length xs ≤ i → length ys ≤ i → length both ≤ i → JoinedTo xs ys both i → joined (map view xs) (map view ys) ≡ Ok (map view both)
   joined_all xs ys both i all_xs all_ys all so_far =

@@ -7,8 +7,8 @@ ghost use Rattle.client_code.specs.Clients.{bytes_of};
 ghost use Rattle.client_verify.specs.Accepted.{client_of};
 ghost use Rattle.client_verify.specs.Texts.{texts_of, IsWrongText, AreWrong};
 
-use crate::{Verified, verify};
-use client_code::parse;
+use crate::{Verified, verify_typed};
+use client_code::parse_typed;
 use client_output::Refused;
 use seg_layout::TypeTable;
 use seg_raw::Fault;
@@ -53,8 +53,7 @@ fn verify_one<'a>(bytes: &'a [u8], types: &TypeTable) -> Result<Verified<'a>, Fa
         × IsVerified types.now tree) }
     ensures wrong { IfErr result (IsWrongText types.now bytes.now) }
 {
-    let client = parse(bytes)?;
-    verify(client, types)
+    verify_typed(parse_typed(bytes)?, types)
 }
 
 /// Makes a table the longer one of itself and another.

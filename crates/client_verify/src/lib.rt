@@ -16,5 +16,5 @@ pub use reason::Reason;
 pub use register::{Class, RegisterType};
 pub use registers::Registers;
 pub use rule::Rule;
-pub use verified::{MOST_STEPS, Verified, verify};
+pub use verified::{MOST_STEPS, Verified, verify, verify_typed};
 pub use verifier::Verifier;

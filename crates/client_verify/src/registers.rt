@@ -73,16 +73,21 @@ impl Registers {
         self.set(register, RegisterType::Undefined);
     }
 
-    /// What is known after the `END` of an opener, from what is known at the ends of its two parts.
-    pub fn joined(&self, other: &Registers) -> Result<Registers, Reason>
-        ensures { checked registers_of result
-            ≡ typed.joined (registers_of self.now) (registers_of other.now) }
+    /// After the `END` of an opener: keeps what is known at the end of its success part too.
+    pub fn join(&mut self, success: &Registers) -> Result<(), Reason>
+        ensures { checked (λ _. registers_of self.new) result
+            ≡ typed.joined (registers_of success.now) (registers_of self.old) }
     {
-        let mut both = Registers::new();
         for i in 0..COUNT {
-            both.types[i] = self.types[i].joined(other.types[i])?;
+            if let RegisterType::Undefined = self.types[i] {
+                if success.types[i].is_owner() {
+                    return Err(Reason::OwnerLost);
+                }
+            } else {
+                self.types[i] = success.types[i].joined(self.types[i])?;
+            }
         }
-        Ok(both)
+        Ok(())
     }
 
     /// Whether a loop's body, which found these registers, may leave those.

@@ -10,7 +10,7 @@ use seg_layout::TypeTable;
 
 mod accepting;
 
-pub use accepting::verify;
+pub use accepting::{verify, verify_typed};
 
 /// The most steps of a client.
 pub const MOST_STEPS: u64 = 1_000_000_000;

@@ -193,7 +193,7 @@ impl<'a> Verifier<'a> {
         let inside = match part {
             Part::Success { .. } => self.steps,
             Part::Else { success, steps } => {
-                self.registers = success.joined(&self.registers)?;
+                self.registers.join(&success)?;
                 self.steps.max(steps)
             }
             Part::Body { before, turns } => {

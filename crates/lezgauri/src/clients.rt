@@ -14,9 +14,9 @@ ghost use Rattle.client_run.specs.Runs.{MayRun, HasRun};
 ghost use Rattle.client_verify.specs.Texts.{IsWrongText};
 ghost use Rattle.seg_image.specs.Images.{segment_of, allocator_of};
 
-use client_code::parse;
+use client_code::parse_typed;
 use client_run::{Ready, run as run_on_segment};
-use client_verify::Verified;
+use client_verify::{Verified, verify_typed};
 use client_vm::{Ended, Report, Sink};
 use seg_image::Image;
 use seg_raw::Fault;
@@ -30,7 +30,7 @@ pub fn verify<'c, A: Allocator>(image: &Image<A>, client: &'c [u8]) -> Result<Ve
         SpellsClient client.now tree × IsVerified (segment_of image.now).types tree) }
     ensures wrong { IfErr result (IsWrongText (segment_of image.now).types client.now) }
 {
-    client_verify::verify(parse(client)?, image.types())
+    verify_typed(parse_typed(client)?, image.types())
 }
 
 /// Adds a client's types to an image, and runs the client on it: to its end, or to an output that fails. It takes

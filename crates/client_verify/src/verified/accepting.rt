@@ -10,7 +10,7 @@ ghost use Rattle.client_verify.specs.Refusals.{IsRefused, IsRejected, IsRejected
 
 use super::{MOST_STEPS, Verified};
 use crate::verifier::Verifier;
-use client_code::Client;
+use client_code::{Client, TypedClient};
 use seg_layout::TypeTable;
 use seg_raw::Fault;
 
@@ -22,7 +22,17 @@ pub fn verify<'a>(client: Client<'a>, table: &TypeTable) -> Result<Verified<'a>,
     ensures refused { IfErr result (λ fault. OfTree client.entry
         (λ tree. IsRefused table.now tree fault)) }
 {
-    let types = client.types();
+    verify_typed(TypedClient::of(client), table)
+}
+
+/// The same of a client whose types were read with it.
+pub fn verify_typed<'a>(typed: TypedClient<'a>, table: &TypeTable) -> Result<Verified<'a>, Fault>
+    ensures client { IfOk result (λ verified. client_of verified ≡ typed.entry.client) }
+    ensures accepted { IfOk result (λ verified. OfTree typed.entry.client (IsVerified table.now)) }
+    ensures refused { IfErr result (λ fault. OfTree typed.entry.client
+        (λ tree. IsRefused table.now tree fault)) }
+{
+    let TypedClient { client, types } = typed;
     table.agrees(&types)?;
     let bound = bound_of(client, &types)?;
     if bound > MOST_STEPS {
@@ -36,6 +46,7 @@ pub fn verify<'a>(client: Client<'a>, table: &TypeTable) -> Result<Verified<'a>,
 }
 
 /// The most steps of a client's code, or the first instruction that is rejected.
+#[inline(never)]
 fn bound_of(client: Client, types: &TypeTable) -> Result<u64, Fault>
     ensures accepted { IfOk result (λ bound. OfTree client.entry (λ tree. types.now ≡ tree.types →
         IsAccepted tree × (bound ≡ at_most (run.bound tree.code)))) }

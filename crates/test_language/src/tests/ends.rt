@@ -224,11 +224,21 @@ fn owners_at_the_end_of_a_part(rt: HostRuntime) {
     );
     let mut other = undefined;
     other.set(3, RegisterType::Owner(1));
-    assert_eq!(rt; owner.joined(&other), Err(Reason::OwnerLost));
-    assert_eq!(rt; owner.joined(&owner), Ok(owner));
-    other.set(3, RegisterType::Reference(Class::Name(0), 1));
+    assert_eq!(rt; other.join(&owner), Err(Reason::OwnerLost));
+    let mut both = owner;
+    assert_eq!(rt; both.join(&owner), Ok(()));
+    assert_eq!(rt; both, owner);
+    let mut nothing = undefined;
     assert_eq!(rt;
-        other.joined(&int).map(|known| known.get(3)),
-        Ok(RegisterType::Undefined)
+        nothing.join(&owner),
+        Err(Reason::OwnerLost),
+        "the success part alone has an owner"
+    );
+    other.set(3, RegisterType::Reference(Class::Name(0), 1));
+    assert_eq!(rt; int.join(&other), Ok(()));
+    assert_eq!(rt;
+        int,
+        undefined,
+        "of no register the same is known at both ends"
     );
 }

@@ -2,19 +2,32 @@ use Rattle.std.proofs.Common.{sym, ◌∙◌}
 use Rattle.std.proofs.lemmas.Grind.{merely}
 use Rattle.client_spec.specs.Syntax.{Client}
 use Rattle.client_spec.specs.Grammar.{SpellsClient}
-use Rattle.client_code.proofs.Whole.{found_client, no_types, no_version, no_constants, no_code, spelled_parts, read_places, no_matter}
-use Rattle.client_code.proofs.parser.parse.Goals as goal
+use Rattle.client_code.proofs.Whole.{found_client, no_types, no_version, no_constants, no_code, spelled_parts, read_places, types_again, no_matter}
+use Rattle.client_code.proofs.parser.parse_typed.Goals as goal
 
-pub invariant_of-result-clause-placed : goal.invariant_of-result-clause-placed
-invariant_of-result-clause-placed c tree spells =
+pub invariant_of-client-clause-placed : goal.invariant_of-client-clause-placed
+invariant_of-client-clause-placed c tree spells =
     let file = c.args.file.now in
     let header = c.in_ok-header.header in
     let found = c.in_ok-code.ensures.found in
     read_places file tree spells header.types header.constants header.instructions c.constants_at.result c.in_ok-code.code found.0
     c.in_ok-header.ensures.found c.constants_at.ensures found.1 found.2
 
-pub invariant_of-result-clause-spelled : goal.invariant_of-result-clause-spelled
-invariant_of-result-clause-spelled c =
+pub invariant_of-result : goal.invariant_of-result
+invariant_of-result c =
+    let file = c.args.file.now in
+    let header = c.in_ok-header.header in
+    let types = c.in_ok-types.ensures in
+    let found = c.in_ok-code.ensures.found in
+    record {
+      same_types = λ tree spells.
+          let places = read_places file tree spells header.types header.constants header.instructions c.constants_at.result c.in_ok-code.code found.0
+          c.in_ok-header.ensures.found c.constants_at.ensures found.1 found.2 in
+          types_again file tree spells c.in_ok-types.types header.types places.0 types.count types.found;
+    }
+
+pub invariant_of-client-clause-spelled : goal.invariant_of-client-clause-spelled
+invariant_of-client-clause-spelled c =
     let file = c.args.file.now in
     let header = c.in_ok-header.header in
     let found = c.in_ok-code.ensures.found in
