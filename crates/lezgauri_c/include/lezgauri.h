@@ -65,10 +65,9 @@ enum {
 
 /* The most bytes of stack that a call touches. */
 enum {
-    LEZGAURI_STACK_CHECK = 32 * 1024,  /* lezgauri_check, lezgauri_open */
-    LEZGAURI_STACK_VERIFY = 48 * 1024, /* lezgauri_verify, lezgauri_prepare */
-    LEZGAURI_STACK_RUN = 384 * 1024,   /* lezgauri_run, lezgauri_run_on, lezgauri_run_whole, lezgauri_run_client */
-    LEZGAURI_STACK_SAVE = 4 * 1024     /* lezgauri_save, lezgauri_close, lezgauri_client_close */
+    LEZGAURI_STACK_CHECK = 32 * 1024, /* the calls that check an image: lezgauri_check, lezgauri_verify, lezgauri_run, lezgauri_open */
+    LEZGAURI_STACK_RUN = 20 * 1024,   /* lezgauri_run_on, lezgauri_run_whole, lezgauri_prepare, lezgauri_run_client */
+    LEZGAURI_STACK_SAVE = 4 * 1024    /* lezgauri_save, lezgauri_close, lezgauri_client_close */
 };
 
 /* No client has the fault. */
