@@ -22,6 +22,7 @@ typedef struct work {
     lezgauri_bytes client;
     uint8_t *saved;
     lezgauri_handle *segment;
+    lezgauri_client *prepared;
     char *output;
     uint32_t status;
 } work;
@@ -97,6 +98,32 @@ static void *save(void *given)
     return NULL;
 }
 
+static void *prepare(void *given)
+{
+    work *of = given;
+    lezgauri_fault fault;
+    of->status = lezgauri_prepare(of->segment, of->client.bytes, of->client.len, &of->prepared, &fault);
+    return NULL;
+}
+
+static void *run_client(void *given)
+{
+    work *of = given;
+    lezgauri_fault fault;
+    lezgauri_report report;
+    size_t written;
+    of->status = lezgauri_run_client(of->segment, of->prepared, "AB", 2, of->output, MOST_OUTPUT, &written, &report, &fault);
+    return NULL;
+}
+
+static void *close_client(void *given)
+{
+    work *of = given;
+    lezgauri_client_close(of->prepared);
+    of->status = LEZGAURI_OK;
+    return NULL;
+}
+
 static void *close_segment(void *given)
 {
     work *of = given;
@@ -111,10 +138,17 @@ static const struct {
     void *(*call)(void *given);
     size_t most;
 } calls[] = {
-    {"lezgauri_check", check, LEZGAURI_STACK_CHECK},       {"lezgauri_verify", verify, LEZGAURI_STACK_VERIFY},
-    {"lezgauri_run", run, LEZGAURI_STACK_RUN},             {"lezgauri_open", open_segment, LEZGAURI_STACK_CHECK},
-    {"lezgauri_run_on", run_on, LEZGAURI_STACK_RUN},       {"lezgauri_run_whole", run_whole, LEZGAURI_STACK_RUN},
-    {"lezgauri_save", save, LEZGAURI_STACK_SAVE},          {"lezgauri_close", close_segment, LEZGAURI_STACK_SAVE},
+    {"lezgauri_check", check, LEZGAURI_STACK_CHECK},
+    {"lezgauri_verify", verify, LEZGAURI_STACK_VERIFY},
+    {"lezgauri_run", run, LEZGAURI_STACK_RUN},
+    {"lezgauri_open", open_segment, LEZGAURI_STACK_CHECK},
+    {"lezgauri_run_on", run_on, LEZGAURI_STACK_RUN},
+    {"lezgauri_run_whole", run_whole, LEZGAURI_STACK_RUN},
+    {"lezgauri_prepare", prepare, LEZGAURI_STACK_VERIFY},
+    {"lezgauri_run_client", run_client, LEZGAURI_STACK_RUN},
+    {"lezgauri_client_close", close_client, LEZGAURI_STACK_SAVE},
+    {"lezgauri_save", save, LEZGAURI_STACK_SAVE},
+    {"lezgauri_close", close_segment, LEZGAURI_STACK_SAVE},
 };
 
 enum { CALLS = sizeof calls / sizeof *calls };
