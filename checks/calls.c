@@ -659,7 +659,7 @@ static void overlaps(const call *of)
             argument *over = &changed[i];
             const argument *under = &of->arguments[j];
             telling fault_is = i == 0 || j == 0 ? UNTOLD : TOLD;
-            telling handle_is = i == 1 || j == 1 ? UNTOLD : over->is_image ? EITHER : TOLD;
+            telling handle_is = i == 1 || j == 1 ? UNTOLD : over->len > under->len ? EITHER : TOLD;
             if (i == j || !(over->is_written || under->is_written)) {
                 continue;
             }

@@ -345,7 +345,7 @@ uint32_t lezgauri_prepare(const lezgauri_handle *handle, const void *client, siz
                           lezgauri_fault *fault)
 {
     span spans[] = {one(fault, sizeof *fault), one(prepared, sizeof *prepared), segment_at(handle), one(client, client_len)};
-    memory of = MEMORY(spans, 2);
+    memory of = MEMORY(spans, 3);
     bool is_place = prepared != NULL && may_tell(prepared, _Alignof(lezgauri_client *));
     if (is_place && is_apart(spans[1], of, 1)) {
         *prepared = NULL;
