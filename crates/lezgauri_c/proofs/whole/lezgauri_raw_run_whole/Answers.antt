@@ -90,7 +90,7 @@ returns-else-not-replaced-clause-whole c is =
     let whole = c.as_mut_slice.ensures.len in
     let many : c.take-bytes.result.len ≡ length now = omega (arith, kept, whole) in
     let saved_is : c.give_back-in-Ok.new.self.bytes ≡ saved =
-        c.give_back-in-Ok.ensures.bytes ∙ ap (λ n. take n (now ++ rest)) many ∙ take-append_seam now rest ∙ c.replace-replaced.ensures.put c.if-not-replaced.false ∙ c.as_slice-in-Ok.ensures.value in
+    c.give_back-in-Ok.ensures.bytes ∙ ap (λ n. take n (now ++ rest)) many ∙ take-append_seam now rest ∙ c.replace-replaced.ensures.put c.if-not-replaced.false ∙ c.as_slice-in-Ok.ensures.value in
     record {
       report = told;
       told_is = c.from.ensures;
@@ -108,5 +108,5 @@ returns-in-Err-clause-refused c number sound =
       refused,
       c.from-in-Err.ensures,
       same_refusal text c.args.image.now.bytes items refused (c.as_slice.ensures.value ∙ c.take-bytes.ensures.bytes)
-      (IfErr-at_err (λ r. IsSound items → IsWrong items (text ∷ []) r) c.in-Err.is c.run_on_copy-ran.ensures.refused) sound,
+          (IfErr-at_err (λ r. IsSound items → IsWrong items (text ∷ []) r) c.in-Err.is c.run_on_copy-ran.ensures.refused) sound,
     )
