@@ -1,14 +1,9 @@
-use Rattle.std.proofs.Common.{◌≡◌, [], ◌∷◌, ◌++◌, List, ℕ, Some, length, take, drop, refl, sym, ap, ◌∙◌, subst, arith}
+use Rattle.std.proofs.Common.{◌≡◌, [], ◌∷◌, ◌++◌, Some, length, take, drop, refl, sym, ap, ◌∙◌, subst, arith}
 use Rattle.std.proofs.Math.Seq.{take-append_seam}
-use Rattle.std.proofs.lemmas.Result.{IfErr-at_err, IfOk-at_ok}
+use Rattle.std.proofs.lemmas.Result.{IfErr-at_err}
 use Rattle.seg_spec.specs.Images.{IsSound}
-use Rattle.client_output.specs.declared.report.Ended.{Ended}
 use Rattle.client_output.specs.declared.report.Ended.TheVariants as ended
 use Rattle.client_vm.specs.Admitted.{IsWrong}
-use Rattle.client_vm.specs.Outcomes.{HasOutcome}
-use Rattle.client_vm.specs.Reports.{IsReportOf}
-use Rattle.client_vm.proofs.Refusing.{why}
-use Rattle.lezgauri_c.specs.Calls.{IsRun, HasRunOn}
 use Rattle.lezgauri_c.proofs.OneClient.{done}
 use Rattle.lezgauri_c.proofs.Ran.{same_run, same_refusal}
 use Rattle.lezgauri_c.proofs.Sizes.{saved_size, same_room, told_bytes}
