@@ -18,8 +18,8 @@ typedef struct lent {
     size_t room;
 } lent;
 
-/* A client that the library keeps for a caller, or none. It is Prepared of the crate lezgauri_c: where `at` leads, only the library reads
- * and writes. */
+/* A client that the library keeps for a caller, or none. It is Prepared of the crate lezgauri_c: where `at` leads, only the library
+ * reads and writes. */
 typedef struct kept {
     void *at;
     bool is_there;
@@ -437,9 +437,10 @@ static uint32_t run_on(const run_arguments *with, run_kind kind)
                     one(with->client, with->client_len),
                     one(with->input, with->input_len)};
     memory of = MEMORY(spans, 6);
-    if (with->handle == NULL || (kind == RUN_CLIENT && with->prepared == NULL) || !may_be_bytes(with->client, with->client_len) || !may_be_bytes(with->input, with->input_len) ||
-        !may_be_bytes(with->output, with->capacity) || !may_tell(with->length, _Alignof(size_t)) ||
-        !may_tell(with->report, _Alignof(lezgauri_report)) || !may_tell(with->fault, _Alignof(lezgauri_fault)) || !are_apart(of)) {
+    if (with->handle == NULL || (kind == RUN_CLIENT && with->prepared == NULL) || !may_be_bytes(with->client, with->client_len) ||
+        !may_be_bytes(with->input, with->input_len) || !may_be_bytes(with->output, with->capacity) ||
+        !may_tell(with->length, _Alignof(size_t)) || !may_tell(with->report, _Alignof(lezgauri_report)) ||
+        !may_tell(with->fault, _Alignof(lezgauri_fault)) || !are_apart(of)) {
         return refuse(LEZGAURI_BAD_ARGUMENT, with->fault, of);
     }
     if (!acquire_both(with)) {
@@ -478,20 +479,23 @@ uint32_t lezgauri_run_on(lezgauri_handle *handle, const void *client, size_t cli
                          size_t input_len, void *output, size_t capacity, size_t *written, lezgauri_report *report,
                          lezgauri_fault *fault)
 {
-    return run_on(&(run_arguments){handle, NULL, client, client_len, input, input_len, output, capacity, written, report, fault}, RUN_ON);
+    return run_on(&(run_arguments){handle, NULL, client, client_len, input, input_len, output, capacity, written, report, fault},
+                  RUN_ON);
 }
 
 uint32_t lezgauri_run_whole(lezgauri_handle *handle, const void *client, size_t client_len, const void *input,
                             size_t input_len, void *output, size_t capacity, size_t *needed, lezgauri_report *report,
                             lezgauri_fault *fault)
 {
-    return run_on(&(run_arguments){handle, NULL, client, client_len, input, input_len, output, capacity, needed, report, fault}, RUN_WHOLE);
+    return run_on(&(run_arguments){handle, NULL, client, client_len, input, input_len, output, capacity, needed, report, fault},
+                  RUN_WHOLE);
 }
 
 uint32_t lezgauri_run_client(lezgauri_handle *handle, lezgauri_client *prepared, const void *input, size_t input_len,
                              void *output, size_t capacity, size_t *written, lezgauri_report *report, lezgauri_fault *fault)
 {
-    return run_on(&(run_arguments){handle, prepared, NULL, 0, input, input_len, output, capacity, written, report, fault}, RUN_CLIENT);
+    return run_on(&(run_arguments){handle, prepared, NULL, 0, input, input_len, output, capacity, written, report, fault},
+                  RUN_CLIENT);
 }
 
 void lezgauri_client_close(lezgauri_client *prepared)

@@ -7,25 +7,26 @@
  *
  * Each call returns a status: LEZGAURI_OK, the number of a fault, or one of the numbers from 100 on below. With a fault,
  * LEZGAURI_BAD_ARGUMENT or LEZGAURI_BUSY nothing ran, and the caller's memory is unchanged but for *fault, *written, *needed,
- * *handle and *prepared. No call aborts, unwinds, prints, or reads or writes beyond the lengths that it is given. Memory that a call
- * takes comes from malloc, and has gone back to free when it returns, but for an open segment and a client that is kept;
+ * *handle and *prepared. No call aborts, unwinds, prints, or reads or writes beyond the lengths that it is given. Memory that a
+ * call takes comes from malloc, and has gone back to free when it returns, but for an open segment and a client that is kept;
  * LEZGAURI_MEMORY says that malloc refused.
  *
  * Tested by each call: null pointers where a length isn't 0, lengths above PTRDIFF_MAX, pointers to numbers or structs that
  * aren't aligned, and places that the call writes (*fault, *bound, *written, *needed, reports, *handle, *prepared, an output, a
  * saved image, an open segment, a client that is kept) that overlap any other memory of the call. Each returns
- * LEZGAURI_BAD_ARGUMENT. A pointer with a length of 0 may be null, if nothing else is said. An image's length above 2^30 returns LEZGAURI_BAD_HEADER, and nothing of the image is read or
- * copied. *fault isn't written where it overlaps other memory of the call, so the status alone says why.
+ * LEZGAURI_BAD_ARGUMENT. A pointer with a length of 0 may be null, if nothing else is said. An image's length above 2^30 returns
+ * LEZGAURI_BAD_HEADER, and nothing of the image is read or copied. *fault isn't written where it overlaps other memory of the
+ * call, so the status alone says why.
  *
  * Promised by the caller, as no call can test it: at each pointer are as many bytes as its length says; they may be written
  * where the pointer isn't to const; and no other thread or process writes them, or reads what the call writes, while the call
  * runs. Only lezgauri_open may be given bytes that others write: what it opens is the copy that it checked. A call isn't made
  * from a signal handler, nor from the forked child of a process with threads.
  *
- * Threads: calls share nothing but an open segment and a client that is kept, so several may run at a time, each on memory of its
- * own. Images, clients and inputs may be shared by calls that run at a time, since they are only read. One call at a time uses an open
- * segment, and one runs a client that is kept: another returns LEZGAURI_BUSY at once, having done nothing. Threads that run the
- * same client at a time, each on a segment of its own, prepare it once each.
+ * Threads: calls share nothing but an open segment and a client that is kept, so several may run at a time, each on memory of
+ * its own. Images, clients and inputs may be shared by calls that run at a time, since they are only read. One call at a time uses
+ * an open segment, and one runs a client that is kept: another returns LEZGAURI_BUSY at once, having done nothing. Threads that
+ * run the same client at a time, each on a segment of its own, prepare it once each.
  *
  * Stack: each call touches at most LEZGAURI_STACK_.. bytes of its thread's stack, beside what malloc and the caller use.
  */
@@ -168,24 +169,24 @@ uint32_t lezgauri_run_whole(lezgauri_handle *handle, const void *client, size_t 
                             lezgauri_fault *fault);
 
 /*
- * A client that is kept verified and decoded, so that it is prepared once for many runs. It has a copy of the client's bytes, and the
- * caller owns it: its memory goes back with lezgauri_client_close. It isn't tied to the segment that it was prepared for: it runs on
- * each open segment whose types agree with the client's, and may stay open when that segment is closed.
+ * A client that is kept verified and decoded, so that it is prepared once for many runs. It has a copy of the client's bytes, and
+ * the caller owns it: its memory goes back with lezgauri_client_close. It isn't tied to the segment that it was prepared for: it
+ * runs on each open segment whose types agree with the client's, and may stay open when that segment is closed.
  */
 typedef struct lezgauri_client lezgauri_client;
 
 /*
- * Copies a client, verifies it against the types of an open segment, and keeps it ready to run: LEZGAURI_OK, and *prepared is the client.
- * Else *prepared is null, unless `prepared` is null, isn't aligned, or overlaps other memory of the call. Nothing of the segment
- * changes. `prepared` isn't null, `fault` may be.
+ * Copies a client, verifies it against the types of an open segment, and keeps it ready to run: LEZGAURI_OK, and *prepared is the
+ * client. Else *prepared is null, unless `prepared` is null, isn't aligned, or overlaps other memory of the call. Nothing of the
+ * segment changes. `prepared` isn't null, `fault` may be.
  */
 uint32_t lezgauri_prepare(const lezgauri_handle *handle, const void *client, size_t client_len, lezgauri_client **prepared,
                           lezgauri_fault *fault);
 
 /*
- * Runs a client that is kept on an open segment, as lezgauri_run_on does one that it is given: but the client isn't verified or decoded
- * again, and nothing is taken from malloc. LEZGAURI_TYPE_MISMATCH if the segment's types and the client's differ, as after another
- * client added types; no other fault is returned, and with it nothing ran.
+ * Runs a client that is kept on an open segment, as lezgauri_run_on does one that it is given: but the client isn't verified or
+ * decoded again, and nothing is taken from malloc. LEZGAURI_TYPE_MISMATCH if the segment's types and the client's differ, as after
+ * another client added types; no other fault is returned, and with it nothing ran.
  */
 uint32_t lezgauri_run_client(lezgauri_handle *handle, lezgauri_client *prepared, const void *input, size_t input_len,
                              void *output, size_t capacity, size_t *written, lezgauri_report *report, lezgauri_fault *fault);

@@ -20,8 +20,9 @@ use seg_ptr::Window;
 use seg_raw::Fault as Reason;
 use std::alloc::{Allocator, Global};
 
-/// Verifies a client against the types of an image that an earlier call found sound, or left behind, and makes it ready to run any number of
-/// times: `OK`, and `prepared` keeps it, or the number of the first fault, and `prepared` keeps none. Nothing is written to the image.
+/// Verifies a client against the types of an image that an earlier call found sound, or left behind, and makes it ready to run any
+/// number of times: `OK`, and `prepared` keeps it, or the number of the first fault, and `prepared` keeps none. Nothing is written
+/// to the image.
 ///
 /// The client's bytes must stay as they are until it is closed, since what is kept refers to them.
 #[tactic(auto, using(crate::proofs::Numbers::number_above))]
@@ -58,8 +59,9 @@ pub extern "C" fn lezgauri_raw_prepare(
 }
 
 /// Runs the client that is kept on an image that an earlier call found sound, or left behind, in the image's own memory, as
-/// `lezgauri_raw_run_on`, but that nothing is verified or decoded, and no memory is taken: `OK`, `OUTPUT_FULL`, or the number of the fault,
-/// `TYPE_MISMATCH` where the client's types and the image's differ, and then nothing ran. `BAD_ARGUMENT` where no client is kept.
+/// `lezgauri_raw_run_on`, but that nothing is verified or decoded, and no memory is taken: `OK`, `OUTPUT_FULL`, or the number of
+/// the fault, `TYPE_MISMATCH` where the client's types and the image's differ, and then nothing ran. `BAD_ARGUMENT` where no
+/// client is kept.
 #[tactic(auto, using(crate::proofs::Numbers::numbers))]
 #[unsafe(no_mangle)]
 pub extern "C" fn lezgauri_raw_run_client(

@@ -1,14 +1,9 @@
-use Rattle.std.proofs.Common.{◌≡◌, [], ◌∷◌, ◌++◌, List, ℕ, Some, length, take, drop, refl, sym, ap, ◌∙◌, subst, arith}
+use Rattle.std.proofs.Common.{◌≡◌, [], ◌∷◌, ◌++◌, Some, length, take, drop, refl, sym, ap, ◌∙◌, subst, arith}
 use Rattle.std.proofs.Math.Seq.{take-append_seam}
-use Rattle.std.proofs.lemmas.Result.{IfErr-at_err, IfOk-at_ok}
+use Rattle.std.proofs.lemmas.Result.{IfErr-at_err}
 use Rattle.seg_spec.specs.Images.{IsSound}
-use Rattle.client_output.specs.declared.report.Ended.{Ended}
 use Rattle.client_output.specs.declared.report.Ended.TheVariants as ended
 use Rattle.client_vm.specs.Admitted.{IsWrong}
-use Rattle.client_vm.specs.Outcomes.{HasOutcome}
-use Rattle.client_vm.specs.Reports.{IsReportOf}
-use Rattle.client_vm.proofs.Refusing.{why}
-use Rattle.lezgauri_c.specs.Calls.{IsRun, HasRunOn}
 use Rattle.lezgauri_c.proofs.OneClient.{done}
 use Rattle.lezgauri_c.proofs.Ran.{same_run, same_refusal}
 use Rattle.lezgauri_c.proofs.Sizes.{saved_size, same_room, told_bytes}
@@ -90,7 +85,7 @@ returns-else-not-replaced-clause-whole c is =
     let whole = c.as_mut_slice.ensures.len in
     let many : c.take-bytes.result.len ≡ length now = omega (arith, kept, whole) in
     let saved_is : c.give_back-in-Ok.new.self.bytes ≡ saved =
-        c.give_back-in-Ok.ensures.bytes ∙ ap (λ n. take n (now ++ rest)) many ∙ take-append_seam now rest ∙ c.replace-replaced.ensures.put c.if-not-replaced.false ∙ c.as_slice-in-Ok.ensures.value in
+    c.give_back-in-Ok.ensures.bytes ∙ ap (λ n. take n (now ++ rest)) many ∙ take-append_seam now rest ∙ c.replace-replaced.ensures.put c.if-not-replaced.false ∙ c.as_slice-in-Ok.ensures.value in
     record {
       report = told;
       told_is = c.from.ensures;
@@ -108,5 +103,5 @@ returns-in-Err-clause-refused c number sound =
       refused,
       c.from-in-Err.ensures,
       same_refusal text c.args.image.now.bytes items refused (c.as_slice.ensures.value ∙ c.take-bytes.ensures.bytes)
-      (IfErr-at_err (λ r. IsSound items → IsWrong items (text ∷ []) r) c.in-Err.is c.run_on_copy-ran.ensures.refused) sound,
+          (IfErr-at_err (λ r. IsSound items → IsWrong items (text ∷ []) r) c.in-Err.is c.run_on_copy-ran.ensures.refused) sound,
     )

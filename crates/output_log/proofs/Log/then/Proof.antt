@@ -1,6 +1,6 @@
 use mathlib.Core.Path.{refl}
 use mathlib.Core.List.{[], ◌∷◌}
-use Rattle.std.proofs.Common.{ℕ, ◌<◌, ◌^◌, ◌++◌, length}
+use Rattle.std.proofs.Common.{◌<◌, ◌^◌, ◌++◌, length}
 use seplogic.Ra.Ura.{Ura}
 use mir.Syntax.{named}
 use mir.Val.{Val, vptr, vstruct, vnil}
