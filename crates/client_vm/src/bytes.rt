@@ -223,7 +223,7 @@ fn run_in<A: Allocator + Copy, W: Sink>(
     ensures reports { IfOk result (λ o. HasReportsOf (map (λ c. c.now) clients.now)
         o.reports.items o.ended) }
 {
-    match admitted(alloc, &window, clients) {
+    match admit(alloc, &window, clients) {
         Ok(admitted) => Ok(run_admitted(window, admitted, input, moves, out)),
         Err(refused) => Err((refused, window)),
     }
@@ -238,7 +238,7 @@ struct Admitted<'a, A: Allocator> {
 }
 
 /// Checks the image in a window, and verifies the clients and makes them ready.
-fn admitted<'a, A: Allocator + Copy>(
+fn admit<'a, A: Allocator + Copy>(
     alloc: A,
     window: &Window<A>,
     clients: &[&'a [u8]],
