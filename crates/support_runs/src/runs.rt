@@ -159,10 +159,10 @@ pub fn outcome_of(
     clients: &[&[u8]],
     setting: Setting,
 ) -> Result<Ran, Refused> {
-    let mut out = output(alloc, setting);
-    let schedule = schedule(setting);
+    let mut out = output_of(alloc, setting);
+    let schedule = schedule_of(setting);
     let outcome = run_bytes(alloc, image, clients, setting.input, &schedule, &mut out)?;
-    Ok(ran(outcome, out))
+    Ok(came_to(outcome, out))
 }
 
 /// What a run of clients on an image of the caller's comes to; where nothing runs, its bytes come back.
@@ -172,17 +172,17 @@ pub fn outcome_in(
     clients: &[&[u8]],
     setting: Setting,
 ) -> Result<Ran, Unrun<Global>> {
-    let mut out = output(alloc, setting);
-    let schedule = schedule(setting);
+    let mut out = output_of(alloc, setting);
+    let schedule = schedule_of(setting);
     let outcome = run_image(alloc, image, clients, setting.input, &schedule, &mut out)?;
-    Ok(ran(outcome, out))
+    Ok(came_to(outcome, out))
 }
 
-fn output(alloc: Global, setting: Setting) -> Through<Limited> {
+fn output_of(alloc: Global, setting: Setting) -> Through<Limited> {
     Through::new(Limited::new(alloc, setting.at_a_time, setting.limit))
 }
 
-fn schedule(setting: Setting<'_>) -> Schedule<'_> {
+fn schedule_of(setting: Setting<'_>) -> Schedule<'_> {
     Schedule {
         room: setting.room,
         base: setting.base,
@@ -190,7 +190,7 @@ fn schedule(setting: Setting<'_>) -> Schedule<'_> {
     }
 }
 
-fn ran(outcome: Outcome<Global>, out: Through<Limited>) -> Ran {
+fn came_to(outcome: Outcome<Global>, out: Through<Limited>) -> Ran {
     Ran {
         out: out.into_inner().bytes,
         image: outcome.image,
