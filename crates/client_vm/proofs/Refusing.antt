@@ -1,9 +1,10 @@
 -- Why no client runs: the faults of an image and of clients as the reasons of the definitions.
 use Rattle.std.proofs.Common.{◌≡◌, ℕ, zero, suc, ◌+◌, ◌-◌, ◌≤◌, List, ◌++◌, length, Option, Some, None, Result, Ok, Err, refl, sym, ap, ◌∙◌, subst, inr, arith, length-append}
-use Rattle.std.specs.Result.{IsErrAnd}
+use Rattle.std.specs.Result.{IsErrAnd, MatchResult}
 use Rattle.std.specs.Prelude.{replicate, IfOk, IfErr}
 use Rattle.std.proofs.Math.Seq.{take-length}
 use Rattle.std.proofs.lemmas.List.{length-replicate}
+use Rattle.std.proofs.lemmas.Result.{MatchResult-at_ok}
 use Rattle.seg_bytes.specs.Bytes.{slice, IsPlaced}
 use Rattle.seg_spec.specs.Window.{Placement, region_of, IsPlace}
 use Rattle.seg_spec.proofs.SliceLaws.{region-placed}
@@ -109,6 +110,11 @@ slice_whole image = take-length image
 pub shows : (w : Placement) (host : List ℕ) (base len : ℕ) (image : List ℕ) → region_of w ≡ host → length w.before ≡ base → length w.bytes ≡ len → len ≡ length image → IsPlaced host base image → w.bytes ≡ image
 shows w host base len image is at size same placed =
     sym (region-placed w.before w.bytes w.after) ∙ ap (λ r. slice r (length w.before) (length w.bytes)) is ∙ ap (λ b. slice host b (length w.bytes)) at ∙ ap (slice host base) (size ∙ same) ∙ placed
+
+-- the window that a place gives
+pub placed_there : {E : Type 0} (Q : E → Type 0) (result : Result Placement E) (w : Placement) (host : List ℕ) (base len : ℕ) → result ≡ Ok w
+    → MatchResult result (λ v. (region_of v ≡ host) × (length v.before ≡ base) × (length v.bytes ≡ len)) Q → (region_of w ≡ host) × (length w.before ≡ base) × (length w.bytes ≡ len)
+placed_there Q result w host base len is h = MatchResult-at_ok _ Q w is h
 
 -- a region of zeros with the image in it
 pub zeros_around : (image : List ℕ) (base room : ℕ) → IsPlace room base (length image) → length ((replicate base 0 ++ image) ++ replicate (room - (base + length image)) 0) ≡ room

@@ -270,8 +270,8 @@ fn run_admitted<A: Allocator, W: Sink>(
     out: &mut W,
 ) -> Outcome<A>
     requires works { W.has_failed out.old ≡ false }
-    requires empty { admitted.entry.reports.items ≡ [] }
-    requires room { length admitted.entry.programs.items ≤ vec_capacity admitted.entry.reports }
+    requires empty { admitted.reports.items ≡ [] }
+    requires room { length admitted.programs.items ≤ vec_capacity admitted.reports }
     ensures runs { IsImageOf window.bytes admitted.entry.types → (trees : List syntax.Client) →
         AreAccepted admitted.entry.types (texts_in admitted.entry.programs.items) trees →
         HaveRunOn (texts_in admitted.entry.programs.items) (moves_of moves.now) input.now window
@@ -297,8 +297,8 @@ fn run_on<F: Fit, A: Allocator, W: Sink>(
     out: &mut W,
 ) -> Outcome<A>
     requires works { W.has_failed out.old ≡ false }
-    requires empty { admitted.entry.reports.items ≡ [] }
-    requires room { length admitted.entry.programs.items ≤ vec_capacity admitted.entry.reports }
+    requires empty { admitted.reports.items ≡ [] }
+    requires room { length admitted.programs.items ≤ vec_capacity admitted.reports }
     ensures runs { IsImageOf window.bytes admitted.entry.types →
         word window.bytes allocator_word ≡ F.allocator → (trees : List syntax.Client) →
         AreAccepted admitted.entry.types (texts_in admitted.entry.programs.items) trees →

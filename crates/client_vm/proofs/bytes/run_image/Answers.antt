@@ -1,0 +1,45 @@
+use Rattle.std.proofs.Common.{List, ℕ, map, sym, subst}
+use Rattle.client_spec.specs.Outcome.{CanMove}
+use Rattle.client_run.specs.Moves.{moves_of}
+use Rattle.client_vm.specs.Outcomes.{IsFaultOfCall, IsRefusedFor, HasOutcome}
+use Rattle.client_vm.proofs.TogetherLaws.{if_ok}
+use Rattle.client_vm.proofs.Elsewhere.{outcome_elsewhere}
+use Rattle.client_vm.proofs.bytes.run_image.Goals as goal
+
+pub returns-in-Err-clause-refused : goal.returns-in-Err-clause-refused
+returns-in-Err-clause-refused g c =
+    let schedule = c.args.schedule.now in
+    let image = c.args.image.items in
+    let texts : List (List ℕ) = map (λ x. x.now) c.args.clients.now in
+    let moves = moves_of schedule.moves.now in
+    subst (IsRefusedFor image texts schedule.room schedule.base moves) (sym c.from.ensures)
+    (subst (λ (i : List ℕ). IsFaultOfCall i texts schedule.room schedule.base moves c.in-Err.fault) c.as_slice.ensures.value (c.in-Err.ensures.refused texts))
+
+pub returns-then-len-least-clause-outcome : goal.returns-then-len-least-clause-outcome
+returns-then-len-least-clause-outcome g c =
+    let schedule = c.args.schedule.now in
+    let image = c.args.image.items in
+    let texts : List (List ℕ) = map (λ x. x.now) c.args.clients.now in
+    let moves = moves_of schedule.moves.now in
+    let made = moves_of c.least_room-least.result.moves.now in
+    let before = g.W.Sink.taken c.args.out.now in
+    let after = g.W.Sink.taken c.run_own.new.out in
+    let can = subst (λ (i : List ℕ). CanMove i schedule.room schedule.base moves) c.as_slice.ensures.value c.in-Ok.ensures.fits in
+    if_ok (λ o. HasOutcome image texts c.args.input.now c.in-Ok.len 0 made before after o.image.items o.reports.items o.ended)
+    (λ o. HasOutcome image texts c.args.input.now schedule.room schedule.base moves before after o.image.items o.reports.items o.ended) c.run_own.result
+    (λ o h. outcome_elsewhere image texts c.args.input.now schedule.room schedule.base moves can c.in-Ok.len 0 made before after o.image.items o.reports.items o.ended h) c.run_own.ensures.outcome
+
+pub returns-in-Ok-run_copy-clause-outcome : goal.returns-in-Ok-run_copy-clause-outcome
+returns-in-Ok-run_copy-clause-outcome g c =
+    let schedule = c.args.schedule.now in
+    let least = c.least_room-least.result in
+    let image = c.args.image.items in
+    let texts : List (List ℕ) = map (λ x. x.now) c.args.clients.now in
+    let moves = moves_of schedule.moves.now in
+    let made = moves_of least.moves.now in
+    let before = g.W.Sink.taken c.args.out.now in
+    let after = g.W.Sink.taken c.run_copy.new.out in
+    let o = c.in-Ok-run_copy.outcome in
+    let can = subst (λ (i : List ℕ). CanMove i schedule.room schedule.base moves) c.as_slice.ensures.value c.in-Ok.ensures.fits in
+    outcome_elsewhere image texts c.args.input.now schedule.room schedule.base moves can least.room least.base made before after o.image.items o.reports.items o.ended
+    (subst (λ (i : List ℕ). HasOutcome i texts c.args.input.now least.room least.base made before after o.image.items o.reports.items o.ended) c.as_slice-2.ensures.value c.in-Ok-run_copy.ensures.outcome)
