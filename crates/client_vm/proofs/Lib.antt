@@ -1,3 +1,4 @@
+pub mod Elsewhere
 pub mod ReportLaws
 pub mod Refusing
 pub mod TogetherLaws

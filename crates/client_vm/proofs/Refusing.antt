@@ -1,20 +1,20 @@
 -- Why no client runs: the faults of an image and of clients as the reasons of the definitions.
-use Rattle.std.proofs.Common.{◌≡◌, ℕ, zero, suc, ◌+◌, ◌-◌, ◌≤◌, List, ◌++◌, length, Option, Some, None, Result, Ok, Err, refl, sym, ap, ◌∙◌, subst, inl, inr, arith, length-append}
-use Rattle.std.specs.Result.{IsErrAnd}
+use Rattle.std.proofs.Common.{◌≡◌, ℕ, zero, suc, ◌+◌, ◌-◌, ◌≤◌, List, ◌++◌, length, Option, Some, None, Result, Ok, Err, refl, sym, ap, ◌∙◌, subst, inr, arith, length-append}
+use Rattle.std.specs.Result.{IsErrAnd, MatchResult}
 use Rattle.std.specs.Prelude.{replicate, IfOk, IfErr}
 use Rattle.std.proofs.Math.Seq.{take-length}
 use Rattle.std.proofs.lemmas.List.{length-replicate}
-use Rattle.seg_bytes.specs.Bytes.{word, slice, IsPlaced}
+use Rattle.std.proofs.lemmas.Result.{MatchResult-at_ok}
+use Rattle.seg_bytes.specs.Bytes.{slice, IsPlaced}
 use Rattle.seg_spec.specs.Window.{Placement, region_of, IsPlace}
 use Rattle.seg_spec.proofs.SliceLaws.{region-placed}
-use Rattle.seg_spec.specs.Header.{allocator_word}
 use Rattle.seg_spec.specs.Types.{Table}
 use Rattle.seg_spec.specs.Images.{IsSound}
 use Rattle.seg_spec.specs.Faulty.{Failure}
 use Rattle.seg_layout.proofs.Extending.{no_agreement}
 use Rattle.seg_raw.specs.declared.fault.Fault.{Fault}
 use Rattle.seg_raw.specs.declared.fault.Fault.TheVariants as fault
-use Rattle.seg_check.specs.Faults.{IsImageOf, IsFaultOf, IsFaultOfOpening}
+use Rattle.seg_check.specs.Faults.{IsImageOf, IsFaultOf}
 use Rattle.client_spec.specs.Syntax.{Client}
 use Rattle.client_spec.specs.Clients.{IsVerified}
 use Rattle.client_spec.specs.OnImages.{Move}
@@ -22,7 +22,7 @@ use Rattle.client_spec.specs.Outcome.{CanMove, IsTurnOf}
 use Rattle.client_verify.specs.Refusals.{IsRefused}
 use Rattle.client_output.specs.declared.refused.Refused.{Refused}
 use Rattle.client_verify.specs.Texts.{IsWrongAt, IsWrongBy, AreWrong}
-use Rattle.client_vm.specs.Admitted.{LiesIn, IsWrongFor, IsWrong}
+use Rattle.client_vm.specs.Admitted.{IsWrongFor, IsWrong}
 use Rattle.client_vm.specs.Outcomes.{IsBadImage, IsFault, IsFaultOfCall, IsFaultOfClient, IsRefusedFor}
 use Rattle.seg_spec.proofs.Failures.{unsound}
 
@@ -32,11 +32,7 @@ refused_client table client (fault.Rejected i reason) h v = let is = v.typed.1 i
 refused_client table client fault.TooLong h v = let few = v.bounded in let many = h.2 in omega arith
 refused_client table client f h v = absurd h
 
--- ---- an image that an allocator can't open
-
-pub fault_of_image : (allocator : ℕ) (image : List ℕ) (f : Fault) → (word image allocator_word ≤ 1 → word image allocator_word ≡ allocator) → IsFaultOfOpening allocator image f → IsFaultOf image f
-fault_of_image allocator image f named (inl h) = h
-fault_of_image allocator image f named (inr h) = absurd (h.2 (named h.1.held.laid_out.header.allocator_is))
+-- ---- clients of a sound image
 
 abbrev sound_of : (image : List ℕ) (table : Table) → IsImageOf image table → IsSound image
 sound_of image table is = record { picture = is.picture; held = is.held; counted = is.counted; none_loose = is.none_loose }
@@ -115,6 +111,11 @@ pub shows : (w : Placement) (host : List ℕ) (base len : ℕ) (image : List ℕ
 shows w host base len image is at size same placed =
     sym (region-placed w.before w.bytes w.after) ∙ ap (λ r. slice r (length w.before) (length w.bytes)) is ∙ ap (λ b. slice host b (length w.bytes)) at ∙ ap (slice host base) (size ∙ same) ∙ placed
 
+-- the window that a place gives
+pub placed_there : {E : Type 0} (Q : E → Type 0) (result : Result Placement E) (w : Placement) (host : List ℕ) (base len : ℕ) → result ≡ Ok w
+    → MatchResult result (λ v. (region_of v ≡ host) × (length v.before ≡ base) × (length v.bytes ≡ len)) Q → (region_of w ≡ host) × (length w.before ≡ base) × (length w.bytes ≡ len)
+placed_there Q result w host base len is h = MatchResult-at_ok _ Q w is h
+
 -- a region of zeros with the image in it
 pub zeros_around : (image : List ℕ) (base room : ℕ) → IsPlace room base (length image) → length ((replicate base 0 ++ image) ++ replicate (room - (base + length image)) 0) ≡ room
 zeros_around image base room place =
@@ -122,18 +123,15 @@ zeros_around image base room place =
     let front : length (replicate base 0 ++ image) ≡ base + length image = length-append (replicate base 0) image ∙ ap (λ n. n + length image) (length-replicate base 0) in
     length-append (replicate base 0 ++ image) zeros ∙ ap (λ m. m + length zeros) front ∙ ap (λ n. base + length image + n) (length-replicate (room - (base + length image)) 0) ∙ (let fits = place.1 in omega arith)
 
-pub among_zeros : (image : List ℕ) (base room : ℕ) → IsPlace room base (length image) → LiesIn ((replicate base 0 ++ image) ++ replicate (room - (base + length image)) 0) base image
-among_zeros image base room place =
-    let zeros = replicate (room - (base + length image)) 0 in (
-      subst (λ n. IsPlace n base (length image)) (sym (zeros_around image base room place)) place,
-      ap (λ b. slice ((replicate base 0 ++ image) ++ zeros) b (length image)) (sym (length-replicate base 0)) ∙ region-placed (replicate base 0) image zeros,
-    )
+pub among_zeros : (image : List ℕ) (base room : ℕ) (host : List ℕ) → host ≡ (replicate base 0 ++ image) ++ replicate (room - (base + length image)) 0 → IsPlaced host base image
+among_zeros image base room host is =
+    let zeros = replicate (room - (base + length image)) 0 in
+    let around = (replicate base 0 ++ image) ++ zeros in
+    subst (λ (h : List ℕ). IsPlaced h base image) (sym is) (ap (λ b. slice around b (length image)) (sym (length-replicate base 0)) ∙ region-placed (replicate base 0) image zeros)
 
 -- an image that is the whole region
-pub whole_region : (image : List ℕ) (base room : ℕ) → IsPlace room base (length image) → length image ≡ room → LiesIn image base image
-whole_region image base room place same =
-    let start : base ≡ 0 = (let fits = place.1 in omega (arith, fits, same)) in
-    (subst (λ n. IsPlace n base (length image)) (sym same) place, ap (λ b. slice image b (length image)) start ∙ slice_whole image)
+pub whole_region : (image host : List ℕ) → host ≡ image → IsPlaced host 0 image
+whole_region image host is = subst (λ (h : List ℕ). IsPlaced h 0 image) (sym is) (slice_whole image)
 
 -- ---- what calls return
 

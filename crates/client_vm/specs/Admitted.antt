@@ -1,10 +1,7 @@
 -- Clients that may run on an image, and what is wrong where none may.
---     LiesIn host base image              the image lies at a base of a region
 --     AreAcceptedOn image texts           the image is sound, and accepts the clients one by one
 --     IsWrong image texts refused         the image has the fault, or a client of a sound one has
-use Rattle.std.specs.Prelude.{ℕ, List, length, Option, Some, None}
-use Rattle.seg_bytes.specs.Bytes.{IsPlaced}
-use Rattle.seg_spec.specs.Window.{IsPlace}
+use Rattle.std.specs.Prelude.{ℕ, List, Option, Some, None}
 use Rattle.seg_spec.specs.Images.{IsSound}
 use Rattle.seg_raw.specs.declared.fault.Fault.{Fault}
 use Rattle.seg_check.specs.Faults.{IsFaultOf}
@@ -12,9 +9,6 @@ use Rattle.client_spec.specs.Syntax.{Client}
 use Rattle.client_spec.specs.Clients.{AreAccepted}
 use Rattle.client_output.specs.declared.refused.Refused.{Refused}
 use Rattle.client_verify.specs.Texts.{IsWrongAt}
-
-abbrev pub LiesIn : List ℕ → ℕ → List ℕ → Type 0
-LiesIn host base image = IsPlace (length host) base (length image) × IsPlaced host base image
 
 pub record AreAcceptedOn (image : List ℕ) (texts : List (List ℕ)) : Type 0 where
   pub sound : IsSound image

@@ -1,12 +1,14 @@
-ghost use Rattle.std.specs.Prelude.{ℕ, List, ◌≡◌, ◌↔◌, ◌≤◌, ◌<◌, ◌+◌, ◌*◌, ◌^◌, true, false, IfOk, IfErr, OnErr, OnOk, [], length, drop, map, vec_len, vec_capacity};
+ghost use Rattle.std.specs.Prelude.{ℕ, List, ◌≡◌, ◌⊎◌, ◌↔◌, ◌≤◌, ◌<◌, ◌+◌, ◌*◌, ◌^◌, true, false, IfOk, IfErr, OnErr, OnOk, [], length, drop, map, vec_len, vec_capacity};
 ghost use Rattle.std.specs.Result.{IsOkUnless};
 ghost use Rattle.seg_bytes.specs.Bytes.{word};
 ghost use Rattle.seg_spec.specs.Header.{allocator_word};
 ghost use Rattle.seg_spec.specs.Faulty.{IsImageLength};
+ghost use Rattle.seg_spec.specs.Window.{region_of};
+ghost use Rattle.seg_check.specs.Faults.{IsImageOf};
 ghost use Rattle.client_spec.specs.Syntax as syntax;
 ghost use Rattle.client_spec.specs.Clients.{AreAccepted};
 ghost use Rattle.client_spec.specs.Outcome.{CanMove};
-ghost use Rattle.client_vm.specs.Admitted.{LiesIn, IsWrong};
+ghost use Rattle.client_vm.specs.Admitted.{IsWrong};
 ghost use Rattle.client_run.specs.Moves.{moves_of};
 ghost use Rattle.client_vm.specs.Outcomes.{IsFaultOfCall, IsRefusedFor, HasOutcome};
 ghost use Rattle.client_run.specs.Runs.{ending_of, IsReady};
@@ -15,13 +17,13 @@ ghost use Rattle.client_verify.specs.Texts.{AreWrong, texts_of};
 ghost use Rattle.client_run.specs.ReadyClients.{texts_in};
 ghost use Rattle.client_vm.specs.Reports.{AreReportsOf, HasReportsOf};
 
-use crate::outcome::{Outcome, Schedule};
+use crate::outcome::{Outcome, Schedule, Unrun};
+use client_verify::{Verified, verify_all};
 use client_output::{Ended, Refused, Report, Sink};
 use client_run::{Move, Ready, first_bad_move, is_place, prepare, run};
-use client_verify::{Verified, verify_all};
 use seg_bestfit::BestFit;
 use seg_block::Fit;
-use seg_check::open;
+use seg_check::check;
 use seg_layout::TypeTable;
 use seg_manager::Segment;
 use seg_ptr::{Window, header, is_size};
@@ -58,11 +60,19 @@ pub fn run_bytes<A: Allocator + Copy, W: Sink>(
         o.reports.items o.ended) }
 {
     let len = fitting(image, schedule)?;
-    let region = copied(alloc, image, schedule)?;
-    run_in(alloc, region, len, clients, input, schedule, out)
+    run_copy(
+        alloc,
+        image,
+        len,
+        clients,
+        input,
+        &least_room(schedule, len),
+        out,
+    )
 }
 
-/// As [`run_bytes`], on bytes of the caller's, which aren't copied where the segment is the whole region.
+/// As [`run_bytes`], on bytes of the caller's, which come back as they were where it is refused. They aren't copied where the
+/// segment is the whole region, or where there are no moves.
 pub fn run_image<A: Allocator + Copy, W: Sink>(
     alloc: A,
     image: Vec<u8, A>,
@@ -70,10 +80,12 @@ pub fn run_image<A: Allocator + Copy, W: Sink>(
     input: &[u8],
     schedule: &Schedule,
     out: &mut W,
-) -> Result<Outcome<A>, Refused>
+) -> Result<Outcome<A>, Unrun<A>>
     requires works { W.has_failed out.old ≡ false }
-    ensures refused { IfErr result (IsRefusedFor image.items (map (λ c. c.now) clients.now)
-        schedule.now.room schedule.now.base (moves_of schedule.now.moves.now)) }
+    ensures refused { IfErr result (λ unrun. IsRefusedFor image.items
+        (map (λ c. c.now) clients.now) schedule.now.room schedule.now.base
+        (moves_of schedule.now.moves.now) unrun.refused) }
+    ensures given_back { IfErr result (λ unrun. unrun.bytes.items ≡ image.items) }
     ensures outcome { IfOk result (λ o. HasOutcome image.items (map (λ c. c.now) clients.now)
         input.now schedule.now.room schedule.now.base (moves_of schedule.now.moves.now)
         (W.taken out.old) (W.taken out.new) o.image.items o.reports.items o.ended) }
@@ -83,15 +95,49 @@ pub fn run_image<A: Allocator + Copy, W: Sink>(
     ensures reports { IfOk result (λ o. HasReportsOf (map (λ c. c.now) clients.now)
         o.reports.items o.ended) }
 {
-    let len = fitting(image.as_slice(), schedule)?;
-    let region = placed(alloc, image, len, schedule)?;
-    run_in(alloc, region, len, clients, input, schedule, out)
+    let len = match fitting(image.as_slice(), schedule) {
+        Ok(len) => len,
+        Err(fault) => {
+            return Err(Unrun {
+                refused: Refused::from(fault),
+                bytes: image,
+            });
+        }
+    };
+    let least = least_room(schedule, len);
+    if len == least.room {
+        return run_own(alloc, image, len, clients, input, least.moves, out);
+    }
+    match run_copy(alloc, image.as_slice(), len, clients, input, &least, out) {
+        Ok(outcome) => Ok(outcome),
+        Err(refused) => Err(Unrun {
+            refused,
+            bytes: image,
+        }),
+    }
 }
 
-/// Runs clients on the image of `len` bytes at its place in a region, with the allocator that it names.
-fn run_in<A: Allocator + Copy, W: Sink>(
+/// The schedule in the least region that serves as well: without moves a run is the same wherever the image lies.
+fn least_room<'a>(schedule: &Schedule<'a>, len: u32) -> Schedule<'a>
+    ensures moves { result.moves.now ≡ schedule.now.moves.now }
+    ensures place { ((result.room ≡ schedule.now.room) × (result.base ≡ schedule.now.base)) ⊎
+        ((moves_of schedule.now.moves.now ≡ []) × (result.room ≡ len) × (result.base ≡ 0)) }
+{
+    if schedule.moves.is_empty() {
+        Schedule {
+            room: len,
+            base: 0,
+            moves: schedule.moves,
+        }
+    } else {
+        *schedule
+    }
+}
+
+/// Runs clients on a copy of the image of `len` bytes.
+fn run_copy<A: Allocator + Copy, W: Sink>(
     alloc: A,
-    region: Region<A>,
+    image: &[u8],
     len: u32,
     clients: &[&[u8]],
     input: &[u8],
@@ -99,13 +145,12 @@ fn run_in<A: Allocator + Copy, W: Sink>(
     out: &mut W,
 ) -> Result<Outcome<A>, Refused>
     requires works { W.has_failed out.old ≡ false }
-    ensures refused { (image : List ℕ) → LiesIn region schedule.now.base image →
-        len ≡ length image → IfErr result (IsWrong image (map (λ c. c.now) clients.now)) }
-    ensures runs { (image : List ℕ) → LiesIn region schedule.now.base image →
-        len ≡ length image → length region ≡ schedule.now.room →
-        CanMove image schedule.now.room schedule.now.base (moves_of schedule.now.moves.now) →
-        IfOk result (λ o. HasOutcome image (map (λ c. c.now) clients.now) input.now
-        schedule.now.room schedule.now.base (moves_of schedule.now.moves.now)
+    requires len { len ≡ length image.now }
+    requires can_move { CanMove image.now schedule.now.room schedule.now.base
+        (moves_of schedule.now.moves.now) }
+    ensures refused { IfErr result (IsWrong image.now (map (λ c. c.now) clients.now)) }
+    ensures outcome { IfOk result (λ o. HasOutcome image.now (map (λ c. c.now) clients.now)
+        input.now schedule.now.room schedule.now.base (moves_of schedule.now.moves.now)
         (W.taken out.old) (W.taken out.new) o.image.items o.reports.items o.ended) }
     ensures nothing_written { OnErr result (out.new ≡ out.old) }
     ensures ended { IfOk result
@@ -113,29 +158,61 @@ fn run_in<A: Allocator + Copy, W: Sink>(
     ensures reports { IfOk result (λ o. HasReportsOf (map (λ c. c.now) clients.now)
         o.reports.items o.ended) }
 {
-    let Ok(window) = Window::place(region, schedule.base, len) else {
-        return Err(Refused::from(Fault::Misplaced));
-    };
-    if window.get32(header::ALLOCATOR) == BestFit::word() {
-        run_on::<BestFit, A, W>(alloc, window, clients, input, schedule.moves, out)
-    } else {
-        run_on::<SeqFit, A, W>(alloc, window, clients, input, schedule.moves, out)
+    let window = copied(alloc, image, len, schedule)?;
+    match run_in(alloc, window, clients, input, schedule.moves, out) {
+        Ok(outcome) => Ok(outcome),
+        Err((refused, _)) => Err(refused),
     }
 }
 
-/// Runs clients on the image in a window, with the allocator that it names.
-fn run_on<F: Fit, A: Allocator + Copy, W: Sink>(
+/// Runs clients on the image of `len` bytes in its own memory, which is the whole region.
+fn run_own<A: Allocator + Copy, W: Sink>(
     alloc: A,
-    mut window: Window<A>,
+    image: Vec<u8, A>,
+    len: u32,
     clients: &[&[u8]],
     input: &[u8],
     moves: &[Move],
     out: &mut W,
-) -> Result<Outcome<A>, Refused>
+) -> Result<Outcome<A>, Unrun<A>>
     requires works { W.has_failed out.old ≡ false }
-    ensures refused { (word window.bytes allocator_word ≤ 1 →
-        word window.bytes allocator_word ≡ F.allocator) →
-        IfErr result (IsWrong window.bytes (map (λ c. c.now) clients.now)) }
+    requires len { len ≡ length image.items }
+    requires can_move { CanMove image.items len 0 (moves_of moves.now) }
+    ensures refused { IfErr result (λ unrun.
+        IsWrong image.items (map (λ c. c.now) clients.now) unrun.refused) }
+    ensures given_back { IfErr result (λ unrun. unrun.bytes.items ≡ image.items) }
+    ensures outcome { IfOk result (λ o. HasOutcome image.items (map (λ c. c.now) clients.now)
+        input.now len 0 (moves_of moves.now)
+        (W.taken out.old) (W.taken out.new) o.image.items o.reports.items o.ended) }
+    ensures nothing_written { OnErr result (out.new ≡ out.old) }
+    ensures ended { IfOk result
+        (λ o. (o.ended ≡ Ended.OutputFailed) ↔ (W.has_failed out.new ≡ true)) }
+    ensures reports { IfOk result (λ o. HasReportsOf (map (λ c. c.now) clients.now)
+        o.reports.items o.ended) }
+{
+    let window = Window::place(Region::from_vec(image), 0, len).unwrap();
+    match run_in(alloc, window, clients, input, moves, out) {
+        Ok(outcome) => Ok(outcome),
+        Err((refused, window)) => Err(Unrun {
+            refused,
+            bytes: window.into_bytes(),
+        }),
+    }
+}
+
+/// Runs clients on the image in a window, which comes back as it was where they are refused.
+fn run_in<A: Allocator + Copy, W: Sink>(
+    alloc: A,
+    window: Window<A>,
+    clients: &[&[u8]],
+    input: &[u8],
+    moves: &[Move],
+    out: &mut W,
+) -> Result<Outcome<A>, (Refused, Window<A>)>
+    requires works { W.has_failed out.old ≡ false }
+    ensures refused { IfErr result (λ it.
+        IsWrong window.bytes (map (λ c. c.now) clients.now) it.0) }
+    ensures given_back { IfErr result (λ it. it.1 ≡ window) }
     ensures runs { IfOk result (λ o. HaveRunOn (map (λ c. c.now) clients.now)
         (moves_of moves.now) input.now window (W.taken out.old) o.image.items (W.taken out.new)
         o.reports.items (ending_of o.ended)) }
@@ -145,42 +222,100 @@ fn run_on<F: Fit, A: Allocator + Copy, W: Sink>(
     ensures reports { IfOk result (λ o. HasReportsOf (map (λ c. c.now) clients.now)
         o.reports.items o.ended) }
 {
-    match open::<F, A, A>(alloc, &mut window) {
-        Ok(types) => {
-            let segment = Segment::<F, A>::new(window, types);
-            run_opened(alloc, segment, clients, input, moves, out)
-        }
-        Err(fault) => Err(Refused::from(fault)),
+    match admit(alloc, &window, clients) {
+        Ok(admitted) => Ok(run_admitted(window, admitted, input, moves, out)),
+        Err(refused) => Err((refused, window)),
     }
 }
 
-/// Verifies the clients, and runs them on an open segment.
-fn run_opened<F: Fit, A: Allocator + Copy, W: Sink>(
+/// What is found and made before anything runs: the types of a sound image, its clients, and room for the report of each.
+#[derive(Drop)]
+struct Admitted<'a, A: Allocator> {
+    types: TypeTable,
+    programs: Vec<Ready<'a, A>, A>,
+    reports: Vec<Report, A>,
+}
+
+/// Checks the image in a window, and verifies the clients and makes them ready.
+fn admit<'a, A: Allocator + Copy>(
     alloc: A,
-    segment: Segment<F, A>,
-    clients: &[&[u8]],
+    window: &Window<A>,
+    clients: &[&'a [u8]],
+) -> Result<Admitted<'a, A>, Refused>
+    ensures texts { IfOk result
+        (λ it. texts_in it.programs.items ≡ map (λ c. c.now) clients.now) }
+    ensures empty { IfOk result (λ it. it.reports.items ≡ []) }
+    ensures room { IfOk result (λ it. length it.programs.items ≤ vec_capacity it.reports) }
+    ensures image { IfOk result (λ it. IsImageOf window.now.bytes it.types) }
+    ensures accepted { IfOk result (λ it. (trees : List syntax.Client) ×
+        AreAccepted it.types (map (λ c. c.now) clients.now) trees) }
+    ensures refused { IfErr result (IsWrong window.now.bytes (map (λ c. c.now) clients.now)) }
+{
+    let types = check(alloc, window)?;
+    let (programs, reports) = prepared(alloc, clients, &types)?;
+    Ok(Admitted {
+        types,
+        programs,
+        reports,
+    })
+}
+
+/// Runs the clients that an image admits, with the allocator that it names.
+fn run_admitted<A: Allocator, W: Sink>(
+    window: Window<A>,
+    admitted: Admitted<A>,
     input: &[u8],
     moves: &[Move],
     out: &mut W,
-) -> Result<Outcome<A>, Refused>
+) -> Outcome<A>
     requires works { W.has_failed out.old ≡ false }
-    ensures refused { IfErr result (λ refused.
-        AreWrong segment.types (map (λ c. c.now) clients.now) refused) }
-    ensures accepted { OnOk result ((trees : List syntax.Client) ×
-        AreAccepted segment.types (map (λ c. c.now) clients.now) trees) }
-    ensures runs { IfOk result (λ o. (trees : List syntax.Client) →
-        AreAccepted segment.types (map (λ c. c.now) clients.now) trees →
-        IsReady F.allocator [] segment.window segment.types (moves_of moves.now) →
-        HaveRun trees (moves_of moves.now) input.now segment.window (W.taken out.old)
-        o.image.items (W.taken out.new) o.reports.items (ending_of o.ended)) }
-    ensures nothing_written { OnErr result (out.new ≡ out.old) }
-    ensures ended { IfOk result
-        (λ o. (o.ended ≡ Ended.OutputFailed) ↔ (W.has_failed out.new ≡ true)) }
-    ensures reports { IfOk result (λ o. HasReportsOf (map (λ c. c.now) clients.now)
-        o.reports.items o.ended) }
+    requires empty { admitted.reports.items ≡ [] }
+    requires room { length admitted.programs.items ≤ vec_capacity admitted.reports }
+    ensures runs { IsImageOf window.bytes admitted.entry.types → (trees : List syntax.Client) →
+        AreAccepted admitted.entry.types (texts_in admitted.entry.programs.items) trees →
+        HaveRunOn (texts_in admitted.entry.programs.items) (moves_of moves.now) input.now window
+        (W.taken out.old) result.image.items (W.taken out.new) result.reports.items
+        (ending_of result.ended) }
+    ensures ended { (result.ended ≡ Ended.OutputFailed) ↔ (W.has_failed out.new ≡ true) }
+    ensures reports { HasReportsOf (texts_in admitted.entry.programs.items) result.reports.items
+        result.ended }
 {
-    let (programs, reports) = prepared(alloc, clients, segment.types())?;
-    Ok(run_verified(segment, programs, input, moves, reports, out))
+    if window.get32(header::ALLOCATOR) == BestFit::word() {
+        run_on::<BestFit, A, W>(window, admitted, input, moves, out)
+    } else {
+        run_on::<SeqFit, A, W>(window, admitted, input, moves, out)
+    }
+}
+
+/// Opens the image in a window, and runs the clients that it admits.
+fn run_on<F: Fit, A: Allocator, W: Sink>(
+    mut window: Window<A>,
+    admitted: Admitted<A>,
+    input: &[u8],
+    moves: &[Move],
+    out: &mut W,
+) -> Outcome<A>
+    requires works { W.has_failed out.old ≡ false }
+    requires empty { admitted.reports.items ≡ [] }
+    requires room { length admitted.programs.items ≤ vec_capacity admitted.reports }
+    ensures runs { IsImageOf window.bytes admitted.entry.types →
+        word window.bytes allocator_word ≡ F.allocator → (trees : List syntax.Client) →
+        AreAccepted admitted.entry.types (texts_in admitted.entry.programs.items) trees →
+        HaveRunOn (texts_in admitted.entry.programs.items) (moves_of moves.now) input.now window
+        (W.taken out.old) result.image.items (W.taken out.new) result.reports.items
+        (ending_of result.ended) }
+    ensures ended { (result.ended ≡ Ended.OutputFailed) ↔ (W.has_failed out.new ≡ true) }
+    ensures reports { HasReportsOf (texts_in admitted.entry.programs.items) result.reports.items
+        result.ended }
+{
+    header::upgrade(&mut window);
+    let Admitted {
+        types,
+        programs,
+        reports,
+    } = admitted;
+    let segment = Segment::<F, A>::new(window, types);
+    run_verified(segment, programs, input, moves, reports, out)
 }
 
 /// The clients, verified and made ready, and room for the report of each.
@@ -254,36 +389,23 @@ fn run_verified<F: Fit, A: Allocator, W: Sink>(
     }
 }
 
-/// A region with the image of `len` bytes at its base; the image's own memory where it is the whole region.
-fn placed<A: Allocator>(
+/// A window on a copy of the image of `len` bytes, at its base in a region of zeros.
+fn copied<A: Allocator>(
     alloc: A,
-    image: Vec<u8, A>,
+    image: &[u8],
     len: u32,
     schedule: &Schedule,
-) -> Result<Region<A>, Fault>
-    requires len { len ≡ length image.items }
-    requires can_move { CanMove image.items schedule.now.room schedule.now.base
-        (moves_of schedule.now.moves.now) }
-    ensures lies { IfOk result (λ region. LiesIn region schedule.now.base image.items) }
-    ensures room { IfOk result (λ region. length region ≡ schedule.now.room) }
-    ensures refused { IsOkUnless result Fault.Memory }
-{
-    if len == schedule.room {
-        Ok(Region::from_vec(image))
-    } else {
-        copied(alloc, image.as_slice(), schedule)
-    }
-}
-
-/// A region of zeros with the image at its base.
-fn copied<A: Allocator>(alloc: A, image: &[u8], schedule: &Schedule) -> Result<Region<A>, Fault>
+) -> Result<Window<A>, Fault>
+    requires len { len ≡ length image.now }
     requires can_move { CanMove image.now schedule.now.room schedule.now.base
         (moves_of schedule.now.moves.now) }
-    ensures lies { IfOk result (λ region. LiesIn region schedule.now.base image.now) }
-    ensures room { IfOk result (λ region. length region ≡ schedule.now.room) }
+    ensures bytes { IfOk result (λ window. window.bytes ≡ image.now) }
+    ensures room { IfOk result (λ window. length (region_of window) ≡ schedule.now.room) }
+    ensures base { IfOk result (λ window. length window.before ≡ schedule.now.base) }
     ensures refused { IsOkUnless result Fault.Memory }
 {
-    Region::with_bytes(alloc, schedule.room, schedule.base, image)
+    let region = Region::with_bytes(alloc, schedule.room, schedule.base, image)?;
+    Ok(Window::place(region, schedule.base, len).unwrap())
 }
 
 /// The length of an image that may lie at a place and make the moves.

@@ -1,4 +1,6 @@
-use client_output::{Ended, Report};
+ghost use Rattle.std.specs.Prelude.{◌≡◌};
+
+use client_output::{Ended, Refused, Report};
 use client_run::Move;
 use std::alloc::Allocator;
 
@@ -17,4 +19,19 @@ pub struct Outcome<A: Allocator> {
     pub image: Vec<u8, A>,
     pub reports: Vec<Report, A>,
     pub ended: Ended,
+}
+
+/// Why no client ran, and the caller's bytes as they were. `?` makes it the reason alone.
+#[derive(Drop)]
+pub struct Unrun<A: Allocator> {
+    pub refused: Refused,
+    pub bytes: Vec<u8, A>,
+}
+
+impl<A: Allocator> From<Unrun<A>> for Refused {
+    ghost from_gives = { λ unrun refused. refused ≡ unrun.refused };
+
+    fn from(unrun: Unrun<A>) -> Refused {
+        unrun.refused
+    }
 }

@@ -11,7 +11,7 @@ pub use client_code::{Client, parse};
 pub use client_text::{assemble, print};
 pub use client_verify::Verified;
 pub use client_vm::{
-    Ended, Move, Outcome, Ready, Refused, Report, Schedule, Sink, Stopped, Through, prepare,
+    Ended, Move, Outcome, Ready, Refused, Report, Schedule, Sink, Stopped, Through, Unrun, prepare,
     run_bytes, run_image, write_all,
 };
 pub use clients::{run, verify};

@@ -4,7 +4,10 @@ use crate::windows::window;
 use client_code::parse;
 use client_text::assemble;
 use client_verify::{Verified, verify};
-use client_vm::{Ended, Move, Ready, Refused, Report, Schedule, Through, prepare, run_bytes};
+use client_vm::{
+    Ended, Move, Outcome, Ready, Refused, Report, Schedule, Through, Unrun, prepare, run_bytes,
+    run_image,
+};
 use seg_bestfit::BestFit;
 use seg_block::Fit;
 use seg_check::{check, save};
@@ -154,19 +157,44 @@ pub fn outcome_of(
     clients: &[&[u8]],
     setting: Setting,
 ) -> Result<Ran, Refused> {
-    let schedule = Schedule {
+    let mut out = output_of(alloc, setting);
+    let schedule = schedule_of(setting);
+    let outcome = run_bytes(alloc, image, clients, setting.input, &schedule, &mut out)?;
+    Ok(came_to(outcome, out))
+}
+
+/// What a run of clients on an image of the caller's comes to; where nothing runs, its bytes come back.
+pub fn outcome_in(
+    alloc: Global,
+    image: Vec<u8>,
+    clients: &[&[u8]],
+    setting: Setting,
+) -> Result<Ran, Unrun<Global>> {
+    let mut out = output_of(alloc, setting);
+    let schedule = schedule_of(setting);
+    let outcome = run_image(alloc, image, clients, setting.input, &schedule, &mut out)?;
+    Ok(came_to(outcome, out))
+}
+
+fn output_of(alloc: Global, setting: Setting) -> Through<Limited> {
+    Through::new(Limited::new(alloc, setting.at_a_time, setting.limit))
+}
+
+fn schedule_of(setting: Setting<'_>) -> Schedule<'_> {
+    Schedule {
         room: setting.room,
         base: setting.base,
         moves: setting.moves,
-    };
-    let mut out = Through::new(Limited::new(alloc, setting.at_a_time, setting.limit));
-    let outcome = run_bytes(alloc, image, clients, setting.input, &schedule, &mut out)?;
-    Ok(Ran {
+    }
+}
+
+fn came_to(outcome: Outcome<Global>, out: Through<Limited>) -> Ran {
+    Ran {
         out: out.into_inner().bytes,
         image: outcome.image,
         reports: outcome.reports,
         ended: outcome.ended,
-    })
+    }
 }
 
 /// Runs the clients that the texts spell on an image.

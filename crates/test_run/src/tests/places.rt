@@ -194,6 +194,14 @@ fn runs_alike_wherever_it_lies(rt: HostRuntime) -> Result<(), Fail> {
         let texts = [FIVE_TEXTS, PRINT_TEXTS];
         for base in [16, 65_536] {
             let _ = runs_alike(&rt, image.as_slice(), &texts, Setting { base, ..PLAIN })?;
+            // only an image that moves is put at its base
+            let moves = &[before(1, base)];
+            let there = Setting {
+                base,
+                moves,
+                ..PLAIN
+            };
+            let _ = runs_alike(&rt, image.as_slice(), &texts, there)?;
         }
         let _ = runs_alike(&rt, image.as_slice(), &texts, Setting { moves, ..PLAIN })?;
     }

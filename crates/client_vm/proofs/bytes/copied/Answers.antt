@@ -1,14 +1,11 @@
-use Rattle.std.proofs.Common.{◌≡◌, length}
-use Rattle.client_vm.specs.Admitted.{LiesIn}
-use Rattle.client_vm.proofs.Refusing.{ok_is, among_zeros, zeros_around}
+use Rattle.std.proofs.Common.{arith}
+use Rattle.client_vm.proofs.Refusing.{placed_there, shows, among_zeros}
 use Rattle.client_vm.proofs.bytes.copied.Goals as goal
 
-pub returns-clause-lies : goal.returns-clause-lies
-returns-clause-lies g c =
+pub returns-clause-bytes : goal.returns-clause-bytes
+returns-clause-bytes g c =
     let schedule = c.args.schedule.now in
-    ok_is c.with_bytes.result _ (λ region. LiesIn region schedule.base c.args.image.now) (among_zeros c.args.image.now schedule.base schedule.room c.requires.can_move.lies.placed) c.with_bytes.ensures.bytes
-
-pub returns-clause-room : goal.returns-clause-room
-returns-clause-room g c =
-    let schedule = c.args.schedule.now in
-    ok_is c.with_bytes.result _ (λ region. length region ≡ schedule.room) (zeros_around c.args.image.now schedule.base schedule.room c.requires.can_move.lies.placed) c.with_bytes.ensures.bytes
+    let image = c.args.image.now in
+    let region = c.in_ok-region.region in
+    let w = placed_there _ c.place.result c.unwrap.result region schedule.base c.args.len c.unwrap.ensures c.place.ensures.window in
+    shows c.unwrap.result region schedule.base c.args.len image w.0 w.1 w.2 c.requires.len (among_zeros image schedule.base schedule.room region c.in_ok-region.ensures.bytes)

@@ -1,26 +1,45 @@
-use Rattle.std.proofs.Common.{List, ℕ, map, length, None, ap, ◌∙◌, subst}
+use Rattle.std.proofs.Common.{List, ℕ, map, sym, subst}
 use Rattle.client_spec.specs.Outcome.{CanMove}
 use Rattle.client_run.specs.Moves.{moves_of}
-use Rattle.client_vm.specs.Outcomes.{IsFaultOfCall, IsRefusedFor}
-use Rattle.client_vm.proofs.Refusing.{refused_for, err_is}
+use Rattle.client_vm.specs.Outcomes.{IsFaultOfCall, IsRefusedFor, HasOutcome}
+use Rattle.client_vm.proofs.TogetherLaws.{if_ok}
+use Rattle.client_vm.proofs.Elsewhere.{outcome_elsewhere}
 use Rattle.client_vm.proofs.bytes.run_image.Goals as goal
 
-pub returns-in_err-len-clause-refused : goal.returns-in_err-len-clause-refused
-returns-in_err-len-clause-refused g c =
+pub returns-in-Err-clause-refused : goal.returns-in-Err-clause-refused
+returns-in-Err-clause-refused g c =
     let schedule = c.args.schedule.now in
+    let image = c.args.image.items in
     let texts : List (List ℕ) = map (λ x. x.now) c.args.clients.now in
-    err_is c.from_residual.result (record { client = None; fault = c.in_err-len.field-0.0 }) (IsRefusedFor c.args.image.items texts schedule.room schedule.base (moves_of schedule.moves.now))
-    (subst (λ i. IsFaultOfCall i texts schedule.room schedule.base (moves_of schedule.moves.now) c.in_err-len.field-0.0) c.as_slice.ensures.value (c.in_err-len.ensures.refused texts)) c.from_residual.ensures.1
+    let moves = moves_of schedule.moves.now in
+    subst (IsRefusedFor image texts schedule.room schedule.base moves) (sym c.from.ensures)
+    (subst (λ (i : List ℕ). IsFaultOfCall i texts schedule.room schedule.base moves c.in-Err.fault) c.as_slice.ensures.value (c.in-Err.ensures.refused texts))
 
-pub returns-clause-refused : goal.returns-clause-refused
-returns-clause-refused g c =
+pub returns-then-len-least-clause-outcome : goal.returns-then-len-least-clause-outcome
+returns-then-len-least-clause-outcome g c =
     let schedule = c.args.schedule.now in
-    refused_for c.args.image.items (map (λ x. x.now) c.args.clients.now) schedule.room schedule.base (moves_of schedule.moves.now)
-    (subst (λ i. CanMove i schedule.room schedule.base (moves_of schedule.moves.now)) c.as_slice.ensures.value c.in_ok-len.ensures.fits) c.run_in.result
-    (c.run_in.ensures.refused c.args.image.items c.in_ok-region.ensures.lies (c.in_ok-len.ensures.len ∙ ap length c.as_slice.ensures.value))
+    let image = c.args.image.items in
+    let texts : List (List ℕ) = map (λ x. x.now) c.args.clients.now in
+    let moves = moves_of schedule.moves.now in
+    let made = moves_of c.least_room-least.result.moves.now in
+    let before = g.W.Sink.taken c.args.out.now in
+    let after = g.W.Sink.taken c.run_own.new.out in
+    let can = subst (λ (i : List ℕ). CanMove i schedule.room schedule.base moves) c.as_slice.ensures.value c.in-Ok.ensures.fits in
+    if_ok (λ o. HasOutcome image texts c.args.input.now c.in-Ok.len 0 made before after o.image.items o.reports.items o.ended)
+    (λ o. HasOutcome image texts c.args.input.now schedule.room schedule.base moves before after o.image.items o.reports.items o.ended) c.run_own.result
+    (λ o h. outcome_elsewhere image texts c.args.input.now schedule.room schedule.base moves can c.in-Ok.len 0 made before after o.image.items o.reports.items o.ended h) c.run_own.ensures.outcome
 
-pub returns-clause-outcome : goal.returns-clause-outcome
-returns-clause-outcome g c =
+pub returns-in-Ok-run_copy-clause-outcome : goal.returns-in-Ok-run_copy-clause-outcome
+returns-in-Ok-run_copy-clause-outcome g c =
     let schedule = c.args.schedule.now in
-    c.run_in.ensures.runs c.args.image.items c.in_ok-region.ensures.lies (c.in_ok-len.ensures.len ∙ ap length c.as_slice.ensures.value) c.in_ok-region.ensures.room
-    (subst (λ i. CanMove i schedule.room schedule.base (moves_of schedule.moves.now)) c.as_slice.ensures.value c.in_ok-len.ensures.fits)
+    let least = c.least_room-least.result in
+    let image = c.args.image.items in
+    let texts : List (List ℕ) = map (λ x. x.now) c.args.clients.now in
+    let moves = moves_of schedule.moves.now in
+    let made = moves_of least.moves.now in
+    let before = g.W.Sink.taken c.args.out.now in
+    let after = g.W.Sink.taken c.run_copy.new.out in
+    let o = c.in-Ok-run_copy.outcome in
+    let can = subst (λ (i : List ℕ). CanMove i schedule.room schedule.base moves) c.as_slice.ensures.value c.in-Ok.ensures.fits in
+    outcome_elsewhere image texts c.args.input.now schedule.room schedule.base moves can least.room least.base made before after o.image.items o.reports.items o.ended
+    (subst (λ (i : List ℕ). HasOutcome i texts c.args.input.now least.room least.base made before after o.image.items o.reports.items o.ended) c.as_slice-2.ensures.value c.in-Ok-run_copy.ensures.outcome)

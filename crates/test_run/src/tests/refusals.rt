@@ -1,0 +1,100 @@
+//! Runs in a caller's bytes that are refused: these come back as they were.
+
+use client_vm::{Move, Refused};
+use seg_raw::Fault;
+use std::process::Abort;
+use std::test::Fail;
+use support_data::{INCREMENT_FILE, counter, counter_saved, counter_with};
+use support_runs::{PLAIN, Setting, outcome_in};
+
+/// A region of the counter's length.
+const WHOLE: Setting<'static> = Setting { room: 784, ..PLAIN };
+
+/// A region in which it moves.
+const MOVING: Setting<'static> = Setting {
+    room: 800,
+    moves: &[Move { step: 1, base: 16 }],
+    ..PLAIN
+};
+
+/// The counter, but for these words, comes back with this refusal.
+fn comes_back(
+    rt: &(impl Abort + AllocGlobal),
+    changes: &[(usize, u32)],
+    clients: &[&[u8]],
+    setting: Setting,
+    refused: Refused,
+) -> Result<(), Fail> {
+    let image = counter_with(rt.alloc(), changes)?;
+    let bytes = Vec::from_slice(rt.alloc(), image.as_slice())?;
+    match outcome_in(rt.alloc(), bytes, clients, setting) {
+        Ok(_ran) => Err(Fail::from("ran")),
+        Err(unrun) => {
+            assert_eq!(rt; unrun.refused, refused);
+            assert_eq!(rt; unrun.bytes.as_slice(), image.as_slice());
+            Ok(())
+        }
+    }
+}
+
+/// A version that isn't known.
+#[test]
+fn a_faulty_image_comes_back(rt: HostRuntime) -> Result<(), Fail> {
+    for setting in [WHOLE, PLAIN, MOVING] {
+        comes_back(
+            &rt,
+            &[(8, 3)],
+            &[],
+            setting,
+            Refused::from(Fault::BadHeader),
+        )?;
+    }
+    Ok(())
+}
+
+/// The first client is accepted, and the second is no client.
+#[test]
+fn an_image_comes_back_where_a_client_is_refused(rt: HostRuntime) -> Result<(), Fail> {
+    let clients = [INCREMENT_FILE.as_slice(), b"".as_slice()];
+    let refused = Refused {
+        client: Some(1),
+        fault: Fault::BadCode(0),
+    };
+    for setting in [WHOLE, PLAIN, MOVING] {
+        comes_back(&rt, &[], &clients, setting, refused)?;
+    }
+    Ok(())
+}
+
+/// A base that isn't a multiple of 16, and a region that ends before the image.
+#[test]
+fn an_image_comes_back_where_it_has_no_place(rt: HostRuntime) -> Result<(), Fail> {
+    for setting in [Setting { base: 8, ..PLAIN }, Setting { room: 768, ..PLAIN }] {
+        comes_back(&rt, &[], &[], setting, Refused::from(Fault::Misplaced))?;
+    }
+    Ok(())
+}
+
+/// Where it runs, its bytes are those that are saved.
+fn runs(rt: &(impl Abort + AllocGlobal), setting: Setting) -> Result<(), Fail> {
+    let clients = [INCREMENT_FILE.as_slice()];
+    match outcome_in(rt.alloc(), counter(rt.alloc())?, &clients, setting) {
+        Ok(ran) => {
+            assert_eq!(rt; ran.out.as_slice(), b"42\n".as_slice());
+            assert_eq!(rt;
+                ran.image.as_slice(),
+                counter_saved(rt.alloc(), 42)?.as_slice()
+            );
+            Ok(())
+        }
+        Err(unrun) => Err(Fail::from(unrun.refused.fault)),
+    }
+}
+
+#[test]
+fn an_image_runs_in_its_own_bytes(rt: HostRuntime) -> Result<(), Fail> {
+    for setting in [WHOLE, PLAIN, MOVING] {
+        runs(&rt, setting)?;
+    }
+    Ok(())
+}
