@@ -43,17 +43,14 @@ fn outcome_of<O: Sink>(
         base: run.base,
         moves: &[],
     };
-    match run_image(
+    Ok(run_image(
         alloc,
         image,
         clients.as_slice(),
         input.as_slice(),
         &schedule,
         out,
-    ) {
-        Ok(outcome) => Ok(outcome),
-        Err(unrun) => Err(unrun.refused),
-    }
+    )?)
 }
 
 /// The bytes of the region of an image of so many: the image ends it, where the words say nothing else.

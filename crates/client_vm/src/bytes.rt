@@ -18,9 +18,9 @@ ghost use Rattle.client_run.specs.ReadyClients.{texts_in};
 ghost use Rattle.client_vm.specs.Reports.{AreReportsOf, HasReportsOf};
 
 use crate::outcome::{Outcome, Schedule, Unrun};
-use client_verify::{Verified, verify_all};
 use client_output::{Ended, Refused, Report, Sink};
 use client_run::{Move, Ready, first_bad_move, is_place, prepare, run};
+use client_verify::{Verified, verify_all};
 use seg_bestfit::BestFit;
 use seg_block::Fit;
 use seg_check::check;
