@@ -1,5 +1,6 @@
 -- What a client that C keeps owns.
 --     kept_row               a client that is ready to run, whose bytes stay for good
+--     c_heap                 the heap of the C library, which has one handle
 --     may_own at client      where there is one, the box of it
 use Rattle.std.specs.Prelude.{Option, Some, None}
 use base.Fml.{Fml, ftrue}
@@ -9,12 +10,14 @@ use denote.Signature.{static_lft}
 use Rattle.std.specs.contracts.alloc.Global as heap
 use Rattle.std.specs.contracts.impls.GlobalAllocator.TheImpl.{ghosts}
 use Rattle.std_alloc.specs.Box.Ownership.{box_owns}
-use Rattle.libc.specs.Heap.{chunk}
 use Rattle.client_run.specs.contracts.ready.Ready.{the_row}
 
 abbrev pub kept_row : RattleType
 kept_row = the_row static_lft heap.the_row ghosts
 
+abbrev pub c_heap : heap.the_row.Denot
+c_heap = record { memory = record { seal = tt } }
+
 abbrev pub may_own : Ptr → Option kept_row.Denot → Fml
 may_own at None = ftrue
-may_own at (Some client) = box_owns chunk kept_row at client
+may_own at (Some client) = box_owns (ghosts.dealloc_token c_heap) kept_row at client

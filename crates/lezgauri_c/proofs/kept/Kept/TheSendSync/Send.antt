@@ -13,8 +13,7 @@ use Rattle.std.proofs.Crossing as heap
 use Rattle.std.specs.contracts.alloc.Global as global
 use Rattle.std.specs.contracts.impls.GlobalAllocator.TheImpl.{ghosts}
 use Rattle.std_alloc.proofs.SendSync.{quiet, lies}
-use Rattle.libc.specs.Heap.{chunk-Keyless}
-use Rattle.lezgauri_c.specs.Kept.{kept_row, may_own}
+use Rattle.lezgauri_c.specs.Kept.{kept_row, c_heap, may_own}
 use Rattle.lezgauri_c.specs.contracts.kept.Kept.{the_row, the_type}
 use Rattle.client_run.proofs.ready.Ready.TheSendSync as ready
 
@@ -23,7 +22,7 @@ inside = ready.the_send static_lft global.the_row ghosts heap.send heap.frees
 
 owned : (p : Ptr) (client : Option kept_row.Denot) → Keyless (may_own p client)
 owned p None = tt
-owned p (Some client) = (lies kept_row inside p client, chunk-Keyless (raw (lone kept_row.mir)) p)
+owned p (Some client) = (lies kept_row inside p client, heap.frees.frees c_heap (raw (lone kept_row.mir)) p)
 
 pub send : IsSend the_row
 send =

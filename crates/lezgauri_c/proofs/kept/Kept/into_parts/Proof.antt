@@ -29,8 +29,8 @@ use Rattle.std.specs.Prelude.{Option, Some, is_some, true}
 use Rattle.std.proofs.alloc.Calls.{handle_tells}
 use Rattle.std_alloc.proofs.BoxSteps.Form.{D, τ, word, box_typed}
 use Rattle.std_alloc.proofs.BoxSteps.Steps.{box_in}
-use Rattle.libc.specs.Heap.{chunk}
-use Rattle.lezgauri_c.specs.Kept.{kept_row, may_own}
+use Rattle.std.specs.contracts.impls.GlobalAllocator.TheImpl.{ghosts}
+use Rattle.lezgauri_c.specs.Kept.{kept_row, c_heap, may_own}
 use Rattle.lezgauri_c.proofs.KeptBox.{E, FromKept as From, Heap, one_there}
 use Rattle.lezgauri_c.specs.contracts.kept.Kept.into_parts as F
 use Rattle.lezgauri_c.specs.contracts.kept.Kept.into_parts.Key.{name as #self}
@@ -54,7 +54,7 @@ module _ {M : Type 1} {𝓤 : Ura M} (𝓛 : Logic 𝓤) (at_mem : Memory → SP
       move ! (1 ∷ []) $ heard ! (is_some v.value ≡ true) (λ there. let one = one_there v.value there in let x = one.0 in split ! $ drop ! $
       fsplit ! $ fsplit ! $ fpick ! (λ vss. fsplit ! $ feq_l ! (λ ev. fsplit ! $ feq_l ! (λ ep. drop ! $
       rewrite ! 0 (λ (k : Option kept_row.Denot). ‵ (may_own v.at k)) one.1 refl $
-      in_a_block ! v.at (λ p. may_own p (Some x)) (fst∗ 𝓤 (never 𝓤) (sem 𝓛 (chunk (bare (τ E)) null_ptr))) (λ b o at.
+      in_a_block ! v.at (λ p. may_own p (Some x)) (fst∗ 𝓤 (never 𝓤) (sem 𝓛 (ghosts.dealloc_token c_heap (bare (τ E)) null_ptr))) (λ b o at.
       move ! (1 ∷ []) $ fsplit ! $ handle_tells E.al ! a z.0.4.1.0 (λ h ea fits. move ! (1 ∷ []) $ drop ! $
       let w : Val = vstruct (vcons (vptr b o) vnil) in
       let d : D E = record { ptr = block_ptr b o; alloc = a; value = x } in
