@@ -1,7 +1,10 @@
 use Rattle.std.proofs.Common.{List, ℕ, map, sym, subst}
+use Rattle.std.proofs.lemmas.Result.{IfErr-weaker}
 use Rattle.client_spec.specs.Outcome.{CanMove}
 use Rattle.client_run.specs.Moves.{moves_of}
+use Rattle.client_vm.specs.Admitted.{IsWrong}
 use Rattle.client_vm.specs.Outcomes.{IsFaultOfCall, IsRefusedFor, HasOutcome}
+use Rattle.client_vm.proofs.Refusing.{why}
 use Rattle.client_vm.proofs.TogetherLaws.{if_ok}
 use Rattle.client_vm.proofs.Elsewhere.{outcome_elsewhere}
 use Rattle.client_vm.proofs.bytes.run_image.Goals as goal
@@ -14,6 +17,26 @@ returns-in-Err-clause-refused g c =
     let moves = moves_of schedule.moves.now in
     subst (IsRefusedFor image texts schedule.room schedule.base moves) (sym c.from.ensures)
     (subst (λ (i : List ℕ). IsFaultOfCall i texts schedule.room schedule.base moves c.in-Err.fault) c.as_slice.ensures.value (c.in-Err.ensures.refused texts))
+
+pub returns-then-len-least-clause-refused : goal.returns-then-len-least-clause-refused
+returns-then-len-least-clause-refused g c =
+    let schedule = c.args.schedule.now in
+    let image = c.args.image.items in
+    let texts : List (List ℕ) = map (λ x. x.now) c.args.clients.now in
+    let moves = moves_of schedule.moves.now in
+    let can = subst (λ (i : List ℕ). CanMove i schedule.room schedule.base moves) c.as_slice.ensures.value c.in-Ok.ensures.fits in
+    IfErr-weaker c.run_own.result (λ unrun. IsWrong image texts unrun.refused) (λ unrun. IsRefusedFor image texts schedule.room schedule.base moves unrun.refused)
+    (λ unrun h. why image texts schedule.room schedule.base moves can unrun.refused.client unrun.refused.fault h) c.run_own.ensures.refused
+
+pub returns-in-Err-run_copy-clause-refused : goal.returns-in-Err-run_copy-clause-refused
+returns-in-Err-run_copy-clause-refused g c =
+    let schedule = c.args.schedule.now in
+    let image = c.args.image.items in
+    let texts : List (List ℕ) = map (λ x. x.now) c.args.clients.now in
+    let moves = moves_of schedule.moves.now in
+    let refused = c.in-Err-run_copy.refused in
+    let can = subst (λ (i : List ℕ). CanMove i schedule.room schedule.base moves) c.as_slice.ensures.value c.in-Ok.ensures.fits in
+    why image texts schedule.room schedule.base moves can refused.client refused.fault (subst (λ (i : List ℕ). IsWrong i texts refused) c.as_slice-2.ensures.value c.in-Err-run_copy.ensures.refused)
 
 pub returns-then-len-least-clause-outcome : goal.returns-then-len-least-clause-outcome
 returns-then-len-least-clause-outcome g c =
