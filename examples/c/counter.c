@@ -1,5 +1,6 @@
 /*
- * Counts in the number `x` of an image: verifies a client, opens the image, which checks it once, and runs the client three times.
+ * Counts in the number `x` of an image: opens the image, which checks it once, prepares a client, which verifies it once, and runs
+ * it three times.
  *
  *   counter IMAGE CLIENT
  */
@@ -8,7 +9,7 @@
 #include <stdio.h>
 #include <stdlib.h>
 
-/* The bytes of a file, which the caller frees; null, and a message, where it can't be read. */
+/* The bytes of a file, which the caller frees; null, after a message, if it can't be read. */
 static uint8_t *read_file(const char *name, size_t *len)
 {
     FILE *file = fopen(name, "rb");
@@ -39,15 +40,14 @@ static int tell(const char *call, const lezgauri_fault *fault)
     return EXIT_FAILURE;
 }
 
-/* Runs the client three times on an open segment. */
-static int run_thrice(lezgauri_handle *segment, const uint8_t *client, size_t client_len)
+static int run_thrice(lezgauri_handle *segment, lezgauri_client *client)
 {
     for (int i = 0; i < 3; i++) {
         char output[64];
         size_t written;
         lezgauri_report report;
         lezgauri_fault fault;
-        uint32_t status = lezgauri_run_on(segment, client, client_len, NULL, 0, output, sizeof output, &written, &report, &fault);
+        uint32_t status = lezgauri_run_client(segment, client, NULL, 0, output, sizeof output, &written, &report, &fault);
         if (status == LEZGAURI_OUTPUT_FULL) {
             fprintf(stderr, "run: more than %zu bytes\n", sizeof output);
             return EXIT_FAILURE;
@@ -73,7 +73,14 @@ static int count(const uint8_t *image, size_t len, const uint8_t *client, size_t
     if (lezgauri_open(image, len, &segment, &fault) != LEZGAURI_OK) {
         return tell("open", &fault);
     }
-    int ended = run_thrice(segment, client, client_len);
+    lezgauri_client *prepared;
+    int ended;
+    if (lezgauri_prepare(segment, client, client_len, &prepared, &fault) == LEZGAURI_OK) {
+        ended = run_thrice(segment, prepared);
+        lezgauri_client_close(prepared);
+    } else {
+        ended = tell("prepare", &fault);
+    }
     lezgauri_close(segment);
     return ended;
 }
