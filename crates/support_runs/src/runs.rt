@@ -157,7 +157,7 @@ pub fn outcome_of(
     clients: &[&[u8]],
     setting: Setting,
 ) -> Result<Ran, Refused> {
-    let mut out = output_of(alloc, setting);
+    let mut out = Through::new(output_of(alloc, setting));
     let schedule = schedule_of(setting);
     let outcome = run_bytes(alloc, image, clients, setting.input, &schedule, &mut out)?;
     Ok(came_to(outcome, out))
@@ -170,14 +170,14 @@ pub fn outcome_in(
     clients: &[&[u8]],
     setting: Setting,
 ) -> Result<Ran, Unrun<Global>> {
-    let mut out = output_of(alloc, setting);
+    let mut out = Through::new(output_of(alloc, setting));
     let schedule = schedule_of(setting);
     let outcome = run_image(alloc, image, clients, setting.input, &schedule, &mut out)?;
     Ok(came_to(outcome, out))
 }
 
-fn output_of(alloc: Global, setting: Setting) -> Through<Limited> {
-    Through::new(Limited::new(alloc, setting.at_a_time, setting.limit))
+fn output_of(alloc: Global, setting: Setting) -> Limited {
+    Limited::new(alloc, setting.at_a_time, setting.limit)
 }
 
 fn schedule_of(setting: Setting<'_>) -> Schedule<'_> {
