@@ -80,7 +80,7 @@ def follow(command, folder, log, wanted):
         for line in running.stdout:
             file.write(line)
             file.flush()
-            proved = re.match(r"rt: (\w+) proved", line)
+            proved = re.match(r"rt: (\w+) (?:proved|is kept)\b", line)
             if proved and proved[1] in wanted:
                 progress.tell(proved[1])
     progress.end()
