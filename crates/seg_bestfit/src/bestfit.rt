@@ -16,11 +16,12 @@ use seg_ptr::header::{FREE, SIZE};
 use seg_rbtree::{Looked, Path, TREE_WORDS};
 use std::alloc::Allocator;
 
-/// The allocator that takes the smallest gap. Sizes are in units.
+/// The best-fit allocator: it takes the smallest free block that is large enough, the lowest among equals. Sizes are in
+/// units.
 pub struct BestFit;
 
-/// The gap that an allocation of `need` units would take, by the position of its header, and how many free blocks are looked at
-/// for it.
+/// The position of the free block that an allocation of `need` units would take, and how many free blocks the search
+/// looks at.
 pub fn locate<A: Allocator>(w: &Window<A>, need: u32) -> (Option<u32>, u32)
     ensures gap { IsHeap 1 w.now.bytes
         → result.0 ≡ option_map (λ g. g.at) (best_fit (gaps w.now.bytes) need) }
@@ -58,7 +59,8 @@ impl Fit for BestFit {
     fn allocate<A: Allocator>(w: &mut Window<A>, need: u32) -> Option<u32> {
         let mut path = Path::new(FREE);
         let gap = best_fit(&mut path, w, need)?;
-        // each smaller gap is too small, so a rest that would do as well keeps the gap's place
+        // no free block between `need` and this block's size exists, so a rest of at least `need` units keeps its place
+        // in the order
         if gap.units - need >= need {
             take_front(w, &path, gap, need);
             return Some(gap.at);

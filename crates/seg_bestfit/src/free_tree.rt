@@ -20,7 +20,7 @@ use seg_rbtree::{NodeOrder, Path, Tree};
 use std::alloc::Allocator;
 use std::cmp::Ordering;
 
-/// Free blocks by their units, then by their positions. A key is a number of units.
+/// The order of free blocks: by size in units, then by position. A search key is a size in units.
 pub(crate) struct BySize;
 
 /// The units of the free block with this node.
@@ -30,7 +30,7 @@ fn size(view: View, node: u32) -> u32
     units_in(view.get32(node.saturating_sub(UNIT) as usize))
 }
 
-/// The place in the order of the free block with this node: its units, then its position, in one number.
+/// The size in units and the position of the free block with this node, in one number that orders like the pair.
 fn rank(view: View, node: u32) -> u64
     ensures { result ≡ node_units view.entry.bytes.now node * 2 ^ 32 + node }
 {
@@ -85,8 +85,7 @@ fn node_block<A: Allocator>(w: &Window<A>, node: u32) -> Option<Block>
     block_at(w, node.checked_sub(UNIT)?)
 }
 
-/// Makes a path the way to the smallest gap of at least `need` units, the lowest among equals, and returns the gap. None where
-/// there is none.
+/// Sets `path` to the smallest free block of at least `need` units, the lowest among equals, and returns the block.
 pub(crate) fn best_fit<A: Allocator>(path: &mut Path, w: &Window<A>, need: u32) -> Option<Block>
     ensures bounds { IfSome result (λ f. (need ≤ f.units) × LiesIn w.now.bytes f) }
     ensures best { (gs : List Span) → IsFreeTree w.now.bytes gs → AreGaps w.now.bytes gs
@@ -127,7 +126,7 @@ pub(crate) fn put_in<A: Allocator>(w: &mut Window<A>, block: Block)
     free_tree().insert(w, &BySize, block.at + UNIT);
 }
 
-/// Makes a path the way to a free block in the tree.
+/// Sets `path` to a free block in the tree.
 #[inline(always)]
 fn lead_to<A: Allocator>(path: &mut Path, w: &Window<A>, block: Block)
     requires { block_end block ≤ MAX_LEN }
@@ -146,8 +145,8 @@ fn set_free<A: Allocator>(w: &mut Window<A>, block: Block)
     set_size(w, block.at, block.units, false);
 }
 
-/// Makes the front of the gap that a path leads to live, of `units`. The rest stays a gap, and its node takes the place of the
-/// gap's in the tree, which is right where no other gap stands between the two in the order.
+/// Allocates the first `units` units of the free block at the end of `path`. The rest stays free, and its node replaces
+/// the block's node in the tree. That keeps the tree in order if no other free block lies between the two in the order.
 pub(crate) fn take_front<A: Allocator>(w: &mut Window<A>, path: &Path, gap: Block, units: u32)
     requires inside { block_end gap ≤ MAX_LEN }
     requires front { 2 ≤ units }
@@ -169,7 +168,7 @@ pub(crate) fn take_front<A: Allocator>(w: &mut Window<A>, path: &Path, gap: Bloc
     path.replace(w, rest.at + UNIT);
 }
 
-/// Makes the gap that a path leads to live, all of it. The path leads nowhere then.
+/// Allocates the whole free block at the end of `path`. The path is then empty.
 pub(crate) fn take_whole<A: Allocator>(w: &mut Window<A>, path: &mut Path, gap: Block)
     requires { block_end gap ≤ MAX_LEN }
     ensures host { KeepsHost w.old w.new }
@@ -182,7 +181,7 @@ pub(crate) fn take_whole<A: Allocator>(w: &mut Window<A>, path: &mut Path, gap: 
     set_size(w, gap.at, gap.units, true);
 }
 
-/// Makes the tiles that a block covers one gap, where the tree holds none of them.
+/// Makes the blocks in `block` one free block. None of them may be in the tree.
 fn make_gap<A: Allocator>(w: &mut Window<A>, block: Block)
     requires { block_end block ≤ MAX_LEN }
     ensures host { KeepsHost w.old w.new }
@@ -192,8 +191,9 @@ fn make_gap<A: Allocator>(w: &mut Window<A>, block: Block)
     put_in(w, block);
 }
 
-/// Makes the tiles that a block covers, where the tree holds none of them, one gap with the gap of `more` units right after it
-/// (0 where there is none). Where that gap is the last in the order, the node of the two takes its place in the tree.
+/// Makes the blocks in `block`, none of which may be in the tree, one free block with the free block of `more` units
+/// right after it (0 if there is none). If the latter is the last in the order, the new node takes its place without a
+/// search.
 pub(crate) fn release_joined<A: Allocator>(w: &mut Window<A>, block: Block, more: u32)
     requires { block_end block + UNIT * more ≤ MAX_LEN }
     ensures host { KeepsHost w.old w.new }
@@ -225,7 +225,7 @@ pub(crate) fn release_joined<A: Allocator>(w: &mut Window<A>, block: Block, more
 impl FreeStructure for BestFit {
     ghost allocator = { 1 };
 
-    /// The tree finds a block by its size and its position.
+    /// The tree finds a block by its size and its position, so nothing else is needed.
     type Predecessor = ();
 
     ghost leads = { λ _ _. ⊤ };

@@ -1,5 +1,5 @@
-//! Best fit: the allocator that takes the smallest gap, the lowest among equals. Its free blocks form a red-black tree in their
-//! own payloads, in order of their units, then of their positions.
+//! Best fit: the allocator that takes the smallest free block that is large enough, the lowest among equals. Its free
+//! blocks form a red-black tree, ordered by size and then by position. The nodes are in the blocks' own payloads.
 #![tactic(auto)]
 
 mod bestfit;

@@ -12,21 +12,21 @@ use crate::header::{
 use seg_ptr::{MAX_LEN, Window};
 use std::alloc::Allocator;
 
-/// A block: the position of its header, and its units with the header.
+/// A block: the position of its header, and its size in units, with the header.
 #[derive(Debug, Clone, Copy, PartialEq, Eq)]
 pub struct Block {
     pub at: u32,
     pub units: u32,
 }
 
-/// The units of a block for `n` bytes of payload.
+/// The size in units of a block for a payload of `n` bytes.
 pub fn need(n: u32) -> u32
     ensures { result ≡ max 2 (1 + (n + 15) / 16) }
 {
     (1 + n.div_ceil(UNIT)).max(2)
 }
 
-/// The block at a position, where its header states a size that the segment has room for.
+/// The block at a position, or `None` if the segment is too short for the size in its header.
 pub fn block_at<A: Allocator>(w: &Window<A>, at: u32) -> Option<Block>
     ensures stated { SomeIff result (HasRoom w.now.bytes at)
         (record { at = at; units = units_at w.now.bytes at }) }
@@ -37,7 +37,7 @@ pub fn block_at<A: Allocator>(w: &Window<A>, at: u32) -> Option<Block>
     block_within(w.len(), at, units(w, at))
 }
 
-/// The block of these units at a position, where a block may have as many, and that many bytes have room for it.
+/// The block of `units` units at a position, or `None` if that is too small for a block or ends after `len`.
 pub fn block_within(len: u32, at: u32, units: u32) -> Option<Block>
     ensures { SomeIff result ((2 ≤ units) × (at + UNIT * units ≤ len))
         (record { at = at; units = units }) }
@@ -48,8 +48,8 @@ pub fn block_within(len: u32, at: u32, units: u32) -> Option<Block>
     Some(Block { at, units })
 }
 
-/// How many entries of `size` bytes the block has room for whose payload begins at a position. 0 where the segment has no room
-/// for the size that its header states.
+/// How many entries of `size` bytes fit in the block whose payload begins at `payload`. 0 if the segment is too short
+/// for the size in its header.
 pub fn capacity<A: Allocator>(w: &Window<A>, payload: u32, size: u32) -> u32
     requires { 1 ≤ size }
     ensures stated { HasRoom w.now.bytes (payload - UNIT)
@@ -82,7 +82,7 @@ pub fn last_block<A: Allocator>(w: &Window<A>, end: u32) -> Option<Block>
     None
 }
 
-/// The first word of a header, for a block of these units.
+/// The first word of a header: a block's size in units, and whether it is allocated.
 pub fn size_word(units: u32, live: bool) -> u32
     requires { units < LIVE }
     ensures { result ≡ size_word units live }
@@ -90,7 +90,7 @@ pub fn size_word(units: u32, live: bool) -> u32
     if live { units + LIVE } else { units }
 }
 
-/// Sets the size of the block at a position, in units, also in the header of the block after it.
+/// Writes the size in units of the block at a position, to its header and to the header of the block after it.
 pub fn set_size<A: Allocator>(w: &mut Window<A>, block: u32, units: u32, live: bool)
     requires { units < LIVE }
     ensures { w.new ≡ with_bytes w.old (set_size w.old.bytes block units live) }
@@ -99,7 +99,7 @@ pub fn set_size<A: Allocator>(w: &mut Window<A>, block: u32, units: u32, live: b
     w.put32(block as usize + 16 * units as usize + UNITS_BEFORE, units);
 }
 
-/// The block right after a block, where the segment goes on.
+/// The block right after a block, or `None` at the end of the segment.
 pub fn next<A: Allocator>(w: &Window<A>, block: Block) -> Option<Block>
     requires { block_end block ≤ MAX_LEN }
     ensures bounds { IfSome result (λ f. (f.at ≡ block_end block) × LiesIn w.now.bytes f) }
@@ -109,7 +109,7 @@ pub fn next<A: Allocator>(w: &Window<A>, block: Block) -> Option<Block>
     block_at(w, block.at + UNIT * block.units)
 }
 
-/// The block right before a block, where it isn't the first.
+/// The block right before a block, or `None` if it is the first.
 pub fn previous<A: Allocator>(w: &Window<A>, block: Block) -> Option<Block>
     ensures bounds { IfSome result (IsJustBefore block.at) }
     ensures read { ForPrevious w.now.bytes block
@@ -126,7 +126,7 @@ pub fn previous<A: Allocator>(w: &Window<A>, block: Block) -> Option<Block>
     })
 }
 
-/// The free block right after a block, where there is one.
+/// The block right after a block, if it is free.
 pub fn free_after<A: Allocator>(w: &Window<A>, block: Block) -> Option<Block>
     requires { block_end block ≤ MAX_LEN }
     ensures bounds { IfSome result (λ f. (f.at ≡ block_end block) × LiesIn w.now.bytes f) }
@@ -140,7 +140,7 @@ pub fn free_after<A: Allocator>(w: &Window<A>, block: Block) -> Option<Block>
     Some(following)
 }
 
-/// The free block right before a block, where there is one.
+/// The block right before a block, if it is free.
 pub fn free_before<A: Allocator>(w: &Window<A>, block: Block) -> Option<Block>
     ensures bounds { IfSome result (IsJustBefore block.at) }
     ensures read { ForPrevious w.now.bytes block (λ t. IsReadFree t result) }
@@ -153,7 +153,7 @@ pub fn free_before<A: Allocator>(w: &Window<A>, block: Block) -> Option<Block>
     Some(before)
 }
 
-/// The units of the gap right after a block, 0 where there is none.
+/// The size in units of the free block right after a block, or 0 if there is none.
 pub fn room_after<A: Allocator>(w: &Window<A>, block: Block) -> u32
     requires { block_end block ≤ MAX_LEN }
     ensures bounds { block_end block + UNIT * result ≤ MAX_LEN }
@@ -169,7 +169,7 @@ pub fn room_after<A: Allocator>(w: &Window<A>, block: Block) -> u32
     }
 }
 
-/// Cuts a block in two, both of them live or free as it was. The front keeps `units`; the rest has tag 0.
+/// Splits a block in two. Both are allocated or free as the block was. The front has `units` units; the rest has tag 0.
 pub fn split<A: Allocator>(w: &mut Window<A>, block: Block, units: u32)
     requires inside { block_end block ≤ MAX_LEN }
     requires front { 2 ≤ units }
@@ -187,7 +187,7 @@ pub fn split<A: Allocator>(w: &mut Window<A>, block: Block, units: u32)
     set_size(w, block.at, units, live);
 }
 
-/// Joins a block with the block right after it. It stays live or free as it was.
+/// Joins a block with the block right after it. The result is allocated or free as the first block was.
 pub fn join<A: Allocator>(w: &mut Window<A>, block: Block, following: Block)
     requires { block_end block + UNIT * following.units ≤ MAX_LEN }
     ensures bytes { w.new ≡ with_bytes w.old (set_size w.old.bytes block.at

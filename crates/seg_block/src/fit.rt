@@ -14,15 +14,16 @@ use seg_ptr::header::SIZE;
 use seg_ptr::{MAX_LEN, Window};
 use std::alloc::Allocator;
 
-/// An allocator of the segment's heap, over the window alone. Blocks are named by the positions of their headers, sizes
-/// count units of 16 bytes with the header. Where the bytes aren't such a heap, the calls return all the same.
+/// An allocator of a segment's heap. It works on the bytes of the window only. A block is identified by the position of
+/// its header. Sizes are in units of 16 bytes, with the header. On bytes that are no well-formed heap the calls still
+/// return.
 ///
-/// An allocator gives the calls up to `cut_end`, of which `resize` and `enlarge` are what the others stand on. The calls
-/// after it have one body for all allocators.
+/// An allocator implements the calls up to `cut_end`. The calls after them are built on `resize` and `enlarge`, and are
+/// the same for all allocators.
 pub trait Fit {
     ghost allocator: { ℕ };
 
-    /// What the word [`ALLOCATOR`](seg_ptr::header::ALLOCATOR) of an image holds for this allocator.
+    /// The value of the word [`ALLOCATOR`](seg_ptr::header::ALLOCATOR) in an image of this allocator.
     fn word() -> u32
         ensures value { result ≡ allocator }
         ensures small { result ≤ 1 };
@@ -32,27 +33,28 @@ pub trait Fit {
         ensures words { result ≡ UNIT * allocator }
         ensures small { result ≤ UNIT };
 
-    /// Makes the heap of a segment, which has room for two units, one gap.
+    /// Makes the heap of a segment one free block. The segment must have room for two units of it.
     fn init<A: Allocator>(w: &mut Window<A>)
         ensures host { KeepsHost w.old w.new }
         ensures begins { min_length ≤ length w.old.bytes → length w.old.bytes % UNIT ≡ 0
             → Begins allocator w.old.bytes w.new.bytes };
 
-    /// Takes a block of `need` units, or of one more where a single unit would be left. None where no gap has them.
+    /// Allocates a block of `need` units, or of one more if one unit would be left over. `None` if no free block is
+    /// large enough.
     fn allocate<A: Allocator>(w: &mut Window<A>, need: u32) -> Option<u32>
         requires { 2 ≤ need }
         ensures host { KeepsHost w.old w.new }
         ensures takes { IsHeap allocator w.old.bytes →
             Takes allocator w.old.bytes w.new.bytes need result };
 
-    /// Gives a live block back. It joins the gaps beside it.
+    /// Frees an allocated block, and merges it with the free blocks next to it.
     fn free<A: Allocator>(w: &mut Window<A>, block: u32)
         ensures host { KeepsHost w.old w.new }
         ensures gives { IsHeap allocator w.old.bytes → IsLive w.old.bytes block
             → Gives allocator w.old.bytes w.new.bytes block };
 
-    /// Gives a live block other units, at the cost or in favour of the gap of `room` units right after it (0 where there is
-    /// none). `expand` and `shrink` have found out how many.
+    /// Resizes an allocated block to `units` units, at the cost or in favour of the free block of `room` units right
+    /// after it (0 if there is none). `expand` and `shrink` compute the new size.
     fn resize<A: Allocator>(w: &mut Window<A>, block: Block, room: u32, units: u32)
         requires inside { block_end block + UNIT * room ≤ MAX_LEN }
         requires front { 2 ≤ units }
@@ -64,7 +66,7 @@ pub trait Fit {
             → room ≡ room_after w.old.bytes block.at block.units
             → IsResized allocator w.old.bytes w.new.bytes block.at units };
 
-    /// Gives the last block of a heap more units, up to the end of the segment.
+    /// Enlarges the last block of a heap, at most to the end of the segment.
     fn enlarge<A: Allocator>(w: &mut Window<A>, last: Block, units: u32)
         requires inside { last.at + UNIT * units ≤ MAX_LEN }
         requires more { last.units ≤ units }
@@ -76,8 +78,9 @@ pub trait Fit {
             → last.at + UNIT * units ≡ length w.old.bytes
             → Enlarges allocator w.old.bytes w.new.bytes xs last.at last.units units l };
 
-    /// Cuts the gap at the heap's end, but for two units of a heap that is one gap. Sets the image's size, and returns by
-    /// how many units the window can be cut. Of a heap of more than two units that can't be cut the size alone is written.
+    /// Cuts the free block at the heap's end, sets the image's size, and returns by how many units the window can be
+    /// cut. If the whole heap is one free block, two units of it stay. If nothing can be cut from a larger heap, only
+    /// the size is written.
     fn cut_end<A: Allocator>(w: &mut Window<A>) -> u32
         ensures host { KeepsHost w.old w.new }
         ensures cuts { min_length ≤ length w.old.bytes → IsHeap allocator w.old.bytes
@@ -86,7 +89,8 @@ pub trait Fit {
             result ≡ 0
             → w.new ≡ with_bytes w.old (set_word w.old.bytes SIZE (length w.old.bytes / UNIT)) };
 
-    /// Gives a live block `need` units where it stands, or one more. False where the gap right after it is too small.
+    /// Enlarges an allocated block in place to `need` units, or to one more. False if the free block right after it is
+    /// too small.
     final fn expand<A: Allocator>(w: &mut Window<A>, block: u32, need: u32) -> bool
         requires { 2 ≤ need }
         ensures host { KeepsHost w.old w.new }
@@ -104,8 +108,8 @@ pub trait Fit {
         true
     }
 
-    /// Cuts a live block to `need` units. A single unit stays with it, unless a gap follows. Where it keeps its units nothing
-    /// changes.
+    /// Cuts an allocated block to `need` units. It keeps a single unit more, unless a free block follows. If its size
+    /// stays, nothing changes.
     final fn shrink<A: Allocator>(w: &mut Window<A>, block: u32, need: u32)
         requires { 2 ≤ need }
         ensures host { KeepsHost w.old w.new }
@@ -124,7 +128,7 @@ pub trait Fit {
         Self::resize(w, block, room, shrunk(block.units, room, need));
     }
 
-    /// Takes the last `units` units of the window into the heap, which ended before them, and sets the image's size.
+    /// Adds the last `units` units of the window to the heap, which ended before them, and sets the image's size.
     final fn extend_end<A: Allocator>(w: &mut Window<A>, units: u32)
         requires { UNIT * units ≤ length w.old.bytes }
         ensures host { KeepsHost w.old w.new }

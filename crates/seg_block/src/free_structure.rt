@@ -1,4 +1,4 @@
-//! The structure of free blocks under changes of live ones.
+//! How an allocator stores its free blocks, and what that needs if an allocated block changes its size.
 
 ghost use Rattle.std.specs.Prelude.{◌≡◌, ℕ, ◌+◌, ◌*◌, ◌≤◌, ◌⊎◌, Bool, true, false, List, [], ◌∷◌, ◌++◌, None};
 ghost use Rattle.seg_bytes.specs.Bytes.{Agrees};
@@ -12,21 +12,21 @@ use crate::header::{TAG, UNIT};
 use seg_ptr::{MAX_LEN, Window};
 use std::alloc::Allocator;
 
-/// How an allocator holds the free blocks of a heap. Between these calls free blocks may be neighbours.
+/// How an allocator stores the free blocks of a heap. Between these calls free blocks may be adjacent.
 pub trait FreeStructure {
     ghost allocator: { ℕ };
 
-    /// What leads to a block in the structure, where its own position isn't enough.
+    /// How to reach a block in the structure, if its own position isn't enough.
     type Predecessor: Copy;
 
     ghost leads: { Self.Predecessor → List Tile → Type 0 };
 
-    /// What leads to a block in the structure, or would if it were free.
+    /// How to reach a block in the structure, or the place where it would be if it were free.
     fn predecessor<A: Allocator>(w: &Window<A>, block: Block) -> Self::Predecessor
         ensures { (xs ys : List Tile) (l : Bool)
             → IsTiling allocator w.now.bytes (xs ++ tile_of block l ∷ ys) → leads result xs };
 
-    /// Makes a free block live.
+    /// Marks a free block as allocated.
     fn take<A: Allocator>(w: &mut Window<A>, predecessor: Self::Predecessor, block: Block)
         requires { block_end block ≤ MAX_LEN }
         ensures host { KeepsHost w.old w.new }
@@ -35,7 +35,7 @@ pub trait FreeStructure {
             → Retiles allocator w.old.bytes w.new.bytes xs (tile_of block true ∷ []) ys
             × (link_at w.new.bytes block.at ≡ None) };
 
-    /// Makes a live block free. It joins no gap.
+    /// Marks an allocated block as free. It isn't merged with its neighbours.
     fn release<A: Allocator>(w: &mut Window<A>, predecessor: Self::Predecessor, block: Block)
         requires { block_end block ≤ MAX_LEN }
         ensures host { KeepsHost w.old w.new }
@@ -47,8 +47,8 @@ pub trait FreeStructure {
         → leads p xs → leads p (xs ++ tile at units true ∷ []) };
 }
 
-/// Gives a live block other units, at the cost or in favour of the gap of `room` units right after it (0 where there is
-/// none).
+/// Resizes an allocated block to `units` units, at the cost or in favour of the free block of `room` units right after
+/// it (0 if there is none).
 pub fn resize<S: FreeStructure, A: Allocator>(
     w: &mut Window<A>,
     block: Block,
@@ -76,7 +76,7 @@ pub fn resize<S: FreeStructure, A: Allocator>(
     cut::<S, A>(w, predecessor, whole, units);
 }
 
-/// Joins a live block with the gap of `more` units right after it. Nothing where they are 0.
+/// Joins an allocated block with the free block of `more` units right after it. Does nothing if `more` is 0.
 pub(crate) fn absorb<S: FreeStructure, A: Allocator>(
     w: &mut Window<A>,
     predecessor: S::Predecessor,
@@ -103,7 +103,7 @@ pub(crate) fn absorb<S: FreeStructure, A: Allocator>(
     join(w, block, gap);
 }
 
-/// Cuts a live block to `units`. What is left becomes a gap.
+/// Cuts an allocated block to `units`. The rest becomes a free block.
 pub fn cut<S: FreeStructure, A: Allocator>(
     w: &mut Window<A>,
     predecessor: S::Predecessor,

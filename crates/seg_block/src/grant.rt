@@ -8,14 +8,14 @@ use crate::fit::Fit;
 use seg_ptr::Window;
 use std::alloc::Allocator;
 
-/// What a request was given: the block where it stands, or a new one beside it.
+/// The answer to a request: the old block in place, or a new block.
 #[derive(Clone, Copy, Debug, PartialEq, Eq)]
 pub enum Grant {
     Same(u32),
     New(u32),
 }
 
-/// Finds room for `preferred` units, or for `limit`, without an old block.
+/// Allocates a block of `preferred` units, or of `limit` units if that fails.
 pub fn request_new<F: Fit, A: Allocator>(
     w: &mut Window<A>,
     preferred: u32,
@@ -33,7 +33,8 @@ pub fn request_new<F: Fit, A: Allocator>(
     F::allocate(w, limit).map(Grant::New)
 }
 
-/// Finds room for `preferred` units, or for `limit`, at a live block or elsewhere.
+/// Finds room for `preferred` units, or else for `limit` units: each time in place at an allocated block first, then in
+/// a new block.
 pub fn request_at<F: Fit, A: Allocator>(
     w: &mut Window<A>,
     block: u32,
@@ -61,7 +62,8 @@ pub fn request_at<F: Fit, A: Allocator>(
     }
 }
 
-/// Finds room for `preferred` units, or for `limit`. A new block leaves the old one live.
+/// Finds room for `preferred` units, or else for `limit` units, for a buffer that has an old block or none. A new block
+/// leaves the old one allocated.
 pub fn request<F: Fit, A: Allocator>(
     w: &mut Window<A>,
     old: Option<u32>,

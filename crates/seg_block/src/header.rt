@@ -6,103 +6,103 @@ ghost use Rattle.seg_block.specs.Headers.{header_at, no_header};
 use seg_ptr::{View, Window};
 use std::alloc::Allocator;
 
-/// The bytes of a unit, and of a block's header.
+/// The size of a unit, and of a block's header, in bytes.
 pub const UNIT: u32 = 16;
 
-/// Where the heap begins.
+/// The position where the heap begins.
 pub const HEAP_START: u32 = 704;
 
-/// Where a header holds the units of the block before, in bytes from its start.
+/// The offset in a header of the size of the block before, in bytes.
 pub const UNITS_BEFORE: usize = 4;
 
-/// Where a header holds the block's tag.
+/// The offset in a header of the block's tag, in bytes.
 pub const TAG: usize = 8;
 
-/// Where a header holds the block's link.
+/// The offset in a header of the block's link, in bytes.
 pub const LINK: usize = 12;
 
-/// The bit of the first word that says whether a block is live. The bits below count its units.
+/// The bit of a header's first word that marks an allocated block. The bits below it are the size in units.
 pub(crate) const LIVE: u32 = 1 << 31;
 
-/// The block whose payload begins at a position.
+/// The position of the block whose payload begins at `payload`.
 pub fn block_of(payload: u32) -> u32
     ensures { result ≡ payload - UNIT }
 {
     payload.saturating_sub(UNIT)
 }
 
-/// The units of the block at a position, its header counted in.
+/// The size in units of the block at a position, with its header.
 pub fn units<A: Allocator>(w: &Window<A>, block: u32) -> u32
     ensures { result ≡ units_at w.now.bytes block }
 {
     units_in(w.get32(block as usize))
 }
 
-/// Whether the block at a position is live.
+/// Whether the block at a position is allocated.
 pub fn is_live<A: Allocator>(w: &Window<A>, block: u32) -> bool
     ensures { result ≡ is_live_at w.now.bytes block }
 {
     is_live_in(w.get32(block as usize))
 }
 
-/// The units of the block before, 0 for the first one, as the header at a position has them.
+/// The size in units of the block before, as the header at a position states it. 0 for the first block.
 pub fn units_before<A: Allocator>(w: &Window<A>, block: u32) -> u32
     ensures { result ≡ units_before w.now.bytes block }
 {
     w.get32(block as usize + UNITS_BEFORE)
 }
 
-/// The word that says what a block is ([`Tag::read`](crate::Tag::read)).
+/// The tag word of a block ([`Tag::read`](crate::Tag::read)).
 pub fn tag_word<A: Allocator>(w: &Window<A>, block: u32) -> u32
     ensures { result ≡ tag_at w.now.bytes block }
 {
     w.get32(block as usize + TAG)
 }
 
-/// What the block's link names.
+/// The position that the block's link points to.
 pub fn link<A: Allocator>(w: &Window<A>, block: u32) -> Option<u32>
     ensures { result ≡ link_at w.now.bytes block }
 {
     w.target(block as usize + LINK)
 }
 
-/// The bytes of the block's payload.
+/// The size of the block's payload in bytes.
 pub fn payload<A: Allocator>(w: &Window<A>, block: u32) -> u64
     ensures { result ≡ payload_at w.now.bytes block }
 {
     (u64::from(UNIT) * u64::from(units(w, block))).saturating_sub(u64::from(UNIT))
 }
 
-/// The units that a header's first word states.
+/// The size in units in a header's first word.
 pub fn units_in(size: u32) -> u32
     ensures { result ≡ size % 2 ^ 31 }
 {
     size % LIVE
 }
 
-/// Whether it states that the block is live.
+/// Whether a header's first word marks the block as allocated.
 fn is_live_in(size: u32) -> bool
     ensures { result ≡ nat_le (2 ^ 31) size }
 {
     size >= LIVE
 }
 
-/// The header of a block, each of its words read once.
+/// The header of a block. Each word is read once.
 #[derive(Debug, Clone, Copy, PartialEq, Eq)]
 pub struct Header {
-    /// The units of the block, its header counted in.
+    /// The size of the block in units, with its header.
     pub units: u32,
     pub is_live: bool,
-    /// The units of the block before, 0 for the first one.
+    /// The size of the block before in units, or 0 for the first block.
     pub units_before: u32,
-    /// The word that says what the block is ([`Tag::read`](crate::Tag::read)).
+    /// The tag word ([`Tag::read`](crate::Tag::read)).
     pub tag: u32,
-    /// What the block's link names.
+    /// The position that the block's link points to.
     pub link: Option<u32>,
 }
 
 impl Header {
-    /// The header of the block at a position. Where it doesn't all lie in the segment, its words are 0.
+    /// The header of the block at a position. If it doesn't lie inside the segment, its words are 0.
     pub fn read(view: View, block: u32) -> Header
         ensures inside { block + UNIT ≤ length view.entry.bytes.now
             → result ≡ header_at view.entry.bytes.now block }

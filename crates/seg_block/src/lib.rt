@@ -1,5 +1,5 @@
-//! Blocks of a segment's heap: their headers and tags, the laws of an allocator, and requests to one. A block is named
-//! by the position of its header; its payload begins [`UNIT`] bytes after it.
+//! Blocks of a segment's heap: headers, tags, the traits of allocators, and requests to an allocator. A block is
+//! identified by the position of its header; its payload begins [`UNIT`] bytes after it.
 #![tactic(auto)]
 
 mod block;

@@ -3,7 +3,8 @@ ghost use Rattle.seg_spec.specs.Heap.{granted, expanded, shrunk};
 
 use crate::header::LIVE;
 
-/// The units of a block for `need` units at the front of `whole`: a rest of 1 unit goes with it.
+/// The size in units of the block that an allocation of `need` units takes from a free block of `whole` units. If one
+/// unit would be left over, it takes that too.
 pub fn granted(whole: u32, need: u32) -> u32
     requires { need ≤ whole }
     ensures { result ≡ granted whole need }
@@ -11,8 +12,8 @@ pub fn granted(whole: u32, need: u32) -> u32
     if whole - need == 1 { whole } else { need }
 }
 
-/// The units of a block of `units` that is to have `need`, where a gap of `room` units lies right after it (0 where none
-/// does). None where they are too few.
+/// The size in units to which a block of `units` units expands if it needs `need`, with a free block of `room` units
+/// right after it (0 if there is none). `None` if there are too few.
 pub fn expanded(units: u32, room: u32, need: u32) -> Option<u32>
     requires { units + room < LIVE }
     ensures { result ≡ expanded units room need }
@@ -26,8 +27,8 @@ pub fn expanded(units: u32, room: u32, need: u32) -> Option<u32>
     }
 }
 
-/// The units of a block of `units` that is cut to `need`, where a gap of `room` units lies right after it (0 where none
-/// does). A single unit is given back only to a gap.
+/// The size in units to which a block of `units` units shrinks if it needs `need`, with a free block of `room` units
+/// right after it (0 if there is none). A single unit is given back only to a free block.
 pub fn shrunk(units: u32, room: u32, need: u32) -> u32
     requires { need ≤ units }
     ensures { result ≡ shrunk units room need }
@@ -39,8 +40,8 @@ pub fn shrunk(units: u32, room: u32, need: u32) -> u32
     }
 }
 
-/// How many entries a buffer of `kept` entries asks for first, where it must have room for `limit`: twice as many, or the
-/// largest number where that is none.
+/// How many entries a buffer of `kept` entries asks for first, if it must have room for `limit`: twice as many as it
+/// has, or the largest number if that is too large.
 pub fn preferred(kept: u32, limit: u32) -> u32
     ensures capped { result ≡ max 4 (max (min (2 * kept) (2 ^ 32 - 1)) limit) }
     ensures doubled { kept < 2 ^ 31 → result ≡ max 4 (max (2 * kept) limit) }

@@ -7,7 +7,7 @@ use crate::header::TAG;
 use seg_ptr::Window;
 use std::alloc::Allocator;
 
-/// What a live block is for.
+/// What an allocated block contains.
 #[derive(Debug, Clone, Copy, PartialEq, Eq)]
 pub enum Kind {
     /// An object with a name: its values, then the name's bytes.
@@ -22,12 +22,13 @@ pub enum Kind {
     IndexBuffer = 5,
     /// A node of the tree index.
     IndexNode = 6,
-    /// An object that values share: how many cells name it, its number, then its value. Images of version 2 alone have any.
+    /// An object that values share: the number of cells that point to it, its own number, then its value. Only images
+    /// of version 2 have any.
     Frozen = 7,
 }
 
-/// What a live block is for, and the id of the type that it is for (0 where there is none). The header of a free block has
-/// the word 0, which spells no tag.
+/// What an allocated block contains, and the id of the type it belongs to (0 if none). The header of a free block has
+/// the word 0, which is no tag.
 #[derive(Debug, Clone, Copy, PartialEq, Eq)]
 pub struct Tag {
     pub kind: Kind,
@@ -35,7 +36,7 @@ pub struct Tag {
 }
 
 impl Tag {
-    /// The tag that a header's word spells, if it spells one.
+    /// The tag that a header's word encodes, if it encodes one.
     pub fn read(word: u32) -> Option<Tag>
         ensures spelled { IfSome result (λ t. word ≡ word_of t) }
         ensures every { (t : Tag) → t.type_id < 256 → word ≡ word_of t → result ≡ Some t }
@@ -54,7 +55,7 @@ impl Tag {
         Some(Tag { kind, type_id })
     }
 
-    /// The word that spells the tag in a header.
+    /// The header word that encodes the tag.
     pub fn word(self) -> u32
         ensures { result ≡ word_of self }
     {

@@ -1,4 +1,4 @@
-//! A cell: a number, or a pointer and then a count.
+//! A cell: a number, or a pointer and a count.
 
 ghost use Rattle.std.specs.Prelude.{◌≡◌};
 ghost use Rattle.seg_bytes.specs.Bytes.{signed_long};
@@ -7,21 +7,21 @@ ghost use Rattle.seg_spec.specs.Reads.{count_at, start};
 use seg_ptr::Window;
 use std::alloc::Allocator;
 
-/// The number in a cell after its pointer: how many bytes, items or nodes it has.
+/// The count in a cell, after its pointer: the number of bytes, items or nodes.
 pub fn count<A: Allocator>(w: &Window<A>, cell: u32) -> u32
     ensures { result ≡ count_at w.now.bytes cell }
 {
     w.get32(cell as usize + 4)
 }
 
-/// Where the payload begins that a cell names: 0 where it names none.
+/// The position of the payload that a cell points to, or 0 if its pointer is null.
 pub fn start<A: Allocator>(w: &Window<A>, cell: u32) -> u32
     ensures { result ≡ start w.now.bytes cell }
 {
     w.target(cell as usize).unwrap_or(0)
 }
 
-/// The number at a position.
+/// The 64-bit number at a position.
 #[tactic(auto, unfolding(seg_bytes::specs::Bytes::signed))]
 pub fn load<A: Allocator>(w: &Window<A>, at: u32) -> i64
     ensures { result ≡ signed_long w.now.bytes at }

@@ -1,5 +1,5 @@
-//! The cells of a value. A struct's are those of its fields, which have lower type ids, so going over them recurses no
-//! deeper than the table is long.
+//! The cells of a value. The cells of a struct are those of its fields. Fields have lower type ids, so the recursion is
+//! no deeper than the type table is long.
 
 ghost use Rattle.std.specs.Prelude.{◌≡◌, ℕ, ◌+◌, ◌*◌, ◌≤◌, map, length};
 ghost use Rattle.seg_bytes.specs.Bytes.{word, set_word};
@@ -17,21 +17,21 @@ use seg_layout::{MAX_TYPES, TypeId, TypeTable};
 use seg_ptr::Window;
 use std::alloc::Allocator;
 
-/// The distance of a pointer that names nothing.
+/// The distance in a null pointer.
 const NULL: u32 = 1;
 
-/// The cell of an empty container, an empty string or an own that holds nothing: a null pointer and the count 0.
+/// The cell of an empty container, an empty string or an empty own: a null pointer and the count 0.
 const EMPTY: u64 = 1;
 
-/// How many numbers a type's id may be. A byte finds its place in an array of so many.
+/// The number of type ids: each byte is an index into an array of this length.
 pub const IDS: usize = 256;
 
-/// What the values of a type are made of.
+/// What a value of a type consists of.
 #[derive(Debug, Clone, Copy, PartialEq, Eq)]
 pub enum Cells {
-    /// A number, which names nothing. Those of types that the table lacks count as such.
+    /// A number, without pointers. Also for types that the table lacks.
     Number,
-    /// One cell that may name something.
+    /// One cell with a pointer.
     Pointer,
     /// The cells of fields.
     Fields,
@@ -54,7 +54,7 @@ impl Cells {
         }
     }
 
-    /// What the values of each type are made of, those of types that the table lacks too.
+    /// What values of each type consist of, also for types that the table lacks.
     pub fn of_each(types: &TypeTable) -> [Cells; IDS]
         ensures cells { AreCells types.now result }
         ensures table { IsTable types.now }
@@ -67,8 +67,8 @@ impl Cells {
     }
 }
 
-/// Writes the default of a value: 0 for numbers, empty or null for all else.
-// a value that is one cell, as most are, needs no recursion
+/// Writes the default of a value: 0 for numbers, empty or null for others.
+// most values are one cell, and need no recursion
 #[inline(always)]
 pub fn set_default<A: Allocator>(w: &mut Window<A>, types: &TypeTable, cells: Cells, place: Place)
     ensures host { KeepsHost w.old w.new }
@@ -120,7 +120,8 @@ fn set_fields<A: Allocator>(w: &mut Window<A>, types: &TypeTable, place: Place)
     }
 }
 
-/// Makes the cells of a value name what they named where it was before: so many bytes further on.
+/// Corrects the pointers of a value that was moved `distance` bytes further on: they point to the same blocks as
+/// before.
 fn point_again<A: Allocator>(w: &mut Window<A>, types: &TypeTable, place: Place, distance: u32)
     ensures host { KeepsHost w.old w.new }
     ensures pointed { LiesWithin w.old.bytes types.now place →
@@ -142,7 +143,7 @@ fn point_again<A: Allocator>(w: &mut Window<A>, types: &TypeTable, place: Place,
     }
 }
 
-/// Makes `n` entries name what they named where they were before.
+/// Corrects the pointers of `n` entries that were moved: they point to the same blocks as before.
 pub fn point_each_again<A: Allocator>(
     w: &mut Window<A>,
     types: &TypeTable,
@@ -170,7 +171,7 @@ pub fn point_each_again<A: Allocator>(
     }
 }
 
-/// Makes the pointers of `n` entries name what they named where they were before.
+/// Corrects `n` entries that begin with a pointer.
 fn point_pointers_again<A: Allocator>(
     w: &mut Window<A>,
     entry: Entry,
@@ -188,7 +189,7 @@ fn point_pointers_again<A: Allocator>(
     }
 }
 
-/// Makes the values of `n` entries name what they named where they were before.
+/// Corrects the pointers in the values of `n` entries.
 fn point_values_again<A: Allocator>(
     w: &mut Window<A>,
     types: &TypeTable,
@@ -217,7 +218,7 @@ fn point_values_again<A: Allocator>(
     }
 }
 
-/// Makes a pointer name what it named so many bytes before.
+/// Corrects a pointer that was moved `distance` bytes further on.
 fn point_cell_again<A: Allocator>(w: &mut Window<A>, pointer: usize, distance: u32)
     ensures { w.new ≡ with_bytes w.old
         (set_word w.old.bytes pointer (further distance (word w.old.bytes pointer))) }

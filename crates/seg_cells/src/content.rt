@@ -9,26 +9,27 @@ use crate::{Entry, KEY, LIST_LINKS};
 use seg_block::{Kind, Tag};
 use seg_layout::{Type, TypeId, TypeTable};
 
-/// The bytes of a tree's node before what it holds.
+/// The bytes of a tree's node before its entry.
 const TREE_WORDS: u32 = 16;
 
-/// The bytes of a frozen object before its value: how many cells name it, and its number.
+/// The bytes of a frozen object before its value: the number of cells that point to it, and its own number.
 pub const FROZEN_WORDS: u32 = 8;
 
-/// How the blocks hang together that a cell names.
+/// How the blocks that a cell points to are linked.
 #[derive(Debug, Clone, Copy, PartialEq, Eq)]
 pub enum Shape {
-    /// A buffer of entries, one after the other.
+    /// One buffer with entries one after the other.
     Buffer,
-    /// A ring of nodes, each of which begins with pointers to the next and to the previous one.
+    /// A circular list of nodes. Each begins with pointers to the next and to the previous node.
     Ring,
-    /// A tree of nodes, each of which begins with pointers to its children.
+    /// A tree of nodes. Each begins with pointers to its children.
     Tree,
     /// One object.
     Object,
 }
 
-/// What the cell of a container, a string or an own names: how the blocks hang together, their tag, and their entries.
+/// The layout of what the cell of a container, a string or an own points to: how the blocks are linked, their tag, and
+/// their entries.
 #[derive(Debug, Clone, Copy, PartialEq, Eq)]
 pub struct Content {
     pub shape: Shape,
@@ -39,8 +40,8 @@ pub struct Content {
 impl Content {
     ghost use Rattle.seg_cells.specs.Contents.{IsContent, ContentOf, OfBlock, kind_of_shape, IsIndexBuffer, IsIndexNode};
 
-    /// What the cell of a type names. None for types whose values own nothing themselves, numbers, structs and those that
-    /// share an object with others, and for types that the table lacks.
+    /// The layout of what a cell of a type points to. `None` for numbers and structs, for shared types, whose values
+    /// own nothing themselves, and for types that the table lacks.
     pub fn of(types: &TypeTable, t: TypeId) -> Option<Content>
         ensures { ContentOf types.now t (form_at types.now t) result }
     {
@@ -59,7 +60,7 @@ impl Content {
         Some(Content::new(shape, t, entry))
     }
 
-    /// An object of a type: one value.
+    /// The layout of an object of a type: one value.
     pub fn object(types: &TypeTable, t: TypeId) -> Content
         ensures content { IsContent types.now Shape.Object (tag_of block.Kind.object t) 0 t result }
         ensures table { IsTable types.now }
@@ -68,7 +69,7 @@ impl Content {
         Content::new(Shape::Object, t, entry)
     }
 
-    /// An object that values share: its count and its number, then one value.
+    /// The layout of a frozen object: its count, its number, then one value.
     pub fn frozen(types: &TypeTable, t: TypeId) -> Content
         ensures { IsContent types.now Shape.Object (tag_of block.Kind.frozen t) frozen_words t
             result }
@@ -83,7 +84,7 @@ impl Content {
         }
     }
 
-    /// The buffer of the flat index: entries of 8 bytes that begin with a pointer to a named object.
+    /// The layout of the flat index: a buffer of entries of 8 bytes, each beginning with a pointer to a named object.
     pub fn index_buffer() -> Content
         ensures { IsIndexBuffer result }
     {
@@ -97,7 +98,7 @@ impl Content {
         }
     }
 
-    /// A node of the tree index: tree words, then an entry as the flat one has it.
+    /// The layout of the tree index: in each node the tree words, then an entry like those of the flat index.
     pub fn index_node() -> Content
         ensures { IsIndexNode result }
     {
@@ -116,7 +117,8 @@ impl Content {
         }
     }
 
-    /// What a block with this tag is a part of, where no name leads to it: named objects and the index have no content.
+    /// The layout that a block with this tag belongs to, if it is known from the tag alone. Named objects and the index
+    /// have none.
     pub fn of_block(types: &TypeTable, tag: Tag) -> Option<Content>
         ensures { OfBlock types.now tag.kind tag.type_id result }
     {

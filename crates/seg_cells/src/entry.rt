@@ -4,22 +4,22 @@ ghost use Rattle.seg_spec.specs.Types.{IsTable};
 use crate::place::Place;
 use seg_layout::{TypeId, TypeTable};
 
-/// The bytes of a key.
+/// The size of a key in bytes.
 pub const KEY: u32 = 8;
 
 /// The bytes of a list's node before its value: the pointers to the next and to the previous node.
 pub const LIST_LINKS: u32 = 8;
 
-/// Where the pointer to the previous node stands in a list's node.
+/// The offset of the pointer to the previous node in a list's node.
 pub const PREVIOUS: u32 = 4;
 
-/// The bytes of an entry of the flat index.
+/// The size of an entry of the flat index in bytes.
 const NAME_ENTRY: u32 = 8;
 
-/// What an entry holds, as far as a move or a destruction has to know it.
+/// What an entry contains, as far as a move or a destruction must know it.
 #[derive(Debug, Clone, Copy, PartialEq, Eq)]
 pub enum Held {
-    /// Bytes that name nothing: those of a string.
+    /// Bytes without pointers, in a string.
     Bytes,
     /// A value of a type.
     Value(TypeId),
@@ -27,12 +27,12 @@ pub enum Held {
     Pointer,
 }
 
-/// What stands in a block: a value, with what goes before it. A buffer has several, one after the other.
+/// An element of a block: a value and what precedes it. A buffer has several, one after the other.
 #[derive(Debug, Clone, Copy, PartialEq, Eq)]
 pub struct Entry {
-    /// Its bytes.
+    /// The size of the entry in bytes.
     pub size: u32,
-    /// The bytes before what it holds: a key, or a node's pointers.
+    /// How many bytes precede the content: a key, or a node's pointers.
     pub before: u32,
     pub held: Held,
     ghost some: { 1 ≤ size },
@@ -67,7 +67,7 @@ impl Entry {
         }
     }
 
-    /// The entry with a value of a type after so many bytes.
+    /// The entry with a value of type `t` after `before` bytes.
     pub fn with_value(types: &TypeTable, t: TypeId, before: u32) -> Entry
         requires { before ≤ 24 }
         ensures entry { IsEntryOf types.now before t result }
@@ -80,21 +80,21 @@ impl Entry {
         }
     }
 
-    /// The position of an entry of a block whose payload begins at `start`.
+    /// The position of the entry with this index, in a block whose payload begins at `start`.
     pub fn at(self, start: u32, index: u32) -> u32
         ensures { result ≡ (start + index * self.size) % 2 ^ 32 }
     {
         start.wrapping_add(index.wrapping_mul(self.size))
     }
 
-    /// The position of what an entry holds.
+    /// The position of the content of the entry with this index.
     pub fn value_at(self, start: u32, index: u32) -> u32
         ensures { result ≡ (start + index * self.size + self.before) % 2 ^ 32 }
     {
         self.at(start, index).wrapping_add(self.before)
     }
 
-    /// The value that an entry holds, if these entries hold values.
+    /// The value in the entry with this index, if these entries have values.
     pub fn value(self, start: u32, index: u32) -> Option<Place>
         ensures value { (t : ℕ) → self.held ≡ Held.Value t →
             result ≡ Some (record {

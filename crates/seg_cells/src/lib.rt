@@ -1,5 +1,5 @@
-//! The cells of values: where they lie in a value, their defaults, and how they point again after a move; and the search
-//! by halves. A value is named by its position and its type.
+//! The cells of values: where they are in a value, their defaults, and how their pointers are corrected after a move.
+//! Also a binary search. A value is identified by its position and its type.
 #![tactic(auto)]
 
 mod cell;

@@ -3,9 +3,9 @@ ghost use Rattle.seg_cells.specs.Search.{IsBetween};
 
 use std::cmp::Ordering;
 
-/// Looks by halves among `n` in ascending order. `compare(index)` says how the one at an index compares with what is looked
-/// for. Returns as `slice::binary_search_by` does: `Ok` of the index of one that is equal, else `Err` of the index where it
-/// would stand.
+/// A binary search among `n` items in ascending order. `compare(index)` compares the item at an index with what is
+/// looked for. Returns as `slice::binary_search_by` does: `Ok` with the index of an equal item, else `Err` with the
+/// index to insert it at.
 pub fn binary_search<C: Fn(u32) -> Ordering>(n: u32, compare: C) -> Result<u32, u32>
     requires { C.IsAlwaysCallable compare }
     ensures found { IfOk result (λ index. (index < n) × C.post compare index Ordering.Equal) }

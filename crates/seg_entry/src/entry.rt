@@ -8,10 +8,10 @@ use seg_layout::{TypeId, TypeTable};
 use seg_ptr::{View, Window};
 use std::alloc::Allocator;
 
-/// The most bytes of a name.
+/// The longest name, in bytes.
 pub const MAX_NAME: u8 = 63;
 
-/// The bytes of an entry.
+/// The size of an entry in bytes.
 pub const ENTRY: u32 = 8;
 
 /// The tag of a named object's block.
@@ -25,7 +25,7 @@ pub fn named_tag(type_id: TypeId) -> Tag
     }
 }
 
-/// The type of the object of a named object's block, by the word of its tag.
+/// The type of a named object, from its block's tag word.
 fn named_type(word: u32) -> Option<TypeId>
     ensures { result ≡ named_type word }
 {
@@ -41,21 +41,21 @@ fn named_type(word: u32) -> Option<TypeId>
     }
 }
 
-/// What the index has of a name.
+/// An entry of the index: the object of a name.
 #[derive(Debug, Clone, Copy, PartialEq, Eq)]
 pub struct NameEntry {
-    /// The first payload byte of the named object's block, if the entry names one.
+    /// The position of the named object's payload, or `None` if the pointer is null.
     pub object: Option<u32>,
     /// How many values the object has.
     pub count: u16,
-    /// The bytes of its name.
+    /// The length of its name in bytes.
     pub name_len: u8,
     /// The last byte, which is 0 in every image.
     pub zero: u8,
 }
 
 impl NameEntry {
-    /// The entry of an object of `count` values, whose name has `name_len` bytes.
+    /// The entry of an object of `count` values with a name of `name_len` bytes.
     pub fn new(object: u32, count: u16, name_len: u8) -> NameEntry
         ensures { result ≡ record {
           object = Some object;
@@ -79,7 +79,7 @@ impl NameEntry {
         NameEntry::read_in(w.view(), at)
     }
 
-    /// The same, of the segment's bytes.
+    /// Like [`read`](NameEntry::read), from the segment's bytes.
     pub fn read_in(view: View, at: usize) -> NameEntry
         ensures { at + ENTRY ≤ 2 ^ 64 → result ≡ entry_read view.entry.bytes.now at }
     {
@@ -104,14 +104,14 @@ impl NameEntry {
         w.put32(at.saturating_add(4), rest);
     }
 
-    /// The type of the object, where its block is that of a named object.
+    /// The type of the object, if its block has the tag of a named object.
     pub fn type_id<A: Allocator>(&self, w: &Window<A>) -> Option<TypeId>
         ensures { result ≡ type_of w.now.bytes self.now.object }
     {
         self.type_in(w.view())
     }
 
-    /// The same, of the segment's bytes.
+    /// Like [`type_id`](NameEntry::type_id), from the segment's bytes.
     fn type_in(&self, view: View) -> Option<TypeId>
         ensures { result ≡ type_of view.entry.bytes.now self.now.object }
     {
@@ -119,7 +119,7 @@ impl NameEntry {
         named_type(view.get32(block as usize + TAG))
     }
 
-    /// The bytes of the object's values, where each has `size` bytes. The name stands after them.
+    /// How many bytes the object's values take, if each has `size` bytes. The name follows them.
     pub fn values_len(&self, size: u32) -> usize
         ensures len { result ≡ self.now.count * size }
         ensures small { result < 2 ^ 48 }
@@ -127,7 +127,7 @@ impl NameEntry {
         self.count as usize * size as usize
     }
 
-    /// The name: empty where the entry names no object.
+    /// The name, or an empty one if the entry has no object.
     pub fn name<'a, A: Allocator>(&self, w: &'a Window<A>, types: &TypeTable) -> &'a [u8]
         ensures { result.now ≡ name_of types.now w.now.bytes self.now.object
             self.now.count self.now.name_len }
@@ -135,7 +135,7 @@ impl NameEntry {
         self.name_in(w.view(), types)
     }
 
-    /// The same, of the segment's bytes.
+    /// Like [`name`](NameEntry::name), from the segment's bytes.
     pub fn name_in<'a>(&self, view: View<'a>, types: &TypeTable) -> &'a [u8]
         ensures { result.now ≡ name_of types.now view.entry.bytes.now self.now.object
             self.now.count self.now.name_len }

@@ -5,20 +5,20 @@ ghost use Rattle.seg_spec.specs.Reads.{count_at};
 use seg_ptr::{Window, header};
 use std::alloc::Allocator;
 
-/// The cell of the index in the header: its pointer, and how many names there are.
+/// The position of the index's cell in the header: its pointer, and the number of names.
 pub const INDEX_CELL: u32 = header::INDEX as u32;
 
-/// How the names of a segment are kept.
+/// How the names of a segment are stored.
 #[derive(Debug, Clone, Copy, PartialEq, Eq)]
 pub enum IndexKind {
     /// A buffer of entries.
     Flat = 0,
-    /// A red-black tree of nodes with an entry each.
+    /// A red-black tree of nodes with one entry each.
     Tree = 1,
 }
 
 impl IndexKind {
-    /// The kind that the image's word says.
+    /// The kind of index in the image's header. Any word but 1 gives a flat one.
     pub fn of<A: Allocator>(w: &Window<A>) -> IndexKind
         ensures { (result ≡ IndexKind.Tree) ↔ (word w.now.bytes 20 ≡ 1) }
     {
@@ -28,7 +28,7 @@ impl IndexKind {
         }
     }
 
-    /// What the image's word holds for this kind.
+    /// The header word for this kind.
     pub fn word(self) -> u32
         ensures flat { self ≡ IndexKind.Flat → result ≡ 0 }
         ensures tree { self ≡ IndexKind.Tree → result ≡ 1 }

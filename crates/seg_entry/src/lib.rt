@@ -1,4 +1,4 @@
-//! How the index of a segment looks in the image: its kind and its cell, an entry of a name, and the pointers to unique objects.
+//! The bytes of a segment's index: its kind, its cell, the entries of names, and the pointers to unique objects.
 #![tactic(auto)]
 
 mod entry;

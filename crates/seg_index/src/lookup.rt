@@ -14,20 +14,20 @@ use std::alloc::Allocator;
 /// Where a search for a name ended.
 #[derive(Drop)]
 enum Spot {
-    /// At an index of the buffer.
+    /// An index in the buffer.
     Flat(u32),
-    /// At the end of a path down the tree.
+    /// The end of a path in the tree.
     Tree(Path),
 }
 
-/// A name that the index has. It is good until the index changes.
+/// A name that the index has. Only valid until the index changes.
 #[derive(Drop)]
 pub struct Occupied {
     spot: Spot,
     entry: NameEntry,
 }
 
-/// A name that the index doesn't have, by the spot where its entry would stand. It is good until the index changes.
+/// A name that the index doesn't have, with the place to insert it at. Only valid until the index changes.
 #[derive(Drop)]
 pub struct Vacant {
     spot: Spot,
@@ -41,7 +41,7 @@ impl Occupied {
         self.entry
     }
 
-    /// Takes the entry out of the index. The object stays.
+    /// Removes the entry from the index. The object stays.
     pub fn remove<F: Fit, A: Allocator>(mut self, heap: &mut Heap<F, A>)
         ensures window { KeepsHost heap.old.window heap.new.window }
         ensures types { heap.new.types ≡ heap.old.types }
@@ -59,8 +59,8 @@ impl Occupied {
 }
 
 impl Vacant {
-    /// Enters the name for the object at a position, where `count` values and after them the name of `name_len` bytes
-    /// stand. `BadAlloc` where there is no room for the entry; then nothing changes.
+    /// Adds the name to the index, for the object at a position. The object is `count` values, followed by the name of
+    /// `name_len` bytes. `BadAlloc` if there is no room for the entry; then nothing changes.
     pub fn insert<F: Fit, A: Allocator>(
         mut self,
         heap: &mut Heap<F, A>,
@@ -87,7 +87,7 @@ impl Vacant {
     }
 }
 
-/// Looks for a name, to remove it where the index has it, and to insert it where not.
+/// Looks up a name: `Ok` to read or remove its entry, `Err` to insert one.
 pub fn look_up<F: Fit, A: Allocator>(heap: &Heap<F, A>, name: &[u8]) -> Result<Occupied, Vacant>
     ensures { WhereNames F.allocator heap.now.window.bytes heap.now.types
         (λ names _. MatchResult result

@@ -4,7 +4,8 @@ ghost use Rattle.std.specs.Cmp.Lexicographic.{slice_cmp};
 
 use std::cmp::Ordering;
 
-/// Compares two names by their bytes, a prefix first. As the slices' own `cmp`, which is made for long ones: names are short.
+/// Compares two names by their bytes; a prefix comes first. The slices' own `cmp` is made for long ones, and names are
+/// short.
 pub(crate) fn compare(name: &[u8], other: &[u8]) -> Ordering
     ensures { result ≡ slice_cmp nat_cmp name.now other.now }
 {

@@ -10,10 +10,10 @@ use arrayvec::ArrayVec;
 use seg_raw::Fault;
 use std::marker::Model;
 
-/// The most cells that a value has.
+/// The largest number of cells in a value.
 const MAX_CELLS: usize = 512;
 
-/// The types of a segment, at most 32, without any memory of the host.
+/// The types of a segment, at most 32. It allocates no memory.
 #[derive(Drop)]
 pub struct TypeTable {
     entries: Entries,
@@ -41,23 +41,22 @@ impl TypeTable {
         }
     }
 
-    /// The table whose entries of 16 bytes these are, the unused ones (all zero) last; else
-    /// `BadType` with the first wrong entry. An entry that is cut is wrong, and so is a 33rd, or
-    /// a type that images of version 1 don't have.
+    /// Reads a table of entries of 16 bytes, with the unused ones (all zero) last. `BadType` with the index of the
+    /// first wrong entry: an incomplete one, a 33rd, or a type that images of version 1 don't have are wrong too.
     pub fn read(bytes: &[u8]) -> Result<TypeTable, Fault>
         ensures { IsReading 1 bytes.now result }
     {
         TypeTable::read_version(bytes, 1)
     }
 
-    /// The table whose entries these are, as `read` does, with the types that images of version 2 have too.
+    /// Reads a table as `read` does, but also allows the types of images of version 2.
     pub fn read_shared(bytes: &[u8]) -> Result<TypeTable, Fault>
         ensures { IsReading 2 bytes.now result }
     {
         TypeTable::read_version(bytes, 2)
     }
 
-    /// The table whose entries these are, with the types that images of a version have.
+    /// Reads a table as `read` does, with the types that images of this version may have.
     fn read_version(bytes: &[u8], version: u32) -> Result<TypeTable, Fault>
         ensures right { IsOk result ↔ ((k : ℕ) → IsWrong version bytes.now k → ⊥) }
         ensures table { IfOk result (λ table.
@@ -92,7 +91,7 @@ impl TypeTable {
         self.entries.is_empty()
     }
 
-    /// What this type is, if the table has it.
+    /// The type with this id, if the table has it.
     pub fn kind(&self, t: TypeId) -> Option<Type>
         ensures { form_at self.now t ≡ map_option form_of result }
     {
@@ -100,7 +99,7 @@ impl TypeTable {
         Some(entry.kind)
     }
 
-    /// Whether values of this type may have cells that hold pointers: all types but i64, and those that the table lacks.
+    /// Whether values of this type may have pointers: true for all types but `i64`, false if the table lacks the type.
     pub fn has_pointers(&self, t: TypeId) -> bool
         ensures cells { has_cells (form_at self.now t) ≡ result }
         ensures table { IsTable self.now }
@@ -113,7 +112,7 @@ impl TypeTable {
         }
     }
 
-    /// The bytes of a value of this type: 8 where the table doesn't have it.
+    /// The size of a value of this type in bytes, or 8 if the table lacks the type.
     pub fn size(&self, t: TypeId) -> u32
         ensures value { result ≡ size self.now t }
         ensures some { 8 ≤ result }
@@ -123,7 +122,7 @@ impl TypeTable {
         Entry::size_at(&self.entries, t)
     }
 
-    /// How many fields this type has: 0 where it is no struct.
+    /// The number of fields of this type, or 0 if it is no struct.
     pub fn field_count(&self, t: TypeId) -> u32
         ensures count { result ≡ length (fields_of self.now t) }
         ensures few { result ≤ 8 }
@@ -140,7 +139,7 @@ impl TypeTable {
         fields.len() as u32
     }
 
-    /// A field of this type, if it is a struct that has so many. The field's type comes before it in the table.
+    /// The field with this index, if this type is a struct that has one. The field's type comes before it in the table.
     pub fn field(&self, t: TypeId, index: u32) -> Option<Cell>
         ensures field { slice_get (fields_of self.now t) index ≡ map_option cell_of result }
         ensures before { IfSome result (λ cell. cell.type_id < t) }
@@ -155,8 +154,7 @@ impl TypeTable {
         Some(Cell { from, type_id })
     }
 
-    /// The cells of a value of this type that hold pointers, which are all but those of i64, by
-    /// ascending position.
+    /// The cells of a value of this type that have pointers, by ascending position: all cells but those of `i64`.
     pub fn pointers(&self, t: TypeId) -> ArrayVec<Cell, 512>
         ensures { map cell_of result.items ≡ pointers self.now t }
     {
@@ -178,12 +176,12 @@ impl TypeTable {
                 _ => found.push(part),
             }
         }
-        // The last part of a value is looked at first.
+        // the loop takes the last part first
         found.reverse();
         found
     }
 
-    /// Adds the fields of a struct that begins at this distance.
+    /// Pushes the fields of a struct that begins at this offset.
     fn push_fields(&self, pending: &mut ArrayVec<Cell, MAX_CELLS>, start: u32, fields: &Fields)
         requires room { array_vec_len pending.old + length fields.now ≤ 512 }
         requires fits { start + sum_by (size self.now) fields.now ≤ 4096 }
@@ -200,7 +198,7 @@ impl TypeTable {
         }
     }
 
-    /// The bytes of this type's entry: all zero where the table doesn't have it.
+    /// The bytes of this type's entry, all zero if the table lacks the type.
     pub fn entry(&self, t: TypeId) -> [u8; 16]
         ensures { result ≡ entry_at self.now t }
     {
@@ -210,8 +208,8 @@ impl TypeTable {
         }
     }
 
-    /// The longer of two tables that agree on the types that both have; else `TypeMismatch` with
-    /// the first one that differs.
+    /// The longer of two tables if they agree on the types that both have, else `TypeMismatch` with the first id that
+    /// differs.
     pub fn extends(&self, other: &TypeTable) -> Result<TypeTable, Fault>
         ensures agree { IsOk result ↔ Agree self.now other.now }
         ensures longer { IfOk result (λ table. table ≡ longer self.now other.now) }
@@ -228,7 +226,7 @@ impl TypeTable {
         }
     }
 
-    /// Whether two tables agree on the types that both have; else `TypeMismatch` with the first one that differs.
+    /// Checks that two tables agree on the types that both have. `TypeMismatch` has the first id that differs.
     pub fn agrees(&self, other: &TypeTable) -> Result<(), Fault>
         ensures agree { IsOk result ↔ Agree self.now other.now }
         ensures differs { IfErr result (λ fault.
@@ -245,7 +243,7 @@ impl TypeTable {
         Ok(())
     }
 
-    /// The same table again.
+    /// A copy of the table.
     pub fn copy(&self) -> TypeTable
         ensures { result ≡ self.now }
     {

@@ -1,4 +1,4 @@
-//! Memory that a host lends, as a `Vec` that owns its bytes and never grows or frees them.
+//! Memory that a host lends, seen as a `Vec` that owns its bytes and never grows or frees them.
 #![tactic(auto)]
 
 ghost use Rattle.std.specs.Prelude.{◌≡◌, ℕ, ◌≤◌, ◌<◌, ◌^◌, List, [], length, vec_len, vec_capacity};
@@ -10,9 +10,9 @@ use std::marker::Model;
 use std::mem::replace;
 use std_alloc::vec::{Lodged, lodge};
 
-/// Memory of a host's: where it begins, how many of its bytes are in use, and how many it has.
+/// A host's memory: its address, how many of its bytes are in use, and how many it has.
 ///
-/// It isn't `Drop`, so code that loses the memory is refused.
+/// It isn't `Drop`, so code that loses the memory is rejected.
 #[repr(C)]
 pub struct Lent {
     at: *mut u8,
@@ -35,7 +35,7 @@ impl Lent {
         Lent::from_vec(Vec::new(Lodged))
     }
 
-    /// Takes the memory's bytes, where they lie, and leaves no memory.
+    /// Takes the memory as a `Vec`, in place. No memory is left in `self`.
     pub fn take(&mut self) -> Vec<u8, Lodged>
         ensures bytes { result.items ≡ self.old.bytes }
         ensures room { vec_capacity result ≡ self.old.room }
@@ -43,7 +43,7 @@ impl Lent {
         replace(self, Lent::none()).into_vec()
     }
 
-    /// Gives bytes back whose memory was taken.
+    /// Puts back bytes whose memory was taken.
     pub fn give_back(&mut self, bytes: Vec<u8, Lodged>)
         ensures bytes { self.new.bytes ≡ bytes.items }
         ensures room { self.new.room ≡ vec_capacity bytes }
@@ -52,7 +52,7 @@ impl Lent {
         let _ = none.into_vec();
     }
 
-    /// Its bytes, where they lie.
+    /// Its bytes, in place.
     pub fn into_vec(self) -> Vec<u8, Lodged>
         ensures { (result.items ≡ self.bytes) × (vec_len result ≡ self.len)
             × (vec_capacity result ≡ self.room) × (vec_ptr result ≡ self.at) }

@@ -1,4 +1,4 @@
-//! Changes of the tiles that keep the free list.
+//! Changes of blocks that keep the free list in order.
 
 ghost use Rattle.std.specs.Prelude.{◌≡◌, ℕ, ◌+◌, ◌*◌, ◌≤◌, true, false, List, [], ◌∷◌, ◌++◌, length, None};
 ghost use Rattle.seg_spec.specs.Pointer.{target};
@@ -23,7 +23,7 @@ use std::alloc::Allocator;
 impl FreeStructure for SeqFit {
     ghost allocator = { 0 };
 
-    /// The pointer word that names the first free block at the block's position or above.
+    /// The position of the pointer word that points to the first free block at the block's position or above.
     type Predecessor = usize;
 
     ghost leads = { λ link xs. link ≡ link_to xs };
@@ -49,7 +49,7 @@ impl FreeStructure for SeqFit {
     ghost leads_past = { leads_past };
 }
 
-/// Makes a gap live. In the list `next`, which came after it, stands in its place.
+/// Allocates a whole free block. `next`, its successor in the list, takes its place there.
 pub(crate) fn take_whole(bytes: &mut [u8], link: usize, gap: Block, next: Option<u32>)
     requires inside { LiesIn bytes.old gap }
     ensures length { length bytes.new ≡ length bytes.old }
@@ -63,7 +63,8 @@ pub(crate) fn take_whole(bytes: &mut [u8], link: usize, gap: Block, next: Option
     set_word(bytes, gap.at as usize, size_word(gap.units, true));
 }
 
-/// Makes the front of a gap live, of `units`. The rest stays a gap, in the gap's place in the list, before `next`.
+/// Allocates the first `units` units of a free block. The rest stays free and takes the block's place in the list,
+/// before `next`.
 pub(crate) fn take_front(bytes: &mut [u8], link: usize, gap: Block, next: Option<u32>, units: u32)
     requires inside { LiesIn bytes.old gap }
     requires front { 2 ≤ units }
@@ -87,7 +88,8 @@ pub(crate) fn take_front(bytes: &mut [u8], link: usize, gap: Block, next: Option
     set_pointer(bytes, at + LINK, None);
 }
 
-/// Makes a live block free, as one with the gaps beside it. The list is searched only where no gap is right before it.
+/// Frees an allocated block and merges it with the free blocks next to it. The list is searched only if no free block
+/// is right before it.
 pub(crate) fn release_joined<A: Allocator>(w: &mut Window<A>, block: Block)
     requires { LiesIn w.old.bytes block }
     ensures host { KeepsHost w.old w.new }
@@ -107,8 +109,8 @@ pub(crate) fn release_joined<A: Allocator>(w: &mut Window<A>, block: Block)
     widen(w.bytes_mut(), next, Block { units, ..gap });
 }
 
-/// The pointer word of the list after a block that `link` leads to, and the gap of `room` units right after it (0 where there
-/// is none).
+/// The position of the list's pointer word after a block that `link` points to, with the free block of `room` units
+/// right after it (0 if there is none).
 fn link_after(link: usize, block: Block, room: u32) -> usize
     requires { block_end block ≤ MAX_LEN }
     ensures alone { room ≡ 0 → result ≡ link }
@@ -121,7 +123,7 @@ fn link_after(link: usize, block: Block, room: u32) -> usize
     }
 }
 
-/// Makes the tiles that a block covers one gap, which `link` names, after which the list goes on with `next`.
+/// Makes the blocks in `gap` one free block. `link` then points to it, and its successor in the list is `next`.
 fn put_in(bytes: &mut [u8], link: usize, next: Option<u32>, gap: Block)
     requires { LiesIn bytes.old gap }
     ensures length { length bytes.new ≡ length bytes.old }
@@ -136,7 +138,7 @@ fn put_in(bytes: &mut [u8], link: usize, next: Option<u32>, gap: Block)
     set_free_size(bytes, gap);
 }
 
-/// Makes the tiles that a block covers one gap, the first of which is a gap already. After it the list goes on with `next`.
+/// Makes the blocks in `gap`, the first of which is free already, one free block. Its successor in the list is `next`.
 fn widen(bytes: &mut [u8], next: Option<u32>, gap: Block)
     requires { LiesIn bytes.old gap }
     ensures length { length bytes.new ≡ length bytes.old }
@@ -149,7 +151,7 @@ fn widen(bytes: &mut [u8], next: Option<u32>, gap: Block)
     set_free_size(bytes, gap);
 }
 
-/// Sets the size of a free block, also in the header of the block after it.
+/// Writes the size of a free block, also to the header of the block after it.
 fn set_free_size(bytes: &mut [u8], gap: Block)
     requires { LiesIn bytes.old gap }
     ensures length { length bytes.new ≡ length bytes.old }

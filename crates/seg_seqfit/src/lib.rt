@@ -1,4 +1,5 @@
-//! Sequential fit: an allocator whose free blocks form a list in ascending position.
+//! Sequential fit: the allocator that takes the lowest free block that is large enough. Its free blocks form a list by
+//! ascending position.
 #![tactic(auto)]
 
 mod free_list;

@@ -1,4 +1,4 @@
-//! Walks along the free list.
+//! Searches of the free list.
 
 ghost use Rattle.std.specs.Prelude.{◌≡◌, ℕ, ◌+◌, ◌^◌, ◌<◌, ◌≤◌, Bool, List, ◌∷◌, ◌++◌, IfSome, MatchOption, Some, None};
 ghost use Rattle.seg_spec.specs.Heap.{Span, Tile, IsFreeList, first_fit, link_at};
@@ -14,7 +14,7 @@ use seg_ptr::header::FREE;
 use seg_ptr::{View, Window};
 use std::alloc::Allocator;
 
-/// A free block, the pointer word that names it, and what its own names.
+/// A free block, the pointer word that points to it, and the block that its own link points to.
 #[derive(Clone, Copy)]
 pub(crate) struct Found {
     pub(crate) link: usize,
@@ -22,13 +22,13 @@ pub(crate) struct Found {
     pub(crate) next: Option<u32>,
 }
 
-/// From a block's link to its payload, in bytes.
+/// The distance from a block's link to its payload, in bytes.
 const PAST_LINK: u32 = 4;
 
-/// Where a block would begin whose link is the list's first word.
+/// The position of a block whose link would be the list's first word, so that a search treats that word like any link.
 const LIST: u32 = 12;
 
-/// The free block that the link of the block at a position names, where it begins above that position.
+/// The free block that the link of the block at `at` points to, if it is above `at`.
 fn next_above(view: View, at: u32) -> Option<u32>
     requires { PAST_LINK ≤ at }
     ensures bounds { IfSome result (λ next. (at < next) × (next < 2 ^ 32)) }
@@ -36,7 +36,7 @@ fn next_above(view: View, at: u32) -> Option<u32>
     ensures named { (next : ℕ) → target view.entry.bytes.now (at + LINK) ≡ Some (next + UNIT)
         → at < next → result ≡ Some next }
 {
-    // a pointer's distance counts from its own word; 1, which names nothing, leads back
+    // a pointer's distance counts from its own word; the null pointer's 1 gives a position that isn't above
     let distance = view.get32(at as usize + LINK);
     let next = at.wrapping_add(distance).wrapping_sub(PAST_LINK);
     if next > at { Some(next) } else { None }
@@ -56,7 +56,7 @@ pub(crate) fn first_fit<A: Allocator>(w: &Window<A>, need: u32) -> Option<Found>
     let mut link = FREE;
     let mut next = next_above(view, LIST);
     while let Some(at) = next {
-        // the one test of where the words of a step lie
+        // the only test that the words of this step lie inside the segment
         if view.len() < at as usize + UNIT as usize {
             return None;
         }
@@ -72,9 +72,9 @@ pub(crate) fn first_fit<A: Allocator>(w: &Window<A>, need: u32) -> Option<Found>
     None
 }
 
-/// The pointer word that names the first free block above a block: the link of the nearest one below, or the list's first
-/// word. Two walks look for it, along the list and down the blocks, in turn: so it takes at most twice the steps of the
-/// shorter one, and none where the list begins above the block.
+/// The position of the pointer word that points to the first free block above a block: the link of the nearest free
+/// block below, or the list's first word. It searches along the list and down the blocks in turn, so it takes at most
+/// twice the steps of the shorter search, and none if the list begins above the block.
 pub(crate) fn link_before<A: Allocator>(w: &Window<A>, block: Block) -> usize
     ensures { (xs ys : List Tile) (l : Bool)
         → IsTiling 0 w.now.bytes (xs ++ tile_of block l ∷ ys) → result ≡ link_to xs }

@@ -10,7 +10,7 @@ use seg_ptr::Window;
 use seg_ptr::header::{FREE, SIZE};
 use std::alloc::Allocator;
 
-/// The allocator that takes the lowest gap.
+/// The sequential-fit allocator: it takes the lowest free block that is large enough.
 pub struct SeqFit;
 
 impl Fit for SeqFit {
