@@ -19,10 +19,12 @@ use seg_ptr::{Window, header};
 use seg_raw::Fault;
 use std::alloc::{AllocError, Allocator};
 
-/// The types of a segment whose bytes are an image, or the first fault in this order: the header, the types, the
-/// blocks, the free blocks, the names, the unique objects, the values, what frozen objects count, blocks that nothing owns.
+/// Checks that a segment's bytes are a sound image, and returns its types. Otherwise it returns the first fault in this
+/// order: the header, the types, the blocks, the free blocks, the names, the unique objects, the values, the counts of
+/// frozen objects, blocks without an owner.
 ///
-/// It takes its memory before it looks at the heap: nine bytes for each unit of it, and four more where a type shares objects.
+/// It allocates all its memory before it reads the heap: nine bytes for each unit of the heap, and four more if a type
+/// shares objects.
 pub fn check<A: Allocator, B: Allocator>(alloc: B, w: &Window<A>) -> Result<TypeTable, Fault>
     ensures image { IfOk result (IsImageOf w.now.bytes) }
     ensures fault { IfErr result (IsFaultOf w.now.bytes) }
@@ -34,8 +36,7 @@ pub fn check<A: Allocator, B: Allocator>(alloc: B, w: &Window<A>) -> Result<Type
     Ok(types)
 }
 
-/// The types that the bytes after an image's header spell: with those that share objects where it is of the version that may
-/// have some.
+/// The types in an image's type table. Shared types are allowed only if the image's version may have frozen objects.
 pub fn read_types<A: Allocator>(w: &Window<A>) -> Result<TypeTable, Fault>
     ensures { HasHeader w.now.bytes →
         IsReading (word w.now.bytes version_word)
@@ -49,7 +50,7 @@ pub fn read_types<A: Allocator>(w: &Window<A>) -> Result<TypeTable, Fault>
     }
 }
 
-/// Whether cells of a type of the table share objects.
+/// Whether the table has a shared type.
 fn shares(types: &TypeTable) -> bool
     ensures { result ≡ false → (T U : ℕ) →
         form_at types.now T ≡ Some (Form.shared U) → ⊥ }
@@ -69,7 +70,7 @@ fn is_shared(kind: Option<Type>) -> bool
     matches!(kind, Some(Type::Shared(_)))
 }
 
-/// The heap, and all that lies in it.
+/// Checks the heap and everything in it.
 fn check_heap<A: Allocator, B: Allocator + Copy>(
     alloc: B,
     w: &Window<A>,
@@ -93,7 +94,7 @@ fn check_heap<A: Allocator, B: Allocator + Copy>(
     }
 }
 
-/// The claims of an image before its blocks are known.
+/// The claims of an image whose blocks aren't known yet.
 fn no_claims<A: Allocator, B: Allocator + Copy>(
     alloc: B,
     w: &Window<A>,
@@ -106,7 +107,7 @@ fn no_claims<A: Allocator, B: Allocator + Copy>(
 }
 
 impl<A: Allocator> Image<'_, A> {
-    /// The blocks of the heap, and the free ones among them.
+    /// Checks the blocks of the heap, and the free structure.
     fn check_structure<B: Allocator>(&self, claims: &mut Claims<B>) -> Result<(), Fault>
         ensures { HasFront self.now.w.now.bytes self.now.types.now →
             KnowsNothing self.now.w.now.bytes self.now.types.now claims.old →
@@ -116,7 +117,7 @@ impl<A: Allocator> Image<'_, A> {
         self.check_free(claims, free_list).map_err(Fault::BadFree)
     }
 
-    /// What owns the blocks: the names, the unique objects, the values, and what frozen objects count.
+    /// Checks what owns the blocks: the names, the unique objects, the values, and the counts of frozen objects.
     fn check_content<B: Allocator>(&self, claims: &mut Claims<B>) -> Result<(), ContentFault>
         ensures { KnowsHeap self.now.w.now.bytes self.now.types.now claims.old →
             FindsOwners self.now.w.now.bytes self.now.types.now claims.new result }

@@ -17,22 +17,23 @@ use seg_ptr::{View, Window};
 use std::alloc::{AllocError, Allocator};
 use std::marker::Model;
 
-/// The blocks of a heap, which of them have an owner, and those whose values are still to be looked at.
+/// The blocks of a heap: which of them have an owner, and which have values that are still to be checked.
 #[derive(Drop)]
 pub(crate) struct Claims<A: Allocator> {
     marks: Vec<Mark, A>,
     /// How many blocks are free.
     free: usize,
-    /// How many live blocks nothing has claimed so far.
+    /// How many allocated blocks have no owner so far.
     unclaimed: usize,
     /// The claimed blocks with values, in the order of their claims.
     queue: Vec<Waiting, A>,
-    /// How many of these have had their turn.
+    /// How many blocks of the queue were taken from it.
     taken: usize,
-    /// How many more cells may name the frozen object that begins in one of two units, where one does that a cell names:
-    /// none where more name it than it counts. Empty where no type shares objects.
+    /// For each two units, the frozen object that begins in one of them: how many more cells may point to it, or `None`
+    /// if more point to it than it counts. Only for objects that a cell points to so far. Empty if no type shares
+    /// objects.
     counts: Vec<Option<u32>, A>,
-    /// The number that names must be below where values are looked at now, if a frozen object owns them.
+    /// While the values of a frozen object are checked, its number: objects that they point to have lower ones.
     below: Option<u32>,
 }
 
@@ -49,7 +50,7 @@ impl<A: Allocator> Model for Claims<A> {
 }
 
 impl<A: Allocator> Claims<A> {
-    /// No block is known yet. There are counts where cells share objects.
+    /// No block is known yet. `counts` is only allocated if cells share objects.
     pub(crate) fn new<B: Allocator>(
         alloc: A,
         w: &Window<B>,
@@ -71,7 +72,7 @@ impl<A: Allocator> Claims<A> {
             marks: Vec::from_elem(alloc, Mark::Inside, units)?,
             free: 0,
             unclaimed: 0,
-            // a block has two units, and is claimed once
+            // a block has at least two units, and is claimed once
             queue: Vec::with_capacity(alloc, units / 2)?,
             taken: 0,
             counts: Vec::from_elem(alloc, None, slots)?,
@@ -79,8 +80,8 @@ impl<A: Allocator> Claims<A> {
         })
     }
 
-    /// A block begins at this position, which was not added before. There are fewer blocks than units, so that no count
-    /// of them wraps.
+    /// Adds the block at a position, which wasn't added before. There are fewer blocks than units, so that no count of
+    /// them wraps.
     pub(crate) fn add(&mut self, block: u32, is_live: bool)
         ensures added { IsUnit self.old.units block → times block self.old.unclaimed ≡ 0 →
             times block self.old.free ≡ 0 → Adds self.old block is_live self.new }
@@ -114,7 +115,7 @@ impl<A: Allocator> Claims<A> {
         }
     }
 
-    /// The unit of the heap that begins at a position, if one does.
+    /// The index of the heap's unit that begins at a position, if one does.
     fn unit_at(&self, position: u32) -> Option<usize>
         ensures unit { IfSome result (λ unit.
             (position ≡ heap_start + UNIT * unit) × (unit < self.now.units)) }
@@ -142,9 +143,9 @@ impl<A: Allocator> Claims<A> {
         self.free
     }
 
-    /// Claims the block that a pointer names, and returns where its payload begins. `BadPointer` where it isn't a live block
-    /// of this tag with `size` bytes of payload, then `DoubleOwner` where it was claimed before.
-    // Inlined, since most of what a check does is claims.
+    /// Claims the block that a pointer points to, and returns the position of its payload. `BadPointer` if it isn't an
+    /// allocated block of this tag with a payload of `size` bytes, then `DoubleOwner` if it was claimed before.
+    // Inlined, since a check consists mostly of claims.
     #[inline(always)]
     pub(crate) fn claim(
         &mut self,
@@ -181,7 +182,7 @@ impl<A: Allocator> Claims<A> {
         }
     }
 
-    /// Lets a claimed block wait for its turn. What owns it now owns its values.
+    /// Puts a claimed block in the queue. What owns it now owns its values.
     pub(crate) fn await_turn(&mut self, turn: Turn) -> Result<(), ContentFault>
         ensures taken { self.new.taken ≡ self.old.taken }
         ensures waits { OnOk result (self.new ≡ record self.old {
@@ -194,8 +195,9 @@ impl<A: Allocator> Claims<A> {
         Ok(())
     }
 
-    /// The frozen object of this tag that a cell names, with `size` bytes of payload: where its payload begins. It is claimed
-    /// by the first cell that names it, and counts each. `BadPointer` where the cell names no such object.
+    /// Counts a cell that points to a frozen object, and returns the position of the object's payload. The first such
+    /// cell claims the object. `BadPointer` if the cell doesn't point to a frozen object of this tag with a payload of
+    /// `size` bytes.
     pub(crate) fn name(
         &mut self,
         bytes: View,
@@ -234,7 +236,7 @@ impl<A: Allocator> Claims<A> {
         Ok(start)
     }
 
-    /// Claims the block of a frozen object that nothing has claimed so far, which waits for its turn.
+    /// Claims the block of a frozen object that has no owner so far, and puts it in the queue.
     fn claim_frozen(&mut self, block: u32, waiting: Waiting) -> Result<(), ContentFault>
         ensures taken { self.new.taken ≡ self.old.taken }
         ensures claimed { IsMarked self.old block Mark.Live →
@@ -247,7 +249,7 @@ impl<A: Allocator> Claims<A> {
         Ok(())
     }
 
-    /// How many more cells may name the frozen object in a block.
+    /// How many more cells may point to the frozen object in a block.
     fn left(&self, block: u32) -> Option<u32>
         ensures { heap_start ≤ block → result ≡ left_at self.now block }
     {
@@ -255,7 +257,7 @@ impl<A: Allocator> Claims<A> {
         self.counts.get(slot as usize).copied().flatten()
     }
 
-    /// Sets how many more cells may name it.
+    /// Sets how many more cells may point to the frozen object in a block.
     fn put_left(&mut self, block: u32, left: Option<u32>)
         ensures own { heap_start ≤ block → slot_of block < length self.old.naming.counts →
             left_at self.new block ≡ left }
@@ -273,7 +275,7 @@ impl<A: Allocator> Claims<A> {
         }
     }
 
-    /// Whether a number is one that names may have now.
+    /// Whether cells may now point to a frozen object with this number.
     pub(crate) fn may_name(&self, number: u32) -> bool
         ensures { IsTrue result ↔ IsUnder self.now.naming.below number }
     {
@@ -283,7 +285,7 @@ impl<A: Allocator> Claims<A> {
         }
     }
 
-    /// The next block in the order of the claims, each once.
+    /// The next block of the queue, in the order of the claims.
     pub(crate) fn next_turn(&mut self) -> Option<Turn>
         ensures next { IfSome result (λ _.
             (self.old.taken < 2 ^ 64) × (self.new.taken ≡ self.old.taken + 1)) }
@@ -300,8 +302,8 @@ impl<A: Allocator> Claims<A> {
         Some(next.turn)
     }
 
-    /// The counts and the numbers of the frozen objects that cells name, by ascending position: each counts its cells, and has
-    /// a number that was given, below the next one.
+    /// Checks the frozen objects that cells point to, by ascending position: each counts its cells, and has a number
+    /// below `next`.
     pub(crate) fn check_counts(&self, bytes: View, next: u32) -> Result<(), ContentFault>
         ensures { next ≡ word bytes.entry.bytes.now next_word →
             MatchResult result (λ _. AreRight bytes.entry.bytes.now self.now)
@@ -317,7 +319,7 @@ impl<A: Allocator> Claims<A> {
         Ok(())
     }
 
-    /// Whether the frozen object in a block counts its cells, and has a number below the next one.
+    /// Whether the frozen object in a block counts its cells, and has a number below `next`.
     fn is_right(&self, bytes: View, block: u32, next: u32) -> bool
         ensures { heap_start ≤ block → block + 20 < 2 ^ 32 → IsTrue result
             ↔ ((left_at self.now block ≡ Some 0)
@@ -327,7 +329,7 @@ impl<A: Allocator> Claims<A> {
         self.left(block) == Some(0) && number < next
     }
 
-    /// The lowest live block without an owner.
+    /// The lowest allocated block without an owner.
     pub(crate) fn first_unowned(&self) -> Option<u32>
         ensures { IsCounted self.now → MatchOption result (self.now.unclaimed ≡ [])
             (λ block. (1 ≤ times block self.now.unclaimed) ×
@@ -347,7 +349,7 @@ impl<A: Allocator> Claims<A> {
     }
 }
 
-/// A count that one more cell took from, if anything was left.
+/// A count after one more cell, or `None` if it was 0 or `None`.
 fn one_less(left: Option<u32>) -> Option<u32>
     ensures { result ≡ one_less left }
 {

@@ -12,12 +12,12 @@ use seg_block::{block_of, link, units};
 use seg_ptr::{Window, header};
 use std::alloc::Allocator;
 
-/// The pointer to the root.
+/// The position of the pointer to the root.
 const FREE: u32 = header::FREE as u32;
 
 impl<A: Allocator> Image<'_, A> {
-    /// The tree of best fit: all free blocks, in order of their units, then of their positions. None has a link. `Err` has
-    /// the position of the pointer to the root.
+    /// Checks the tree of best fit: it has all free blocks, ordered by size and then by position, and none of them has
+    /// a link. `Err` has the position of the pointer to the root.
     pub(crate) fn check_free_tree<B: Allocator>(&self, claims: &Claims<B>) -> Result<(), u32>
         ensures { (table : Table) → HasTiles self.now.w.now.bytes table
             → KnowsTiles self.now.w.now.bytes claims.now
@@ -45,7 +45,7 @@ impl<A: Allocator> Image<'_, A> {
     }
 }
 
-/// Whether a free block is above the one before it in the tree, if there is one.
+/// Whether a free block comes after the one before it in the tree, if there is one.
 fn is_above<A: Allocator>(w: &Window<A>, before: Option<u32>, block: u32) -> bool
     ensures { result ≡ is_above w.now.bytes before block }
 {

@@ -7,7 +7,7 @@ use seg_ptr::{MAX_LEN, MIN_LEN, Window, header};
 use seg_raw::Fault;
 use std::alloc::Allocator;
 
-/// The image's length and its first 64 bytes.
+/// Checks the image's length and its first 64 bytes.
 pub(crate) fn check_header<A: Allocator>(w: &Window<A>) -> Result<(), Fault>
     ensures header { OnOk result (HasHeader w.now.bytes) }
     ensures every { HasHeader w.now.bytes → IsOk result }
@@ -25,8 +25,8 @@ pub(crate) fn check_header<A: Allocator>(w: &Window<A>) -> Result<(), Fault>
     }
 }
 
-/// The magic, the version, the allocator (0 sequential fit, 1 best fit), the index (0 flat, 1 a tree), and the bytes that
-/// are 0 in every image.
+/// Whether the magic, the version, the allocator (0 sequential fit, 1 best fit), the index (0 flat, 1 tree) and the
+/// bytes that are always 0 are right.
 fn has_known_words<A: Allocator>(w: &Window<A>) -> bool
     ensures { IsTrue result ↔ HasKnownWords w.now.bytes }
 {

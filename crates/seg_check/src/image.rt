@@ -20,14 +20,14 @@ use std::alloc::Allocator;
 #[derive(Drop)]
 pub(crate) struct Image<'a, A: Allocator> {
     pub(crate) w: &'a Window<A>,
-    /// The bytes of the window, at hand.
+    /// The bytes of the window.
     pub(crate) bytes: View<'a>,
     pub(crate) types: &'a TypeTable,
     ghost same: { bytes.bytes.now ≡ w.now.bytes },
 }
 
 impl<A: Allocator> Image<'_, A> {
-    /// The free structure of the image's allocator. `Err` has the position of the pointer that is wrong.
+    /// Checks the free structure of the image's allocator. `Err` has the position of the wrong pointer.
     pub(crate) fn check_free<B: Allocator>(
         &self,
         claims: &Claims<B>,
@@ -65,7 +65,8 @@ impl<A: Allocator> Image<'_, A> {
         }
     }
 
-    /// Claims the block that a pointer names, which has room for so many entries, and returns where its payload begins.
+    /// Claims the block that a pointer points to, which must have room for `n` entries, and returns the position of its
+    /// payload.
     pub(crate) fn claim_entries<B: Allocator>(
         &self,
         claims: &mut Claims<B>,
@@ -85,7 +86,7 @@ impl<A: Allocator> Image<'_, A> {
         self.owner(content).claim(claims, pointer, count)
     }
 
-    /// Whether entries may name blocks.
+    /// Whether entries may have pointers, so that their values must be checked.
     pub(crate) fn has_turns(&self, entry: Entry) -> bool
         ensures { result ≡ has_turns self.now.types.now entry.held }
     {
@@ -96,13 +97,14 @@ impl<A: Allocator> Image<'_, A> {
     }
 }
 
-/// How a cell claims the blocks that it names: its own copy of what each claim reads, since a list claims each of its nodes.
+/// How a cell claims the blocks that it points to. It has its own copy of what each claim reads, since a list claims
+/// each of its nodes.
 #[derive(Clone, Copy)]
 pub(crate) struct Owner<'a> {
     bytes: View<'a>,
     tag: Tag,
     entry_size: u32,
-    /// Whether the entries may name blocks, so that they wait for their turn.
+    /// Whether the entries may have pointers, so that they are put in the queue.
     has_turns: bool,
 }
 
@@ -111,7 +113,8 @@ impl Owner<'_> {
     ghost use Rattle.seg_block.specs.Tags.{word_of};
     ghost use Rattle.seg_check.specs.Claiming.{Refuses, AreLive, CanClaim, ClaimsBlock, turns_where};
 
-    /// Claims the block that a pointer names, which has room for so many entries, and returns where its payload begins.
+    /// Claims the block that a pointer points to, which must have room for `n` entries, and returns the position of its
+    /// payload.
     #[inline(always)]
     pub(crate) fn claim<B: Allocator>(
         self,

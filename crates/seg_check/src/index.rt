@@ -23,11 +23,11 @@ use seg_layout::TypeId;
 use seg_ptr::header;
 use std::alloc::Allocator;
 
-/// The pointer to the entries, or to the root node.
+/// The position of the pointer to the entries, or to the root node.
 const INDEX: u32 = header::INDEX as u32;
 
 impl<'w, A: Allocator> Image<'w, A> {
-    /// The index, flat or a tree, and each of its entries with the object.
+    /// Checks the index, flat or a tree, and each entry with its object.
     pub(crate) fn check_index<B: Allocator>(
         &self,
         claims: &mut Claims<B>,
@@ -95,7 +95,7 @@ impl<'w, A: Allocator> Image<'w, A> {
         Ok(())
     }
 
-    /// The nodes of the index, which are claimed before any entry is read.
+    /// Claims the nodes of the index. This is before any entry is read.
     fn claim_index_nodes<B: Allocator>(
         &self,
         claims: &mut Claims<B>,
@@ -121,7 +121,8 @@ impl<'w, A: Allocator> Image<'w, A> {
         Ok(())
     }
 
-    /// The entry at a position, and its object. Returns its name, which is above the one before.
+    /// Checks the entry at a position and claims its object. Returns the entry's name, which must be above the name
+    /// before.
     fn check_entry<B: Allocator>(
         &self,
         claims: &mut Claims<B>,
@@ -152,7 +153,7 @@ impl<'w, A: Allocator> Image<'w, A> {
         }
     }
 
-    /// Claims the object of the entry at a position, which has room for its values and its name.
+    /// Claims the object of the entry at a position. Its block must have room for its values and its name.
     fn claim_named<B: Allocator>(
         &self,
         claims: &mut Claims<B>,
@@ -177,7 +178,7 @@ impl<'w, A: Allocator> Image<'w, A> {
         self.await_values(claims, type_id, Turn { start, count })
     }
 
-    /// Lets the values of a claimed object wait for their turn, where they may name blocks.
+    /// Puts a claimed object in the queue if its values may have pointers.
     #[inline]
     fn await_values<B: Allocator>(
         &self,
@@ -200,7 +201,7 @@ impl<'w, A: Allocator> Image<'w, A> {
     }
 }
 
-/// The position of the entry in a node of the index, at the node's end.
+/// The position of the entry in a node of the index, after the tree words.
 fn entry_in(node: u32) -> u32
     ensures { node + index_node_size ≤ 2 ^ 32 → result ≡ node + tree_words }
 {
@@ -214,7 +215,7 @@ fn is_before(name: &[u8], other: &[u8]) -> bool
     name.cmp(other).is_lt()
 }
 
-/// Whether all bytes of a name can be printed, and none is a space.
+/// Whether all bytes of a name are printable, and none is a space.
 fn is_printable(name: &[u8]) -> bool
     ensures { IsTrue result ↔ All (λ b. (33 ≤ b) × (b ≤ 126)) name.now }
 {

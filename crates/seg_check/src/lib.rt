@@ -1,5 +1,4 @@
-//! The checker: whether an image is one that the library could have made, and if not, the first fault; and how a sound image is
-//! opened and saved.
+//! The checker: whether an image is sound, and if not, its first fault. Also how a sound image is opened and saved.
 #![tactic(auto)]
 
 mod bytes;

@@ -13,7 +13,8 @@ use seg_ptr::View;
 use std::alloc::Allocator;
 
 impl<A: Allocator> Image<'_, A> {
-    /// A list: its nodes along next, and then whether they are a ring, in which each is the one before the next.
+    /// Checks a list: claims its nodes along the pointers to the next, and then checks that they are a ring, in which
+    /// each node points to the previous one.
     pub(crate) fn check_list<B: Allocator>(
         &self,
         claims: &mut Claims<B>,
@@ -48,7 +49,7 @@ impl<A: Allocator> Image<'_, A> {
     }
 }
 
-/// Whether a node is the one before another, as that one says.
+/// Whether `next` points back to `node`.
 fn is_previous(bytes: View, node: u32, next: u32) -> bool
     ensures { next + PREVIOUS < 2 ^ 32 →
         IsTrue result ↔ (target bytes.entry.bytes.now (next + PREVIOUS) ≡ Some node) }

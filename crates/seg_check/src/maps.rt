@@ -13,7 +13,7 @@ use seg_cells::{Content, KEY};
 use std::alloc::Allocator;
 
 impl<A: Allocator> Image<'_, A> {
-    /// A flat map: its buffer, and then the order of its keys.
+    /// Checks a flat map: its buffer, and then the order of its keys.
     pub(crate) fn check_flat_map<B: Allocator>(
         &self,
         claims: &mut Claims<B>,
@@ -37,7 +37,7 @@ impl<A: Allocator> Image<'_, A> {
         keys.check(cell)
     }
 
-    /// A map: its nodes, and then the tree and the order of its keys.
+    /// Checks a map: claims its nodes, and then checks the tree and the order of its keys.
     pub(crate) fn check_map<B: Allocator>(
         &self,
         claims: &mut Claims<B>,
@@ -70,7 +70,7 @@ impl<A: Allocator> Image<'_, A> {
         keys.check(cell)
     }
 
-    /// The key that stands right before the value at a position.
+    /// The key right before the value at a position.
     #[tactic(auto, unfolding(seg_bytes::specs::Bytes::signed))]
     fn key(&self, value: u32) -> i64
         ensures { KEY ≤ value → result ≡ signed_long self.now.w.now.bytes (value - KEY) }
@@ -79,7 +79,7 @@ impl<A: Allocator> Image<'_, A> {
     }
 }
 
-/// The keys of a map, one after the other.
+/// The last key of a map that is checked in order, and whether all keys ascended so far.
 #[derive(Clone, Copy)]
 struct Keys {
     last: Option<i64>,
@@ -107,7 +107,7 @@ impl Keys {
         self.last = Some(key);
     }
 
-    /// Whether no key or a lower one came last.
+    /// Whether a key is above the last one, if there is one.
     fn is_before(self, key: i64) -> bool
         ensures { IsTrue result ↔ MatchOption self.last ⊤ (λ last. last <ℤ key) }
     {
@@ -117,7 +117,7 @@ impl Keys {
         }
     }
 
-    /// Each key is above the one before, else `BadValue` with the map's cell.
+    /// `BadValue` with the map's cell if a key wasn't above the one before.
     fn check(self, cell: u32) -> Result<(), ContentFault>
         ensures { (ks : List ℤ) → HasKeys self ks → MatchResult result (λ _. IsAscending ks)
             (λ fault. (fault ≡ ContentFault.BadValue cell) × (IsAscending ks → ⊥)) }

@@ -13,9 +13,8 @@ use seg_ptr::{Window, header};
 use seg_raw::Fault;
 use std::alloc::Allocator;
 
-/// The types of an image, whose heap this allocator keeps; the image is one of the version that may have frozen objects
-/// from then on. Refused for the image's first fault, and with `BadHeader` where it names the other allocator; then nothing
-/// changes.
+/// Checks an image, and returns its types. The image then is one of the version that may have frozen objects.
+/// `BadHeader` if it has the other allocator, otherwise the image's first fault; then nothing changes.
 pub fn open<F: Fit, A: Allocator, B: Allocator>(
     alloc: B,
     window: &mut Window<A>,

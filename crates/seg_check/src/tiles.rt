@@ -17,13 +17,13 @@ use seg_layout::{MAX_TYPES, Type, TypeTable};
 use seg_ptr::header;
 use std::alloc::Allocator;
 
-/// One more than the greatest number of a kind.
+/// One more than the largest number of a tag's kind.
 const KINDS: usize = 8;
 
-/// More than any word has that spells the tag of a type: the kind's number is the lowest byte, the type the next one.
+/// More than any word that encodes the tag of a type: the kind's number is the lowest byte, the type the next one.
 const TAG_WORDS: usize = 256 * MAX_TYPES;
 
-/// What the first block comes after.
+/// The block before the first one.
 const BEFORE_ALL: Header = Header {
     units: 0,
     is_live: true,
@@ -33,9 +33,10 @@ const BEFORE_ALL: Header = Header {
 };
 
 impl<A: Allocator> Image<'_, A> {
-    /// The blocks, one after the other to the end of the image: each with at least two units, the units of the one
-    /// before, a tag that the types allow, and if it is live no link; and no two free ones side by side. `Err` has the
-    /// position of the first header that is wrong. Returns what the free ones say of the list of sequential fit.
+    /// Checks the blocks, one after the other to the end of the image: each has at least two units and states the size
+    /// of the block before; an allocated one has a tag that the types allow, and no link; no two free ones are
+    /// adjacent. `Err` has the position of the first wrong header. Returns the check of sequential fit's list, for
+    /// which it collects the free blocks.
     pub(crate) fn check_tiles<B: Allocator>(&self, claims: &mut Claims<B>) -> Result<FreeList, u32>
         ensures tiles { HasFront self.now.w.now.bytes self.now.types.now
             → IsOk result ↔ HasTiles self.now.w.now.bytes self.now.types.now }
@@ -71,15 +72,15 @@ impl<A: Allocator> Image<'_, A> {
     }
 }
 
-/// The tags that the live blocks of an image may have, worked out once.
+/// The tags that the allocated blocks of an image may have, computed once.
 #[derive(Drop)]
 struct LiveTags {
-    /// For each word that spells a tag, whether it is one of them.
+    /// For each word, whether it encodes one of these tags.
     are_right: [bool; TAG_WORDS],
 }
 
 impl LiveTags {
-    /// Frozen objects are there only where `shares` says so.
+    /// Includes the tags of frozen objects only if `shares`.
     fn of(types: &TypeTable, shares: bool) -> LiveTags
         ensures { (version : ℕ) → IsTrue shares ↔ (version ≡ sharing_version) →
             IsTable types.now → AreLiveTags version types.now result.are_right }
@@ -94,14 +95,14 @@ impl LiveTags {
         LiveTags { are_right }
     }
 
-    /// Whether a word spells one of them.
+    /// Whether a word encodes one of these tags.
     fn have(&self, word: u32) -> bool
         ensures { result ≡ get_or self.now.are_right word false }
     {
         self.are_right.get(word as usize) == Some(&true)
     }
 
-    /// Whether a header is right after another one, its size aside.
+    /// Whether a header may follow another one, apart from its size.
     fn follows(&self, header: Header, before: Header) -> bool
         ensures { (version : ℕ) (table : Table) → AreLiveTags version table self.now.are_right
             → IsTrue result ↔ Follows version table before header }
@@ -115,7 +116,7 @@ impl LiveTags {
     }
 }
 
-/// Whether a live block may have this tag.
+/// Whether an allocated block may have this tag.
 fn is_live_tag(types: &TypeTable, tag: Tag, shares: bool) -> bool
     ensures { IsTrue result ↔ (AllowsType types.now (kind_of tag.kind) tag.type_id ×
         (kind_of tag.kind ≡ block.Kind.frozen → IsTrue shares)) }

@@ -10,7 +10,8 @@ use seg_layout::{MAX_TYPES, TypeId};
 use std::alloc::Allocator;
 
 impl<A: Allocator> Image<'_, A> {
-    /// The words of the unique objects. No live block is an object of an unused type, so the word of such a type is null.
+    /// Checks the pointers to the unique objects, and claims them. No allocated block has an unused type, so the
+    /// pointer of an unused type must be null.
     pub(crate) fn check_uniques<B: Allocator>(
         &self,
         claims: &mut Claims<B>,

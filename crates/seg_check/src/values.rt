@@ -19,7 +19,7 @@ use seg_layout::{Type, TypeId};
 use std::alloc::Allocator;
 
 impl<A: Allocator> Image<'_, A> {
-    /// The values in the claimed blocks, and in the blocks that their cells claim.
+    /// Checks the values in the claimed blocks, and in the blocks that their cells claim.
     pub(crate) fn check_values<B: Allocator>(
         &self,
         claims: &mut Claims<B>,
@@ -34,7 +34,7 @@ impl<A: Allocator> Image<'_, A> {
         Ok(())
     }
 
-    /// The values in a claimed block.
+    /// Checks the values in a claimed block.
     fn check_block<B: Allocator>(
         &self,
         claims: &mut Claims<B>,
@@ -57,7 +57,7 @@ impl<A: Allocator> Image<'_, A> {
         Ok(())
     }
 
-    /// What stands in a claimed block that waited for its turn.
+    /// The layout of the entries in a claimed block of the queue.
     fn entry_of(&self, block: u32) -> Option<Entry>
         ensures { IsTable self.now.types.now →
             IsOwnable self.now.w.now.bytes self.now.types.now block →
@@ -76,8 +76,8 @@ impl<A: Allocator> Image<'_, A> {
         Some(content.entry)
     }
 
-    /// The cells of a value, by ascending position. A struct's are those of its fields, which have lower types, so this
-    /// recurses no deeper than the table is long.
+    /// Checks the cells of a value, by ascending position. The cells of a struct are those of its fields, which have
+    /// lower types, so the recursion is no deeper than the table is long.
     fn check_value<B: Allocator>(
         &self,
         claims: &mut Claims<B>,
@@ -105,7 +105,7 @@ impl<A: Allocator> Image<'_, A> {
         Ok(())
     }
 
-    /// A cell, and the blocks that it names, which it claims.
+    /// Checks a cell, and claims the blocks that it points to.
     fn check_cell<B: Allocator>(
         &self,
         claims: &mut Claims<B>,
@@ -137,7 +137,7 @@ impl<A: Allocator> Image<'_, A> {
         }
     }
 
-    /// A string or a vector: its buffer.
+    /// Checks a string or a vector, and claims its buffer.
     fn check_buffer<B: Allocator>(
         &self,
         claims: &mut Claims<B>,
@@ -157,7 +157,7 @@ impl<A: Allocator> Image<'_, A> {
         Ok(())
     }
 
-    /// An own: its object.
+    /// Checks an own, and claims its object.
     fn check_own<B: Allocator>(
         &self,
         claims: &mut Claims<B>,
@@ -179,8 +179,8 @@ impl<A: Allocator> Image<'_, A> {
         Ok(())
     }
 
-    /// A cell that shares an object with others, and the frozen object that it names. Where a frozen object owns the cell, the
-    /// one that it names has a lower number.
+    /// Checks a shared cell, and counts it for the frozen object that it points to. If a frozen object owns the cell,
+    /// the one that the cell points to must have a lower number.
     fn check_shared<B: Allocator>(
         &self,
         claims: &mut Claims<B>,
@@ -209,7 +209,8 @@ impl<A: Allocator> Image<'_, A> {
         }
     }
 
-    /// How much a cell counts that isn't empty. `BadPointer` where it counts something and names nothing.
+    /// The count of a cell, or `None` if the cell is empty. `BadPointer` if it counts something and its pointer is
+    /// null.
     pub(crate) fn counted(&self, cell: u32) -> Result<Option<u32>, ContentFault>
         ensures { result ≡ counted_by cell (target self.now.w.now.bytes cell)
             (count_at self.now.w.now.bytes cell) }
@@ -221,7 +222,8 @@ impl<A: Allocator> Image<'_, A> {
         }
     }
 
-    /// The same of a cell that counts the blocks that it leads to: `BadValue` where it names one and counts none.
+    /// Like [`counted`](Image::counted), of a cell that counts the blocks it points to: `BadValue` if it points to one
+    /// and counts none.
     pub(crate) fn counted_blocks(&self, cell: u32) -> Result<Option<u32>, ContentFault>
         ensures { result ≡ blocks_counted_by cell (target self.now.w.now.bytes cell)
             (count_at self.now.w.now.bytes cell) }

@@ -8,12 +8,12 @@ use seg_ptr::Window;
 use seg_rbtree::{Colour, Side, child_word, node_colour};
 use std::alloc::Allocator;
 
-/// The most nodes on a way down a tree. An image holds fewer than 2^26 nodes, so a red-black tree of them has at most 52 on
-/// a way. The tree's own paths are longer, since they bound trees of 2^32 nodes; which way is too long for an image is
-/// part of its format.
+/// The longest path in a tree, in nodes. An image has fewer than 2^26 nodes, so a red-black tree of them has at most 52
+/// on a path. The tree's own paths may be longer, since their bound is for trees of 2^32 nodes. Which path is too long
+/// for an image is part of the format.
 const DEPTH: usize = 60;
 
-/// A tree as it is to be.
+/// A tree, and the number of nodes that it should have.
 #[derive(Clone, Copy)]
 pub(crate) struct Tree {
     /// The position of the pointer to its root.
@@ -25,8 +25,9 @@ impl Tree {
     ghost use Rattle.std.specs.Prelude.{ℕ, ◌/◌, ◌↔◌, List, length};
     ghost use Rattle.seg_check.specs.Walks.{Completes, Hangs, IsSteady};
 
-    /// A walk through the tree. Where it isn't a red-black tree of so many nodes, the walk ends with the position of the
-    /// pointer to the root as `Err`: at once before a node that would stand too deep, else after the last node.
+    /// Walks through the tree. If it isn't a red-black tree with the right number of nodes, the walk ends with `Err`,
+    /// which has the position of the pointer to the root: at once before a node that would be too deep, else after the
+    /// last node.
     pub(crate) fn walk<A: Allocator>(self, w: &Window<A>) -> Walk<'_, A>
         ensures starts { (height : ℕ) (nodes entering : List ℕ)
             → Completes w.now.bytes height result.stage nodes entering
@@ -44,10 +45,10 @@ impl Tree {
     }
 }
 
-/// What a walk comes to. Each node is entered before its left part, and passed between its left and its right part.
+/// A step of a walk. Each node is entered before its left subtree, and passed between its left and its right subtree.
 #[derive(Clone, Copy)]
 pub(crate) enum Visit {
-    /// The position of a pointer that names a node.
+    /// The position of a pointer to a node.
     Enter(u32),
     /// The next node in order.
     Pass(u32),
@@ -71,21 +72,21 @@ struct Entered {
     above: Above,
 }
 
-/// How far a walk has come.
+/// The state of a walk.
 #[derive(Drop)]
 struct Stage {
-    /// How many nodes the tree is to have.
+    /// How many nodes the tree should have.
     wanted: usize,
-    /// The position of the pointer that leads to the place where the walk is.
+    /// The position of the pointer to the current place.
     pointer: u32,
     above: Above,
-    /// The nodes to the left of the place and above it.
+    /// The nodes above the current place that aren't passed yet.
     entered: ArrayVec<Entered, DEPTH>,
     /// How many nodes were entered.
     nodes: usize,
-    /// How many black nodes are above the empty places, once one was met.
+    /// How many black nodes are above the empty places, once one was reached.
     height: Option<u8>,
-    /// Whether what was met so far may be of a red-black tree.
+    /// Whether the tree may be a red-black tree so far.
     is_red_black: bool,
 }
 
@@ -113,7 +114,7 @@ impl Stage {
             above: Above {
                 nodes: 0,
                 blacks: 0,
-                // a root is black
+                // as if a red node were above the root, since a root is black
                 is_red: true,
             },
             entered: ArrayVec::new(),
@@ -123,7 +124,8 @@ impl Stage {
         }
     }
 
-    /// Goes on from the node of this colour at the place to its left part. False before a node that would stand too deep.
+    /// Enters the node of this colour at the current place, and goes to its left child. False before a node that would
+    /// be too deep.
     fn enter(&mut self, node: u32, colour: Option<Colour>) -> bool
         ensures goes_on { IsTrue result → (bytes : List ℕ) (height : ℕ) (rest entering : List ℕ)
             → target bytes self.old.pointer ≡ Some node → IsColourOf bytes node colour
@@ -164,7 +166,7 @@ impl Stage {
         true
     }
 
-    /// Goes on from an empty place to the right part of the next node in order, and returns this node.
+    /// Goes from an empty place to the right child of the next node in order, and returns this node.
     fn pass(&mut self) -> Option<u32>
         ensures goes_on { IfSome result (λ node. (bytes : List ℕ) (height : ℕ)
             → (rest entering : List ℕ)
@@ -194,7 +196,7 @@ impl Stage {
         Some(node)
     }
 
-    /// Whether the tree is as it is to be, once all of it was walked.
+    /// Whether the tree is right, once all of it was walked.
     fn is_right(&self) -> bool
         ensures { IsTrue result
             ↔ ((self.now.is_red_black ≡ true) × (self.now.nodes ≡ self.now.wanted)) }
@@ -209,7 +211,7 @@ pub(crate) struct Walk<'w, A: Allocator> {
     w: &'w Window<A>,
     /// The position of the pointer to the root.
     root: u32,
-    /// More turns than the walk of a tree in this segment takes: two for each node, and one.
+    /// An upper bound on the steps of a walk through a tree in this segment: two for each node, and one.
     turns: u32,
     stage: Stage,
 }
@@ -218,7 +220,7 @@ impl<A: Allocator> Walk<'_, A> {
     ghost use Rattle.std.specs.Prelude.{ℕ, ◌+◌, List, length, IfErr, IfOk, IfSome};
     ghost use Rattle.seg_check.specs.Walks.{Completes, IsSteady, Proceeds};
 
-    /// What the walk comes to next, until it has come to the end.
+    /// The next step of the walk, or `None` at its end.
     pub(crate) fn next(&mut self) -> Result<Option<Visit>, u32>
         ensures fewer { OnOk result (self.new.turns + 1 ≡ self.old.turns) }
         ensures steady { IsSteady self.old.w.now.bytes self.old.stage self.old.turns
@@ -251,7 +253,7 @@ impl<A: Allocator> Walk<'_, A> {
     }
 }
 
-/// Whether so many black nodes are above an empty place as above those that were met.
+/// Whether there are as many black nodes above an empty place as above the earlier ones.
 fn is_height(known: Option<u8>, blacks: u8) -> bool
     ensures { result ≡ is_height known blacks }
 {
@@ -267,7 +269,7 @@ fn is_red(colour: Option<Colour>) -> bool
     matches!(colour, Some(Colour::Red))
 }
 
-/// Whether a node of this colour may stand below a red one, or below another.
+/// Whether a node of this colour may be the child of a red one, or of another.
 fn may_stand(colour: Option<Colour>, below_red: bool) -> bool
     ensures { result ≡ may_stand colour below_red }
 {
@@ -278,7 +280,7 @@ fn may_stand(colour: Option<Colour>, below_red: bool) -> bool
     }
 }
 
-/// The position of the pointer to a child. A node that lies in the segment has one.
+/// The position of the pointer to a child of a node that lies in the segment.
 fn child_pointer(node: u32, side: Side) -> u32
     ensures { side_word node side < 2 ^ 32 → result ≡ side_word node side }
 {

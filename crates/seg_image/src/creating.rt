@@ -12,8 +12,8 @@ use seg_raw::{Fault, Region};
 use seg_seqfit::SeqFit;
 use std::alloc::Allocator;
 
-/// The allocator of a segment's heap: sequential fit takes the first gap that is large enough, best fit the smallest one, as
-/// `simple_seq_fit` and `rbtree_best_fit` of Boost.Interprocess do.
+/// The allocator of a segment's heap. Sequential fit takes the first free block that is large enough, best fit the
+/// smallest one, like `simple_seq_fit` and `rbtree_best_fit` of Boost.Interprocess.
 #[derive(Debug, Clone, Copy, PartialEq, Eq)]
 pub enum AllocatorKind {
     Seq,
@@ -21,8 +21,8 @@ pub enum AllocatorKind {
 }
 
 impl<A: Allocator> Image<A> {
-    /// An image of `size` bytes without objects or types. `BadSize` where the size isn't a multiple of 16 from
-    /// [`MIN_LEN`](seg_manager::MIN_LEN) to [`MAX_LEN`], `Memory` where host memory is refused.
+    /// A new image of `size` bytes without objects or types. `BadSize` if the size isn't a multiple of 16 from
+    /// [`MIN_LEN`](seg_manager::MIN_LEN) to [`MAX_LEN`], `Memory` if host memory is refused.
     pub fn create(
         alloc: A,
         size: u32,

@@ -6,8 +6,8 @@ use crate::opening::Unopened;
 use seg_raw::{Code, Fault};
 use std::alloc::{AllocError, Allocator};
 
-/// Why a host's work on an image ends, for functions that meet both: a call of the host was refused, or a request within the
-/// image. `?` makes it of either.
+/// Why a host's work on an image ends, for functions that meet both kinds: a call of the host failed ([`Fault`]), or a
+/// request within the image ([`Code`]). `?` converts either.
 #[derive(Debug, Clone, Copy, PartialEq, Eq)]
 pub enum Error {
     Fault(Fault),

@@ -17,14 +17,14 @@ use seg_raw::Fault;
 use seg_seqfit::SeqFit;
 use std::alloc::Allocator;
 
-/// An open image: a segment on the allocator that the image names.
+/// An open image: a segment with the allocator that the image's header selects.
 #[derive(Drop)]
 pub enum Image<A: Allocator> {
     Seq(Segment<SeqFit, A>),
     Best(Segment<BestFit, A>),
 }
 
-/// A call on the segment of an image, whichever allocator it is on.
+/// A call on the segment of an image, for either allocator.
 macro_rules! on {
     ($image:expr, $segment:ident => $call:expr) => {
         match $image {
@@ -44,7 +44,7 @@ impl<A: Allocator> Image<A> {
         on!(self, segment => segment.window())
     }
 
-    /// How many bytes the image has.
+    /// The size of the image in bytes.
     pub fn size(&self) -> u32
         ensures { result ≡ length (segment_of self.now).window.bytes }
     {
@@ -67,7 +67,8 @@ impl<A: Allocator> Image<A> {
         on!(self, segment => segment.types())
     }
 
-    /// Adds the types of a longer table. `TypeMismatch` where both tables have an entry that differs; then nothing changes.
+    /// Adds the types of a longer table. `TypeMismatch` if both tables have an entry that differs; then nothing
+    /// changes.
     pub fn add_types(&mut self, types: &TypeTable) -> Result<(), Fault>
         ensures window { KeepsHost (segment_of self.old).window (segment_of self.new).window }
         ensures agree { IsOk result ↔ Agree (segment_of self.old).types types.now }
@@ -96,7 +97,7 @@ impl<A: Allocator> Image<A> {
         on!(self, segment => save(alloc, segment.window()))
     }
 
-    /// The image's bytes in their own memory, which isn't copied.
+    /// The image's bytes, in their own memory without a copy.
     pub fn into_bytes(self) -> Vec<u8, A>
         ensures { result.items ≡ (segment_of self).window.bytes }
     {

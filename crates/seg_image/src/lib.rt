@@ -1,8 +1,8 @@
-//! An open image: a segment on whichever allocator the image names. It is opened where it is sound, then read and changed by
-//! the host's own calls, grown, and saved.
+//! An open image: a segment with whichever allocator the image has. A sound image is opened, read and changed by the
+//! host's own calls, grown, and saved.
 //!
-//! [`Image`] is where to begin. Its calls are those of the crates below, which are named there, on an allocator that is
-//! known when the image is opened.
+//! Begin with [`Image`]. Its calls are those of the crates below, on an allocator that is known when the image is
+//! opened.
 #![tactic(auto)]
 
 mod creating;

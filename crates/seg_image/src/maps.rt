@@ -16,9 +16,9 @@ use seg_raw::Code;
 use seg_value::Place;
 use std::alloc::Allocator;
 
-/// Flat maps and maps, from numbers to values. `OtherType` where a place's type is none.
+/// Flat maps and maps, from numbers to values. Calls on a place of another type fail with `OtherType`.
 impl<A: Allocator> Image<A> {
-    /// The value of a key. `Absent` where the map doesn't have it.
+    /// The place of a key's value. `Absent` if the map doesn't have the key.
     pub fn get(&self, map: Place, key: i64) -> Result<Place, Code>
         ensures of_type { IfOk result
             (λ value. IsMapOf (form_at (types_of self.now) map.type_id) value.type_id) }
@@ -34,8 +34,8 @@ impl<A: Allocator> Image<A> {
         on!(self, segment => placed(get(segment.heap(), map, key), value))
     }
 
-    /// The value of a key, which gets a default one where the map doesn't have it. `BadAlloc` where there is no room; then
-    /// nothing changes. Values of a flat map may move: places in it end.
+    /// The place of a key's value. A missing key is added with a default value. `BadAlloc` if there is no room for it;
+    /// then nothing changes. Values of a flat map may move, so earlier places in it become invalid.
     pub fn put(&mut self, map: Place, key: i64) -> Result<Place, Code>
         ensures bytes { ChangesBytes self.old self.new }
         ensures of_type { IfOk result
@@ -58,7 +58,7 @@ impl<A: Allocator> Image<A> {
         on!(self, segment => placed(put(segment.heap_mut(), map, key), value))
     }
 
-    /// Removes a key and destroys its value. False where the map doesn't have it, or the place is no map.
+    /// Removes a key and destroys its value. False if the map doesn't have the key, or if the place is no map.
     pub fn remove(&mut self, map: Place, key: i64) -> bool
         ensures bytes { ChangesBytes self.old self.new }
         ensures other { has_keys (form_at (types_of self.old) map.type_id) ≡ false →
@@ -74,7 +74,7 @@ impl<A: Allocator> Image<A> {
         on!(self, segment => remove(segment.heap_mut(), map, key))
     }
 
-    /// The least key. `Null` where the map is empty.
+    /// The least key. `Null` if the map is empty.
     pub fn first_key(&self, map: Place) -> Result<i64, Code>
         ensures other { has_keys (form_at (types_of self.now) map.type_id) ≡ false →
             result ≡ Err Code.OtherType }
@@ -86,7 +86,7 @@ impl<A: Allocator> Image<A> {
         on!(self, segment => first_key(segment.heap(), map))
     }
 
-    /// The least key above another one, which need not be there. `Null` where there is none.
+    /// The least key above another one, which need not exist. `Null` if there is none.
     pub fn next_key(&self, map: Place, after: i64) -> Result<i64, Code>
         ensures other { has_keys (form_at (types_of self.now) map.type_id) ≡ false →
             result ≡ Err Code.OtherType }

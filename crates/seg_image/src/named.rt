@@ -17,11 +17,12 @@ use seg_raw::Code;
 use seg_value::Place;
 use std::alloc::Allocator;
 
-/// Named objects. A name has 1 to 63 bytes, each visible and in ASCII, and its object 1 to 65535 values of one type.
+/// Named objects. A name has 1 to 63 bytes, each a visible ASCII character. An object has 1 to 65535 values of one
+/// type.
 impl<A: Allocator> Image<A> {
-    /// Makes an object of `count` default values, and returns the place of the first one. `OtherType` where the image has
-    /// no such type, `OutOfRange` where the name is none or the count isn't from 1 to 65535, `AlreadyExists` where an
-    /// object has the name, `BadAlloc` where there is no room; then nothing changes.
+    /// Makes an object of `count` default values, and returns the place of the first one. `OtherType` if the image has
+    /// no such type, `OutOfRange` if the name isn't allowed or the count isn't from 1 to 65535, `AlreadyExists` if an
+    /// object has the name, `BadAlloc` if there is no room; then nothing changes.
     pub fn construct(&mut self, name: &[u8], t: TypeId, count: u32) -> Result<Place, Code>
         ensures bytes { ChangesBytes self.old self.new }
         ensures of_type { IfOk result (λ place. place.type_id ≡ t) }
@@ -45,7 +46,8 @@ impl<A: Allocator> Image<A> {
         on!(self, segment => placed(segment.construct(name, t, count), t))
     }
 
-    /// The place of the first value of a name's object. `Absent` where there is none, `OtherType` where it has another type.
+    /// The place of the first value of the object with this name. `Absent` if there is none, `OtherType` if it has
+    /// another type.
     pub fn find(&self, name: &[u8], t: TypeId) -> Result<Place, Code>
         ensures { (picture : Picture) → IsOpen self.now picture →
             result ≡ first_place t (found_as t (root_named picture.names name.now)) }
@@ -57,8 +59,8 @@ impl<A: Allocator> Image<A> {
         })
     }
 
-    /// The place of the value of a name's object that has this index, counted from 0. `OutOfRange` where it has fewer, and
-    /// the codes of [`find`](Image::find).
+    /// The place of the value with this index, counted from 0, in the object with this name. `OutOfRange` if the object
+    /// has fewer values; otherwise it fails as [`find`](Image::find) does.
     pub fn find_item(&self, name: &[u8], t: TypeId, index: u32) -> Result<Place, Code>
         ensures { (picture : Picture) → IsOpen self.now picture →
             result ≡ item_place (types_of self.now) t index
@@ -75,7 +77,7 @@ impl<A: Allocator> Image<A> {
         })
     }
 
-    /// How many values a name's object has. Codes as of [`find`](Image::find).
+    /// How many values the object with this name has. Fails as [`find`](Image::find) does.
     pub fn count(&self, name: &[u8], t: TypeId) -> Result<u16, Code>
         ensures { (picture : Picture) → IsOpen self.now picture →
             result ≡ value_count (found_as t (root_named picture.names name.now)) }
@@ -84,7 +86,7 @@ impl<A: Allocator> Image<A> {
         Ok(found.count)
     }
 
-    /// The object of a name. Codes as of [`find`](Image::find).
+    /// The object with this name. Fails as [`find`](Image::find) does.
     fn found(&self, name: &[u8], t: TypeId) -> Result<Found, Code>
         ensures { (picture : Picture) → IsOpen self.now picture →
             result ≡ found_as t (root_named picture.names name.now) }
@@ -92,9 +94,9 @@ impl<A: Allocator> Image<A> {
         on!(self, segment => segment.find(name, t))
     }
 
-    /// The place of the first value of a name's object, which is made with one default value where there is none.
-    /// `OtherType` where its object has another type or the image has no such type, `OutOfRange` where the name is none,
-    /// `BadAlloc` where there is no room; then nothing changes.
+    /// The place of the first value of the object with this name. If there is none, it is made with one default value.
+    /// `OtherType` if the object has another type or the image has no such type, `OutOfRange` if the name isn't
+    /// allowed, `BadAlloc` if there is no room; then nothing changes.
     pub fn find_or_construct(&mut self, name: &[u8], t: TypeId) -> Result<Place, Code>
         ensures bytes { ChangesBytes self.old self.new }
         ensures of_type { IfOk result (λ place. place.type_id ≡ t) }
@@ -120,7 +122,7 @@ impl<A: Allocator> Image<A> {
         on!(self, segment => placed(segment.find_or_construct(name, t), t))
     }
 
-    /// Destroys a name's object, with all that its values own. False where there is none of this type.
+    /// Destroys the object with this name, and everything that its values own. False if there is none of this type.
     pub fn destroy(&mut self, name: &[u8], t: TypeId) -> bool
         ensures bytes { ChangesBytes self.old self.new }
         ensures tells { (picture : Picture) → IsOpen self.old picture →
@@ -133,7 +135,7 @@ impl<A: Allocator> Image<A> {
         on!(self, segment => segment.destroy(name, t))
     }
 
-    /// How many names there are.
+    /// How many named objects there are.
     pub fn num_named(&self) -> u32
         ensures { (picture : Picture) → IsOpen self.now picture →
             result ≡ length picture.names }
@@ -141,7 +143,7 @@ impl<A: Allocator> Image<A> {
         on!(self, segment => num_named(segment))
     }
 
-    /// The least name, with the type and the number of values of its object.
+    /// The first name in order, with the type of its object and the number of its values.
     pub fn first_name(&self) -> Option<Named<'_>>
         ensures { (picture : Picture) → IsOpen self.now picture →
             MatchOption result (slice_get picture.names 0 ≡ None)
@@ -151,7 +153,7 @@ impl<A: Allocator> Image<A> {
         on!(self, segment => first_name(segment))
     }
 
-    /// The least name above another one, which need not be there.
+    /// The first name after another one, which need not exist.
     pub fn next_name(&self, after: &[u8]) -> Option<Named<'_>>
         ensures { (picture : Picture) → IsOpen self.now picture →
             MatchOption result (root_after picture.names after.now ≡ None)
@@ -161,7 +163,7 @@ impl<A: Allocator> Image<A> {
         on!(self, segment => next_name(segment, after))
     }
 
-    /// Whether the image has a type, or `OtherType`.
+    /// `OtherType` if the image doesn't have this type.
     pub(crate) fn known(&self, t: TypeId) -> Result<(), Code>
         ensures known { OnOk result (t < length (types_of self.now)) }
         ensures few { OnOk result (t < MAX_TYPES) }

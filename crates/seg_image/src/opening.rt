@@ -16,7 +16,7 @@ use seg_raw::{Fault, Region};
 use seg_seqfit::SeqFit;
 use std::alloc::Allocator;
 
-/// Bytes that aren't opened, and why. `?` makes it the fault alone.
+/// Bytes that weren't opened, and why. `?` converts it to the fault.
 #[derive(Drop)]
 pub struct Unopened<A: Allocator> {
     pub fault: Fault,
@@ -31,7 +31,8 @@ impl<A: Allocator> From<Unopened<A>> for Fault {
     }
 }
 
-/// The types of an image, or its first fault: [`Image::open`] opens it exactly where this accepts it. It works on a copy.
+/// The types of an image, or its first fault. It works on a copy. [`Image::open`] opens exactly the images that this
+/// accepts.
 pub fn check<A: Allocator + Copy>(alloc: A, bytes: &[u8]) -> Result<TypeTable, Fault>
     ensures image { IfOk result (IsImageOf bytes.now) }
     ensures fault { IfErr result (IsFaultOf bytes.now) }
@@ -41,9 +42,9 @@ pub fn check<A: Allocator + Copy>(alloc: A, bytes: &[u8]) -> Result<TypeTable, F
 }
 
 impl<A: Allocator + Copy> Image<A> {
-    /// Opens an image where it is sound, in its own memory; it is one of the version that may have frozen objects from then
-    /// on. The bytes come back with the image's first fault, or with `Memory` where host memory for the check is refused:
-    /// 9 bytes for each 16 of the image, or 13 where it has a shared type, freed before the call returns.
+    /// Opens a sound image in its own memory. It then is one of the version that may have frozen objects. Otherwise it
+    /// returns the bytes with the image's first fault, or with `Memory` if host memory for the check is refused: 9
+    /// bytes for each 16 of the image, or 13 if it has a shared type, freed before the call returns.
     pub fn open(alloc: A, bytes: Vec<u8, A>) -> Result<Image<A>, Unopened<A>>
         ensures opened { IfOk result
             (λ image. (segment_of image).window.bytes ≡ upgraded bytes.items) }
@@ -86,7 +87,7 @@ fn open_on<F: Fit, A: Allocator + Copy>(
     }
 }
 
-/// A window on all bytes of an image. Bytes that are too many for a segment are no image.
+/// A window on all bytes of an image. More bytes than a segment may have are no image.
 fn window_of<A: Allocator>(bytes: Vec<u8, A>) -> Result<Window<A>, Unopened<A>>
     ensures window { IfOk result (λ window. window.bytes ≡ bytes.items) }
     ensures fault { IfErr result (λ unopened. IsFaultOf bytes.items unopened.fault) }

@@ -21,9 +21,9 @@ use seg_raw::Code;
 use seg_value::{Content, Heap, Place, set_own};
 use std::alloc::Allocator;
 
-/// Owns: values that hold an object without a name, or none.
+/// Owns: values that own one object without a name, or none.
 impl<A: Allocator> Image<A> {
-    /// The value of the object that an own holds. `OtherType` where a place's type is none, `Null` where it holds none.
+    /// The value of the object that an own has. `OtherType` if the place is no own, `Null` if it is empty.
     pub fn content(&self, own: Place) -> Result<Place, Code>
         ensures { result ≡ content_place (object_type (form_at (types_of self.now) own.type_id))
             (target (bytes_in self.now) own.at) }
@@ -35,8 +35,8 @@ impl<A: Allocator> Image<A> {
         }
     }
 
-    /// Makes an object with a default value, which the own holds in place of the one before, and that one is destroyed.
-    /// `OtherType` where a place's type is none, `BadAlloc` where there is no room; then nothing changes.
+    /// Makes a new object with a default value for the own. The own's previous object is destroyed. `OtherType` if the
+    /// place is no own, `BadAlloc` if there is no room; then nothing changes.
     pub fn put_content(&mut self, own: Place) -> Result<Place, Code>
         ensures bytes { ChangesBytes self.old self.new }
         ensures of_type { IfOk result (λ place.
@@ -57,8 +57,8 @@ impl<A: Allocator> Image<A> {
     }
 }
 
-/// Makes an own hold a new object of this type, and returns the position of its value. `BadAlloc` where there is no room;
-/// then nothing changes.
+/// Gives an own a new object of type `t`, and returns the position of its value. `BadAlloc` if there is no room; then
+/// nothing changes.
 fn put_new<F: Fit, A: Allocator>(
     heap: &mut Heap<F, A>,
     own: Place,

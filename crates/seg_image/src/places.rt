@@ -12,7 +12,7 @@ use seg_raw::Code;
 use seg_value::Place;
 use std::alloc::Allocator;
 
-/// The place of a value of this type, where a call returned its position.
+/// The place of a value of this type, from the position that a call returned.
 pub(crate) fn placed(position: Result<u32, Code>, type_id: TypeId) -> Result<Place, Code>
     ensures position { position_of result ≡ position }
     ensures of_type { IfOk result (λ place. place.type_id ≡ type_id) }
@@ -23,9 +23,9 @@ pub(crate) fn placed(position: Result<u32, Code>, type_id: TypeId) -> Result<Pla
     })
 }
 
-/// What the types of places are. Each is refused as `OtherType` where it is something else.
+/// The types of places. A place of a wrong type fails with `OtherType`.
 impl<A: Allocator> Image<A> {
-    /// What the type of a place is. `OtherType` where the image has no such type.
+    /// The type of a place. `OtherType` if the image has no such type.
     pub(crate) fn kind(&self, place: Place) -> Result<Type, Code>
         ensures { MatchResult result
             (λ kind. form_at (types_of self.now) place.type_id ≡ Some (form_of kind))
@@ -35,7 +35,7 @@ impl<A: Allocator> Image<A> {
         self.types().kind(place.type_id).ok_or(Code::OtherType)
     }
 
-    /// Whether a number stands at a place.
+    /// `OtherType` if the place is no number.
     pub(crate) fn number(&self, place: Place) -> Result<(), Code>
         ensures { MatchResult result
             (λ _. form_at (types_of self.now) place.type_id ≡ Some Form.i64)
@@ -48,7 +48,7 @@ impl<A: Allocator> Image<A> {
         Ok(())
     }
 
-    /// Whether a string stands at a place.
+    /// `OtherType` if the place is no string.
     pub(crate) fn string(&self, place: Place) -> Result<(), Code>
         ensures { MatchResult result
             (λ _. form_at (types_of self.now) place.type_id ≡ Some Form.str)
@@ -88,7 +88,7 @@ impl<A: Allocator> Image<A> {
         Ok(value)
     }
 
-    /// The type of the object that an own holds.
+    /// The type of the object that an own has.
     pub(crate) fn object_type(&self, own: Place) -> Result<TypeId, Code>
         ensures { MatchResult result
             (λ object. object_type (form_at (types_of self.now) own.type_id) ≡ Some object)

@@ -23,7 +23,7 @@ use std::alloc::Allocator;
 
 /// Strings.
 impl<A: Allocator> Image<A> {
-    /// The bytes of a string. `OtherType` where a place's type is none.
+    /// The bytes of a string. `OtherType` if the place is no string.
     pub fn text(&self, place: Place) -> Result<&[u8], Code>
         ensures bytes { MatchResult result
             (λ text. (form_at (types_of self.now) place.type_id ≡ Some Form.str)
@@ -38,8 +38,8 @@ impl<A: Allocator> Image<A> {
         Ok(window.slice(from as usize, len as usize))
     }
 
-    /// Makes a string these bytes. `OtherType` where a place's type is none, `BadAlloc` where there is no room; then nothing
-    /// changes.
+    /// Replaces the bytes of a string. `OtherType` if the place is no string, `BadAlloc` if there is no room; then
+    /// nothing changes.
     pub fn assign(&mut self, place: Place, bytes: &[u8]) -> Result<(), Code>
         ensures bytes { ChangesBytes self.old self.new }
         ensures text { (xs blocks : List ℕ) →
@@ -52,7 +52,7 @@ impl<A: Allocator> Image<A> {
         on!(self, segment => assign(segment.heap_mut(), place, bytes))
     }
 
-    /// Adds bytes to a string. Codes as of [`assign`](Image::assign).
+    /// Appends bytes to a string. Fails as [`assign`](Image::assign) does.
     pub fn append(&mut self, place: Place, bytes: &[u8]) -> Result<(), Code>
         ensures bytes { ChangesBytes self.old self.new }
         ensures text { (xs blocks : List ℕ) →
@@ -66,9 +66,10 @@ impl<A: Allocator> Image<A> {
     }
 }
 
-/// Vectors and lists, and what they share with strings and maps.
+/// Vectors and lists, and the calls that they have in common with strings and maps.
 impl<A: Allocator> Image<A> {
-    /// How many bytes a string has, items a vector or a list, keys a map, and objects an own. `OtherType` elsewhere.
+    /// The number of bytes in a string, of items in a vector or a list, of keys in a map, or of objects in an own.
+    /// `OtherType` for other places.
     pub fn len(&self, place: Place) -> Result<u32, Code>
         ensures text { (xs blocks : List ℕ) →
             HasText (allocator_of self.now) (segment_of self.now) (place_of place) xs blocks →
@@ -97,8 +98,8 @@ impl<A: Allocator> Image<A> {
         }
     }
 
-    /// An item of a vector or a list, counted from 0. `OtherType` where a place's type is none, `OutOfRange` where it has
-    /// fewer. In a list it is a walk from its nearer end.
+    /// The place of an item of a vector or a list, by its index from 0. `OtherType` if the place is neither,
+    /// `OutOfRange` if it has fewer items. In a list it is found step by step from the nearer end.
     pub fn item(&self, place: Place, index: u32) -> Result<Place, Code>
         ensures of_type { IfOk result (λ item.
             item_type (form_at (types_of self.now) place.type_id) ≡ Some item.type_id) }
@@ -119,8 +120,8 @@ impl<A: Allocator> Image<A> {
         on!(self, segment => placed(at(segment.heap(), place, index), item))
     }
 
-    /// Adds a default item after the last one of a vector or a list. `OtherType` where a place's type is none, `BadAlloc`
-    /// where there is no room; then nothing changes. Items of a vector may move: places in it end.
+    /// Adds a default item at the end of a vector or a list. `OtherType` if the place is neither, `BadAlloc` if there
+    /// is no room; then nothing changes. Items of a vector may move, so earlier places in it become invalid.
     pub fn push_back(&mut self, place: Place) -> Result<Place, Code>
         ensures bytes { ChangesBytes self.old self.new }
         ensures of_type { IfOk result (λ item.
@@ -148,7 +149,8 @@ impl<A: Allocator> Image<A> {
         on!(self, segment => placed(push_back(segment.heap_mut(), place), item))
     }
 
-    /// A vector of numbers, found to be one once for all that is pushed. `OtherType` where a place's type is no such vector's.
+    /// A vector of numbers, whose type is checked once for all pushes. `OtherType` if the place is no vector of
+    /// numbers.
     pub fn numbers(&self, place: Place) -> Result<Numbers, Code>
         ensures { MatchResult result
             (λ numbers. (numbers.vector ≡ place) × HasNumbers (types_of self.now) place.type_id)
@@ -157,8 +159,8 @@ impl<A: Allocator> Image<A> {
         on!(self, segment => Numbers::of(segment.heap(), place))
     }
 
-    /// Adds a number after the last one of a vector of numbers, and returns its position. `BadAlloc` where there is no room;
-    /// then nothing changes. Its numbers may move: places in it end.
+    /// Adds a number at the end of a vector of numbers, and returns its position. `BadAlloc` if there is no room; then
+    /// nothing changes. The numbers may move, so earlier places in the vector become invalid.
     pub fn push_number(&mut self, vector: Numbers, number: i64) -> Result<u32, Code>
         ensures bytes { ChangesBytes self.old self.new }
         ensures vector { PushesNumber (allocator_of self.old) (segment_of self.old)
@@ -167,8 +169,8 @@ impl<A: Allocator> Image<A> {
         on!(self, segment => vector.push(segment.heap_mut(), number))
     }
 
-    /// Adds a default item before the first one of a list. `OtherType` where a place's type is none, `BadAlloc` where there
-    /// is no room; then nothing changes.
+    /// Adds a default item at the front of a list. `OtherType` if the place is no list, `BadAlloc` if there is no room;
+    /// then nothing changes.
     pub fn push_front(&mut self, place: Place) -> Result<Place, Code>
         ensures bytes { ChangesBytes self.old self.new }
         ensures of_type { IfOk result (λ item.
@@ -192,8 +194,8 @@ impl<A: Allocator> Image<A> {
         on!(self, segment => placed(push_front(segment.heap_mut(), place), item))
     }
 
-    /// Destroys the last item of a vector or a list, or drops the last byte of a string. `OtherType` where a place's type is
-    /// none, `Null` where it is empty.
+    /// Destroys the last item of a vector or a list, or drops the last byte of a string. `OtherType` if the place is
+    /// none of these, `Null` if it is empty.
     pub fn pop_back(&mut self, place: Place) -> Result<(), Code>
         ensures bytes { ChangesBytes self.old self.new }
         ensures text { (xs blocks : List ℕ) →
@@ -225,7 +227,7 @@ impl<A: Allocator> Image<A> {
         on!(self, segment => pop_back(segment.heap_mut(), place))
     }
 
-    /// Destroys the first item of a list. `OtherType` where a place's type is none, `Null` where it is empty.
+    /// Destroys the first item of a list. `OtherType` if the place is no list, `Null` if it is empty.
     pub fn pop_front(&mut self, place: Place) -> Result<(), Code>
         ensures bytes { ChangesBytes self.old self.new }
         ensures other { IsNoList (types_of self.old) place.type_id →

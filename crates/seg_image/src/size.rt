@@ -16,9 +16,9 @@ use seg_ptr::{MAX_LEN, Window};
 use seg_raw::{Fault, Region};
 use std::alloc::{AllocError, Allocator};
 
-/// Its size and its free memory, in bytes.
+/// The image's size and its free memory, in bytes.
 impl<A: Allocator> Image<A> {
-    /// The bytes of all gaps of the heap, with their headers of 16 bytes.
+    /// The size of all free blocks of the heap in bytes, with their headers of 16 bytes.
     pub fn free_memory(&self) -> u32
         ensures { IsHeap (allocator_of self.now) (bytes_in self.now) →
             result ≡ bytes_of (gaps (bytes_in self.now)) }
@@ -26,7 +26,7 @@ impl<A: Allocator> Image<A> {
         on!(self, segment => seg_space::free_memory(segment))
     }
 
-    /// The bytes of the largest gap, with its header.
+    /// The size of the largest free block in bytes, with its header of 16 bytes.
     pub fn largest_gap(&self) -> u32
         ensures { IsHeap (allocator_of self.now) (bytes_in self.now) →
             result ≡ largest_of (gaps (bytes_in self.now)) }
@@ -34,7 +34,7 @@ impl<A: Allocator> Image<A> {
         on!(self, segment => seg_space::largest_gap(segment))
     }
 
-    /// Whether no object holds memory: one gap is the whole heap.
+    /// Whether the heap is one free block, so that no object uses memory.
     pub fn all_memory_deallocated(&self) -> bool
         ensures { IsHeap (allocator_of self.now) (bytes_in self.now) →
             (IsTrue result ↔ (live (bytes_in self.now) ≡ [])) }
@@ -42,7 +42,8 @@ impl<A: Allocator> Image<A> {
         on!(self, segment => seg_space::all_memory_deallocated(segment))
     }
 
-    /// Writes 0 to the bytes of gaps that the allocator doesn't use, so that a saved image tells nothing of what was freed.
+    /// Writes 0 to the bytes of free blocks that the allocator doesn't use, so that a saved image shows nothing of
+    /// freed values.
     pub fn zero_free_memory(&mut self)
         ensures bytes { ChangesBytes self.old self.new }
         ensures zeroes { (picture : Picture) → IsOpen self.old picture →
@@ -52,10 +53,10 @@ impl<A: Allocator> Image<A> {
         on!(self, segment => seg_space::zero_free_memory(segment))
     }
 
-    /// Adds `extra` bytes at the end, and returns the new size in bytes. `BadSize` where that is no size of a segment or
-    /// `extra` is no multiple of 16, `Memory` where host memory is refused; then nothing changes.
+    /// Adds `extra` bytes at the end, and returns the new size in bytes. `BadSize` if that isn't a size of a segment or
+    /// `extra` is no multiple of 16, `Memory` if host memory is refused; then nothing changes.
     ///
-    /// The host's memory of the image grows with it, which copies the image where it has to move. Places stay good.
+    /// The host's memory of the image grows with it; the image is copied if it has to move there. Places stay valid.
     pub fn grow(&mut self, extra: u32) -> Result<u32, Fault>
         ensures allocator { allocator_of self.new ≡ allocator_of self.old }
         ensures types { types_of self.new ≡ types_of self.old }
@@ -72,7 +73,8 @@ impl<A: Allocator> Image<A> {
         on!(self, segment => grow(segment, extra))
     }
 
-    /// Cuts the gap at the end, and returns the new size in bytes. The host's memory of the image stays as large as it was.
+    /// Cuts the free block at the end, and returns the new size in bytes. The host's memory of the image keeps its
+    /// size.
     pub fn shrink(&mut self) -> u32
         ensures allocator { allocator_of self.new ≡ allocator_of self.old }
         ensures types { types_of self.new ≡ types_of self.old }
@@ -84,7 +86,7 @@ impl<A: Allocator> Image<A> {
     }
 }
 
-/// Grows the segment, in the memory that it has where there is room, and else in more.
+/// Grows the segment, in its own memory if there is room, or else in more.
 fn grow<F: Fit, A: Allocator>(segment: &mut Segment<F, A>, extra: u32) -> Result<u32, Fault>
     ensures types { segment.new.types ≡ segment.old.types }
     ensures size { IfOk result (λ size. size ≡ length segment.old.window.bytes + extra) }
@@ -118,7 +120,7 @@ fn grow_memory<F: Fit, A: Allocator>(segment: &mut Segment<F, A>, extra: u32) ->
     seg_space::grow(segment, extra)
 }
 
-/// The segment at the start of its memory, which then has `room` bytes, or as many as before where more are refused.
+/// The segment at the start of its memory, which then has `room` bytes, or as many as before if more are refused.
 fn with_room<F: Fit, A: Allocator>(
     segment: Segment<F, A>,
     room: u32,

@@ -1,8 +1,8 @@
 use seg_layout::{ENTRY, MAX_TYPES, Type, TypeTable};
 use seg_raw::Fault;
 
-/// The table of these types, each named by its place. A struct's fields have types before it; a container may be of any type of
-/// the table. `BadType` with the first one that may not stand there, or with 32 where there are more.
+/// The table of these types; a type's id is its index. Fields of a struct must have lower ids; a container may have any
+/// type of the table. `BadType` with the index of the first type that isn't allowed, or with 32 if there are more.
 pub fn type_table(types: &[Type]) -> Result<TypeTable, Fault> {
     let mut entries = [0; ENTRY * MAX_TYPES];
     if types.len() > MAX_TYPES {

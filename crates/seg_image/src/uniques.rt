@@ -11,10 +11,10 @@ use seg_raw::Code;
 use seg_value::Place;
 use std::alloc::Allocator;
 
-/// Unique objects: one value for each type at most.
+/// Unique objects: at most one object, of one value, for each type.
 impl<A: Allocator> Image<A> {
-    /// Makes the unique object of a type, with its default value. `OtherType` where the image has no such type,
-    /// `AlreadyExists` where the object is there, `BadAlloc` where there is no room; then nothing changes.
+    /// Makes the unique object of a type, with its default value. `OtherType` if the image has no such type,
+    /// `AlreadyExists` if the object exists, `BadAlloc` if there is no room; then nothing changes.
     pub fn construct_unique(&mut self, t: TypeId) -> Result<Place, Code>
         ensures bytes { ChangesBytes self.old self.new }
         ensures of_type { IfOk result (λ place. place.type_id ≡ t) }
@@ -31,7 +31,8 @@ impl<A: Allocator> Image<A> {
         on!(self, segment => placed(segment.construct_unique(t), t))
     }
 
-    /// The unique object of a type. `OtherType` where the image has no such type, `Absent` where there is no such object.
+    /// The place of the unique object of a type. `OtherType` if the image has no such type, `Absent` if there is no
+    /// such object.
     pub fn find_unique(&self, t: TypeId) -> Result<Place, Code>
         ensures of_type { IfOk result (λ place. place.type_id ≡ t) }
         ensures unknown { length (types_of self.now) ≤ t → result ≡ Err Code.OtherType }
@@ -44,8 +45,8 @@ impl<A: Allocator> Image<A> {
         on!(self, segment => placed(segment.find_unique(t), t))
     }
 
-    /// The unique object of a type, which is made where there is none. Codes as of
-    /// [`construct_unique`](Image::construct_unique), but for `AlreadyExists`.
+    /// The place of the unique object of a type, which is made if it doesn't exist. Fails as
+    /// [`construct_unique`](Image::construct_unique) does, but not with `AlreadyExists`.
     pub fn find_or_construct_unique(&mut self, t: TypeId) -> Result<Place, Code>
         ensures bytes { ChangesBytes self.old self.new }
         ensures of_type { IfOk result (λ place. place.type_id ≡ t) }
@@ -62,7 +63,7 @@ impl<A: Allocator> Image<A> {
         on!(self, segment => placed(segment.find_or_construct_unique(t), t))
     }
 
-    /// Destroys the unique object of a type, with all that it owns. False where there is none.
+    /// Destroys the unique object of a type, and everything that it owns. False if there is none.
     pub fn destroy_unique(&mut self, t: TypeId) -> bool
         ensures bytes { ChangesBytes self.old self.new }
         ensures unknown { length (types_of self.old) ≤ t → result ≡ false }

@@ -13,11 +13,12 @@ use seg_raw::Code;
 use seg_value::{Place, load};
 use std::alloc::Allocator;
 
-/// Values of any type. A place is one that a call on this image returned, and that is still there: it ends when its object is
-/// destroyed, or a container around it changes by more than its other values. A call on an old place reads and writes the
-/// image's bytes alone, but may spoil other values, so that a saved image may be refused.
+/// Values of any type. A place must be one that a call on this image returned, and must still be valid: it becomes
+/// invalid when its object is destroyed, and when a container around it changes by more than its other values. A call
+/// on an invalid place only reads and writes the image's bytes, but may damage other values, so that the saved image
+/// may be rejected.
 impl<A: Allocator> Image<A> {
-    /// The number at a place. `OtherType` where its type is no `i64`.
+    /// The number at a place. `OtherType` if its type isn't `i64`.
     pub fn load(&self, place: Place) -> Result<i64, Code>
         ensures number { form_at (types_of self.now) place.type_id ≡ Some Form.i64 →
             result ≡ Ok (signed_long (bytes_in self.now) place.at) }
@@ -28,7 +29,7 @@ impl<A: Allocator> Image<A> {
         Ok(load(self.window(), place.at))
     }
 
-    /// Makes the number at a place this one. `OtherType` where its type is no `i64`; then nothing changes.
+    /// Stores a number at a place. `OtherType` if its type isn't `i64`; then nothing changes.
     pub fn store(&mut self, place: Place, number: i64) -> Result<(), Code>
         ensures bytes { ChangesBytes self.old self.new }
         ensures number { form_at (types_of self.old) place.type_id ≡ Some Form.i64 → IsOk result }
@@ -46,7 +47,8 @@ impl<A: Allocator> Image<A> {
         })
     }
 
-    /// A field of a struct, counted from 0. `OtherType` where a place's type is no struct, `OutOfRange` where it has fewer.
+    /// The place of a struct's field, by its index from 0. `OtherType` if the place is no struct, `OutOfRange` if it
+    /// has fewer fields.
     pub fn field(&self, place: Place, index: u32) -> Result<Place, Code>
         ensures { FieldPlace (types_of self.now) place index result }
     {
@@ -58,7 +60,8 @@ impl<A: Allocator> Image<A> {
         }
     }
 
-    /// Frees all that a value owns, and the frozen objects that it names last, and makes it the default of its type.
+    /// Makes a value the default of its type. Frees everything that it owns, and each frozen object that no other cell
+    /// points to.
     pub fn clear(&mut self, place: Place)
         ensures bytes { ChangesBytes self.old self.new }
         ensures cleared { (v : Value) (blocks : List ℕ) → (s : StandsIn self.old place v blocks) →

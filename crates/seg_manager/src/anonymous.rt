@@ -12,9 +12,9 @@ use seg_raw::Code;
 use seg_value::Content;
 use std::alloc::Allocator;
 
-/// Objects without a name, which whoever made them must own or destroy.
+/// Objects without a name. The caller must give each an owner or destroy it.
 impl<F: Fit, A: Allocator> Segment<F, A> {
-    /// Makes an object with the default value of a type, and returns the value's position. `BadAlloc` where there is no
+    /// Makes an object with the default value of a type, and returns the value's position. `BadAlloc` if there is no
     /// room; then nothing changes.
     pub fn new_anonymous(&mut self, t: TypeId) -> Result<u32, Code>
         ensures window { KeepsHost self.old.window self.new.window }
@@ -30,7 +30,7 @@ impl<F: Fit, A: Allocator> Segment<F, A> {
         self.heap_mut().new_block(&content)
     }
 
-    /// Destroys an object that no pointer names, given by the position of its value, with all that it owns.
+    /// Destroys an object that no pointer points to, given by the position of its value, and everything that it owns.
     pub fn destroy_anonymous(&mut self, object: u32)
         ensures window { KeepsHost self.old.window self.new.window }
         ensures types { self.new.types ≡ self.old.types }

@@ -1,4 +1,4 @@
-//! The way to a key of a map that was returned last.
+//! The path to the key of a map that was returned last.
 
 ghost use Rattle.std.specs.Prelude.{ℕ, List};
 ghost use Rattle.seg_rbtree.specs.Following.{LeadsInside};
@@ -6,7 +6,7 @@ ghost use Rattle.seg_manager.specs.Cursors.{IsInside};
 
 use seg_rbtree::Path;
 
-/// A way down a map, which counts as long as it is kept.
+/// A path in a map, which is only valid while it is kept.
 #[derive(Drop)]
 pub(crate) struct Cursor {
     pub(crate) way: Path,
@@ -23,15 +23,15 @@ impl Cursor {
         }
     }
 
-    /// Drops the way, which may be out of date from here on.
-    // One write, since each lending of the heap does it.
+    /// Drops the path, which may be out of date from here on.
+    // A single write, since this happens each time the heap is borrowed to be changed.
     pub(crate) fn lose(&mut self)
         ensures { (bytes : List ℕ) → IsInside bytes self.new }
     {
         self.is_kept = false;
     }
 
-    /// Keeps the way: the one there is, or one that begins at the root where that was dropped.
+    /// Keeps the path from here on: the present one, or the path to the root if it was dropped.
     pub(crate) fn keep(&mut self)
         ensures { (bytes : List ℕ) → IsInside bytes self.old → LeadsInside bytes self.new.way }
     {

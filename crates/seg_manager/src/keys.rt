@@ -1,4 +1,4 @@
-//! The keys of a map, one after another.
+//! The keys of a map, in order.
 
 ghost use Rattle.std.specs.Prelude.{◌≡◌, true, false, Err, IsOkUnless};
 ghost use Rattle.std.specs.Result.{result_ok};
@@ -15,7 +15,7 @@ use seg_value::Place;
 use std::alloc::Allocator;
 
 impl<F: Fit, A: Allocator> Segment<F, A> {
-    /// The least key of a map. `OtherType` where the place is no map, `Null` where the map is empty.
+    /// The least key of a map. `OtherType` if the place is no map, `Null` if the map is empty.
     pub fn first_key(&mut self, map: Place) -> Result<i64, Code>
         ensures stays { self.new ≡ self.old }
         ensures other { has_keys (form_at self.old.types map.type_id) ≡ false →
@@ -29,8 +29,8 @@ impl<F: Fit, A: Allocator> Segment<F, A> {
         first_key_by(&self.heap, &mut self.cursor.way, map)
     }
 
-    /// The least key above another, which need not be there. `OtherType` where the place is no map, `Null` where no key is
-    /// above it. After a map's key was returned, the next one is a step from it while nothing changes the segment.
+    /// The least key above another, which need not exist. `OtherType` if the place is no map, `Null` if no key is above
+    /// it. The key after the one returned last is found in one step, unless the segment was changed in between.
     pub fn next_key(&mut self, map: Place, after: i64) -> Result<i64, Code>
         ensures stays { self.new ≡ self.old }
         ensures other { has_keys (form_at self.old.types map.type_id) ≡ false →

@@ -1,4 +1,4 @@
-//! A segment: named, unique and anonymous objects of known types in a window.
+//! A segment in a window: named, unique and anonymous objects of the types in its table.
 #![tactic(auto)]
 
 mod anonymous;

@@ -11,7 +11,7 @@ use seg_index::{NameEntry, name_count};
 use seg_layout::TypeId;
 use std::alloc::Allocator;
 
-/// A name of a segment, with the type and the number of values of its object.
+/// A name of a segment, with the type of its object and the number of its values.
 #[derive(Debug, Clone, Copy, PartialEq, Eq)]
 pub struct Named<'a> {
     pub name: &'a [u8],
@@ -19,7 +19,7 @@ pub struct Named<'a> {
     pub count: u16,
 }
 
-/// How many names there are.
+/// How many named objects there are.
 pub fn num_named<F: Fit, A: Allocator>(segment: &Segment<F, A>) -> u32
     ensures { (picture : Picture) → IsSegment F.allocator segment.now picture →
         result ≡ length picture.names }
@@ -27,7 +27,7 @@ pub fn num_named<F: Fit, A: Allocator>(segment: &Segment<F, A>) -> u32
     name_count(segment.window())
 }
 
-/// The least name.
+/// The first name in order.
 pub fn first_name<F: Fit, A: Allocator>(segment: &Segment<F, A>) -> Option<Named<'_>>
     ensures { (picture : Picture) → IsSegment F.allocator segment.now picture →
         MatchOption result (slice_get picture.names 0 ≡ None)
@@ -37,7 +37,7 @@ pub fn first_name<F: Fit, A: Allocator>(segment: &Segment<F, A>) -> Option<Named
     read_entry(segment, seg_index::first_name(segment.heap())?)
 }
 
-/// The least name above another one, which need not be there.
+/// The first name after another one, which need not exist.
 pub fn next_name<'s, F: Fit, A: Allocator>(
     segment: &'s Segment<F, A>,
     after: &[u8],
@@ -50,7 +50,7 @@ pub fn next_name<'s, F: Fit, A: Allocator>(
     read_entry(segment, seg_index::next_name(segment.heap(), after)?)
 }
 
-/// What an entry says.
+/// The name, the type and the count in an entry.
 fn read_entry<F: Fit, A: Allocator>(segment: &Segment<F, A>, entry: NameEntry) -> Option<Named<'_>>
     ensures { (root : Root) → IsNamed segment.now.window.bytes segment.now.types root →
         root.type < 32 → entry ≡ entry_of root →

@@ -27,14 +27,14 @@ use seg_raw::Code;
 use seg_value::Place;
 use std::alloc::Allocator;
 
-/// A named object: where its first value is, and how many it has.
+/// A named object: the position of its first value, and the number of its values.
 #[derive(Debug, Clone, Copy, PartialEq, Eq)]
 pub struct Found {
     pub at: u32,
     pub count: u16,
 }
 
-/// Bytes that may name an object: 1 to 63, each visible and in ASCII.
+/// The bytes of a name: 1 to 63, each a visible ASCII character.
 #[derive(Debug, Clone, Copy)]
 struct Name<'a> {
     bytes: &'a [u8],
@@ -58,9 +58,9 @@ impl<'a> Name<'a> {
 
 /// Named objects.
 impl<F: Fit, A: Allocator> Segment<F, A> {
-    /// Makes an object of `count` default values, and returns the position of the first one. `OutOfRange` where the name is
-    /// none or the count isn't from 1 to 65535, `AlreadyExists` where an object has the name, `BadAlloc` where there is no
-    /// room for the object or its entry in the index; then nothing changes.
+    /// Makes an object of `count` default values, and returns the position of the first one. `OutOfRange` if the name
+    /// isn't allowed or the count isn't from 1 to 65535, `AlreadyExists` if an object has the name, `BadAlloc` if there
+    /// is no room for the object or its entry in the index; then nothing changes.
     pub fn construct(&mut self, name: &[u8], t: TypeId, count: u32) -> Result<u32, Code>
         ensures window { KeepsHost self.old.window self.new.window }
         ensures types { self.new.types ≡ self.old.types }
@@ -91,7 +91,7 @@ impl<F: Fit, A: Allocator> Segment<F, A> {
         }
     }
 
-    /// Makes the object of a name that the index doesn't have, and enters it there.
+    /// Makes the object of a name that the index doesn't have, and adds its entry.
     fn construct_at(
         &mut self,
         vacant: Vacant,
@@ -123,7 +123,7 @@ impl<F: Fit, A: Allocator> Segment<F, A> {
         }
     }
 
-    /// A block for the object of a name, with default values and the name after them.
+    /// A block for a named object: default values, followed by the name.
     fn new_named(&mut self, name: Name, t: TypeId, count: u16) -> Result<u32, Code>
         ensures window { KeepsHost self.old.window self.new.window }
         ensures types { self.new.types ≡ self.old.types }
@@ -155,7 +155,7 @@ impl<F: Fit, A: Allocator> Segment<F, A> {
         Ok(object)
     }
 
-    /// Makes `count` values from a position on the default of a type.
+    /// Writes `count` default values of a type from a position on.
     fn init_values(&mut self, object: u32, t: TypeId, count: u16)
         ensures window { KeepsHost self.old.window self.new.window }
         ensures types { self.new.types ≡ self.old.types }
@@ -173,7 +173,7 @@ impl<F: Fit, A: Allocator> Segment<F, A> {
         }
     }
 
-    /// The object of a name. `Absent` where there is none, `OtherType` where it has another type.
+    /// The object with this name. `Absent` if there is none, `OtherType` if it has another type.
     pub fn find(&self, name: &[u8], t: TypeId) -> Result<Found, Code>
         ensures { (picture : Picture) → IsSegment F.allocator self.now picture →
             result ≡ found_as t (root_named picture.names name.now) }
@@ -184,7 +184,7 @@ impl<F: Fit, A: Allocator> Segment<F, A> {
         }
     }
 
-    /// The object of an entry. `OtherType` where it has another type.
+    /// The object of an entry. `OtherType` if it has another type.
     fn found(&self, entry: NameEntry, t: TypeId) -> Result<Found, Code>
         ensures { (root : Root) → IsNamed self.now.window.bytes self.now.types root →
             root.type < 32 → entry ≡ entry_of root → result ≡ found_as t (Some root) }
@@ -201,8 +201,9 @@ impl<F: Fit, A: Allocator> Segment<F, A> {
         })
     }
 
-    /// The position of the first value of a name's object. An object of one default value is made where there is none.
-    /// `OutOfRange` where the name is none, `OtherType` where its object has another type, `BadAlloc` where there is no room.
+    /// The position of the first value of the object with this name. If there is none, it is made with one default
+    /// value. `OutOfRange` if the name isn't allowed, `OtherType` if the object has another type, `BadAlloc` if there
+    /// is no room.
     pub fn find_or_construct(&mut self, name: &[u8], t: TypeId) -> Result<u32, Code>
         ensures window { KeepsHost self.old.window self.new.window }
         ensures types { self.new.types ≡ self.old.types }
@@ -233,7 +234,7 @@ impl<F: Fit, A: Allocator> Segment<F, A> {
         }
     }
 
-    /// Destroys the object of a name, with all that its values own. False where there is none of this type.
+    /// Destroys the object with this name, and everything that its values own. False if there is none of this type.
     pub fn destroy(&mut self, name: &[u8], t: TypeId) -> bool
         ensures window { KeepsHost self.old.window self.new.window }
         ensures types { self.new.types ≡ self.old.types }
@@ -255,7 +256,7 @@ impl<F: Fit, A: Allocator> Segment<F, A> {
         true
     }
 
-    /// Destroys a named object whose entry is out of the index.
+    /// Destroys a named object whose entry was removed from the index.
     fn destroy_named(&mut self, found: Found, t: TypeId)
         ensures window { KeepsHost self.old.window self.new.window }
         ensures types { self.new.types ≡ self.old.types }
@@ -275,7 +276,7 @@ impl<F: Fit, A: Allocator> Segment<F, A> {
     }
 }
 
-/// A value of an object, by its index. Each has `size` bytes.
+/// The place of a value of an object, by its index. Each value has `size` bytes.
 fn value_of(object: u32, type_id: TypeId, size: u32, index: u16) -> Place
     ensures at { result.at ≡ (object + index * size) % 2 ^ 32 }
     ensures type_id { result.type_id ≡ type_id }

@@ -15,13 +15,13 @@ use seg_value::Heap;
 use std::alloc::Allocator;
 use std::marker::Model;
 
-/// A segment: its bytes, their table of types, and the allocator of its heap. Its calls mean what they say where the bytes
-/// are a sound image of that table and that allocator, but for anonymous objects that nothing owns; on any other bytes they
-/// return.
+/// A segment: its bytes, its type table, and the allocator of its heap. What its calls promise is about a sound image
+/// with that table and that allocator, which may also have anonymous objects without an owner. On any other bytes the
+/// calls still return.
 #[derive(Drop)]
 pub struct Segment<F: Fit, A: Allocator> {
     pub(crate) heap: Heap<F, A>,
-    /// The way to the key of a map that was returned last. It is dropped where the heap may change.
+    /// The path to the key of a map that was returned last. It is dropped when the heap may change.
     pub(crate) cursor: Cursor,
 }
 
@@ -48,7 +48,7 @@ impl<F: Fit, A: Allocator> Segment<F, A> {
         }
     }
 
-    /// The values of the segment.
+    /// The heap with the segment's values.
     pub fn heap(&self) -> &Heap<F, A>
         ensures { result.now ≡ self.now }
     {
@@ -59,7 +59,7 @@ impl<F: Fit, A: Allocator> Segment<F, A> {
     ghost use Rattle.seg_value.specs.contracts.heap.Heap as the_heap;
     ghost use Rattle.seg_manager.specs.contracts.segment.Segment.{the_row};
 
-    /// The values of the segment, to change.
+    /// The heap with the segment's values, to change it.
     pub fn heap_mut(&mut self) -> &mut Heap<F, A>
         ensures value { result.now ≡ self.old }
         ensures* writes_back { sem 𝓛 (Lends (the_row F.row A.row F.Fit A.Allocator)
@@ -81,7 +81,7 @@ impl<F: Fit, A: Allocator> Segment<F, A> {
         self.heap.types()
     }
 
-    /// Adds the types of a longer table, in the bytes too. `TypeMismatch` where both tables have an entry that differs.
+    /// Adds the types of a longer table, also in the bytes. `TypeMismatch` if both tables have an entry that differs.
     pub fn add_types(&mut self, types: &TypeTable) -> Result<(), Fault>
         ensures window { KeepsHost self.old.window self.new.window }
         ensures agree { IsOk result ↔ Agree self.old.types types.now }
@@ -119,7 +119,7 @@ impl<F: Fit, A: Allocator> Segment<F, A> {
     }
 }
 
-/// Writes a table of types into the image.
+/// Writes a type table into the image.
 fn write_types<A: Allocator>(w: &mut Window<A>, types: &TypeTable)
     ensures host { KeepsHost w.old w.new }
     ensures changes { IsTable types.now →

@@ -10,10 +10,10 @@ use seg_layout::{MAX_TYPES, TypeId};
 use seg_raw::Code;
 use std::alloc::Allocator;
 
-/// Unique objects: one for each type at most.
+/// Unique objects: at most one for each type.
 impl<F: Fit, A: Allocator> Segment<F, A> {
-    /// Makes the unique object of a type, with its default value, and returns the value's position. `AlreadyExists` where
-    /// it is there, `BadAlloc` where there is no room; then nothing changes.
+    /// Makes the unique object of a type, with its default value, and returns the value's position. `AlreadyExists` if
+    /// the object exists, `BadAlloc` if there is no room; then nothing changes.
     pub fn construct_unique(&mut self, t: TypeId) -> Result<u32, Code>
         ensures window { KeepsHost self.old.window self.new.window }
         ensures types { self.new.types ≡ self.old.types }
@@ -30,7 +30,7 @@ impl<F: Fit, A: Allocator> Segment<F, A> {
         Ok(object)
     }
 
-    /// The position of the unique object of a type. `Absent` where there is none.
+    /// The position of the unique object of a type. `Absent` if there is none.
     pub fn find_unique(&self, t: TypeId) -> Result<u32, Code>
         ensures { (picture : Picture) → IsSegment F.allocator self.now picture → t < MAX_TYPES →
             MatchResult result (λ at. unique_at picture t ≡ Some at)
@@ -39,7 +39,7 @@ impl<F: Fit, A: Allocator> Segment<F, A> {
         unique(self.window(), t).ok_or(Code::Absent)
     }
 
-    /// The position of the unique object of a type, which is made where there is none. `BadAlloc` where there is no room.
+    /// The position of the unique object of a type, which is made if it doesn't exist. `BadAlloc` if there is no room.
     pub fn find_or_construct_unique(&mut self, t: TypeId) -> Result<u32, Code>
         ensures window { KeepsHost self.old.window self.new.window }
         ensures types { self.new.types ≡ self.old.types }
@@ -55,7 +55,7 @@ impl<F: Fit, A: Allocator> Segment<F, A> {
         }
     }
 
-    /// Destroys the unique object of a type, with all that it owns. False where there is none.
+    /// Destroys the unique object of a type, and everything that it owns. False if there is none.
     pub fn destroy_unique(&mut self, t: TypeId) -> bool
         ensures window { KeepsHost self.old.window self.new.window }
         ensures types { self.new.types ≡ self.old.types }
