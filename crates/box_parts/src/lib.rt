@@ -1,4 +1,4 @@
-//! A `Box` taken apart into its pointer and its allocator, for a struct that keeps them and names no other type.
+//! A `Box` split into its pointer and its allocator, for a struct that must store them without other types.
 #![tactic(auto)]
 
 ghost use Rattle.std.specs.Prelude.{◌≡◌};
@@ -7,9 +7,9 @@ ghost use Rattle.std_alloc.specs.Box.Ownership.{box_owns};
 use std::alloc::Allocator;
 use std::marker::Model;
 
-/// The parts of a box, which own what it owned.
+/// The parts of a box. They own what the box owned.
 ///
-/// It isn't `Drop`, so code that loses the value is refused.
+/// It isn't `Drop`, so code that loses the value is rejected.
 pub struct BoxParts<T, A: Allocator> {
     pub at: *mut T,
     pub alloc: A,
@@ -21,7 +21,7 @@ impl<T, A: Allocator> Model for BoxParts<T, A> {
 }
 
 impl<T, A: Allocator> BoxParts<T, A> {
-    /// Takes a box apart.
+    /// Splits a box.
     pub fn of(whole: Box<T, A>) -> BoxParts<T, A>
     where
         T: Drop,
@@ -31,7 +31,7 @@ impl<T, A: Allocator> BoxParts<T, A> {
         BoxParts { at, alloc }
     }
 
-    /// Puts it together again.
+    /// Makes the box again.
     pub fn into_box(self) -> Box<T, A>
         ensures { result.value ≡ self.value }
     {

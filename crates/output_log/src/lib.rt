@@ -1,4 +1,4 @@
-//! The bytes that an output was given, for proofs alone: nothing of them is kept when a program runs.
+//! The bytes that an output was given, for proofs only: a running program stores none of them.
 #![tactic(auto)]
 
 ghost use Rattle.std.specs.Prelude.{◌≡◌, ℕ, List, [], ◌++◌};
@@ -24,7 +24,7 @@ impl Log {
         Log {}
     }
 
-    /// The bytes of a log, and more behind them.
+    /// The bytes of a log, followed by more.
     pub fn then(_before: &Log, _bytes: &[u8]) -> Log
         ensures { result.bytes ≡ _before.now.bytes ++ _bytes.now }
     {

@@ -1,3 +1,3 @@
-//! The definitions of bytes as little-endian numbers, which all others stand on. It has no program code: definitions stand in
-//! `specs`, and in `proofs` what the crates above cite of them.
+//! The definitions of bytes as little-endian numbers, on which all others are based. The crate has no program code. The
+//! definitions are in `specs`; lemmas that other crates use are in `proofs`.
 #![tactic(auto)]

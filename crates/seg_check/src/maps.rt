@@ -79,7 +79,7 @@ impl<A: Allocator> Image<'_, A> {
     }
 }
 
-/// The last key of a map that is checked in order, and whether all keys ascended so far.
+/// The keys of a map so far: the last one, and whether they ascend.
 #[derive(Clone, Copy)]
 struct Keys {
     last: Option<i64>,

@@ -13,8 +13,8 @@ use seg_ptr::{Window, header};
 use seg_raw::Fault;
 use std::alloc::Allocator;
 
-/// Checks an image, and returns its types. The image then is one of the version that may have frozen objects.
-/// `BadHeader` if it has the other allocator, otherwise the image's first fault; then nothing changes.
+/// Checks an image, and returns its types. The image then is one of the version that may have frozen objects. Fails
+/// with the image's first fault, or with `BadHeader` if a sound image has the other allocator; then nothing changes.
 pub fn open<F: Fit, A: Allocator, B: Allocator>(
     alloc: B,
     window: &mut Window<A>,

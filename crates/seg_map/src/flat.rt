@@ -1,4 +1,4 @@
-//! A flat map: a buffer of entries {key, value} in order of their keys.
+//! A flat map: a buffer of entries {key, value} in ascending order of their keys.
 
 ghost use Rattle.std.specs.Prelude.{◌≡◌, ℕ, ℤ, List, Some, None, IsOkUnless, MatchResult, slice_get};
 ghost use Rattle.seg_spec.specs.Items.{key_place, keys_below};
@@ -16,7 +16,7 @@ use seg_raw::Code;
 use seg_value::{Content, Entry, Heap, binary_search};
 use std::alloc::Allocator;
 
-/// The index of a key's entry, or the index where one would stand.
+/// `Ok` with the index of a key's entry, or `Err` with the index to insert it at.
 fn search<F: Fit, A: Allocator>(
     heap: &Heap<F, A>,
     entry: Entry,
@@ -49,7 +49,7 @@ pub(crate) fn get<F: Fit, A: Allocator>(
     Some(entry.value_at(heap.start(cell), index))
 }
 
-/// The position of a key's value, which is added if it is missing.
+/// The position of a key's value. A missing key is added.
 pub(crate) fn put<F: Fit, A: Allocator>(
     heap: &mut Heap<F, A>,
     content: &Content,
@@ -71,7 +71,7 @@ pub(crate) fn put<F: Fit, A: Allocator>(
     }
 }
 
-/// Adds a key with a default value at its place in the order, and returns the position of the value.
+/// Inserts a key with a default value at an index, and returns the position of the value.
 fn insert<F: Fit, A: Allocator>(
     heap: &mut Heap<F, A>,
     content: &Content,
@@ -97,7 +97,7 @@ fn insert<F: Fit, A: Allocator>(
     Ok(content.entry.value_at(at, 0))
 }
 
-/// Removes a key with its value, and closes the gap. False where the map doesn't have the key.
+/// Removes a key with its value. False if the map doesn't have the key.
 pub(crate) fn remove<F: Fit, A: Allocator>(
     heap: &mut Heap<F, A>,
     content: &Content,
@@ -125,7 +125,7 @@ pub(crate) fn remove<F: Fit, A: Allocator>(
     true
 }
 
-/// The key of an entry, if the map has so many.
+/// The key of the entry with this index, if the map has one.
 fn key_of<F: Fit, A: Allocator>(
     heap: &Heap<F, A>,
     entry: Entry,

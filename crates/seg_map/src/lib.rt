@@ -1,6 +1,6 @@
-//! Maps from numbers to values, of two kinds: flat ones, whose entries stand in a buffer, and trees. The same calls serve
-//! both. A map is named by its place, a value by its position. A call on a place that is no map is refused as OtherType, or
-//! returns false.
+//! Maps from numbers to values, of two kinds: flat maps, with their entries in a buffer, and trees. The same calls work
+//! on both. A map is identified by its place, a value by its position. A call on a place that is no map fails with
+//! `OtherType`, or returns false.
 #![tactic(auto)]
 
 mod flat;

@@ -18,7 +18,7 @@ use seg_rbtree::Path;
 use seg_value::{Content, Heap, KEY, Place, Shape};
 use std::alloc::Allocator;
 
-/// The two kinds of maps, by what the map's cell names.
+/// The two kinds of maps, with the layout of what the map's cell points to.
 enum Kind {
     Flat(Content),
     Tree(Content),
@@ -27,7 +27,7 @@ enum Kind {
 impl Kind {
     ghost use Rattle.seg_map.specs.EitherMap.{KindOf};
 
-    /// The kind of the map at a place. `OtherType` where the place is no map.
+    /// The kind of the map at a place. `OtherType` if the place is no map.
     fn of<F: Fit, A: Allocator>(heap: &Heap<F, A>, map: Place) -> Result<Kind, Code>
         ensures { KindOf heap.now.types map.type_id (form_at heap.now.types map.type_id) result }
     {
@@ -46,7 +46,7 @@ impl Kind {
     }
 }
 
-/// How many keys a map has. `OtherType` where the place is no map.
+/// How many keys a map has. `OtherType` if the place is no map.
 pub fn len<F: Fit, A: Allocator>(heap: &Heap<F, A>, map: Place) -> Result<u32, Code>
     ensures other { has_keys (form_at heap.now.types map.type_id) ≡ false →
         result ≡ Err Code.OtherType }
@@ -60,7 +60,7 @@ pub fn len<F: Fit, A: Allocator>(heap: &Heap<F, A>, map: Place) -> Result<u32, C
     }
 }
 
-/// The position of a key's value. `OtherType` where the place is no map, `Absent` where the map doesn't have the key.
+/// The position of a key's value. `OtherType` if the place is no map, `Absent` if the map doesn't have the key.
 pub fn get<F: Fit, A: Allocator>(heap: &Heap<F, A>, map: Place, key: i64) -> Result<u32, Code>
     ensures other { has_keys (form_at heap.now.types map.type_id) ≡ false →
         result ≡ Err Code.OtherType }
@@ -77,8 +77,8 @@ pub fn get<F: Fit, A: Allocator>(heap: &Heap<F, A>, map: Place, key: i64) -> Res
     .ok_or(Code::Absent)
 }
 
-/// The position of a key's value. A map that doesn't have the key gets it, with a default value. `OtherType` where the
-/// place is no map, `BadAlloc` where there is no room for the key; then nothing changes.
+/// The position of a key's value. A missing key is added with a default value. `OtherType` if the place is no map,
+/// `BadAlloc` if there is no room for the key; then nothing changes.
 pub fn put<F: Fit, A: Allocator>(heap: &mut Heap<F, A>, map: Place, key: i64) -> Result<u32, Code>
     ensures window { KeepsHost heap.old.window heap.new.window }
     ensures types { heap.new.types ≡ heap.old.types }
@@ -101,7 +101,7 @@ pub fn put<F: Fit, A: Allocator>(heap: &mut Heap<F, A>, map: Place, key: i64) ->
     }
 }
 
-/// Removes a key, and destroys its value. False where the map doesn't have the key, or the place is no map.
+/// Removes a key, and destroys its value. False if the map doesn't have the key, or if the place is no map.
 pub fn remove<F: Fit, A: Allocator>(heap: &mut Heap<F, A>, map: Place, key: i64) -> bool
     ensures window { KeepsHost heap.old.window heap.new.window }
     ensures types { heap.new.types ≡ heap.old.types }
@@ -124,7 +124,7 @@ pub fn remove<F: Fit, A: Allocator>(heap: &mut Heap<F, A>, map: Place, key: i64)
     }
 }
 
-/// The least key. `OtherType` where the place is no map, `Null` where the map is empty.
+/// The least key. `OtherType` if the place is no map, `Null` if the map is empty.
 pub fn first_key<F: Fit, A: Allocator>(heap: &Heap<F, A>, map: Place) -> Result<i64, Code>
     ensures other { has_keys (form_at heap.now.types map.type_id) ≡ false →
         result ≡ Err Code.OtherType }
@@ -137,7 +137,7 @@ pub fn first_key<F: Fit, A: Allocator>(heap: &Heap<F, A>, map: Place) -> Result<
     first_key_by(heap, &mut cursor, map)
 }
 
-/// The same. A cursor then leads to the key, where the map is a tree.
+/// Like [`first_key`]. In a tree map the cursor is left at the key.
 pub fn first_key_by<F: Fit, A: Allocator>(
     heap: &Heap<F, A>,
     cursor: &mut Path,
@@ -159,8 +159,7 @@ pub fn first_key_by<F: Fit, A: Allocator>(
     .ok_or(Code::Null)
 }
 
-/// The least key above another, which need not be there. `OtherType` where the place is no map, `Null` where no key is
-/// above it.
+/// The least key above another, which need not exist. `OtherType` if the place is no map, `Null` if no key is above it.
 pub fn next_key<F: Fit, A: Allocator>(
     heap: &Heap<F, A>,
     map: Place,
@@ -177,7 +176,7 @@ pub fn next_key<F: Fit, A: Allocator>(
     next_key_by(heap, &mut cursor, map, after)
 }
 
-/// The same. A cursor then leads to the key, where the map is a tree, and where it led to the other key it goes one step.
+/// Like [`next_key`]. In a tree map the cursor is left at the key, so the following call is one step.
 pub fn next_key_by<F: Fit, A: Allocator>(
     heap: &Heap<F, A>,
     cursor: &mut Path,

@@ -1,4 +1,4 @@
-//! A map as a red-black tree of nodes: tree words, the key, the value. The pointer of the map's cell names the root.
+//! A map as a red-black tree of nodes: tree words, the key, the value. The map's cell points to the root.
 
 ghost use Rattle.std.specs.Prelude.{◌≡◌, ℕ, ℤ, ◌+◌, ◌%◌, ◌^◌, List, [], ◌∷◌, Some, ⊤, IsOkUnless};
 ghost use Rattle.std.specs.Ordering.{int_cmp};
@@ -66,7 +66,7 @@ impl UniqueKeys<i64> for ByKey {
     ghost one = { λ _ _ bytes x y key first second. equal_to_one int_cmp_total (signed_long bytes ((x + 16) % 2 ^ 32)) (signed_long bytes ((y + 16) % 2 ^ 32)) key first second };
 }
 
-/// Where a node has its key.
+/// The position of a node's key.
 fn key_place(node: u32) -> u32
     ensures { result ≡ (node + 16) % 2 ^ 32 }
 {
@@ -101,7 +101,7 @@ pub(crate) fn get<F: Fit, A: Allocator>(
     Some(entry.value_at(node, 0))
 }
 
-/// The position of a key's value, which is added if it is missing.
+/// The position of a key's value. A missing key is added.
 pub(crate) fn put<F: Fit, A: Allocator>(
     heap: &mut Heap<F, A>,
     content: &Content,
@@ -133,7 +133,7 @@ pub(crate) fn put<F: Fit, A: Allocator>(
     Ok(content.entry.value_at(node, 0))
 }
 
-/// Removes a key with its value. False where the map doesn't have the key.
+/// Removes a key with its value. False if the map doesn't have the key.
 pub(crate) fn remove<F: Fit, A: Allocator>(
     heap: &mut Heap<F, A>,
     content: &Content,
@@ -164,7 +164,7 @@ pub(crate) fn remove<F: Fit, A: Allocator>(
     true
 }
 
-/// The least key, to which the cursor then leads.
+/// The least key. The cursor is left at it.
 pub(crate) fn first_key<F: Fit, A: Allocator>(
     heap: &Heap<F, A>,
     cursor: &mut Path,
@@ -178,8 +178,7 @@ pub(crate) fn first_key<F: Fit, A: Allocator>(
     Some(key_of(heap.window().view(), node))
 }
 
-/// The least key above another, to which the cursor then leads. It is one step from the other key where the cursor leads to
-/// that.
+/// The least key above another. The cursor is left at it. It takes one step if the cursor was at the other key.
 pub(crate) fn next_key<F: Fit, A: Allocator>(
     heap: &Heap<F, A>,
     cursor: &mut Path,

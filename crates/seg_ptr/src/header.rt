@@ -1,4 +1,4 @@
-//! Where the fields of an image's header stand, in bytes from the start of the segment, and what each image has alike.
+//! The positions of the fields of an image's header, in bytes, and what all headers have in common.
 ghost use Rattle.std.specs.Prelude.{◌≡◌, ◌↔◌, IsTrue, codes, replicate};
 ghost use Rattle.seg_bytes.specs.Bytes.{slice, put, word, set_word};
 ghost use Rattle.seg_spec.specs.Header.{IsVersion};
@@ -8,47 +8,47 @@ ghost use Rattle.seg_spec.specs.Window.{with_bytes};
 use crate::window::Window;
 use std::alloc::Allocator;
 
-/// The bytes that an image begins with.
+/// The first bytes of an image.
 const MAGIC: &[u8] = b"SEGIMAGE";
 
-/// The version of the format whose images have no objects that cells share.
+/// The version of the format without frozen objects.
 const FIRST_VERSION: u32 = 1;
 
-/// The version of the format whose images may have some.
+/// The version of the format that may have frozen objects.
 const SHARING_VERSION: u32 = 2;
 
-/// The word with the version of the format.
+/// The position of the format's version.
 const VERSION: usize = 8;
 
-/// The word that counts the segment's units of 16 bytes.
+/// The position of the segment's size in units of 16 bytes.
 pub const SIZE: usize = 12;
 
-/// The word that says which allocator the heap has: 0 for sequential fit, 1 for best fit.
+/// The position of the allocator's number: 0 for sequential fit, 1 for best fit.
 pub const ALLOCATOR: usize = 16;
 
-/// The word that says which index the names have: 0 for a flat one, 1 for a tree.
+/// The position of the index's kind: 0 for a flat index, 1 for a tree.
 pub const INDEX_KIND: usize = 20;
 
-/// The pointer to the free blocks: the lowest one, or the root of their tree.
+/// The position of the pointer to the free blocks: to the lowest one, or to the root of their tree.
 pub const FREE: usize = 24;
 
-/// The word with the number of the next object that becomes frozen. It is 0 in images of version 1.
+/// The position of the next frozen object's number, which is 0 in images of version 1.
 pub const NEXT_NUMBER: usize = 28;
 
-/// The index cell: a pointer to the entries, and after it the number of names.
+/// The position of the index's cell: a pointer to the entries, and then the number of names.
 pub const INDEX: usize = 32;
 
-/// Bytes that are 0, up to the type table.
+/// The position of the bytes that are 0, up to the type table.
 const RESERVED: usize = 40;
 
-/// The type table: 32 entries of 16 bytes.
+/// The position of the type table: 32 entries of 16 bytes.
 pub const TYPES: usize = 64;
 
-/// The table of unique objects: a pointer for each type.
+/// The position of the table of unique objects: a pointer for each type.
 pub const UNIQUES: usize = 576;
 
-/// Whether a segment begins as an image does, in a version that this library reads, and with a number for the next frozen
-/// object that images of this version may have.
+/// Whether a segment begins like an image of a version that this library reads, with a next number that this version
+/// allows.
 pub fn is_current<A: Allocator>(w: &Window<A>) -> bool
     ensures { IsTrue result ↔ ((slice w.now.bytes 0 8 ≡ codes "SEGIMAGE")
         × IsVersion (word w.now.bytes 8) (word w.now.bytes 28)) }
@@ -60,14 +60,14 @@ pub fn is_current<A: Allocator>(w: &Window<A>) -> bool
         }
 }
 
-/// Whether an image is of the version that may have frozen objects.
+/// Whether an image's version may have frozen objects.
 pub fn shares<A: Allocator>(w: &Window<A>) -> bool
     ensures { IsTrue result ↔ (word w.now.bytes 8 ≡ 2) }
 {
     w.get32(VERSION) == SHARING_VERSION
 }
 
-/// Writes what a new image begins with, which is of the version that may have frozen objects.
+/// Writes the first bytes of a new image, of the version that may have frozen objects.
 pub fn begin<A: Allocator>(w: &mut Window<A>)
     ensures { w.new ≡ with_bytes w.old (set_word (put w.old.bytes 0 (codes "SEGIMAGE")) 8 2) }
 {
@@ -75,14 +75,14 @@ pub fn begin<A: Allocator>(w: &mut Window<A>)
     upgrade(w);
 }
 
-/// Makes an image one of the version that may have frozen objects.
+/// Sets an image's version to the one that may have frozen objects.
 pub fn upgrade<A: Allocator>(w: &mut Window<A>)
     ensures { w.new ≡ with_bytes w.old (upgraded w.old.bytes) }
 {
     w.put32(VERSION, SHARING_VERSION);
 }
 
-/// Whether the bytes of the header are 0 that are so in every image.
+/// Whether the bytes of the header that are always 0 are 0.
 pub fn has_zeros<A: Allocator>(w: &Window<A>) -> bool
     ensures { IsTrue result ↔ (slice w.now.bytes 40 24 ≡ replicate 24 0) }
 {

@@ -1,8 +1,8 @@
-//! Pointers, which hold the distance from their own position. Distance 1 names nothing.
+//! Pointers. A pointer word has the distance from its own position to the target; distance 1 is the null pointer.
 ghost use Rattle.std.specs.Prelude.{◌≡◌, ◌+◌, ◌%◌, ◌^◌, ◌==◌, if◌then◌else◌, Some, None};
 ghost use Rattle.seg_spec.specs.Pointer.{distance};
 
-/// What a pointer at a position names that holds this distance.
+/// The target of a pointer at a position with this distance.
 pub(crate) fn named(at: usize, distance: u32) -> Option<u32>
     ensures { result
         ≡ (if distance == 1 then None else Some ((at + distance) % 2 ^ 32)) }
@@ -13,7 +13,7 @@ pub(crate) fn named(at: usize, distance: u32) -> Option<u32>
     }
 }
 
-/// The distance that the pointer at a position holds where it names `to`.
+/// The distance of a pointer at a position whose target is `to`.
 pub(crate) fn distance(at: usize, to: Option<u32>) -> u32
     ensures { result ≡ distance at to }
 {

@@ -5,13 +5,13 @@ ghost use Rattle.seg_ptr.specs.declared.window.TheConstants.{MAX_LEN};
 
 use crate::pointer::named;
 
-/// The bytes of a segment to read, as its [`Window`](crate::Window) reads them: a number whose bytes don't all lie among them
+/// The bytes of a segment, to read. It reads like its [`Window`](crate::Window): a number that doesn't lie in the bytes
 /// is 0.
-// A copy of this stays in registers, which a window that a reference leads to doesn't where other memory is written meanwhile.
+// A copy of this stays in registers. A window behind a reference doesn't if other memory is written meanwhile.
 #[derive(Debug, Clone, Copy)]
 pub struct View<'a> {
     bytes: &'a [u8],
-    // No view is longer than a segment may be.
+    // A view is never longer than a segment may be.
     pub ghost small: { length bytes.now ≤ MAX_LEN },
 }
 
@@ -35,7 +35,8 @@ impl<'a> View<'a> {
         self.bytes.is_empty()
     }
 
-    /// The `n` bytes from a position on, and none where they don't all lie here. Positions in it count from its own start.
+    /// The `n` bytes from a position on, with positions counted from their start. Empty if they don't all lie in this
+    /// view.
     pub fn part(self, at: usize, n: usize) -> View<'a>
         ensures inside { at + n ≤ length self.entry.bytes.now
             → result.bytes.now ≡ slice self.entry.bytes.now at n }
@@ -47,7 +48,7 @@ impl<'a> View<'a> {
         }
     }
 
-    /// The `n` bytes from a position on, as many of them as there are.
+    /// The `n` bytes from a position on, or fewer if the view ends before.
     pub fn slice(self, at: usize, n: usize) -> &'a [u8]
         ensures { result.now ≡ slice self.entry.bytes.now at n }
     {
@@ -66,7 +67,7 @@ impl<'a> View<'a> {
         *a
     }
 
-    /// The number of 16 bits at a position.
+    /// The 16-bit number at a position.
     pub fn get16(self, at: usize) -> u16
         ensures { result ≡ half self.entry.bytes.now at }
     {
@@ -76,7 +77,7 @@ impl<'a> View<'a> {
         u16::from_le_bytes([*a, *b])
     }
 
-    /// The number of 32 bits at a position.
+    /// The 32-bit number at a position.
     pub fn get32(self, at: usize) -> u32
         ensures { result ≡ word self.entry.bytes.now at }
     {
@@ -86,7 +87,7 @@ impl<'a> View<'a> {
         u32::from_le_bytes([*a, *b, *c, *d])
     }
 
-    /// The number of 64 bits at a position.
+    /// The 64-bit number at a position.
     pub fn get64(self, at: usize) -> u64
         ensures { result ≡ long self.entry.bytes.now at }
     {
@@ -96,7 +97,7 @@ impl<'a> View<'a> {
         u64::from_le_bytes([*a, *b, *c, *d, *e, *f, *g, *h])
     }
 
-    /// What the pointer at a position names.
+    /// The position that the pointer at a position points to.
     #[tactic(auto, unfolding(seg_spec::specs::Pointer::target))]
     pub fn target(self, at: usize) -> Option<u32>
         ensures { result ≡ target self.entry.bytes.now at }

@@ -1,5 +1,6 @@
-//! Numbers and pointers that are written into a segment's bytes, as [`Window::bytes_mut`](crate::Window::bytes_mut) lends them.
-// Where they lie and how many there are stays in registers, which a window that a reference leads to doesn't where its bytes are written.
+//! Writes numbers and pointers into a segment's bytes, borrowed by [`Window::bytes_mut`](crate::Window::bytes_mut).
+// The slice's address and length stay in registers. Those of a window behind a reference don't while its bytes are
+// written.
 
 ghost use Rattle.std.specs.Prelude.{◌≡◌, ◌+◌, ◌≤◌, length};
 ghost use Rattle.seg_bytes.specs.Bytes.{set_word};
@@ -7,7 +8,7 @@ ghost use Rattle.seg_spec.specs.Pointer.{set_pointer};
 
 use crate::pointer::distance;
 
-/// Writes a number of 32 bits, the lowest byte first, at a position where there is room for it.
+/// Writes a little-endian number of 32 bits. It must fit.
 pub fn set_word(bytes: &mut [u8], at: usize, value: u32)
     requires { at + 4 ≤ length bytes.old }
     ensures bytes { bytes.new ≡ set_word bytes.old at value }
@@ -16,7 +17,7 @@ pub fn set_word(bytes: &mut [u8], at: usize, value: u32)
     bytes[at..at + 4].copy_from_slice(&u32::to_le_bytes(value));
 }
 
-/// Makes the pointer at a position where there is room for it name `to`.
+/// Makes the pointer at a position point to `to`. It must fit.
 pub fn set_pointer(bytes: &mut [u8], at: usize, to: Option<u32>)
     requires { at + 4 ≤ length bytes.old }
     ensures bytes { bytes.new ≡ set_pointer bytes.old at to }
@@ -25,7 +26,7 @@ pub fn set_pointer(bytes: &mut [u8], at: usize, to: Option<u32>)
     set_word(bytes, at, distance(at, to));
 }
 
-/// Writes a number of 32 bits, the lowest byte first. Nothing changes where it doesn't fit.
+/// Writes a little-endian number of 32 bits. Nothing changes if it doesn't fit.
 pub fn put_word(bytes: &mut [u8], at: usize, value: u32)
     ensures bytes { bytes.new ≡ set_word bytes.old at value }
     ensures length { length bytes.new ≡ length bytes.old }
@@ -35,7 +36,7 @@ pub fn put_word(bytes: &mut [u8], at: usize, value: u32)
     }
 }
 
-/// Makes the pointer at a position name `to`. Nothing changes where it doesn't fit.
+/// Makes the pointer at a position point to `to`. Nothing changes if it doesn't fit.
 pub fn put_pointer(bytes: &mut [u8], at: usize, to: Option<u32>)
     ensures bytes { bytes.new ≡ set_pointer bytes.old at to }
     ensures length { length bytes.new ≡ length bytes.old }

@@ -6,7 +6,7 @@ use std::alloc::Allocator;
 use std::marker::Model;
 use std_alloc::vec::run_mut;
 
-/// A region of bytes of the host. Clauses see the list of its bytes. Positions and lengths are in bytes.
+/// A region of the host's bytes. Contracts see the list of its bytes. Positions and lengths are in bytes.
 #[derive(Drop)]
 pub struct Region<A: Allocator> {
     data: Vec<u8, A>,
@@ -25,7 +25,7 @@ impl<A: Allocator> Region<A> {
     ghost use Rattle.seg_raw.specs.Lending.{lent};
     ghost use Rattle.seg_raw.specs.contracts.region.Region.{the_row};
 
-    /// A region of this many bytes, each 0.
+    /// A region of `len` zero bytes.
     pub fn new(alloc: A, len: u32) -> Result<Region<A>, Fault>
         requires { len ≤ 2 ^ 31 }
         ensures zeroed { IfOk result (λ r. r ≡ replicate len 0) }
@@ -35,7 +35,7 @@ impl<A: Allocator> Region<A> {
         Ok(Region { data })
     }
 
-    /// A region of `len` bytes that has these from a position on, and 0 before and after them.
+    /// A region of `len` bytes with `bytes` from a position on, and 0 before and after them.
     pub fn with_bytes(alloc: A, len: u32, at: u32, bytes: &[u8]) -> Result<Region<A>, Fault>
         requires room { at + length bytes.now ≤ len }
         requires at_most { len ≤ 2 ^ 31 }
@@ -50,7 +50,7 @@ impl<A: Allocator> Region<A> {
         Ok(Region { data })
     }
 
-    /// A region of these bytes, which aren't copied.
+    /// A region of these bytes, without a copy.
     pub fn from_vec(bytes: Vec<u8, A>) -> Region<A>
         requires { vec_len bytes ≤ 2 ^ 31 }
         ensures { result ≡ bytes.items }
@@ -58,7 +58,7 @@ impl<A: Allocator> Region<A> {
         Region { data: bytes }
     }
 
-    /// Its bytes, which aren't copied.
+    /// Its bytes, without a copy.
     pub fn into_vec(self) -> Vec<u8, A>
         ensures { result.items ≡ self }
     {
@@ -86,7 +86,7 @@ impl<A: Allocator> Region<A> {
         self.data[at]
     }
 
-    /// The number that 4 bytes from a position on spell, the lowest first.
+    /// The little-endian 32-bit number at a position.
     pub fn get32(&self, at: usize) -> u32
         requires { at + 4 ≤ length self.now }
         ensures { result ≡ word self.now at }
@@ -95,7 +95,7 @@ impl<A: Allocator> Region<A> {
         u32::from_le_bytes([data[at], data[at + 1], data[at + 2], data[at + 3]])
     }
 
-    /// The number that 8 bytes from a position on spell, the lowest first.
+    /// The little-endian 64-bit number at a position.
     #[tactic(auto, using(crate::proofs::Numbers::long_read))]
     pub fn get64(&self, at: usize) -> u64
         requires { at + 8 ≤ length self.now }
@@ -137,7 +137,7 @@ impl<A: Allocator> Region<A> {
         &self.data[at..at + n]
     }
 
-    /// The `n` bytes from a position on, to be written.
+    /// The `n` bytes from a position on, to write.
     pub fn slice_mut(&mut self, at: usize, n: usize) -> &mut [u8]
         requires { at + n ≤ length self.old }
         ensures value { result.now ≡ slice self.old at n }
@@ -156,7 +156,7 @@ impl<A: Allocator> Region<A> {
         self.data[at..at + bytes.len()].copy_from_slice(bytes);
     }
 
-    /// Copies the `n` bytes from `from` on to `to`. The two parts may overlap.
+    /// Copies the `n` bytes from `from` on to `to`. The two ranges may overlap.
     pub fn move_within(&mut self, from: usize, to: usize, n: usize)
         requires source { from + n ≤ length self.old }
         requires target { to + n ≤ length self.old }
@@ -170,13 +170,13 @@ impl<A: Allocator> Region<A> {
         }
     }
 
-    /// Copies the `n` bytes from `from` on to `distance` bytes further up.
+    /// Copies the `n` bytes from `from` on to a place `distance` bytes further up.
     fn move_up(&mut self, from: usize, distance: usize, n: usize)
         requires { from + distance + n ≤ length self.old }
         ensures bytes { self.new ≡ put self.old (from + distance) (slice self.old from n) }
         ensures length { length self.new ≡ length self.old }
     {
-        // of a distance that it knows the compiler makes a call of the C library's memmove
+        // the compiler calls the C library's memmove for a copy by a constant distance
         match distance {
             8 => self.data.copy_within(from..from + n, from + 8),
             16 => self.data.copy_within(from..from + n, from + 16),

@@ -16,7 +16,7 @@ use seg_ptr::Window;
 use std::alloc::Allocator;
 
 impl Tree {
-    /// Adds a node that equals none of the tree's. Only tree words and the root word change.
+    /// Adds a node that doesn't compare as equal to a node of the tree. Only tree words and the root word change.
     pub fn insert<K: Copy, O: NodeOrder<K>, A: Allocator>(
         self,
         w: &mut Window<A>,
@@ -38,8 +38,8 @@ impl Tree {
 }
 
 impl Path {
-    /// Adds a node at the empty place at the path's end. It may be written between the walk and this. Only tree words and the
-    /// root word change. The path leads nowhere then.
+    /// Adds a node at the empty place at the path's end. The node may be written after the search. Only tree words and
+    /// the root word change. The path is then empty.
     pub fn insert<A: Allocator>(&mut self, w: &mut Window<A>, node: u32)
         ensures host { KeepsHost w.old w.new }
         ensures added { AddsAt w.old.bytes w.new.bytes self.old node }
@@ -56,7 +56,8 @@ impl Path {
     }
 }
 
-/// Settles a red node whose parent may be red: here, or by a red node further up, which it returns.
+/// Repairs the tree if a red node has a red parent. Returns a red node further up whose parent may be red, if that
+/// remains to be done.
 fn settle<A: Allocator>(w: &mut Window<A>, path: &mut Path, node: u32) -> Option<u32>
     ensures host { KeepsHost w.old w.new }
     ensures root { path.new.root ≡ path.old.root }
@@ -99,7 +100,8 @@ fn push_red_up<A: Allocator>(w: &mut Window<A>, node: u32, child: u32, other: u3
     paint(w, node, Colour::Red);
 }
 
-/// Ends two reds in a row below a black node: the middle one of the three comes up, black, and the others go below it, red.
+/// Repairs two red nodes in a row below a black node: the middle one of the three moves up and becomes black, and the
+/// others become its red children.
 fn straighten<A: Allocator>(w: &mut Window<A>, word: usize, grandparent: Step, parent: Step)
     ensures { w.new ≡ with_bytes w.old
         (straightened w.old.bytes word grandparent.node grandparent.side parent.node parent.side) }
@@ -111,7 +113,8 @@ fn straighten<A: Allocator>(w: &mut Window<A>, word: usize, grandparent: Step, p
     raise(w, word, grandparent.node(), side.other());
 }
 
-/// Moves the node at a pointer word down to a side, red, and its child on the other side up, black.
+/// Moves the node at a pointer word down to a side and makes it red, and moves its child on the other side up and makes
+/// it black.
 fn raise<A: Allocator>(w: &mut Window<A>, word: usize, node: u32, side: Side)
     ensures { w.new ≡ with_bytes w.old (raised w.old.bytes word node side) }
 {

@@ -1,8 +1,8 @@
-//! A red-black tree whose nodes lie in a segment. It knows nothing of what the nodes hold but their order, so one tree serves
-//! free blocks, nodes of maps and nodes of the index.
+//! A red-black tree whose nodes are in a segment. It only knows the order of its nodes, not their content, so the same
+//! code is used for free blocks, nodes of maps and nodes of the index.
 //!
-//! A node is named by the position of its tree words: a pointer to the left child, a pointer to the right child, the colour
-//! and a zero. No node knows its parent; a change remembers the way down to it.
+//! A node is identified by the position of its tree words: a pointer to the left child, a pointer to the right child,
+//! the colour and a zero. Nodes have no pointer to the parent; a change remembers the path from the root.
 #![tactic(auto)]
 
 mod insert;

@@ -1,4 +1,4 @@
-//! From a place of a tree to the next node in order.
+//! Steps from a place in a tree to the next node in order.
 
 ghost use Rattle.std.specs.Prelude.{◌≡◌, ◌≢◌, ◌∷◌, [], IsTrue, true, Some, None, IfSome, MatchOption};
 ghost use Rattle.seg_spec.specs.Pointer.{target};
@@ -20,7 +20,7 @@ use std::alloc::Allocator;
 use std::cmp::Ordering;
 
 impl Path {
-    /// Goes to the first node of a tree. None where it has none.
+    /// Goes to the first node of a tree. `None` if the tree is empty.
     pub fn first<A: Allocator>(&mut self, w: &Window<A>, tree: Tree) -> Option<u32>
         ensures node { (shape : _) → IsSearchTree w.now.bytes (root_word tree) shape
             → result ≡ first_where (λ _. true) (nodes_of shape) }
@@ -41,8 +41,8 @@ impl Path {
         }
     }
 
-    /// Goes on from a key to the first node of a tree above it: one step where the path leads to the tree's node with that
-    /// key, and else from the root. None where no node is above it.
+    /// Goes to the first node of a tree above a key. This is one step if the path ends at the tree's node with that
+    /// key, otherwise a search from the root. `None` if no node is above the key.
     #[inline]
     pub fn next_after<K: Copy, O: UniqueKeys<K>, A: Allocator>(
         &mut self,
@@ -66,7 +66,7 @@ impl Path {
         }
     }
 
-    /// The node at the path's end, where the path goes down a tree and the node equals a key.
+    /// The node at the path's end, if the path belongs to this tree and the node equals the key.
     #[inline]
     fn node_with_key<K: Copy, O: NodeOrder<K>>(
         &self,
@@ -91,8 +91,8 @@ impl Path {
         }
     }
 
-    /// Goes from the root to the first node of a tree above a key. None where no node is above it.
-    // Apart from `next_after`, which then has few registers to save.
+    /// Searches from the root for the first node of a tree above a key. `None` if no node is above it.
+    // Kept out of `next_after`, which then has few registers to save.
     #[inline(never)]
     fn search_after<K: Copy, O: UniqueKeys<K>, A: Allocator>(
         &mut self,
@@ -112,8 +112,8 @@ impl Path {
         self.go_on(w.view())
     }
 
-    /// Goes on to the next node: the one after the node at the path's end, or after the empty place there. None, and back at
-    /// the root, where there is none.
+    /// Goes to the next node: the one after the node at the path's end, or after the empty place there. `None` if there
+    /// is no next node; the path is then back at the root.
     fn go_on(&mut self, view: View) -> Option<u32>
         ensures root { path_root self.new ≡ path_root self.old }
         ensures on { (layers : _) (part : _) → IsPartAt view.entry.bytes.now self.old layers part
@@ -125,7 +125,7 @@ impl Path {
         }
     }
 
-    /// The same, from the node at the path's end.
+    /// Like `go_on`, from the node at the path's end.
     #[inline]
     fn go_on_from(&mut self, view: View, node: u32) -> Option<u32>
         ensures root { path_root self.new ≡ path_root self.old }
@@ -139,7 +139,8 @@ impl Path {
         }
     }
 
-    /// Goes back up to the nearest node that the way left on its left side. None, and at the root, where there is none.
+    /// Goes up to the nearest node from which the path went left. `None` if there is none; the path is then at the
+    /// root.
     pub(crate) fn climb(&mut self) -> Option<u32>
         ensures root { path_root self.new ≡ path_root self.old }
         ensures climbs { (layers : _) → self.old.steps.items ≡ steps_of layers
@@ -156,7 +157,7 @@ impl Path {
     }
 }
 
-/// Goes on from a node with a right child to the next one in order, which has no left child.
+/// Goes from a node with a right child to the next one in order, which has no left child.
 pub(crate) fn descend_to_next(view: View, path: &mut Path, node: u32) -> Option<u32>
     ensures root { path.new.root ≡ path.old.root }
     ensures descended { (layers : _) (left right : _) (colour : _)
@@ -168,7 +169,7 @@ pub(crate) fn descend_to_next(view: View, path: &mut Path, node: u32) -> Option<
     descend_right(view, path, node, right)
 }
 
-/// The same, where the node's right child is known.
+/// Like `descend_to_next`, if the node's right child is known.
 fn descend_right(view: View, path: &mut Path, node: u32, right: u32) -> Option<u32>
     ensures root { path.new.root ≡ path.old.root }
     ensures descended { (layers : _) (left tree : _) (colour : _)
@@ -183,7 +184,7 @@ fn descend_right(view: View, path: &mut Path, node: u32, right: u32) -> Option<u
     }
 }
 
-/// Goes on to the first node below a place. None where nothing stands there.
+/// Goes to the first node below a place. `None` if the place is empty.
 fn descend_to_first(view: View, path: &mut Path) -> Option<u32>
     ensures root { path.new.root ≡ path.old.root }
     ensures none { node_at view.entry.bytes.now path.old ≡ None
@@ -197,7 +198,7 @@ fn descend_to_first(view: View, path: &mut Path) -> Option<u32>
     descend_from(view, path, first)
 }
 
-/// The same, where the node at the place is known.
+/// Like `descend_to_first`, if the node at the place is known.
 fn descend_from(view: View, path: &mut Path, node: u32) -> Option<u32>
     ensures root { path.new.root ≡ path.old.root }
     ensures descended { (layers : _) (tree : _)

@@ -8,13 +8,13 @@ ghost use Rattle.seg_rbtree.specs.Removing.{in_place_of, as_another};
 use seg_ptr::{View, Window};
 use std::alloc::Allocator;
 
-/// From a node to its pointer to the right child, in bytes. The pointer to the left child comes first.
+/// The offset of a node's pointer to the right child, in bytes. The pointer to the left child is first.
 const RIGHT: usize = 4;
 
-/// From a node to its colour, in bytes.
+/// The offset of a node's colour, in bytes.
 const COLOUR: usize = 8;
 
-/// From a node to the word that is 0, in bytes.
+/// The offset of a node's word that is 0, in bytes.
 const ZERO: usize = 12;
 
 /// One of a node's two children.
@@ -59,7 +59,7 @@ pub fn child<A: Allocator>(w: &Window<A>, node: u32, side: Side) -> Option<u32>
     w.target(child_word(node, side))
 }
 
-/// The same, of the segment's bytes.
+/// Like [`child`], from the segment's bytes.
 pub(crate) fn child_in(view: View, node: u32, side: Side) -> Option<u32>
     ensures { result ≡ target view.entry.bytes.now (side_word node side) }
 {
@@ -72,7 +72,7 @@ pub(crate) fn set_child<A: Allocator>(w: &mut Window<A>, node: u32, side: Side, 
     w.point(child_word(node, side), child);
 }
 
-/// The colour of a node. None where its words are those of no colour.
+/// The colour of a node, or `None` if its words are no colour.
 pub fn node_colour<A: Allocator>(w: &Window<A>, node: u32) -> Option<Colour>
     ensures { MatchOption result ((c : _) → HasColour w.now.bytes node c → ⊥)
         (λ c. HasColour w.now.bytes node (shade c)) }
@@ -87,7 +87,7 @@ pub fn node_colour<A: Allocator>(w: &Window<A>, node: u32) -> Option<Colour>
     }
 }
 
-/// The colour of a node, red where its word says so. Where there is no node it is black.
+/// The colour of a node: red if its word is red's, otherwise black. An empty place is black.
 pub(crate) fn colour_of<A: Allocator>(w: &Window<A>, node: Option<u32>) -> Colour
     ensures { result ≡ colour_at w.now.bytes node }
 {
@@ -119,7 +119,7 @@ pub(crate) fn init<A: Allocator>(w: &mut Window<A>, node: u32)
     w.put32(node as usize + ZERO, 0);
 }
 
-/// Gives a node the children and the colour of another.
+/// Copies the children and the colour of one node to another.
 pub(crate) fn take_place<A: Allocator>(w: &mut Window<A>, from: u32, to: u32)
     ensures { w.new ≡ with_bytes w.old (in_place_of w.old.bytes from to) }
 {
@@ -131,7 +131,7 @@ pub(crate) fn take_place<A: Allocator>(w: &mut Window<A>, from: u32, to: u32)
     paint(w, to, colour);
 }
 
-/// Makes a node one with the children and the colour of another, whose words it may overlap.
+/// Writes a node with the children and the colour of another. The words of the two may overlap.
 pub(crate) fn init_as<A: Allocator>(w: &mut Window<A>, node: u32, other: u32)
     ensures { w.new ≡ with_bytes w.old (as_another w.old.bytes other node) }
 {
@@ -139,8 +139,8 @@ pub(crate) fn init_as<A: Allocator>(w: &mut Window<A>, node: u32, other: u32)
     w.put32(node as usize + ZERO, 0);
 }
 
-/// Exchanges the node at a pointer word and its child on the other side: the child comes up, the node goes down to `side`, and
-/// what was between them stays between them. Returns the child.
+/// Rotates the node at a pointer word with its child on the other side: the child moves up, the node moves down to
+/// `side`, and the subtree between them stays between them. Returns the child.
 pub(crate) fn rotate<A: Allocator>(
     w: &mut Window<A>,
     word: usize,

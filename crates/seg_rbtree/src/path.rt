@@ -14,12 +14,13 @@ use arrayvec::ArrayVec;
 use seg_ptr::{View, Window};
 use std::alloc::Allocator;
 
-/// The most nodes on a way down a tree. A red-black tree of fewer than 2^32 nodes has no more, and a segment has room for
-/// fewer than 2^26: with these it has at most 52.
+/// The longest path in a tree, in nodes. No red-black tree of fewer than 2^32 nodes has a longer one. A segment has
+/// room for fewer than 2^26 nodes: at most 52 on a path.
 pub const DEPTH: usize = 64;
 
-/// A way down from the root of a tree: the nodes above a place, where a node stands or none. It holds no part of the window, so
-/// other bytes may change before a node is added or removed at its end; with another change of the tree it is out of date.
+/// A path from the root of a tree to a place, where a node is or where none is: the nodes above the place. It doesn't
+/// borrow the window, so other bytes may change before a node is added or removed at its end. Any other change of the
+/// tree makes it out of date.
 #[derive(Drop)]
 pub struct Path {
     pub(crate) root: usize,
@@ -27,7 +28,7 @@ pub struct Path {
 }
 
 impl Path {
-    /// The place of the root itself, which this pointer word names.
+    /// The path to the root, which this pointer word points to.
     #[inline(always)]
     pub fn new(root: usize) -> Path
         ensures root { result.root ≡ root }
@@ -40,7 +41,7 @@ impl Path {
         }
     }
 
-    /// Goes back to the place of the root.
+    /// Goes back to the root.
     pub fn rewind(&mut self)
         ensures root { self.new.root ≡ self.old.root }
         ensures steps { self.new.steps.items ≡ [] }
@@ -49,7 +50,7 @@ impl Path {
         self.steps.clear();
     }
 
-    /// Goes to the place of a tree's root.
+    /// Goes to the root of a tree.
     #[inline]
     pub(crate) fn begin(&mut self, tree: Tree)
         ensures root { self.new.root ≡ tree.root }
@@ -59,7 +60,7 @@ impl Path {
         self.rewind();
     }
 
-    /// One step down. False where the way is longer than any in a tree.
+    /// Goes one step down. False if the path would be longer than any in a tree.
     pub(crate) fn push(&mut self, node: u32, side: Side) -> bool
         ensures root { self.new.root ≡ self.old.root }
         ensures room { length self.old.steps.items < DEPTH → IsTrue result }
@@ -69,7 +70,7 @@ impl Path {
         self.steps.try_push(Step::new(node, side)).is_ok()
     }
 
-    /// One step up: the node above the place, and the place's side of it.
+    /// Goes one step up, and returns the step: the node above the place, and the place's side of it.
     pub(crate) fn pop(&mut self) -> Option<Step>
         ensures root { self.new.root ≡ self.old.root }
         ensures popped { MatchOption result (self.old.steps.items ≡ [])
@@ -101,7 +102,7 @@ impl Path {
         true
     }
 
-    /// Puts another node at step `i` of the way.
+    /// Replaces the node at step `i` of the path.
     pub(crate) fn set_step(&mut self, i: usize, node: u32)
         ensures root { self.new.root ≡ self.old.root }
         ensures replaced { (step : _) → i < length self.old.steps.items → node < 2 ^ 31
@@ -114,7 +115,7 @@ impl Path {
         }
     }
 
-    /// The pointer word that leads to the place after that many steps.
+    /// The position of the pointer word to the place after this many steps.
     fn word_below(&self, steps: usize) -> usize
         ensures { steps ≤ length self.now.steps.items
             → result ≡ word_after steps self.now }
@@ -128,7 +129,7 @@ impl Path {
         }
     }
 
-    /// The pointer word that leads to the place.
+    /// The position of the pointer word to the place.
     pub(crate) fn word(&self) -> usize
         ensures { result ≡ end_word self.now }
     {
@@ -142,21 +143,21 @@ impl Path {
         w.target(self.word())
     }
 
-    /// The same, of the segment's bytes.
+    /// Like [`node`](Path::node), from the segment's bytes.
     pub(crate) fn node_in(&self, view: View) -> Option<u32>
         ensures { result ≡ node_at view.entry.bytes.now self.now }
     {
         view.target(self.word())
     }
 
-    /// Puts another node at the place.
+    /// Makes the pointer word to the place point to a node, or to none.
     pub(crate) fn set<A: Allocator>(&self, w: &mut Window<A>, node: Option<u32>)
         ensures { w.new ≡ with_bytes w.old (set_pointer w.old.bytes (end_word self.now) node) }
     {
         w.point(self.word(), node);
     }
 
-    /// Puts another node at the place after that many steps.
+    /// Makes the pointer word to the place after this many steps point to a node.
     pub(crate) fn set_at<A: Allocator>(&self, w: &mut Window<A>, steps: usize, node: u32)
         ensures host { KeepsHost w.old w.new }
         ensures set { steps ≤ length self.now.steps.items
@@ -166,8 +167,8 @@ impl Path {
         w.point(self.word_below(steps), Some(node));
     }
 
-    /// Exchanges the node at the place and its child on the other side: the child comes up, the node goes down to `side`, and
-    /// what was between them stays between them. Returns the child.
+    /// Rotates the node at the place with its child on the other side: the child moves up, the node moves down to
+    /// `side`, and the subtree between them stays between them. Returns the child.
     pub(crate) fn rotate<A: Allocator>(
         &self,
         w: &mut Window<A>,

@@ -20,7 +20,7 @@ use seg_ptr::Window;
 use std::alloc::Allocator;
 
 impl Tree {
-    /// Takes out a node of the tree, and no other. Only tree words and the root word change.
+    /// Removes a node of the tree. Only tree words and the root word change.
     pub fn remove<K: Copy, O: NodeOrder<K>, A: Allocator>(
         self,
         w: &mut Window<A>,
@@ -45,8 +45,7 @@ impl Tree {
 }
 
 impl Path {
-    /// Takes out the node at the path's end, and no other. Only tree words and the root word change. The path leads nowhere
-    /// then.
+    /// Removes the node at the path's end. Only tree words and the root word change. The path is then empty.
     pub fn remove<A: Allocator>(&mut self, w: &mut Window<A>)
         ensures host { KeepsHost w.old w.new }
         ensures removed { TakesOutAt w.old.bytes w.new.bytes self.old }
@@ -62,8 +61,8 @@ impl Path {
     }
 }
 
-/// Takes a node out of the place that a path leads to, which then leads to where a node is missing. Returns the colour that
-/// is missing there.
+/// Unlinks the node at the end of a path, which then leads to where a node is missing. Returns the missing node's
+/// colour.
 fn unlink<A: Allocator>(w: &mut Window<A>, path: &mut Path, node: u32) -> Colour
     ensures host { KeepsHost w.old w.new }
     ensures root { path.new.root ≡ path.old.root }
@@ -81,7 +80,7 @@ fn unlink<A: Allocator>(w: &mut Window<A>, path: &mut Path, node: u32) -> Colour
     unlink_by_next(w, path, node)
 }
 
-/// Takes a node with nothing on a side out of the place that a path leads to. Returns its colour.
+/// Unlinks the node at the end of a path, if it has no child on one side. Returns its colour.
 fn unlink_lone<A: Allocator>(w: &mut Window<A>, path: &Path, node: u32, empty: Side) -> Colour
     ensures gone { result ≡ colour_at w.old.bytes (Some node) }
     ensures set { w.new ≡ with_bytes w.old (set_pointer w.old.bytes (end_word path.now)
@@ -93,7 +92,8 @@ fn unlink_lone<A: Allocator>(w: &mut Window<A>, path: &Path, node: u32, empty: S
     gone
 }
 
-/// Takes out a node with two children: the next node in order comes to its place, in its colour.
+/// Unlinks a node with two children: the next node in order replaces it and takes its colour. Returns the next node's
+/// colour.
 fn unlink_by_next<A: Allocator>(w: &mut Window<A>, path: &mut Path, node: u32) -> Colour
     ensures host { KeepsHost w.old w.new }
     ensures root { path.new.root ≡ path.old.root }
@@ -114,7 +114,7 @@ fn unlink_by_next<A: Allocator>(w: &mut Window<A>, path: &mut Path, node: u32) -
     gone
 }
 
-/// Makes good that the part at the end of a path has one black node too few on every way.
+/// Restores the number of black nodes if the subtree at the end of a path has one too few on all its paths.
 fn restore<A: Allocator>(w: &mut Window<A>, path: &mut Path)
     ensures host { KeepsHost w.old w.new }
     ensures restored { (layers : _) (tree : _) → StandsAt w.old.bytes path.old layers tree
@@ -128,7 +128,7 @@ fn restore<A: Allocator>(w: &mut Window<A>, path: &mut Path)
     }
 }
 
-/// One turn of that: it is made good, or a part further up is short then. Returns whether there is more to do.
+/// One step of `restore`: repairs the subtree, or moves the lack further up. Returns whether there is more to do.
 fn lengthen<A: Allocator>(w: &mut Window<A>, path: &mut Path) -> bool
     ensures host { KeepsHost w.old w.new }
     ensures root { path.new.root ≡ path.old.root }
@@ -149,7 +149,7 @@ fn lengthen<A: Allocator>(w: &mut Window<A>, path: &mut Path) -> bool
     }
 }
 
-/// A turn for a part whose root is black, below a node that a path leads to: the node beside it helps.
+/// A step for a subtree with a black root, below the node at the end of a path. Its sibling helps.
 fn lengthen_beside<A: Allocator>(w: &mut Window<A>, path: &mut Path, short: Step) -> bool
     ensures host { KeepsHost w.old w.new }
     ensures root { path.new.root ≡ path.old.root }
@@ -170,7 +170,7 @@ fn lengthen_beside<A: Allocator>(w: &mut Window<A>, path: &mut Path, short: Step
     }
 }
 
-/// Moves a red sibling up, so that the short part has a black one.
+/// Moves a red sibling up, so that the short subtree gets a black sibling.
 fn lower<A: Allocator>(w: &mut Window<A>, path: &mut Path, short: Step, sibling: u32)
     ensures host { KeepsHost w.old w.new }
     ensures root { path.new.root ≡ path.old.root }
@@ -189,8 +189,8 @@ fn lower<A: Allocator>(w: &mut Window<A>, path: &mut Path, short: Step, sibling:
     let _ = path.push(node, side);
 }
 
-/// Takes a black node for the short part from a red child of its black sibling. Where it has none, the sibling's part is
-/// shortened too, and the part above both is short.
+/// Takes a black node for the short subtree from a red child of its black sibling. If the sibling has none, its subtree
+/// is shortened too, so that both have the same lack, and the subtree above them is short.
 fn borrow<A: Allocator>(w: &mut Window<A>, path: &mut Path, short: Step, sibling: u32) -> bool
     ensures host { KeepsHost w.old w.new }
     ensures root { path.new.root ≡ path.old.root }
@@ -232,7 +232,7 @@ fn red_child<A: Allocator>(w: &Window<A>, node: u32, side: Side) -> Option<u32>
     }
 }
 
-/// Moves the node beside a short part up, in its parent's colour, and the parent down, black.
+/// Moves the sibling of a short subtree up, in its parent's colour, and the parent down, black.
 fn come_up<A: Allocator>(w: &mut Window<A>, path: &Path, short: Step)
     ensures host { KeepsHost w.old w.new }
     ensures came_up { (layers : _) (tree inner outer : _) (up : _) (colour other : _)

@@ -1,4 +1,4 @@
-//! Another node in the place of one.
+//! Replacement of a node by another one.
 
 ghost use Rattle.std.specs.Prelude.{◌≡◌, None, Some};
 ghost use Rattle.seg_spec.specs.Pointer.{set_pointer};
@@ -12,8 +12,9 @@ use seg_ptr::Window;
 use std::alloc::Allocator;
 
 impl Path {
-    /// Puts another node in the place of the node at the path's end, with its colour and its children. The words of the two
-    /// may overlap. Only the other's tree words and the pointer word that leads to it change. The path leads to it then.
+    /// Replaces the node at the path's end by another one, which gets its colour and its children. The words of the two
+    /// may overlap. Only the new node's tree words and the pointer word to it change. The path then ends at the new
+    /// node.
     pub fn replace<A: Allocator>(&self, w: &mut Window<A>, new: u32)
         ensures host { KeepsHost w.old w.new }
         ensures replaced { RenamesAt w.old.bytes w.new.bytes self.now new }

@@ -1,4 +1,4 @@
-//! Searches down a tree.
+//! Searches in a tree.
 
 ghost use Rattle.std.specs.Prelude.{◌≡◌, ◌+◌, ◌^◌, ◌≤◌, [], length, Some, IfSome};
 ghost use Rattle.std.specs.Ordering.{is_eq, ordering_reverse};
@@ -19,14 +19,14 @@ use std::cmp::Ordering;
 
 const MOST_LOOKS: u32 = DEPTH as u32;
 
-/// What a search found, and how many nodes it looked at.
+/// The result of a search, and how many nodes it looked at.
 #[derive(Debug, Clone, Copy, PartialEq, Eq)]
 pub struct Looked {
     pub node: Option<u32>,
     pub looks: u32,
 }
 
-/// Whether a node that compares so with a key is as far up as is wanted.
+/// Whether a node that compares like this with a key is far enough up: at the key or above it, or only above it.
 fn is_reached(least: Ordering, found: Ordering) -> bool
     ensures { result ≡ reaches least found }
 {
@@ -99,7 +99,7 @@ impl Tree {
         self.first_from(w, order, key, Ordering::Greater).node
     }
 
-    /// The first node that is as far up from a key as is wanted.
+    /// The first node that is far enough up from a key.
     fn first_from<K: Copy, O: NodeOrder<K>, A: Allocator>(
         self,
         w: &Window<A>,
@@ -137,7 +137,7 @@ impl Tree {
         found
     }
 
-    /// The path to the node that equals a key, or to the empty place where one would stand.
+    /// The path to the node that equals a key, or to the empty place to insert one at.
     #[inline]
     pub fn path_to_key<K: Copy, O: NodeOrder<K>, A: Allocator>(
         self,
@@ -160,7 +160,7 @@ impl Tree {
 }
 
 impl Path {
-    /// Goes to a node of a tree, from its root. For one that is none of the tree's it leads elsewhere then.
+    /// Goes from a tree's root to one of its nodes. For a node that isn't in the tree the path ends anywhere.
     #[inline(always)]
     pub fn lead_to_node<K: Copy, O: NodeOrder<K>, A: Allocator>(
         &mut self,
@@ -179,7 +179,7 @@ impl Path {
         self.descend(w, order, Sought::Node(node));
     }
 
-    /// Goes to the first node of a tree that is at or above a key, and returns it. None where there is none.
+    /// Goes to the first node of a tree that is at or above a key, and returns it. `None` if there is no such node.
     #[inline(always)]
     pub fn lead_to_first<K: Copy, O: NodeOrder<K>, A: Allocator>(
         &mut self,
@@ -203,7 +203,7 @@ impl Path {
         self.climb()
     }
 
-    /// Goes down from the root to what is sought, or to the empty place where it would stand.
+    /// Goes from the root to what is looked for, or to the empty place to insert it at.
     #[inline(always)]
     pub(crate) fn descend<K: Copy, O: NodeOrder<K>, A: Allocator>(
         &mut self,

@@ -3,8 +3,8 @@ ghost use Rattle.std.specs.Prelude.{◌≡◌, ◌<◌, ◌^◌};
 use crate::node::Side;
 use std::marker::Model;
 
-/// A node, and the side on which the way goes on, in one word: the side is its lowest bit, and the node's position stands
-/// above. That drops the position's highest bit, which is 0 in a segment.
+/// A node, and the side on which the path continues, in one word. The lowest bit is the side, and the bits above it are
+/// the node's position without its highest bit, which is 0 in a segment.
 #[derive(Debug, Clone, Copy, Default)]
 pub(crate) struct Step {
     word: u32,

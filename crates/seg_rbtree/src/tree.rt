@@ -8,10 +8,10 @@ use crate::path::DEPTH;
 use seg_ptr::Window;
 use std::alloc::Allocator;
 
-/// The bytes of a node that belong to the tree.
+/// The size of a node's tree words in bytes.
 pub const TREE_WORDS: u32 = 16;
 
-/// A tree: the position of the pointer word that names its root.
+/// A tree: the position of the pointer word to its root.
 #[derive(Debug, Clone, Copy, PartialEq, Eq)]
 pub struct Tree {
     pub(crate) root: usize,

@@ -20,7 +20,8 @@ pub(crate) enum Kind {
 impl Kind {
     ghost use Rattle.seg_seq.specs.Kinds.{KindOf};
 
-    /// The kind of the sequence at a place, and what its cell names. `OtherType` where the place is none.
+    /// The kind of the sequence at a place, and the layout of what its cell points to. `OtherType` if the place is no
+    /// sequence.
     #[inline(always)]
     pub(crate) fn of<F: Fit, A: Allocator>(
         heap: &Heap<F, A>,
@@ -38,8 +39,8 @@ impl Kind {
         Ok((kind, content))
     }
 
-    /// The kind of the sequences whose buffers have these entries. Those of a flat map have keys before their values: it is
-    /// no sequence.
+    /// The kind of the sequences whose buffers have these entries. `None` for a flat map, which has keys before its
+    /// values.
     #[inline(always)]
     fn of_buffer(entry: Entry) -> Result<Kind, Code>
         ensures { (table : Table) (T : ℕ) (form : Option Form) (content : Named) →

@@ -1,5 +1,5 @@
-//! Strings, vectors and lists. One is named by its place, its items by their positions. A call on a place of a type that it
-//! isn't for is refused as OtherType.
+//! Strings, vectors and lists. A sequence is identified by its place, an item by its position. A call on a place of
+//! another type fails with `OtherType`.
 #![tactic(auto)]
 
 mod kind;

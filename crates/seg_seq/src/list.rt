@@ -20,21 +20,21 @@ use seg_raw::Code;
 use seg_value::{Content, Heap, LIST_LINKS, Place};
 use std::alloc::Allocator;
 
-/// The node that holds an item.
+/// The node of an item.
 fn node_of(item: u32) -> u32
     ensures { result ≡ (item + (2 ^ 32 - 8)) % 2 ^ 32 }
 {
     item.wrapping_sub(LIST_LINKS)
 }
 
-/// The item that a node holds.
+/// The item of a node.
 pub(crate) fn item_of(node: u32) -> u32
     ensures { result ≡ (node + 8) % 2 ^ 32 }
 {
     node.wrapping_add(LIST_LINKS)
 }
 
-/// The item after an item of a list: the first one after the last.
+/// The item after an item of a list; after the last one this is the first one.
 pub fn next<F: Fit, A: Allocator>(heap: &Heap<F, A>, item: u32) -> u32
     ensures { (allocator U i : ℕ) (list : reads.Place) (vs : Values) (blocks : List ℕ) →
         HasList allocator heap.now list U vs blocks →
@@ -45,7 +45,7 @@ pub fn next<F: Fit, A: Allocator>(heap: &Heap<F, A>, item: u32) -> u32
     item_of(neighbour(heap, node_of(item), Way::Forward))
 }
 
-/// The item before an item of a list: the last one before the first.
+/// The item before an item of a list; before the first one this is the last one.
 pub fn prev<F: Fit, A: Allocator>(heap: &Heap<F, A>, item: u32) -> u32
     ensures { (allocator U i : ℕ) (list : reads.Place) (vs : Values) (blocks : List ℕ) →
         HasList allocator heap.now list U vs blocks →
@@ -56,8 +56,8 @@ pub fn prev<F: Fit, A: Allocator>(heap: &Heap<F, A>, item: u32) -> u32
     item_of(neighbour(heap, node_of(item), Way::Backward))
 }
 
-/// Adds a default item before the others of a list, and returns its position. `OtherType` where the place is no list,
-/// `BadAlloc` where there is no room for the item; then nothing changes.
+/// Adds a default item at the front of a list, and returns its position. `OtherType` if the place is no list,
+/// `BadAlloc` if there is no room for the item; then nothing changes.
 pub fn push_front<F: Fit, A: Allocator>(heap: &mut Heap<F, A>, list: Place) -> Result<u32, Code>
     ensures window { KeepsHost heap.old.window heap.new.window }
     ensures types { heap.new.types ≡ heap.old.types }
@@ -82,7 +82,7 @@ pub fn push_front<F: Fit, A: Allocator>(heap: &mut Heap<F, A>, list: Place) -> R
     Ok(item)
 }
 
-/// Adds a node with a default item after the last one, and returns the item's position.
+/// Adds a node with a default item at the end, and returns the item's position.
 pub(crate) fn push_node<F: Fit, A: Allocator>(
     heap: &mut Heap<F, A>,
     content: &Content,
@@ -106,7 +106,7 @@ pub(crate) fn push_node<F: Fit, A: Allocator>(
     Ok(item_of(node))
 }
 
-/// Destroys the first item of a list. `OtherType` where the place is no list, `Null` where the list is empty.
+/// Destroys the first item of a list. `OtherType` if the place is no list, `Null` if the list is empty.
 pub fn pop_front<F: Fit, A: Allocator>(heap: &mut Heap<F, A>, list: Place) -> Result<(), Code>
     ensures window { KeepsHost heap.old.window heap.new.window }
     ensures types { heap.new.types ≡ heap.old.types }
@@ -129,7 +129,7 @@ pub fn pop_front<F: Fit, A: Allocator>(heap: &mut Heap<F, A>, list: Place) -> Re
     Ok(())
 }
 
-/// Takes a node out of a list, and destroys it with its item.
+/// Removes a node from a list, and destroys it with its item.
 pub(crate) fn remove_node<F: Fit, A: Allocator>(
     heap: &mut Heap<F, A>,
     content: &Content,

@@ -16,15 +16,15 @@ use seg_raw::Code;
 use seg_value::{Content, Heap, Place};
 use std::alloc::Allocator;
 
-/// A vector of numbers, found to be one once, so that a push doesn't ask the type table. Entries of a table never change, so it
-/// stays one.
+/// A vector of numbers, whose type was checked once, so that a push doesn't read the type table. Entries of the table
+/// never change, so the type stays right.
 #[derive(Debug, Clone, Copy, PartialEq, Eq)]
 pub struct Numbers {
     vector: Place,
 }
 
 impl Numbers {
-    /// The vector of numbers at a place. `OtherType` where the place is none.
+    /// The vector of numbers at a place. `OtherType` if the place is none.
     pub fn of<F: Fit, A: Allocator>(heap: &Heap<F, A>, vector: Place) -> Result<Numbers, Code>
         ensures { MatchResult result
             (λ numbers. (numbers.vector ≡ vector) × HasNumbers heap.now.types vector.type_id)
@@ -36,8 +36,7 @@ impl Numbers {
         }
     }
 
-    /// Adds a number after the others, and returns its position. `BadAlloc` where there is no room for it; then nothing
-    /// changes.
+    /// Appends a number, and returns its position. `BadAlloc` if there is no room for it; then nothing changes.
     #[inline(always)]
     pub fn push<F: Fit, A: Allocator>(self, heap: &mut Heap<F, A>, number: i64) -> Result<u32, Code>
         ensures window { KeepsHost heap.old.window heap.new.window }
@@ -51,7 +50,7 @@ impl Numbers {
         }
     }
 
-    /// As [`push`](Numbers::push), where a larger buffer may have to be asked for.
+    /// Like [`push`](Numbers::push), if a larger buffer may be needed.
     #[inline(never)]
     fn push_asking<F: Fit, A: Allocator>(
         self,
@@ -71,7 +70,7 @@ impl Numbers {
     }
 }
 
-/// Adds a number to a buffer, and returns its position.
+/// Appends a number to a buffer, and returns its position.
 fn push_number<F: Fit, A: Allocator>(
     heap: &mut Heap<F, A>,
     content: &Content,

@@ -1,4 +1,4 @@
-//! A push onto a vector that has room for the item, without asking for memory.
+//! Appends an item to a vector that has room for it, without an allocation.
 
 ghost use Rattle.std.specs.Prelude.{◌≡◌, ℕ, ◌+◌, List, length, Some, None, IfSome, MatchOption};
 ghost use Rattle.seg_bytes.specs.Bytes.{set_word, set_long};
@@ -18,8 +18,8 @@ use std::alloc::Allocator;
 /// The bytes of a number.
 const NUMBER: usize = 8;
 
-/// Adds a default item after the others of a vector whose buffer has room for it, and returns it. None where there is no such
-/// room, or the place is no vector; then nothing changes.
+/// Appends a default item to a vector whose buffer has room for it, and returns the item. `None` if there is no room,
+/// or the place is no vector; then nothing changes.
 #[inline(always)]
 pub fn push_in_place<F: Fit, A: Allocator>(heap: &mut Heap<F, A>, vector: Place) -> Option<Place>
     ensures window { KeepsHost heap.old.window heap.new.window }
@@ -42,8 +42,8 @@ pub fn push_in_place<F: Fit, A: Allocator>(heap: &mut Heap<F, A>, vector: Place)
     }
 }
 
-/// As [`push_in_place`], of a vector of any values.
-// A call would return the item through memory, and so would the way of numbers, which it joins.
+/// Like [`push_in_place`], for a vector of any values.
+// Inlined: a call would return the item through memory, and the code for numbers would have to do the same.
 #[inline(always)]
 fn push_any_in_place<F: Fit, A: Allocator>(heap: &mut Heap<F, A>, vector: Place) -> Option<Place>
     ensures window { KeepsHost heap.old.window heap.new.window }
@@ -64,8 +64,8 @@ fn push_any_in_place<F: Fit, A: Allocator>(heap: &mut Heap<F, A>, vector: Place)
     Some(Place { at, type_id })
 }
 
-/// Adds a number to the vector of numbers whose cell stands at a position, and returns the number's. None where its buffer has
-/// no room; then nothing changes.
+/// Appends a number to the vector of numbers whose cell is at a position, and returns the number's position. `None` if
+/// its buffer has no room; then nothing changes.
 #[inline(always)]
 pub(crate) fn push_number_in_place<F: Fit, A: Allocator>(
     heap: &mut Heap<F, A>,
@@ -89,7 +89,7 @@ pub(crate) fn push_number_in_place<F: Fit, A: Allocator>(
 }
 
 /// Writes the count of a cell, and a number to a position.
-// Both into the same lent bytes, which stay in registers.
+// Both writes are to the same borrowed slice, which stays in registers.
 #[inline(always)]
 fn put_number(bytes: &mut [u8], cell: u32, count: u32, at: usize, number: u64)
     ensures bytes { bytes.new ≡ set_long (set_word bytes.old (cell + 4) count) at number }
@@ -101,8 +101,8 @@ fn put_number(bytes: &mut [u8], cell: u32, count: u32, at: usize, number: u64)
     }
 }
 
-/// Adds a default item of this type to the vector whose cell stands at a position, and returns the item's. None where its
-/// buffer has no room.
+/// Appends a default item of this type to the vector whose cell is at a position, and returns the item's position.
+/// `None` if its buffer has no room.
 #[inline(always)]
 fn push_value<F: Fit, A: Allocator>(
     heap: &mut Heap<F, A>,

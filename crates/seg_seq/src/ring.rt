@@ -1,4 +1,5 @@
-//! The nodes of a list: a ring, in which each one names the next and the previous one. The list's cell names the first.
+//! The nodes of a list. They form a ring: each points to the next and to the previous one. The list's cell points to
+//! the first.
 
 ghost use Rattle.std.specs.Prelude.{◌≡◌, ℕ, ◌<◌, ◌≤◌, List, [], ◌∷◌, ◌++◌, length, slice_index};
 ghost use Rattle.seg_spec.specs.Reads.{start};
@@ -10,14 +11,14 @@ use seg_ptr::Window;
 use seg_value::{Heap, PREVIOUS};
 use std::alloc::Allocator;
 
-/// A way round the ring.
+/// A direction in the ring.
 #[derive(Debug, Clone, Copy, PartialEq, Eq)]
 pub(crate) enum Way {
     Forward,
     Backward,
 }
 
-/// A node's neighbour.
+/// The next or the previous node.
 pub(crate) fn neighbour<F: Fit, A: Allocator>(heap: &Heap<F, A>, node: u32, way: Way) -> u32
     ensures { result ≡ start heap.now.window.bytes (link_of way node) }
 {
@@ -27,7 +28,7 @@ pub(crate) fn neighbour<F: Fit, A: Allocator>(heap: &Heap<F, A>, node: u32, way:
     }
 }
 
-/// The node so many steps from another.
+/// The node `steps` steps from another.
 fn walk<F: Fit, A: Allocator>(heap: &Heap<F, A>, from: u32, way: Way, steps: u32) -> u32
     ensures { (cell i : ℕ) (nodes : List ℕ) → HasRing heap.now.window.bytes cell nodes →
         AreSpread heap.now.window.bytes (cell ∷ nodes) → i < length nodes →
@@ -41,7 +42,7 @@ fn walk<F: Fit, A: Allocator>(heap: &Heap<F, A>, from: u32, way: Way, steps: u32
     node
 }
 
-/// The node of an item that a list has, from the nearer end.
+/// The node of the item with this index, which the list must have. It is found from the nearer end.
 pub(crate) fn node_at<F: Fit, A: Allocator>(heap: &Heap<F, A>, cell: u32, index: u32) -> u32
     ensures { (nodes : List ℕ) → HasRing heap.now.window.bytes cell nodes →
         AreSpread heap.now.window.bytes (cell ∷ nodes) → index < length nodes →
@@ -64,7 +65,8 @@ fn join<A: Allocator>(w: &mut Window<A>, node: u32, next: u32)
     w.point(next as usize + PREVIOUS as usize, Some(node));
 }
 
-/// Puts a new node between the last and the first one. It is the last one, unless the cell's pointer is set to it.
+/// Inserts a new node between the last and the first one. It is the last one, unless the cell's pointer is then set to
+/// it.
 pub(crate) fn insert<F: Fit, A: Allocator>(heap: &mut Heap<F, A>, cell: u32, node: u32)
     ensures window { KeepsHost heap.old.window heap.new.window }
     ensures types { heap.new.types ≡ heap.old.types }
@@ -88,7 +90,7 @@ pub(crate) fn insert<F: Fit, A: Allocator>(heap: &mut Heap<F, A>, cell: u32, nod
     heap.set_count(cell, nodes);
 }
 
-/// Takes a node out of the ring.
+/// Removes a node from the ring.
 pub(crate) fn remove<F: Fit, A: Allocator>(heap: &mut Heap<F, A>, cell: u32, node: u32)
     ensures window { KeepsHost heap.old.window heap.new.window }
     ensures types { heap.new.types ≡ heap.old.types }

@@ -4,22 +4,22 @@ ghost use Rattle.seg_seq.specs.Buffers.{LacksEntry, HasEntry};
 use seg_block::{UNIT, units_in};
 use seg_ptr::View;
 
-/// The bytes of a cell.
+/// The size of a cell in bytes.
 const CELL: usize = 8;
 
-/// Room for an entry more in the buffer that a cell names, after its other entries.
+/// Room for one more entry in the buffer that a cell points to, after its other entries.
 #[derive(Debug, Clone, Copy, PartialEq, Eq)]
 pub(crate) struct Room {
-    /// How many entries the cell counts.
+    /// The cell's present count.
     pub(crate) count: u32,
-    /// Where the entry more stands.
+    /// The position of the new entry.
     pub(crate) at: usize,
 }
 
 impl Room {
-    /// Room for an entry of `size` bytes. None where the cell names no buffer or doesn't lie in the segment, or the buffer has no
-    /// such room, as the header before its payload states.
-    // The test that the entry lies in the segment serves the header before it too.
+    /// Room for an entry of `size` bytes. `None` if the cell has no buffer or doesn't lie in the segment, or if the
+    /// buffer has no such room according to the header before its payload.
+    // The test that the entry lies in the segment also covers the header before it.
     #[inline(always)]
     pub(crate) fn of(bytes: View, cell: u32, size: u32) -> Option<Room>
         ensures { MatchOption result
@@ -48,7 +48,7 @@ impl Room {
         })
     }
 
-    /// Where the entry more stands, in 32 bits.
+    /// The position of the new entry, in 32 bits.
     #[inline(always)]
     pub(crate) fn position(self) -> u32
         ensures { result ≡ self.at % 2 ^ 32 }

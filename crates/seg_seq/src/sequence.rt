@@ -19,7 +19,7 @@ use seg_raw::Code;
 use seg_value::{Content, Heap, Held, Place};
 use std::alloc::Allocator;
 
-/// How many bytes a string has, or how many items a vector or a list has. `OtherType` where the place is none of them.
+/// How many bytes a string has, or how many items a vector or a list has. `OtherType` if the place is none of these.
 pub fn len<F: Fit, A: Allocator>(heap: &Heap<F, A>, sequence: Place) -> Result<u32, Code>
     ensures text { (xs blocks : List ℕ) →
         HasText F.allocator heap.now (place_of sequence) xs blocks → result ≡ Ok (length xs) }
@@ -36,8 +36,8 @@ pub fn len<F: Fit, A: Allocator>(heap: &Heap<F, A>, sequence: Place) -> Result<u
     Ok(heap.count(sequence.at))
 }
 
-/// The position of an item of a vector or a list, or of a byte of a string. `OtherType` where the place is none of them,
-/// `OutOfRange` where it has no such item.
+/// The position of an item of a vector or a list, or of a byte of a string. `OtherType` if the place is none of these,
+/// `OutOfRange` if it has no such item.
 pub fn at<F: Fit, A: Allocator>(heap: &Heap<F, A>, sequence: Place, index: u32) -> Result<u32, Code>
     ensures text { (xs blocks : List ℕ) →
         HasText F.allocator heap.now (place_of sequence) xs blocks →
@@ -67,8 +67,8 @@ pub fn at<F: Fit, A: Allocator>(heap: &Heap<F, A>, sequence: Place, index: u32) 
     }
 }
 
-/// Adds a default item after the others of a vector or a list, and returns its position. `OtherType` where the place is
-/// neither, `BadAlloc` where there is no room for the item; then nothing changes.
+/// Appends a default item to a vector or a list, and returns its position. `OtherType` if the place is neither,
+/// `BadAlloc` if there is no room for the item; then nothing changes.
 pub fn push_back<F: Fit, A: Allocator>(heap: &mut Heap<F, A>, sequence: Place) -> Result<u32, Code>
     ensures window { KeepsHost heap.old.window heap.new.window }
     ensures types { heap.new.types ≡ heap.old.types }
@@ -95,7 +95,7 @@ pub fn push_back<F: Fit, A: Allocator>(heap: &mut Heap<F, A>, sequence: Place) -
     }
 }
 
-/// Adds a default entry to a buffer, and returns the position of its value.
+/// Appends a default entry to a buffer, and returns the position of its value.
 #[inline(always)]
 fn push_entry<F: Fit, A: Allocator>(
     heap: &mut Heap<F, A>,
@@ -119,7 +119,7 @@ fn push_entry<F: Fit, A: Allocator>(
     Ok(at)
 }
 
-/// Makes room for an entry more in a buffer and counts it, and returns the position of its value, which isn't written.
+/// Makes room for one more entry in a buffer and counts it. Returns the position of its value, which isn't written.
 #[inline(always)]
 pub(crate) fn count_entry<F: Fit, A: Allocator>(
     heap: &mut Heap<F, A>,
@@ -142,8 +142,8 @@ pub(crate) fn count_entry<F: Fit, A: Allocator>(
     Ok(content.entry.value_at(start, kept))
 }
 
-/// Destroys the last item of a vector or a list, or drops the last byte of a string. `OtherType` where the place is none of
-/// them, `Null` where it is empty.
+/// Destroys the last item of a vector or a list, or drops the last byte of a string. `OtherType` if the place is none
+/// of these, `Null` if it is empty.
 pub fn pop_back<F: Fit, A: Allocator>(heap: &mut Heap<F, A>, sequence: Place) -> Result<(), Code>
     ensures window { KeepsHost heap.old.window heap.new.window }
     ensures types { heap.new.types ≡ heap.old.types }

@@ -13,7 +13,7 @@ use seg_raw::Code;
 use seg_value::{Heap, Place};
 use std::alloc::Allocator;
 
-/// Adds bytes to a string. `OtherType` where the place is no string, `BadAlloc` where there is no room for them; then
+/// Appends bytes to a string. `OtherType` if the place is no string, `BadAlloc` if there is no room for them; then
 /// nothing changes.
 pub fn append<F: Fit, A: Allocator>(
     heap: &mut Heap<F, A>,
@@ -33,7 +33,7 @@ pub fn append<F: Fit, A: Allocator>(
     write(heap, text, kept, bytes)
 }
 
-/// Replaces the text of a string. `OtherType` where the place is no string, `BadAlloc` where there is no room for the new
+/// Replaces the text of a string. `OtherType` if the place is no string, `BadAlloc` if there is no room for the new
 /// text; then the old one stays.
 pub fn assign<F: Fit, A: Allocator>(
     heap: &mut Heap<F, A>,
@@ -52,8 +52,8 @@ pub fn assign<F: Fit, A: Allocator>(
     write(heap, text, 0, bytes)
 }
 
-/// Adds a byte to a string, and returns how many it has then. `OtherType` where the place is no string, `BadAlloc` where
-/// there is no room for it; then nothing changes.
+/// Appends a byte to a string, and returns the string's new length. `OtherType` if the place is no string, `BadAlloc`
+/// if there is no room for it; then nothing changes.
 #[inline(always)]
 pub fn push_byte<F: Fit, A: Allocator>(
     heap: &mut Heap<F, A>,
@@ -78,7 +78,7 @@ pub fn push_byte<F: Fit, A: Allocator>(
     }
 }
 
-/// As [`push_byte`], into a buffer that has room for the byte. None where there is no such room, or the place is no string;
+/// Like [`push_byte`], into a buffer that has room for the byte. `None` if there is no room, or the place is no string;
 /// then nothing changes.
 #[inline(always)]
 fn push_byte_in_place<F: Fit, A: Allocator>(
@@ -108,7 +108,7 @@ fn push_byte_in_place<F: Fit, A: Allocator>(
     Some(len)
 }
 
-/// As [`push_byte`], where a larger buffer may have to be asked for.
+/// Like [`push_byte`], if a larger buffer may be needed.
 #[inline(never)]
 fn push_byte_asking<F: Fit, A: Allocator>(
     heap: &mut Heap<F, A>,
@@ -133,7 +133,7 @@ fn push_byte_asking<F: Fit, A: Allocator>(
     Ok(added.len)
 }
 
-/// Replaces what stands in a string after its first `kept` bytes.
+/// Replaces the bytes of a string after its first `kept`.
 fn write<F: Fit, A: Allocator>(
     heap: &mut Heap<F, A>,
     text: Place,
@@ -154,14 +154,14 @@ fn write<F: Fit, A: Allocator>(
     Ok(())
 }
 
-/// Bytes that are added to a string: where they begin, and how many the string has with them.
+/// Bytes that are added to a string: the position where they begin, and the string's length with them.
 #[derive(Debug, Clone, Copy, PartialEq, Eq)]
 struct Added {
     at: usize,
     len: u32,
 }
 
-/// Makes a string one of its first `kept` bytes and `added` more, which the caller writes.
+/// Gives a string the length of its first `kept` bytes and `added` more, which the caller writes.
 #[inline(always)]
 fn make_room<F: Fit, A: Allocator>(
     heap: &mut Heap<F, A>,

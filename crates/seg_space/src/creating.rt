@@ -17,9 +17,9 @@ use seg_ptr::{Window, header, is_size};
 use seg_raw::{Fault, Region};
 use std::alloc::Allocator;
 
-/// An empty segment of `size` bytes at a base of a region: all zero but for its header and a heap of one gap. The region
-/// comes back with `BadSize` where the size isn't a multiple of 16 that a segment may have, and with `Misplaced` where
-/// it may not lie there.
+/// A new, empty segment of `size` bytes at a base of a region. All its bytes are 0 but those of the header and of a
+/// heap with one free block. Fails with `BadSize` if the size isn't one of a segment, and with `Misplaced` if the
+/// segment may not be there; the region is returned with the fault.
 pub fn create<F: Fit, A: Allocator>(
     region: Region<A>,
     base: u32,

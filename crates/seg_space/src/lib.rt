@@ -1,4 +1,4 @@
-//! The size of a segment and its free memory: made, grown, shrunk to fit, counted and zeroed.
+//! The size of a segment and its free memory: create, grow, shrink to fit, count and zero.
 #![tactic(auto)]
 
 mod creating;

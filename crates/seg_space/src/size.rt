@@ -1,4 +1,4 @@
-//! The size of a segment, which changes while nobody else uses it.
+//! Changes of a segment's size.
 
 ghost use Rattle.std.specs.Prelude.{◌≡◌, ◌+◌, ◌≤◌, ◌⊎◌, ◌↔◌, length, IsOk, IfOk, IfErr, OnOk, OnErr};
 ghost use Rattle.seg_spec.specs.Sound.{Picture};
@@ -12,8 +12,8 @@ use seg_ptr::is_size;
 use seg_raw::Fault;
 use std::alloc::Allocator;
 
-/// How many bytes at the front of so many new ones the heap may write: the header of a gap, and what the allocator keeps
-/// after it. A single unit goes to the block or the gap before it.
+/// How many of `extra` new bytes at the front the heap may write: the header of a free block, and what the allocator
+/// stores after it. A single unit is added to the block before it.
 fn used_front<F: Fit>(extra: u32) -> u32
     ensures { result ≡ used_front F.allocator extra }
 {
@@ -23,9 +23,9 @@ fn used_front<F: Fit>(extra: u32) -> u32
     UNIT + F::free_words()
 }
 
-/// Adds `extra` bytes after the segment's end, all of them 0 but what the heap may write at their front, and returns the
-/// new size in bytes. `BadSize` where that is no size of a segment, `NoHostRoom` where the region ends before it; then
-/// nothing changes.
+/// Adds `extra` bytes at the segment's end, and returns the new size in bytes. The new bytes are 0 except those that
+/// the heap writes at their front. `BadSize` if the sum isn't a size of a segment, `NoHostRoom` if the region ends
+/// before it; then nothing changes.
 pub fn grow<F: Fit, A: Allocator>(segment: &mut Segment<F, A>, extra: u32) -> Result<u32, Fault>
     ensures types { segment.new.types ≡ segment.old.types }
     ensures size { IfOk result (λ size. size ≡ length segment.old.window.bytes + extra) }
@@ -51,8 +51,8 @@ pub fn grow<F: Fit, A: Allocator>(segment: &mut Segment<F, A>, extra: u32) -> Re
         return Err(Fault::NoHostRoom);
     }
     if extra > 0 {
-        // what the host had there doesn't get into a saved image: zeros stand first where a header may be written, and
-        // then in all that lies after it
+        // the host's old bytes must not get into a saved image: the part where a header may be written is zeroed before
+        // the heap grows, and the rest after it
         let front = used_front::<F>(extra);
         w.fill(len as usize, front as usize, 0);
         F::extend_end(w, extra / UNIT);
@@ -62,7 +62,8 @@ pub fn grow<F: Fit, A: Allocator>(segment: &mut Segment<F, A>, extra: u32) -> Re
     Ok(size)
 }
 
-/// Cuts the gap at the end, but for two units of a heap that is one gap, and returns the new size in bytes.
+/// Cuts the free block at the end, and returns the new size in bytes. If the whole heap is one free block, two units of
+/// it stay.
 pub fn shrink_to_fit<F: Fit, A: Allocator>(segment: &mut Segment<F, A>) -> u32
     ensures types { segment.new.types ≡ segment.old.types }
     ensures shrinks { (picture : Picture) → IsSegment F.allocator segment.old picture →
@@ -71,7 +72,7 @@ pub fn shrink_to_fit<F: Fit, A: Allocator>(segment: &mut Segment<F, A>) -> u32
     let w = segment.heap_mut().window_mut();
     let cut = F::cut_end(w);
     let size = w.len().saturating_sub(cut.saturating_mul(UNIT));
-    // a smaller size lies where the larger one lay
+    // a smaller size is always allowed here
     let _ = w.resize(size);
     size
 }

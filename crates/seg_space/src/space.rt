@@ -13,7 +13,7 @@ use seg_manager::Segment;
 use seg_ptr::Window;
 use std::alloc::Allocator;
 
-/// The bytes of the gaps of a heap, of all and of the largest.
+/// The bytes of the free blocks of a heap: of all together, and of the largest.
 #[derive(Debug, Clone, Copy, Default)]
 struct Gaps {
     total: u32,
@@ -48,7 +48,7 @@ impl Gaps {
     }
 }
 
-/// Where a block ends.
+/// The position where a block ends.
 fn end_of(block: Block) -> u32
     requires { block.at + 16 * block.units ≤ 2 ^ 30 }
     ensures { result ≡ block.at + 16 * block.units }
@@ -56,7 +56,7 @@ fn end_of(block: Block) -> u32
     block.at + UNIT * block.units
 }
 
-/// The bytes of all gaps, with their headers.
+/// The size of all free blocks in bytes, with their headers.
 pub fn free_memory<F: Fit, A: Allocator>(segment: &Segment<F, A>) -> u32
     ensures { IsHeap F.allocator segment.now.window.bytes →
         result ≡ bytes_of (gaps segment.now.window.bytes) }
@@ -64,7 +64,7 @@ pub fn free_memory<F: Fit, A: Allocator>(segment: &Segment<F, A>) -> u32
     Gaps::of(segment.window()).total
 }
 
-/// The bytes of the largest gap, with its header.
+/// The size of the largest free block in bytes, with its header.
 pub fn largest_gap<F: Fit, A: Allocator>(segment: &Segment<F, A>) -> u32
     ensures { IsHeap F.allocator segment.now.window.bytes →
         result ≡ largest_of (gaps segment.now.window.bytes) }
@@ -72,7 +72,7 @@ pub fn largest_gap<F: Fit, A: Allocator>(segment: &Segment<F, A>) -> u32
     Gaps::of(segment.window()).largest
 }
 
-/// Whether one gap is the whole heap.
+/// Whether the heap is one free block.
 pub fn all_memory_deallocated<F: Fit, A: Allocator>(segment: &Segment<F, A>) -> bool
     ensures { IsHeap F.allocator segment.now.window.bytes →
         (IsTrue result ↔ (live segment.now.window.bytes ≡ [])) }
@@ -81,7 +81,7 @@ pub fn all_memory_deallocated<F: Fit, A: Allocator>(segment: &Segment<F, A>) -> 
     Gaps::of(segment.window()).largest == heap
 }
 
-/// Writes 0 to each byte of the gaps that holds no header and that the allocator doesn't use.
+/// Writes 0 to each byte of the free blocks that isn't in a header or used by the allocator.
 pub fn zero_free_memory<F: Fit, A: Allocator>(segment: &mut Segment<F, A>)
     ensures window { KeepsHost segment.old.window segment.new.window }
     ensures types { segment.new.types ≡ segment.old.types }
@@ -102,7 +102,7 @@ pub fn zero_free_memory<F: Fit, A: Allocator>(segment: &mut Segment<F, A>)
     }
 }
 
-/// Writes 0 to the payload of a free block, after what the allocator keeps there.
+/// Writes 0 to the payload of a free block, after the bytes that the allocator uses.
 fn zero_payload<F: Fit, A: Allocator>(w: &mut Window<A>, block: Block)
     requires { block.at + 16 * block.units ≤ 2 ^ 30 }
     ensures few { F.allocator ≤ 1 }

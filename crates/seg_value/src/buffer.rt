@@ -34,10 +34,10 @@ use seg_cells::{Content, Entry, Place, Shape};
 use seg_raw::Code;
 use std::alloc::Allocator;
 
-/// Blocks of entries, and the buffers that cells name.
+/// Blocks of entries, and the buffers that cells point to.
 impl<F: Fit, A: Allocator> Heap<F, A> {
-    /// How many entries the block has room for whose payload begins at `start`. 0 where the segment has no room for the size
-    /// that its header states.
+    /// How many entries fit in the block whose payload begins at `start`. 0 if the segment is too short for the size in
+    /// the block's header.
     pub fn capacity(&self, entry: Entry, start: u32) -> u32
         ensures stated { HasRoom self.now.window.bytes (start - 16) →
             result ≡ payload_at self.now.window.bytes (start - 16) / entry.size }
@@ -48,8 +48,8 @@ impl<F: Fit, A: Allocator> Heap<F, A> {
         seg_block::capacity(&self.window, start, entry.size)
     }
 
-    /// A block for one entry, with the default of its value. Returns where its payload begins. `BadAlloc` where no gap has
-    /// room for it, and then nothing changes.
+    /// Allocates a block for one entry, with the default of its value. Returns the position of its payload. `BadAlloc`
+    /// if no free block is large enough; then nothing changes.
     pub fn new_block(&mut self, content: &Content) -> Result<u32, Code>
         ensures window { KeepsHost self.old.window self.new.window }
         ensures types { self.new.types ≡ self.old.types }
@@ -80,7 +80,7 @@ impl<F: Fit, A: Allocator> Heap<F, A> {
         Ok(payload)
     }
 
-    /// Gives a new block its tag, and returns where its payload begins.
+    /// Writes the tag of a new block, and returns the position of its payload.
     fn tagged(&mut self, content: &Content, block: u32) -> u32
         ensures payload { result ≡ (block + 16) % 2 ^ 32 }
         ensures window { self.new.window ≡ with_bytes self.old.window
@@ -91,7 +91,7 @@ impl<F: Fit, A: Allocator> Heap<F, A> {
         block.wrapping_add(UNIT)
     }
 
-    /// Frees the block whose payload begins at `start`. Its entries own nothing any more.
+    /// Frees the block whose payload begins at `start`. Its entries must not own anything.
     pub fn free_block(&mut self, start: u32)
         ensures window { KeepsHost self.old.window self.new.window }
         ensures types { self.new.types ≡ self.old.types }
@@ -103,8 +103,8 @@ impl<F: Fit, A: Allocator> Heap<F, A> {
         F::free(&mut self.window, block);
     }
 
-    /// Makes room in the buffer of a cell for `limit` entries, those that it has and more. Returns where its payload begins
-    /// then, as [`Heap::start`] does. `BadAlloc` where no gap gives that room, and then nothing changes.
+    /// Makes room for `limit` entries in the buffer of a cell, including those that it has. Returns the position of its
+    /// payload, as [`Heap::start`] does. `BadAlloc` if there is no such room; then nothing changes.
     #[inline(always)]
     pub fn reserve(&mut self, content: &Content, cell: u32, limit: u32) -> Result<u32, Code>
         ensures window { KeepsHost self.old.window self.new.window }
@@ -129,7 +129,7 @@ impl<F: Fit, A: Allocator> Heap<F, A> {
         Ok(self.start(cell))
     }
 
-    /// The bytes of the buffer that a cell names: 0 where it names none.
+    /// The size in bytes of the buffer that a cell points to, or 0 if its pointer is null.
     fn room(&self, named: Option<u32>) -> u64
         ensures { (cell : ℕ) → named ≡ target self.now.window.bytes cell →
             result ≡ 16 * units_named self.now.window.bytes cell - 16 }
@@ -140,7 +140,7 @@ impl<F: Fit, A: Allocator> Heap<F, A> {
         }
     }
 
-    /// The block of the buffer of a cell, if it names one.
+    /// The block of a cell's buffer, if it has one.
     fn buffer_of(&self, cell: u32) -> Option<u32>
         ensures { result ≡ option_map (λ p. p - UNIT) (target self.now.window.bytes cell) }
     {
@@ -148,7 +148,7 @@ impl<F: Fit, A: Allocator> Heap<F, A> {
         Some(block_of(start))
     }
 
-    /// Finds a larger buffer for a cell, which has no room for `limit` entries: where it stands, or elsewhere.
+    /// Finds a larger buffer for a cell without room for `limit` entries, in place or elsewhere.
     #[inline(never)]
     fn enlarge(&mut self, content: &Content, cell: u32, limit: u32) -> Result<(), Code>
         ensures window { KeepsHost self.old.window self.new.window }
@@ -180,7 +180,7 @@ impl<F: Fit, A: Allocator> Heap<F, A> {
         }
     }
 
-    /// Moves the entries of a cell to a new block, and frees their old one.
+    /// Moves the entries of a cell to a new block, and frees the old one.
     fn move_buffer(&mut self, content: &Content, cell: u32, block: u32)
         ensures window { KeepsHost self.old.window self.new.window }
         ensures types { self.new.types ≡ self.old.types }
@@ -208,7 +208,7 @@ impl<F: Fit, A: Allocator> Heap<F, A> {
         self.free_block(old);
     }
 
-    /// Cuts the buffer of a string, a vector or a flat map to what it uses. An empty one gives it up.
+    /// Cuts the buffer of a string, a vector or a flat map to what it uses. If it is empty, the buffer is freed.
     pub fn shrink_to_fit(&mut self, place: Place)
         ensures window { KeepsHost self.old.window self.new.window }
         ensures types { self.new.types ≡ self.old.types }
@@ -235,7 +235,7 @@ impl<F: Fit, A: Allocator> Heap<F, A> {
         F::shrink(&mut self.window, block_of(start), need(content.entry, kept));
     }
 
-    /// Gives up the buffer of a cell, whose entries own nothing any more. The cell names nothing then.
+    /// Frees the buffer of a cell, whose entries must not own anything. The cell's pointer is then null.
     pub fn free_buffer(&mut self, cell: u32)
         ensures window { KeepsHost self.old.window self.new.window }
         ensures types { self.new.types ≡ self.old.types }

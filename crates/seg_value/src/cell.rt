@@ -10,16 +10,16 @@ use seg_cells::{count, load, start};
 use seg_ptr::Window;
 use std::alloc::Allocator;
 
-/// The bytes of the payload that begins at a position, as its block's header states.
+/// The size in bytes of the payload that begins at a position, according to its block's header.
 pub fn room<A: Allocator>(w: &Window<A>, at: u32) -> u64
     ensures { result ≡ payload_at w.now.bytes (at - 16) }
 {
     payload(w, block_of(at))
 }
 
-/// The cells of values: a number, or a pointer and then a count.
+/// The cells of values: a number, or a pointer and a count.
 impl<F: Fit, A: Allocator> Heap<F, A> {
-    /// As [`count`] in the heap's window.
+    /// Like [`count`], in the heap's window.
     pub fn count(&self, cell: u32) -> u32
         ensures { result ≡ count_at self.now.window.bytes cell }
     {
@@ -34,14 +34,14 @@ impl<F: Fit, A: Allocator> Heap<F, A> {
         self.window.put32(cell as usize + 4, count);
     }
 
-    /// As [`start`](crate::start) in the heap's window.
+    /// Like [`start`](crate::start), in the heap's window.
     pub fn start(&self, cell: u32) -> u32
         ensures { result ≡ start self.now.window.bytes cell }
     {
         start(&self.window, cell)
     }
 
-    /// As [`load`](crate::load) in the heap's window.
+    /// Like [`load`](crate::load), in the heap's window.
     pub fn load(&self, at: u32) -> i64
         ensures { result ≡ signed_long self.now.window.bytes at }
     {

@@ -5,12 +5,12 @@ ghost use Rattle.seg_value.specs.Contents.{AreNumbers, numbers_in};
 use seg_cells::{Cells, Content, IDS};
 use seg_layout::{MAX_TYPES, Type, TypeId, TypeTable};
 
-/// What the cells of each type of a table name, and what its values are made of, worked out once.
+/// For each type of a table, the layout of what its cells point to, and what its values consist of, computed once.
 #[derive(Drop)]
 pub(crate) struct Contents {
     of_types: [Option<Content>; MAX_TYPES],
     cells: [Cells; IDS],
-    /// The type of the items, of each type that is a vector of numbers.
+    /// For each type that is a vector of numbers, the type of its items.
     numbers: [Option<TypeId>; IDS],
 }
 
@@ -38,14 +38,14 @@ impl Contents {
         }
     }
 
-    /// As [`Content::of`] a type of the table.
+    /// Like [`Content::of`], for a type of the table.
     pub(crate) fn get(&self, t: TypeId) -> Option<Content>
         ensures { result ≡ get_or self.now.of_types t None }
     {
         self.of_types.get(t as usize).copied().flatten()
     }
 
-    /// What the values of a type are made of.
+    /// What the values of a type consist of.
     pub(crate) fn cells(&self, t: TypeId) -> Cells
         ensures { result ≡ get_or self.now.cells t cells.Number }
     {
@@ -55,7 +55,7 @@ impl Contents {
             .unwrap_or(Cells::Number)
     }
 
-    /// The type of the items of a vector of numbers. None for all other types.
+    /// The type of the items of a vector of numbers, or `None` for any other type.
     pub(crate) fn number_type(&self, t: TypeId) -> Option<TypeId>
         ensures { result ≡ get_or self.now.numbers t None }
     {
@@ -63,7 +63,8 @@ impl Contents {
     }
 }
 
-/// The type of the items of each vector of numbers, and None for all other types, those that the table lacks too.
+/// For each type, the type of its items if it is a vector of numbers. `None` for all others, also for types that the
+/// table lacks.
 fn number_types(types: &TypeTable) -> [Option<TypeId>; IDS]
     ensures { AreNumbers types.now result }
 {
@@ -74,7 +75,7 @@ fn number_types(types: &TypeTable) -> [Option<TypeId>; IDS]
     each
 }
 
-/// The type of the items of a vector of numbers. None for all other types.
+/// The type of the items of a vector of numbers, or `None` for any other type.
 fn number_type(types: &TypeTable, t: TypeId) -> Option<TypeId>
     ensures { result ≡ numbers_in types.now t }
 {

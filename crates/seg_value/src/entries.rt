@@ -15,11 +15,11 @@ use seg_cells::Content;
 use seg_raw::Code;
 use std::alloc::Allocator;
 
-/// Entries between others of a buffer: those of flat maps and of the flat index.
+/// Inserting and removing entries of a buffer, for flat maps and the flat index.
 impl<F: Fit, A: Allocator> Heap<F, A> {
-    /// Makes room for an entry at an index of a cell's buffer: those from there on move one further, and the cell counts one
-    /// more. Returns the position of the new entry, whose bytes the caller writes. `BadAlloc` where no gap gives that room,
-    /// and then nothing changes.
+    /// Makes room for an entry at an index of a cell's buffer: the entries from there on move up by one, and the cell's
+    /// count grows. Returns the position of the new entry, whose bytes the caller writes. `BadAlloc` if there is no
+    /// room; then nothing changes.
     pub fn open_entry(&mut self, content: &Content, cell: u32, index: u32) -> Result<u32, Code>
         ensures window { KeepsHost self.old.window self.new.window }
         ensures types { self.new.types ≡ self.old.types }
@@ -53,8 +53,8 @@ impl<F: Fit, A: Allocator> Heap<F, A> {
         Ok(at)
     }
 
-    /// Takes out the entry at an index of a cell's buffer, which owns nothing any more: those after it move one back, and
-    /// the cell counts one less.
+    /// Removes the entry at an index of a cell's buffer, which must not own anything: the entries after it move down by
+    /// one, and the cell's count shrinks.
     pub fn close_entry(&mut self, content: &Content, cell: u32, index: u32)
         ensures window { KeepsHost self.old.window self.new.window }
         ensures types { self.new.types ≡ self.old.types }

@@ -3,7 +3,7 @@ ghost use Rattle.seg_spec.specs.Demand as demand;
 
 use seg_cells::Entry;
 
-/// The units of a block for so many entries. What no segment has room for is more than any block has.
+/// The size in units of a block for `entries` entries. If no segment has that room, it is more than any block has.
 pub(crate) fn need(entry: Entry, entries: u32) -> u32
     ensures some { 2 ≤ result }
     ensures exact { entries * entry.size < 2 ^ 32 → result ≡ demand.need (entries * entry.size) }

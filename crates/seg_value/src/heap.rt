@@ -11,8 +11,8 @@ use seg_ptr::Window;
 use std::alloc::Allocator;
 use std::marker::{Model, PhantomData};
 
-/// Where values live: the window of a segment with the table of its types, over an allocator of its heap. Its calls mean
-/// what they say where the bytes hold values of these types; on any other bytes they return.
+/// Where values are: the window of a segment with its type table, and an allocator of its heap. What its calls promise
+/// is about bytes that contain values of these types. On any other bytes they still return.
 #[derive(Drop)]
 pub struct Heap<F: Fit, A: Allocator> {
     pub(crate) window: Window<A>,
@@ -73,7 +73,7 @@ impl<F: Fit, A: Allocator> Heap<F, A> {
         &self.types
     }
 
-    /// The window to write, and the types to read meanwhile.
+    /// The window, to write, and the types, to read meanwhile.
     pub fn parts_mut(&mut self) -> (&mut Window<A>, &TypeTable)
         ensures window { result.0.now ≡ self.old.window }
         ensures types { result.1.now ≡ self.old.types }
@@ -84,7 +84,7 @@ impl<F: Fit, A: Allocator> Heap<F, A> {
         (&mut self.window, &self.types)
     }
 
-    /// Gives the heap another table of types. The bytes stay as they are, the table in them too.
+    /// Replaces the type table of the heap, but not the table in the bytes.
     pub fn set_types(&mut self, types: TypeTable)
         ensures window { self.new.window ≡ self.old.window }
         ensures types { self.new.types ≡ types }
@@ -105,22 +105,22 @@ impl<F: Fit, A: Allocator> Heap<F, A> {
         window
     }
 
-    /// What the cell of a type names. None for types whose values name nothing themselves, numbers and structs, and for
-    /// those that the table lacks.
+    /// The layout of what the cell of a type points to. `None` for numbers and structs, for shared types, and for types
+    /// that the table lacks.
     pub fn content(&self, t: TypeId) -> Option<Content>
         ensures { ContentOf self.now.types t (form_at self.now.types t) result }
     {
         self.contents.get(t)
     }
 
-    /// The type of the items, where the values of a type are vectors of numbers.
+    /// The type of the items, if this type is a vector of numbers.
     pub fn number_type(&self, t: TypeId) -> Option<TypeId>
         ensures { result ≡ numbers_in self.now.types t }
     {
         self.contents.number_type(t)
     }
 
-    /// What the values of a type are made of.
+    /// What the values of a type consist of.
     pub(crate) fn cells(&self, t: TypeId) -> Cells
         ensures cells { result ≡ cells_of (form_at self.now.types t) }
         ensures table { IsTable self.now.types }

@@ -1,5 +1,5 @@
-//! Values in a segment: their defaults, how they move, what they own and how it is destroyed. A value is named by its
-//! position and its type, and a block by the position of its payload.
+//! Values in a segment: their defaults, how they move, what they own and how it is destroyed. A value is identified by
+//! its position and its type, a block by the position of its payload.
 #![tactic(auto)]
 
 mod buffer;

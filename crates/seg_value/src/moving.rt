@@ -16,10 +16,10 @@ use seg_cells::{Content, Entry, Held, point_each_again};
 use seg_layout::TypeId;
 use std::alloc::Allocator;
 
-/// The typed move: values keep what they name.
+/// Moves of values, which keep what their pointers point to.
 impl<F: Fit, A: Allocator> Heap<F, A> {
-    /// Moves `n` values of a type, one after the other, to a place that may overlap theirs. Nothing changes where either
-    /// place doesn't lie in the segment.
+    /// Moves `n` values of a type, one after the other; the two ranges may overlap. Nothing changes if either doesn't
+    /// lie in the segment.
     pub fn shift(&mut self, t: TypeId, from: u32, to: u32, n: u32)
         ensures window { KeepsHost self.old.window self.new.window }
         ensures types { self.new.types ≡ self.old.types }
@@ -43,7 +43,7 @@ impl<F: Fit, A: Allocator> Heap<F, A> {
         self.shift_entries(entry, from, to, n);
     }
 
-    /// Moves `n` entries, one after the other, as [`shift`](Heap::shift) moves values.
+    /// Moves `n` entries, one after the other, like [`shift`](Heap::shift).
     pub fn shift_entries(&mut self, entry: Entry, from: u32, to: u32, n: u32)
         ensures window { KeepsHost self.old.window self.new.window }
         ensures types { self.new.types ≡ self.old.types }

@@ -1,4 +1,4 @@
-//! Owns.
+//! Values that own one object.
 
 ghost use Rattle.std.specs.Prelude.{◌≡◌, ℕ, List, ◌∷◌, ◌++◌, Some, None};
 ghost use Rattle.seg_spec.specs.Block.{block_of};
@@ -17,8 +17,8 @@ use seg_block::Fit;
 use seg_cells::Place;
 use std::alloc::Allocator;
 
-/// Makes an own hold an object, given by the position of its value, that nothing holds and that doesn't reach the own's
-/// cell. The object that the own held before is destroyed first.
+/// Makes an own the owner of an object, given by the position of its value. The object must not have an owner, and must
+/// not reach the own's cell. The own's previous object is destroyed first.
 pub fn set_own<F: Fit, A: Allocator>(heap: &mut Heap<F, A>, own: Place, object: u32)
     ensures window { KeepsHost heap.old.window heap.new.window }
     ensures types { heap.new.types ≡ heap.old.types }
@@ -38,7 +38,7 @@ pub fn set_own<F: Fit, A: Allocator>(heap: &mut Heap<F, A>, own: Place, object: 
     heap.set_count(own.at, 1);
 }
 
-/// Takes out the object that an own holds, and returns the position of its value. The own then holds nothing.
+/// Takes the object out of an own, and returns the position of its value. The own is then empty.
 pub fn take_own<F: Fit, A: Allocator>(heap: &mut Heap<F, A>, own: Place) -> Option<u32>
     ensures window { KeepsHost heap.old.window heap.new.window }
     ensures types { heap.new.types ≡ heap.old.types }

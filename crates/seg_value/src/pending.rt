@@ -25,14 +25,15 @@ use seg_block::{Fit, LINK, Tag, UNIT, block_of, link, tag_word};
 use seg_cells::{Content, Entry, Held, PREVIOUS, Place, Shape};
 use std::alloc::Allocator;
 
-/// Where a map's node points to its right child, in bytes from its start.
+/// The offset of the pointer to the right child in a map's node, in bytes.
 const RIGHT: u32 = 4;
 
-/// Blocks that are to be destroyed, in a list through their links. A block that waits here shows by itself what goes
-/// with it: each entry that a buffer has room for is a value, and a node's next node or children aren't in the list yet.
+/// Blocks that are to be destroyed, as a list through their links. A block in the list shows by itself what it owns:
+/// each entry that a buffer has room for is a value, and neither a node's next node nor its children are in the list
+/// yet.
 #[derive(Drop)]
 pub(crate) struct Pending {
-    /// Where the payload of the first one begins.
+    /// The position of the payload of the first one.
     first: Option<u32>,
 }
 
@@ -55,7 +56,7 @@ impl Pending {
         self.first = Some(payload);
     }
 
-    /// Takes the first block out, and returns where its payload begins.
+    /// Removes the first block, and returns the position of its payload.
     fn pop<F: Fit, A: Allocator>(&mut self, heap: &Heap<F, A>) -> Option<u32>
         ensures none { result ≡ None → self.old.first ≡ None }
         ensures first { (p : ℕ) → result ≡ Some p → self.old.first ≡ Some p }
@@ -71,7 +72,7 @@ impl Pending {
         Some(payload)
     }
 
-    /// Adds the blocks that the cells of a value name. The value must not be read any more.
+    /// Adds the blocks that the cells of a value point to. The value must not be read any more.
     pub(crate) fn add_value<F: Fit, A: Allocator>(&mut self, heap: &mut Heap<F, A>, place: Place)
         ensures window { KeepsHost heap.old.window heap.new.window }
         ensures types { heap.new.types ≡ heap.old.types }
@@ -95,8 +96,8 @@ impl Pending {
         }
     }
 
-    /// Adds the block that a cell names: of a list or a map one node, which names further ones. An object that the cell
-    /// shares is released.
+    /// Adds the block that a cell points to. For a list or a map this is one node, which points to others. A frozen
+    /// object is released instead.
     fn add_cell<F: Fit, A: Allocator>(&mut self, heap: &mut Heap<F, A>, cell: Place)
         ensures window { KeepsHost heap.old.window heap.new.window }
         ensures types { heap.new.types ≡ heap.old.types }
@@ -116,7 +117,8 @@ impl Pending {
         self.push(heap, payload);
     }
 
-    /// Takes one of the cells away that name a frozen object: it counts one fewer, and is added where none is left.
+    /// Lowers the count of a frozen object for one cell that no longer points to it. Adds the object if no cell is
+    /// left.
     fn release<F: Fit, A: Allocator>(&mut self, heap: &mut Heap<F, A>, payload: u32)
         ensures window { KeepsHost heap.old.window heap.new.window }
         ensures types { heap.new.types ≡ heap.old.types }
@@ -130,7 +132,7 @@ impl Pending {
         }
     }
 
-    /// Adds the blocks that a block of the list names.
+    /// Adds the blocks that a block of the list points to.
     fn open<F: Fit, A: Allocator>(&mut self, heap: &mut Heap<F, A>, payload: u32)
         ensures window { KeepsHost heap.old.window heap.new.window }
         ensures types { heap.new.types ≡ heap.old.types }
@@ -149,7 +151,7 @@ impl Pending {
         self.add_entries(heap, content.entry, payload, entries);
     }
 
-    /// Adds the nodes that the pointers of a node name. Other blocks have none.
+    /// Adds the nodes that the pointers of a node point to. Other blocks have no such pointers.
     fn add_links<F: Fit, A: Allocator>(&mut self, heap: &mut Heap<F, A>, shape: Shape, payload: u32)
         ensures window { KeepsHost heap.old.window heap.new.window }
         ensures types { heap.new.types ≡ heap.old.types }
@@ -168,7 +170,7 @@ impl Pending {
         }
     }
 
-    /// Adds the node that a pointer of another one names.
+    /// Adds the node that a pointer of another node points to.
     fn add_node<F: Fit, A: Allocator>(&mut self, heap: &mut Heap<F, A>, pointer: u32)
         ensures window { KeepsHost heap.old.window heap.new.window }
         ensures types { heap.new.types ≡ heap.old.types }
@@ -181,7 +183,7 @@ impl Pending {
         }
     }
 
-    /// Adds the blocks that the values of `n` entries name.
+    /// Adds the blocks that the values of `n` entries point to.
     fn add_entries<F: Fit, A: Allocator>(
         &mut self,
         heap: &mut Heap<F, A>,
@@ -210,8 +212,7 @@ impl Pending {
         }
     }
 
-    /// Frees the blocks, and all that they lead to: of the frozen objects that are named there those that no other cell
-    /// names.
+    /// Frees the blocks, and all blocks that they point to. A frozen object is freed if no other cell points to it.
     pub(crate) fn destroy<F: Fit, A: Allocator>(mut self, heap: &mut Heap<F, A>)
         ensures window { KeepsHost heap.old.window heap.new.window }
         ensures types { heap.new.types ≡ heap.old.types }
@@ -224,7 +225,7 @@ impl Pending {
             Destroys F.allocator heap.old.window.bytes heap.new.window.bytes heap.old.types
             blocks theirs final }
     {
-        // there are fewer blocks than units
+        // a bound on the number of blocks
         for _turn in 0..heap.window().len() / UNIT {
             let Some(payload) = self.pop(heap) else {
                 break;
@@ -236,7 +237,7 @@ impl Pending {
 }
 
 impl<F: Fit, A: Allocator> Heap<F, A> {
-    /// Makes the link of a block name a payload.
+    /// Makes the link of a block point to a payload.
     fn set_link(&mut self, payload: u32, to: Option<u32>)
         ensures window { self.new.window ≡ with_bytes self.old.window
             (set_pointer self.old.window.bytes (block_of payload + LINK) to) }
@@ -245,7 +246,7 @@ impl<F: Fit, A: Allocator> Heap<F, A> {
         self.window.point(block_of(payload) as usize + LINK, to);
     }
 
-    /// Writes how many cells name a frozen object.
+    /// Writes how many cells point to a frozen object.
     fn set_cell_count(&mut self, payload: u32, count: u32)
         ensures window { self.new.window ≡ with_bytes self.old.window
             (set_word self.old.window.bytes payload count) }
@@ -254,7 +255,7 @@ impl<F: Fit, A: Allocator> Heap<F, A> {
         self.window.put32(payload as usize, count);
     }
 
-    /// How many entries stand in a block: as many as a buffer has room for, and one in any other block.
+    /// How many entries a block has: as many as a buffer has room for, or one in any other block.
     fn entry_count(&self, content: &Content, start: u32) -> u32
         ensures buffer { (g : Span) → content.now.shape ≡ Shape.Buffer → start ≡ g.at + UNIT →
             IsSized self.now.window.bytes g →
@@ -267,7 +268,7 @@ impl<F: Fit, A: Allocator> Heap<F, A> {
         }
     }
 
-    /// Whether the values of entries may own blocks.
+    /// Whether the values of entries may have pointers to blocks.
     fn owns_more(&self, entry: Entry) -> bool
         ensures value { (U : ℕ) → entry.held ≡ Held.Value U →
             result ≡ has_cells (form_at self.now.types U) }
@@ -279,8 +280,8 @@ impl<F: Fit, A: Allocator> Heap<F, A> {
         }
     }
 
-    /// Makes the block that a cell names show by itself what goes with it: the entries of a buffer after the used ones hold
-    /// defaults, and the last node of a ring names no next one.
+    /// Prepares the block that a cell points to, so that it shows by itself what it owns: the unused entries of a
+    /// buffer become defaults, and the last node of a ring gets a null pointer to the next.
     fn uncouple(&mut self, content: &Content, cell: u32, payload: u32)
         ensures window { KeepsHost self.old.window self.new.window }
         ensures types { self.new.types ≡ self.old.types }
@@ -303,7 +304,7 @@ impl<F: Fit, A: Allocator> Heap<F, A> {
         }
     }
 
-    /// Makes the entries of a buffer after the used ones defaults, where values of theirs may own blocks.
+    /// Writes defaults to the unused entries of a buffer, if their values may have pointers to blocks.
     fn default_rest(&mut self, entry: Entry, start: u32, used: u32)
         ensures window { KeepsHost self.old.window self.new.window }
         ensures types { self.new.types ≡ self.old.types }
@@ -328,7 +329,7 @@ impl<F: Fit, A: Allocator> Heap<F, A> {
         }
     }
 
-    /// Makes the last node of a ring name no next one.
+    /// Makes the last node's pointer to the next node null.
     fn open_ring(&mut self, first: u32)
         ensures window { KeepsHost self.old.window self.new.window }
         ensures types { self.new.types ≡ self.old.types }

@@ -1,4 +1,4 @@
-//! Cells that share a frozen object with others, as images of version 2 have them.
+//! Cells that share a frozen object, in images of version 2.
 
 ghost use Rattle.std.specs.Prelude.{◌≡◌, ℕ, suc, ◌+◌, ◌%◌, ◌^◌, ◌<◌, ◌≤◌, List, [], ◌∷◌, ◌++◌, length, Option, Some, None, Err, option_map, IsOkUnless, MatchResult};
 ghost use Rattle.std.specs.List.{AllByRecursion};
@@ -29,7 +29,7 @@ use seg_ptr::header::NEXT_NUMBER;
 use seg_raw::Code;
 use std::alloc::Allocator;
 
-/// The value of the object that a cell names, by its position, if it names one.
+/// The position of the value of the frozen object that a cell points to, if it points to one.
 pub fn frozen<F: Fit, A: Allocator>(heap: &Heap<F, A>, cell: Place) -> Option<u32>
     ensures { result ≡ option_map (λ p. (p + frozen_words) % 2 ^ 32)
         (target heap.now.window.bytes cell.at) }
@@ -38,8 +38,8 @@ pub fn frozen<F: Fit, A: Allocator>(heap: &Heap<F, A>, cell: Place) -> Option<u3
     Some(payload.wrapping_add(FROZEN_WORDS))
 }
 
-/// Makes a cell outside frozen objects name what another one names, or nothing as that one. What it named before is
-/// released.
+/// Makes a cell outside frozen objects point to what another cell points to, if anything. The object that it pointed to
+/// before is released.
 pub fn share<F: Fit, A: Allocator>(heap: &mut Heap<F, A>, to: Place, from: Place)
     ensures window { KeepsHost heap.old.window heap.new.window }
     ensures types { heap.new.types ≡ heap.old.types }
@@ -62,9 +62,10 @@ pub fn share<F: Fit, A: Allocator>(heap: &mut Heap<F, A>, to: Place, from: Place
     name(heap, to.at, object);
 }
 
-/// Makes an object frozen, given by the position of its value, that nothing holds and that doesn't reach the cell. The
-/// cell names it then, and what it named before is released; the cell must lie outside frozen objects. `NumbersUsedUp`
-/// where there is no number for one more, `BadAlloc` where no gap has room for it, and then nothing changes.
+/// Freezes an object, given by the position of its value. The object must not have an owner, and must not reach the
+/// cell. The cell then points to the frozen object, and the object that it pointed to before is released; the cell must
+/// be outside frozen objects. `NumbersUsedUp` if there is no number for one more, `BadAlloc` if no free block is large
+/// enough; then nothing changes.
 pub fn freeze<F: Fit, A: Allocator>(
     heap: &mut Heap<F, A>,
     cell: Place,
@@ -103,7 +104,7 @@ pub fn freeze<F: Fit, A: Allocator>(
     Ok(())
 }
 
-/// The type of the objects that cells of a type share, or the type itself where it is no such cell's.
+/// The type of the objects that cells of type `t` share, or `t` itself if it isn't a shared type.
 fn shared_type<F: Fit, A: Allocator>(heap: &Heap<F, A>, t: TypeId) -> TypeId
     ensures { (T : ℕ) → form_at heap.now.types t ≡ Some (Form.shared T) → result ≡ T }
 {
@@ -113,8 +114,8 @@ fn shared_type<F: Fit, A: Allocator>(heap: &Heap<F, A>, t: TypeId) -> TypeId
     held
 }
 
-/// Moves an object of a type to a new block, with the words of a frozen one before its value. Returns where the payload
-/// begins. `BadAlloc` where no gap has room for it, and then nothing changes.
+/// Moves an object of a type to a new block, with a frozen object's words before its value. Returns the position of the
+/// payload. `BadAlloc` if no free block is large enough; then nothing changes.
 fn move_frozen<F: Fit, A: Allocator>(
     heap: &mut Heap<F, A>,
     t: TypeId,
@@ -142,7 +143,7 @@ fn move_frozen<F: Fit, A: Allocator>(
     Ok(payload)
 }
 
-/// Writes the words of a frozen object that one cell names, and the number of the next one.
+/// Writes the words of a frozen object with one cell, and the number of the next object.
 fn count_frozen<F: Fit, A: Allocator>(heap: &mut Heap<F, A>, payload: u32, number: u32)
     ensures window { heap.new.window ≡ with_bytes heap.old.window (set_word (set_word (set_word
         heap.old.window.bytes payload 1) (payload + 4) number)
@@ -155,7 +156,7 @@ fn count_frozen<F: Fit, A: Allocator>(heap: &mut Heap<F, A>, payload: u32, numbe
     w.put32(NEXT_NUMBER, number.wrapping_add(1));
 }
 
-/// Counts one cell more that names an object, if there is one.
+/// Raises the count of a frozen object, if there is one.
 fn raise<F: Fit, A: Allocator>(heap: &mut Heap<F, A>, object: Option<u32>)
     ensures window { KeepsHost heap.old.window heap.new.window }
     ensures types { heap.new.types ≡ heap.old.types }
@@ -173,7 +174,7 @@ fn raise<F: Fit, A: Allocator>(heap: &mut Heap<F, A>, object: Option<u32>)
     w.put32(payload as usize, count);
 }
 
-/// Makes a cell name an object that it counts, or none.
+/// Makes a cell point to a frozen object, or to none.
 fn name<F: Fit, A: Allocator>(heap: &mut Heap<F, A>, cell: u32, object: Option<u32>)
     ensures window { heap.new.window ≡ with_bytes heap.old.window (set_word
         (set_pointer heap.old.window.bytes cell object) (cell + 4) (cell_count object)) }

@@ -28,7 +28,7 @@ pub const INCREMENT_FILE: [u8; 103] = [
     0x0b, 0, 0, 0, 0, 0, 0, 0, // END
 ];
 
-/// The text of a client that makes a chain of so many objects, each of which owns the one before, and destroys it.
+/// The text of a client that makes a chain of `nodes` objects, each of which owns the one before, and destroys it.
 pub fn chain(alloc: Global, nodes: u32) -> Result<String, AllocError> {
     format!(in alloc;
         "type i64

@@ -1,11 +1,11 @@
 use std::alloc::{AllocError, Global};
 
-/// The first `n` bytes, or all where there are fewer.
+/// The first `n` bytes, or all bytes if there are fewer.
 pub fn front(bytes: &[u8], n: usize) -> &[u8] {
     &bytes[..n.min(bytes.len())]
 }
 
-/// Writes bytes where they fit.
+/// Writes bytes if they fit.
 pub fn write(to: &mut [u8], at: usize, bytes: &[u8]) {
     for (i, byte) in bytes.iter().enumerate() {
         if let Some(slot) = to.get_mut(at.saturating_add(i)) {
@@ -14,7 +14,7 @@ pub fn write(to: &mut [u8], at: usize, bytes: &[u8]) {
     }
 }
 
-/// Writes 32-bit numbers, the lowest byte first, where they fit.
+/// Writes little-endian 32-bit numbers if they fit.
 pub fn write_words(to: &mut [u8], at: usize, words: &[u32]) {
     for (i, word) in words.iter().enumerate() {
         write(
@@ -25,7 +25,7 @@ pub fn write_words(to: &mut [u8], at: usize, words: &[u32]) {
     }
 }
 
-/// The image of `examples/counter.image`: one number named x, which is 41.
+/// The image of `examples/counter.image`: one number named x, with the value 41.
 pub fn counter(alloc: Global) -> Result<Vec<u8>, AllocError> {
     let mut image = Vec::from_elem(alloc, 0u8, 784)?;
     let bytes = image.as_mut_slice();
@@ -55,8 +55,8 @@ pub fn counter_saved(alloc: Global, number: u32) -> Result<Vec<u8>, AllocError> 
     counter_with(alloc, &[(8, 2), (720, number)])
 }
 
-/// An image of 1024 bytes with a frozen number, which is 7: the cell named b names it. A cell named a is gone, which named it
-/// too, and so is the object that was frozen.
+/// An image of 1024 bytes with a frozen number, 7, to which the cell named b points. A cell named a, which also pointed
+/// to it, was destroyed, and so was the object that was frozen.
 pub fn sharing(alloc: Global) -> Result<Vec<u8>, AllocError> {
     let mut image = Vec::from_elem(alloc, 0u8, 1024)?;
     let bytes = image.as_mut_slice();
@@ -69,7 +69,7 @@ pub fn sharing(alloc: Global) -> Result<Vec<u8>, AllocError> {
     Ok(image)
 }
 
-/// A gap, the index with its entry, the cell, a gap, the frozen object, and a gap.
+/// A free block, the index with its entry, the cell, a free block, the frozen object, and a free block.
 fn write_sharing_heap(bytes: &mut [u8]) {
     write_words(bytes, 704, &[2, 0, 0, 116]);
     write_words(bytes, 736, &[0x8000_0003, 2, 5, 1, 48, 0x1_0001]);

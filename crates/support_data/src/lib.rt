@@ -1,5 +1,5 @@
-//! What the tests of several crates use: numbers that look random, images and clients written by hand from their formats,
-//! and an output that ends where it is told to.
+//! What the tests of several crates use: pseudo-random numbers, images and clients written by hand from their formats,
+//! and an output with a limit.
 #![tactic(auto)]
 
 mod clients;

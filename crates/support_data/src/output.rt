@@ -1,7 +1,7 @@
 use std::alloc::Global;
 use std::io::{self, Write};
 
-/// An output in memory that takes a few bytes at a time, and none once it holds as many as its limit.
+/// An output in memory that takes a few bytes at a time, and none once it has as many as its limit.
 #[derive(Drop)]
 pub struct Limited {
     pub bytes: Vec<u8>,
@@ -18,7 +18,7 @@ impl Limited {
         }
     }
 
-    /// An output that takes all.
+    /// An output without a limit.
     pub fn unlimited(alloc: Global) -> Limited {
         Limited::new(alloc, usize::MAX, usize::MAX)
     }

@@ -1,6 +1,6 @@
 ghost use Rattle.std.specs.Prelude.{◌<◌};
 
-/// A linear congruential generator: numbers that look random, the same in each run.
+/// A linear congruential generator. Its numbers are the same in each run.
 #[derive(Drop)]
 pub struct Random {
     state: u64,
@@ -11,7 +11,7 @@ impl Random {
         Random { state: seed }
     }
 
-    /// The next number below `n`, 0 where `n` is 0.
+    /// The next number below `n`, or 0 if `n` is 0.
     pub fn below(&mut self, n: u32) -> u32
         ensures { 0 < n → result < n }
     {

@@ -1,5 +1,5 @@
-//! What the crates of tests that run clients use: segments of each kind, runs on them, and images in windows. No call here says
-//! what it does in a clause, so that a test that makes many of them has a short proof.
+//! What the test crates that run clients use: segments of each kind, runs on them, and images in windows. No call here
+//! has a contract on its result, so that a test that makes many of them has a short proof.
 #![tactic(auto)]
 
 mod runs;

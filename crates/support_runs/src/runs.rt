@@ -20,7 +20,7 @@ use std::alloc::Global;
 use std::test::Fail;
 use support_data::Limited;
 
-/// How a segment keeps its free blocks and its names.
+/// How a segment stores its free blocks and its names.
 #[derive(Debug, Clone, Copy, PartialEq, Eq)]
 pub struct Kind {
     pub is_best_fit: bool,
@@ -75,7 +75,7 @@ pub fn created<F: Fit>(
     }
 }
 
-/// The file of the client that a text spells.
+/// Assembles a client: its text becomes a client file.
 pub fn client(alloc: Global, text: &str) -> Result<Vec<u8>, Fail> {
     Ok(assemble(alloc, text.as_bytes())?)
 }
@@ -85,7 +85,7 @@ pub fn verified<'c>(file: &'c [u8], types: &TypeTable) -> Result<Verified<'c>, F
     verify(parse(file)?, types)
 }
 
-/// The same, made ready to run.
+/// Like [`verified`], and prepared to run.
 pub fn ready<'c>(
     alloc: Global,
     file: &'c [u8],
@@ -94,7 +94,7 @@ pub fn ready<'c>(
     Ok(prepare(alloc, verified(file, types)?)?)
 }
 
-/// What a run of clients came to.
+/// The result of a run of clients.
 #[derive(Drop)]
 pub struct Ran {
     pub out: Vec<u8>,
@@ -103,7 +103,7 @@ pub struct Ran {
     pub ended: Ended,
 }
 
-/// What a run is given beside the image and the clients.
+/// The settings of a run besides the image and the clients.
 #[derive(Clone, Copy)]
 pub struct Setting<'a> {
     pub input: &'a [u8],
@@ -114,7 +114,7 @@ pub struct Setting<'a> {
     pub limit: usize,
 }
 
-/// A region of 2 MiB, no input, and an output that takes all.
+/// A region of 2 MiB, no input, and an output without a limit.
 pub const PLAIN: Setting<'static> = Setting {
     input: &[],
     room: 1 << 21,
@@ -124,7 +124,7 @@ pub const PLAIN: Setting<'static> = Setting {
     limit: usize::MAX,
 };
 
-/// Runs the clients that the texts spell. The saved image must be one that is accepted.
+/// Runs the clients with these texts. The saved image must be accepted.
 pub fn run_in(alloc: Global, image: &[u8], texts: &[&str], setting: Setting) -> Result<Ran, Fail> {
     let mut files = Vec::new(alloc);
     for text in texts {
@@ -134,7 +134,7 @@ pub fn run_in(alloc: Global, image: &[u8], texts: &[&str], setting: Setting) -> 
     run_files(alloc, image, clients.as_slice(), setting)
 }
 
-/// Runs clients. The saved image must be one that is accepted.
+/// Runs clients. The saved image must be accepted.
 pub fn run_files(
     alloc: Global,
     image: &[u8],
@@ -150,7 +150,7 @@ pub fn run_files(
     }
 }
 
-/// What a run of clients comes to, or why nothing runs.
+/// The outcome of a run of clients, or why nothing runs.
 pub fn outcome_of(
     alloc: Global,
     image: &[u8],
@@ -163,7 +163,7 @@ pub fn outcome_of(
     Ok(came_to(outcome, out))
 }
 
-/// What a run of clients on an image of the caller's comes to; where nothing runs, its bytes come back.
+/// The outcome of a run of clients on an image of the caller's. If nothing runs, its bytes are returned.
 pub fn outcome_in(
     alloc: Global,
     image: Vec<u8>,
@@ -197,17 +197,17 @@ fn came_to(outcome: Outcome<Global>, out: Through<Limited>) -> Ran {
     }
 }
 
-/// Runs the clients that the texts spell on an image.
+/// Runs the clients with these texts on an image.
 pub fn run_on(alloc: Global, image: &[u8], texts: &[&str]) -> Result<Ran, Fail> {
     run_in(alloc, image, texts, PLAIN)
 }
 
-/// Runs the clients that the texts spell on an empty segment.
+/// Runs the clients with these texts on an empty segment.
 pub fn run_anew(alloc: Global, size: u32, kind: Kind, texts: &[&str]) -> Result<Ran, Fail> {
     run_on(alloc, empty(alloc, size, kind)?.as_slice(), texts)
 }
 
-/// What an image holds, in numbers.
+/// The sizes and numbers of what an image contains.
 #[derive(Debug, Clone, Copy, PartialEq, Eq)]
 pub struct Statistics {
     pub free: u32,
@@ -216,7 +216,7 @@ pub struct Statistics {
     pub unique: usize,
 }
 
-/// What an image holds, which must be one that is accepted.
+/// The statistics of an image, which must be accepted.
 pub fn statistics_of(alloc: Global, image: &[u8]) -> Result<Statistics, Fail> {
     let placed = window(alloc, image)?;
     let types = check(alloc, &placed)?;

@@ -1,4 +1,4 @@
-//! Images in windows, and the segments that are opened there.
+//! Images in windows, and segments that are opened there.
 
 use seg_block::Fit;
 use seg_check::open;
