@@ -61,8 +61,7 @@ impl Path {
     }
 }
 
-/// Unlinks the node at the end of a path, which then leads to where a node is missing. Returns the missing node's
-/// colour.
+/// Unlinks the node at the end of a path, which then ends where a node is missing. Returns the missing node's colour.
 fn unlink<A: Allocator>(w: &mut Window<A>, path: &mut Path, node: u32) -> Colour
     ensures host { KeepsHost w.old w.new }
     ensures root { path.new.root ≡ path.old.root }

@@ -1,12 +1,16 @@
--- What a call on a place finds and leaves that destroys a value, with the frozen objects that go with it.
+-- What a call finds and leaves that destroys a value, and the frozen objects that lose their last
+-- cell. Frozen objects are in `now` before the call and in `final` after it. `theirs` gives the
+-- blocks of each, by its position. `names` are the positions to which the destroyed shared cells
+-- pointed.
 --     SharedBeside bytes table besides names theirs kept now final
---                        frozen objects beside these blocks, of which this is left where these names go
+--                        these frozen objects exist apart from the blocks `besides`; without the cells
+--                        `names` they become `final`
 --     BesideShared bytes table besides names claim
---                        the claim holds beside whichever frozen objects
+--                        the claim is true for any such frozen objects
 --     ClearsPlace old new table place w olds news theirs now final
---                        a value went, with the blocks that nothing owns any more
+--                        a value was destroyed, and the blocks without an owner were freed
 --     LosesPart old new table place w j blocks theirs now final
---                        so did a part of a place, with its node
+--                        part j of a place was destroyed, with its node
 use Rattle.std.specs.Prelude.{ℕ, ◌≤◌, List, ◌++◌}
 use Rattle.seg_spec.specs.Types.{Table}
 use Rattle.seg_spec.specs.Value.{Value}
@@ -21,8 +25,8 @@ use Rattle.seg_spec.specs.Frozen.{Frozen, blocks_by}
 use Rattle.seg_spec.specs.Shared.{IsReleasing}
 use Rattle.seg_spec.specs.Destroying.{AreLive, HoldFrozen, KeepFrozen}
 
--- these frozen objects own the blocks `theirs`, which are live once each with others; where cells with
--- these names go, and those with the kept names stay, this is left of them
+-- The frozen objects own the blocks `theirs`. These and `besides` are allocated and differ. If the
+-- cells `names` are destroyed and the cells `kept` stay, the objects become `final`.
 pub record SharedBeside (bytes : List ℕ) (table : Table) (besides names : List ℕ)
     (theirs : ℕ → List ℕ) (kept : List Place) (now final : List Frozen) : Type 0 where
   pub holds : HoldFrozen bytes table theirs now
@@ -30,16 +34,14 @@ pub record SharedBeside (bytes : List ℕ) (table : Table) (besides names : List
   pub owned : AreLive bytes (besides ++ blocks_by theirs now)
   pub releasing : IsReleasing kept final names now
 
--- whichever frozen objects stand beside these blocks, the claim holds of the blocks that they own, of
--- them, and of what is left of them where cells with these names go
 abbrev pub BesideShared : List ℕ → Table → List ℕ → List ℕ →
     ((ℕ → List ℕ) → List Frozen → List Frozen → Type 0) → Type 0
 BesideShared bytes table besides names claim =
     (theirs : ℕ → List ℕ) (kept : List Place) (now final : List Frozen) →
     SharedBeside bytes table besides names theirs kept now final → claim theirs now final
 
--- the place holds w with the blocks `news`, of those that its value owned before; all others of them
--- were given back, and those of frozen objects that went
+-- The place now contains w with the blocks `news`, which its old value owned. Its other old blocks
+-- were freed, and the blocks of frozen objects without a cell.
 pub record ClearsPlace (old new : List ℕ) (table : Table) (place : Place) (w : Value)
     (olds news : List ℕ) (theirs : ℕ → List ℕ) (now final : List Frozen) : Type 0 where
   pub gives : List ℕ
@@ -50,8 +52,8 @@ pub record ClearsPlace (old new : List ℕ) (table : Table) (place : Place) (w :
   pub shared_kept : KeepFrozen old new theirs final
   pub holds : HoldFrozen new table theirs final
 
--- the place lost part j, an item or the value of a key, with its node and all that it owned; it holds
--- w with the other blocks
+-- The place lost part j, an item or the value of a key, with its node and everything that it owned.
+-- It contains w with the other blocks.
 pub record LosesPart (old new : List ℕ) (table : Table) (place : Place) (w : Value) (j : ℕ)
     (blocks : List ℕ) (theirs : ℕ → List ℕ) (now final : List Frozen) : Type 0 where
   pub lost : List ℕ

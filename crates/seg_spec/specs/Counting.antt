@@ -1,11 +1,12 @@
--- The frozen objects of a picture, counted.
---     cells_in roots           what the shared cells in the values of these roots name
---     owners_in picture        the roots that are no frozen objects
---     AreCounted next picture  each frozen object counts the cells that name it; their numbers are below
---                              next, and don't rise along the list
---     without_cells gone picture   the picture with what is left of its frozen objects where cells with
---                              these names go
---     FrozenGone bytes picture gone blocks     the blocks of those that go then
+-- The counts of the frozen objects of a picture. A frozen object counts the shared cells that point
+-- to it, in all roots and in other frozen objects.
+--     cells_in roots           what the shared cells in the values of these roots point to
+--     owners_in picture        the roots that aren't frozen objects
+--     AreCounted next picture  each frozen object counts its cells; the objects' numbers are below next,
+--                              and don't rise along the list
+--     without_cells gone picture   the picture without the cells that point to `gone`: frozen objects
+--                              whose last cell is among them are gone too
+--     FrozenGone bytes picture gone blocks     the blocks of the frozen objects that are then gone
 use Rattle.std.specs.Prelude.{◌≡◌, ℕ, List, [], ◌∷◌, ◌++◌}
 use Rattle.seg_spec.specs.Reads.{Place}
 use Rattle.seg_spec.specs.Index.{Root}
@@ -28,7 +29,6 @@ pub record AreCounted (next : ℕ) (picture : Picture) : Type 0 where
 abbrev pub without_cells : List Place → Picture → Picture
 without_cells gone picture = record picture { frozen = left gone picture.frozen }
 
--- the blocks of the frozen objects of a picture that go where cells with these names go
 pub record FrozenGone (bytes : List ℕ) (picture : Picture) (gone : List Place)
     (blocks : List ℕ) : Type 0 where
   pub theirs : ℕ → List ℕ

@@ -1,27 +1,35 @@
--- What destruction finds and leaves. Lists of blocks are meant up to their order.
---     AreLive bytes blocks                       these blocks are live, each once
---     GoesWith bytes table p blocks names        the block with payload p waits, and these go with it, which
---                                                name these objects
+-- What destruction finds and leaves. It works without recursion and memory: blocks that are still
+-- to be freed wait in a list through the links of their headers. A waiting block *shows* what is
+-- freed with it: its values, and the nodes after it (`Owing`). Frozen objects are not in this list.
+-- They count their cells, and join it with their last cell. `names` are the positions to which
+-- destroyed shared cells point. `theirs` gives the blocks of each frozen object, by its position.
+-- `final` are the frozen objects that stay in the end. The order of blocks in a list doesn't
+-- matter.
+--     AreLive bytes blocks                       these blocks are allocated, and each is listed at most once
+--     GoesWith bytes table p blocks names        the block with payload p, with all that is freed with it
 --     Pends allocator bytes table first owed names
---                                                blocks wait from a first one on, and these go with them
---     KeepsOthers old new blocks                 nothing changed but in these live blocks
---     HoldFrozen bytes table theirs frozen          each of these objects holds its value, and owns its blocks
---     KeepFrozen old new theirs frozen           their blocks are kept, but for the objects' counts
+--                                                the waiting blocks from `first` on, with all that is freed
+--                                                with them
+--     KeepsOthers old new blocks                 only these allocated blocks changed
+--     HoldFrozen bytes table theirs frozen       each frozen object contains its value and owns its blocks
+--     KeepFrozen old new theirs frozen           the blocks of frozen objects are kept, except their counts
 --     PendsBeside allocator bytes table first blocks names theirs frozen
---                                                blocks wait beside frozen objects
+--                                                waiting blocks, and frozen objects apart from them
 --     Awaits allocator bytes table first blocks names kept theirs final
---                                                the same, where in the end this is left of the objects
+--                                                the same, and `names` and the waiting blocks are still to
+--                                                be released
 --     Adds allocator old new table first xs ys names kept theirs final
---                                                blocks joined those that wait, and objects were released
+--                                                blocks were added to those that wait, or released
 --     Pops allocator bytes table p next blocks names kept theirs final
---                                                the first one that waits was taken out
---     DefaultsRest old new table p before U used     the entries of a buffer after the used ones name nothing
+--                                                the first waiting block was taken out
+--     DefaultsRest old new table p before U used     the unused entries of a buffer have null pointers
 --     Uncouples allocator old new table p blocks names
---                                                a block shows by itself what goes with it
---     Frees allocator old new gives but          these were given back, and each other live block is kept, but
---                                                for some
+--                                                a block was prepared to show what is freed with it
+--     Frees allocator old new gives but          the blocks `gives` were freed, and all others except `but`
+--                                                are kept
 --     Destroys allocator old new table blocks theirs final
---                                                some were given back, and others hold what is left
+--                                                some of the blocks were freed, and the others belong to
+--                                                the frozen objects that stay
 use Rattle.std.specs.Prelude.{◌≡◌, ℕ, ◌+◌, ◌-◌, ◌*◌, ◌/◌, ◌≤◌, List, ◌++◌, length, map, Option}
 use Rattle.std.specs.List.{AllByRecursion}
 use Rattle.seg_bytes.specs.Bytes.{IsSame, ChangesOnly}
@@ -38,11 +46,11 @@ use Rattle.seg_spec.specs.Header.{KeepsFront, KeepsBack}
 use Rattle.seg_spec.specs.Frozen.{Frozen, root_of_frozen, blocks_by}
 use Rattle.seg_spec.specs.Shared.{IsReleasing}
 
--- these blocks are live, each once
 abbrev pub AreLive : List ℕ → List ℕ → Type 0
 AreLive bytes blocks = (h : ℕ) → times h blocks ≤ times h (positions (live bytes))
 
--- the block with payload p waits, and these go with it, which name these objects
+-- The block with payload p shows that it is freed with `blocks`, itself included. Their shared
+-- cells point to `names`.
 pub record GoesWith (bytes : List ℕ) (table : Table) (p : ℕ) (blocks names : List ℕ) :
     Type 0 where
   pub owed : List ℕ
@@ -51,8 +59,8 @@ pub record GoesWith (bytes : List ℕ) (table : Table) (p : ℕ) (blocks names :
   pub owed_are : SameBlocks owed blocks
   pub named_are : SameBlocks named names
 
--- blocks wait from a first one on, in a heap in order, and these go with them, which name these
--- objects
+-- Blocks wait from `first` on, in a well-formed heap. `blocks` are freed with them, and the shared
+-- cells there point to `names`.
 pub record Pends (allocator : ℕ) (bytes : List ℕ) (table : Table) (first : Option ℕ)
     (blocks names : List ℕ) : Type 0 where
   pub heap : IsHeap allocator bytes
@@ -62,7 +70,8 @@ pub record Pends (allocator : ℕ) (bytes : List ℕ) (table : Table) (first : O
   pub owed_are : SameBlocks owed blocks
   pub named_are : SameBlocks named names
 
--- nothing changed but in these live blocks: all are live still, and each other one is kept with its link
+-- Only these allocated blocks changed: all stay allocated, and each other block is kept with its
+-- link.
 pub record KeepsOthers (old new : List ℕ) (blocks : List ℕ) : Type 0 where
   pub length_kept : length new ≡ length old
   pub front_kept : (p n : ℕ) → p + n ≤ heap_start → IsSame old new p n
@@ -70,18 +79,16 @@ pub record KeepsOthers (old new : List ℕ) (blocks : List ℕ) : Type 0 where
   pub others : (h : ℕ) → 1 ≤ times h (positions (live old)) → times h blocks ≡ 0 →
       KeepsLinked old new h
 
--- each of these objects holds its value, and owns the blocks that are told of its position
 abbrev pub HoldFrozen : List ℕ → Table → (ℕ → List ℕ) → List Frozen → Type 0
 HoldFrozen bytes table theirs frozen =
     AllByRecursion (λ f. HoldsRoot bytes table (root_of_frozen f) (theirs f.at)) frozen
 
--- the blocks of each of these objects are kept, but for the object's count
 abbrev pub KeepFrozen : List ℕ → List ℕ → (ℕ → List ℕ) → List Frozen → Type 0
 KeepFrozen old new theirs frozen =
     AllByRecursion (λ f. AllByRecursion (KeepsBlockAround old new f.at 4) (theirs f.at)) frozen
 
--- blocks wait from a first one on, and name these objects, beside frozen objects, which don't wait:
--- all these blocks are theirs
+-- Blocks wait from `first` on, and frozen objects exist apart from them. `blocks` are those of
+-- both.
 pub record PendsBeside (allocator : ℕ) (bytes : List ℕ) (table : Table) (first : Option ℕ)
     (blocks names : List ℕ) (theirs : ℕ → List ℕ) (frozen : List Frozen) : Type 0 where
   pub owed : List ℕ
@@ -90,8 +97,8 @@ pub record PendsBeside (allocator : ℕ) (bytes : List ℕ) (table : Table) (fir
   pub ownable : (h : ℕ) → 1 ≤ times h (blocks_by theirs frozen) → IsOwnable bytes table h
   pub blocks_are : SameBlocks blocks (owed ++ blocks_by theirs frozen)
 
--- blocks wait from a first one on beside frozen objects, and all these are theirs: what waits and
--- these names are still to be released, and in the end this is left of the objects
+-- Waiting blocks and frozen objects own `blocks`. If the waiting blocks are freed and `names`
+-- released, the frozen objects become `final`.
 pub record Awaits (allocator : ℕ) (bytes : List ℕ) (table : Table) (first : Option ℕ)
     (blocks names : List ℕ) (kept : List Place) (theirs : ℕ → List ℕ) (final : List Frozen) :
     Type 0 where
@@ -100,8 +107,8 @@ pub record Awaits (allocator : ℕ) (bytes : List ℕ) (table : Table) (first : 
   pub beside : PendsBeside allocator bytes table first blocks named theirs frozen
   pub releasing : IsReleasing kept final (names ++ named) frozen
 
--- blocks joined those that wait: xs go with them or are shared, beside ys that went with those
--- before or were shared; these names are still to be released beside what waits
+-- Blocks were added to the waiting ones: `xs` are freed with them or belong to frozen objects, as
+-- `ys` did before. `names` are still to be released.
 pub record Adds (allocator : ℕ) (old new : List ℕ) (table : Table) (first : Option ℕ)
     (xs ys names : List ℕ) (kept : List Place) (theirs : ℕ → List ℕ) (final : List Frozen) :
     Type 0 where
@@ -109,8 +116,8 @@ pub record Adds (allocator : ℕ) (old new : List ℕ) (table : Table) (first : 
   pub shared_kept : KeepFrozen old new theirs final
   pub awaits : Awaits allocator new table first (xs ++ ys) names kept theirs final
 
--- the block with payload p no longer waits, with what goes with it; the others wait from another
--- first one on
+-- The block with payload p was taken out. It shows what is freed with it, and the other blocks wait
+-- from `next` on.
 pub record Pops (allocator : ℕ) (bytes : List ℕ) (table : Table) (p : ℕ) (next : Option ℕ)
     (blocks names : List ℕ) (kept : List Place) (theirs : ℕ → List ℕ) (final : List Frozen) :
     Type 0 where
@@ -121,8 +128,8 @@ pub record Pops (allocator : ℕ) (bytes : List ℕ) (table : Table) (p : ℕ) (
   pub awaits : Awaits allocator bytes table next others (popped_names ++ names) kept theirs final
   pub blocks_are : SameBlocks blocks (popped ++ others)
 
--- these blocks were given back: the heap is in order, and each other live block is kept with its
--- link, but for some
+-- The blocks `gives` were freed. The heap is well-formed, and each other allocated block, except
+-- those in `but`, is kept with its link.
 pub record Frees (allocator : ℕ) (old new : List ℕ) (gives but : List ℕ) : Type 0 where
   pub length_kept : length new ≡ length old
   pub front_kept : KeepsFront old new
@@ -134,7 +141,6 @@ pub record Frees (allocator : ℕ) (old new : List ℕ) (gives but : List ℕ) :
   pub kept : (h : ℕ) → 1 ≤ times h (positions (live old)) → times h (gives ++ but) ≡ 0 →
       KeepsLinked old new h
 
--- of these blocks some were given back, and the others hold the frozen objects that are left
 pub record Destroys (allocator : ℕ) (old new : List ℕ) (table : Table) (blocks : List ℕ)
     (theirs : ℕ → List ℕ) (final : List Frozen) : Type 0 where
   pub gives : List ℕ
@@ -144,7 +150,7 @@ pub record Destroys (allocator : ℕ) (old new : List ℕ) (table : Table) (bloc
   pub holds : HoldFrozen new table theirs final
   pub ownable : (h : ℕ) → 1 ≤ times h (blocks_by theirs final) → IsOwnable new table h
 
--- the entries of a buffer from one on name nothing, and nothing but them changed
+-- the entries of a buffer from index `used` on have null pointers, and only they changed
 pub record DefaultsRest (old new : List ℕ) (table : Table) (p before U used : ℕ) : Type 0 where
   pub changes : ChangesOnly old new (p + used * (before + size table U))
       (payload_size old (block_of p) - used * (before + size table U))
@@ -153,7 +159,7 @@ pub record DefaultsRest (old new : List ℕ) (table : Table) (p before U used : 
       (map (λ q. q + before) (spaced (p + used * (before + size table U)) (before + size table U)
       (payload_size old (block_of p) / (before + size table U) - used)))
 
--- the block with payload p shows by itself now what goes with it, and nothing but these blocks changed
+-- The block with payload p now shows what is freed with it, and only these blocks changed.
 pub record Uncouples (allocator : ℕ) (old new : List ℕ) (table : Table) (p : ℕ)
     (blocks names : List ℕ) : Type 0 where
   pub heap : IsHeap allocator new

@@ -1,13 +1,14 @@
--- Parts of what an image is, for telling what is wrong with one.
---     IsImageLength n            a length that an image may have
---     IsTagOf version tag        an image of the version may have a block of this tag
---     HasTiles bytes table       tiles in order by themselves: all of the
---                                heap but the free structure
---     HoldsAll bytes             all of a sound image but one owner for each live block
+-- What is wrong with an image that isn't sound. The parts of an image are checked in an order, and
+-- each `Lacks..` says that one part is wrong and all parts before it are right. Except for a type's
+-- number they leave out positions, because it depends on the checker's order which of several
+-- faults it finds.
+--     IsImageLength n            n may be the length of an image
+--     IsTagOf version tag        an image of this version may have a block with this tag
+--     HasTiles bytes table       the blocks are right: all of the heap but the free structure
+--     HoldsAll bytes             a sound image, except that a block may have several owners or none
 --     LacksHeader, LacksType, LacksTiles, LacksGaps, LacksContent, LacksOwner
---         what is wrong, where all before it is right
---     Lacks bytes failure        the same by a name for each but the last, which is a
---                                case of the one before it
+--         what is wrong, with all before it right; LacksOwner is a case of LacksContent
+--     Failure, Lacks bytes failure        a name for each of the first five
 use Rattle.std.specs.Prelude.{◌≡◌, ℕ, ◌%◌, ◌≤◌, true, List, [], ◌++◌, length}
 use Rattle.std.specs.List.{AllByRecursion}
 use Rattle.seg_bytes.specs.Bytes.{word, slice}
@@ -19,17 +20,18 @@ use Rattle.seg_spec.specs.Counting.{AreCounted}
 use Rattle.seg_spec.specs.Images.{IsSound}
 use Rattle.seg_spec.specs.Header.{min_length, max_length, types_start, types_size, allocator_word, version_word, next_word, sharing_version}
 
--- a length that an image may have: whole units, as many as a segment may have
+-- A multiple of 16 between the lengths of the shortest and the longest segment.
 pub record IsImageLength (n : ℕ) : Type 0 where
   pub not_small : min_length ≤ n
   pub not_large : n ≤ max_length
   pub whole_units : n % 16 ≡ 0
 
--- a block of this tag may be in an image of the version: the first one has no frozen objects
+-- Only images of the version with frozen objects have blocks of frozen objects.
 abbrev pub IsTagOf : ℕ → ℕ → Type 0
 IsTagOf version tag = tag % 256 ≡ kind_number Kind.frozen → version ≡ sharing_version
 
--- Tiles fill the heap, each with its header, tag and link, and no two free ones are neighbours.
+-- The blocks fill the heap. Each has its header, an allowed tag and no link, and no two free ones
+-- are adjacent.
 pub record HasTiles (bytes : List ℕ) (table : Table) : Type 0 where
   pub filled : Fill heap_start (tiles bytes) (length bytes)
   pub headers : AreHeaders bytes 0 (tiles bytes)
@@ -38,8 +40,9 @@ pub record HasTiles (bytes : List ℕ) (table : Table) : Type 0 where
   pub of_version :
       AllByRecursion (λ b. IsTagOf (word bytes version_word) (tag_at bytes b.at)) (live bytes)
 
--- Laid out, with tags of its version, each value reads, the objects that cells share are counted, and all
--- blocks that the index and the roots name are live ones, which may have several owners or none.
+-- The image is laid out, and tags are those of its version. Each value reads, and frozen objects
+-- count their cells. All blocks of the index and the roots are allocated, but may have several
+-- owners or none.
 pub record HoldsAll (bytes : List ℕ) : Type 0 where
   pub picture : Picture
   pub none_loose : picture.loose ≡ []
@@ -53,46 +56,46 @@ pub record HoldsAll (bytes : List ℕ) : Type 0 where
   pub live_ones : AllByRecursion (λ h. 1 ≤ times h (positions (live bytes)))
       (index_blocks ++ root_blocks)
 
--- ---- what is wrong, where all that is looked at before it is right
+-- ---- what is wrong, with all before it right
 
--- header and types are in order
+-- header and types are right
 pub record HasFront (bytes : List ℕ) (table : Table) : Type 0 where
   pub header : HasHeader bytes
   pub types : HasTable bytes types_start table
   pub is_table : IsTable table
   pub of_version : AreOfVersion (word bytes version_word) table
 
--- the fixed words or the length
+-- the fixed words or the length are wrong
 abbrev pub LacksHeader : List ℕ → Type 0
 LacksHeader bytes = HasHeader bytes → ⊥
 
--- entry k of the table of types
+-- entry k of the type table is wrong
 abbrev pub LacksType : List ℕ → ℕ → Type 0
 LacksType bytes k = HasHeader bytes ×
     IsFirstWrong (word bytes version_word) (slice bytes types_start types_size) k
 
--- tiles, headers, tags or links
+-- blocks, headers, tags or links are wrong
 abbrev pub LacksTiles : List ℕ → Type 0
 LacksTiles bytes = (table : Table) × HasFront bytes table × (HasTiles bytes table → ⊥)
 
--- the free structure
+-- the free structure is wrong
 abbrev pub LacksGaps : List ℕ → Type 0
 LacksGaps bytes = (table : Table) × HasFront bytes table × HasTiles bytes table ×
     (HoldsGaps (word bytes allocator_word) bytes (gaps bytes) → ⊥)
 
--- the index, a unique object, a value, or one owner for each block
+-- the index, a unique object, a value, a count or an owner is wrong
 abbrev pub LacksContent : List ℕ → Type 0
 LacksContent bytes =
     (table : Table) × HasFront bytes table × HasTiles bytes table ×
     HoldsGaps (word bytes allocator_word) bytes (gaps bytes) × (IsSound bytes → ⊥)
 
--- nothing but an owner for a live block
+-- only owners are wrong
 abbrev pub LacksOwner : List ℕ → Type 0
 LacksOwner bytes = HoldsAll bytes × (IsSound bytes → ⊥)
 
 -- ---- the failures by name
 
--- in the order in which they are looked for
+-- in the order in which they are checked
 pub data Failure : Type 0 where
   bad_header : Failure
   bad_type : (k : ℕ) → Failure

@@ -1,17 +1,18 @@
--- Where the fixed parts of a segment stand, and how long a segment may be.
---     min_length, max_length         the bytes of the shortest and of the longest segment
---     version_word, units_word, allocator_word, index_kind_word, free_word, next_word, index_cell,
---     reserved, reserved_size        where the header's words stand, after the magic bytes
---     IsVersion version next         an image of the version may have this next number
---     types_start, types_size        where the table of types begins, and its bytes
---     uniques_start, uniques_size    where the words of the unique objects begin, and their bytes
---     heap_start                     where the heap begins
---     back_start, back_size          what stands between the free structure's word and the heap
---     KeepsFront, KeepsBack          all before that word is kept; all after it, to the heap
+-- The positions of the fixed parts of a segment, in bytes, and how long a segment may be. A unit is
+-- 16 bytes.
+--     min_length, max_length         the length of the shortest and of the longest segment, in bytes
+--     version_word (8), units_word (12), allocator_word (16), index_kind_word (20), free_word (24),
+--     next_word (28), index_cell (32), reserved (40)     the header's words, after 8 magic bytes
+--     IsVersion version next         an image of this version may have this next number
+--     types_start (64), types_size       the type table, and its bytes
+--     uniques_start (576), uniques_size  the pointers to the unique objects, and their bytes
+--     heap_start (704)                   the heap
+--     back_start, back_size          the bytes between the free structure's word and the heap
+--     KeepsFront, KeepsBack          the bytes before that word are kept; those after it, up to the heap
 use Rattle.std.specs.Prelude.{◌≡◌, ◌⊎◌, ℕ, ◌+◌, ◌-◌, ◌*◌, ◌^◌, List}
 use Rattle.seg_bytes.specs.Bytes.{IsSame}
 
--- where the table of types begins, right after the header
+-- right after the header
 abbrev pub types_start : ℕ
 types_start = 64
 
@@ -20,15 +21,15 @@ types_start = 64
 abbrev pub version_word : ℕ
 version_word = 8
 
--- the segment's units
+-- the segment's size in units
 abbrev pub units_word : ℕ
 units_word = 12
 
--- the number of the allocator
+-- the allocator: 0 for sequential fit, 1 for best fit
 abbrev pub allocator_word : ℕ
 allocator_word = 16
 
--- the number of the kind of index
+-- the kind of index: 0 for a flat one, 1 for a tree
 abbrev pub index_kind_word : ℕ
 index_kind_word = 20
 
@@ -36,7 +37,7 @@ index_kind_word = 20
 abbrev pub free_word : ℕ
 free_word = 24
 
--- the number of the next object that becomes frozen: 0 in version 1, which has none
+-- the number of the next frozen object; 0 in version 1, which has no frozen objects
 abbrev pub next_word : ℕ
 next_word = 28
 
@@ -44,18 +45,18 @@ next_word = 28
 abbrev pub index_cell : ℕ
 index_cell = 32
 
--- zeros, up to the table of types
+-- zeros, up to the type table
 abbrev pub reserved : ℕ
 reserved = 40
 
 abbrev pub reserved_size : ℕ
 reserved_size = types_start - reserved
 
--- the version of the images that may have frozen objects
+-- the version that may have frozen objects
 abbrev pub sharing_version : ℕ
 sharing_version = 2
 
--- the versions of images, and what the word for the next number may be in each
+-- the versions of images, and the next numbers that each may have
 abbrev pub IsVersion : ℕ → ℕ → Type 0
 IsVersion version next = ((version ≡ 1) × (next ≡ 0)) ⊎ (version ≡ sharing_version)
 
@@ -77,7 +78,7 @@ heap_start = uniques_start + uniques_size
 
 -- ---- the whole segment
 
--- a heap has two units at least
+-- a heap has at least two units
 abbrev pub min_length : ℕ
 min_length = heap_start + 2 * 16
 
@@ -86,17 +87,15 @@ max_length = 2 ^ 30
 
 -- ---- what changes of the heap keep
 
--- what stands between the word of the free structure and the heap
+-- right after the word of the free structure
 abbrev pub back_start : ℕ
 back_start = free_word + 4
 
 abbrev pub back_size : ℕ
 back_size = heap_start - back_start
 
--- all before the word of the free structure
 abbrev pub KeepsFront : List ℕ → List ℕ → Type 0
 KeepsFront old new = IsSame old new 0 free_word
 
--- all after it, to the heap
 abbrev pub KeepsBack : List ℕ → List ℕ → Type 0
 KeepsBack old new = IsSame old new back_start back_size

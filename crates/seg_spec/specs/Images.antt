@@ -1,6 +1,7 @@
--- Images: the bytes of a segment that stands by itself.
---     IsSound bytes      a segment that owns all its objects, and counts those that cells share
---     upgraded bytes     an image as it is opened
+-- Sound images: the bytes of a segment that can be saved and opened.
+--     IsSound bytes      a well-formed image without loose objects, whose frozen objects count their cells;
+--                        this is what `check` accepts
+--     upgraded bytes     an image after it was opened
 use Rattle.std.specs.Prelude.{◌≡◌, ℕ, List, []}
 use Rattle.seg_bytes.specs.Bytes.{word, set_word}
 use Rattle.seg_spec.specs.Header.{next_word, version_word, sharing_version}
@@ -13,6 +14,6 @@ pub record IsSound (bytes : List ℕ) : Type 0 where
   pub counted : AreCounted (word bytes next_word) picture
   pub none_loose : picture.loose ≡ []
 
--- an image as it is opened: of the version whose images may have frozen objects, and else as it was
+-- Opening sets the version to the one that may have frozen objects, and changes nothing else.
 abbrev pub upgraded : List ℕ → List ℕ
 upgraded bytes = set_word bytes version_word sharing_version

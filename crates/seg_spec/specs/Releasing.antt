@@ -1,31 +1,32 @@
--- Names that are released one after another, in whichever order. Each stands for a cell that is gone: the object that
--- it names counts one cell fewer. Where none is left the object goes, and the names in it are released too.
---     lowered p frozen          the objects, where one cell fewer names that at a position
---     let_go p frozen           the names in that object, where it goes with this cell
+-- The release of shared cells one after another, in any order. A released cell no longer points to
+-- its object, which counts one cell fewer. An object without a cell is freed, and its own cells are
+-- released.
+--     lowered p frozen          the objects, if the one at position p counts one cell fewer
+--     let_go p frozen           what the cells of that object point to, if it is freed
 --     Releases gone frozen turns pending now
---                               these names are still to be released, and these objects are there, after so many turns
+--                               after `turns` releases, the cells `pending` are still to be released, and
+--                               the objects are `now`
 use Rattle.std.specs.Prelude.{ℕ, zero, suc, ◌-◌, ◌==◌, if◌then◌else◌, List, [], ◌∷◌, ◌++◌, IsPermutation}
 use Rattle.seg_spec.specs.Reads.{Place}
 use Rattle.seg_spec.specs.Frozen.{Frozen}
 use Rattle.seg_spec.specs.Shared.{names_in, kept_with}
 
--- the object at a position counts one cell fewer, and goes where that is 0
+-- The object at a position counts one cell fewer, and is gone if that is 0.
 abbrev pub lowered : ℕ → List Frozen → List Frozen
 lowered p [] = []
 lowered p (f ∷ fs) = if f.at == p then kept_with f (f.count - 1) fs fs else f ∷ lowered p fs
 
--- what goes with an object of which n cells are left
+-- what the cells of an object point to, if it has no cell left; else nothing
 abbrev pub names_with : Frozen → ℕ → List Place
 names_with f zero = names_in f.value
 names_with f (suc n) = []
 
--- the names that go with the object at a position, where it counts one cell fewer
+-- what the cells of the object at a position point to, if it loses its last cell
 abbrev pub let_go : ℕ → List Frozen → List Place
 let_go p [] = []
 let_go p (f ∷ fs) = if f.at == p then names_with f (f.count - 1) else let_go p fs
 
--- the names that are still to be released, and the objects, after so many turns: any of the names
--- may be next
+-- the cells that are still to be released, and the objects; any of the cells may be next
 pub data Releases (gone : List Place) (frozen : List Frozen) :
     ℕ → List Place → List Frozen → Type 0 where
   no_turn : Releases gone frozen 0 gone frozen

@@ -1,17 +1,23 @@
--- Objects that several values share, as images of version 2 have them. Such an object is frozen: its value doesn't
--- change. It counts the cells that name it, and has a number that is above those of the objects that it names.
---     names_in v, names_of frozen          what the shared cells in a value name, and those in the objects
---     named_in v                           the same of a value, by positions
+-- Frozen objects: objects that several values share, in images of version 2. The value of a frozen
+-- object never changes. The object counts the shared cells that point to it. Its number is above
+-- the numbers of the objects to which it points, so there are no cycles.
+--
+-- A shared cell reads as the position of its object, so what a place contains depends only on its
+-- own bytes and blocks. Clients see trees instead: `unfolded` replaces each shared cell by a copy
+-- of its object.
+--     names_in v, names_of frozen          what the shared cells in a value point to, or in frozen objects
+--     named_in v                           the positions of these objects
 --     IsBelow n frozen place               the place is that of one of the objects, with a number below n
---     IsCounted next frozen cells          each object counts the cells that name it, these and those in the
---                                          objects, and names those of lower numbers alone; next is above all
---     unfolded n frozen v                  the value as a tree: each shared cell owns a copy of what it names
---     raised p frozen                      the objects, where one more cell names that at a position
---     raised_by names frozen               where cells with these names come too
---     IsReleasing kept final names now     names at these positions are still to be released, beside cells that
---                                          are kept; in the end this is left
---     left gone frozen, freed gone frozen  what is left where cells with these names are gone, and what goes
---                                          with them: what no cell names any more
+--     IsCounted next frozen cells          each object counts the cells that point to it, these and those
+--                                          in the objects; objects point to those with lower numbers only;
+--                                          next is above all numbers
+--     unfolded n frozen v                  the value as a tree: each shared cell owns a copy of its object
+--     raised p frozen                      the objects, if one more cell points to the one at position p
+--     raised_by names frozen               the objects, if one more cell points to each of these
+--     IsReleasing kept final names now     cells that point to these positions are still to be released, and
+--                                          others are kept; in the end the objects are `final`
+--     left gone frozen, freed gone frozen  the objects that stay if cells that point to `gone` are released,
+--                                          and those that are freed because no cell points to them any more
 use Rattle.std.specs.Prelude.{◌≡◌, ◌≢◌, ℕ, zero, suc, ◌-◌, ◌<◌, ◌≤◌, ◌==◌, ◌⊎◌, ⊤, if◌then◌else◌, List, [], ◌∷◌, ◌++◌, map, Option, Some, None}
 use Rattle.std.specs.List.{AllByRecursion}
 use Rattle.seg_spec.specs.Value.{Label, Value, node, Values, nil, cons, Empty, Full}
@@ -19,7 +25,7 @@ use Rattle.seg_spec.specs.Reads.{Place}
 use Rattle.seg_spec.specs.Frozen.{Frozen}
 use Rattle.seg_spec.specs.Sound.{times, SameBlocks}
 
--- ---- what shared cells name
+-- ---- what shared cells point to
 
 unfoldable mutual
   pub names_in : Value → List Place
@@ -31,7 +37,6 @@ unfoldable mutual
   names_each (cons v vs) = names_in v ++ names_each vs
 
 unfoldable mutual
-  -- where that stands
   pub named_in : Value → List ℕ
   named_in (node (Label.shared T p) vs) = p ∷ named_each vs
   named_in (node label vs) = named_each vs
@@ -40,23 +45,22 @@ unfoldable mutual
   named_each nil = []
   named_each (cons v vs) = named_in v ++ named_each vs
 
--- the names in all objects together
+-- what the shared cells in all objects point to
 abbrev pub names_of : List Frozen → List Place
 names_of [] = []
 names_of (f ∷ fs) = names_in f.value ++ names_of fs
 
--- how often an object at a position is named
+-- how many cells point to the object at a position
 abbrev pub times_named : ℕ → List Place → ℕ
 times_named p names = times p (map (λ q. q.at) names)
 
 -- ---- objects that are counted
 
--- the name is that of one of the objects, which has a number below n
 abbrev pub IsBelow : ℕ → List Frozen → Place → Type 0
 IsBelow n [] q = ⊥
 IsBelow n (f ∷ fs) q = ((f.at ≡ q.at) × (f.type ≡ q.type) × (f.number < n)) ⊎ IsBelow n fs q
 
--- no two objects stand at one position
+-- no two objects have the same position
 abbrev pub AreDistinct : List Frozen → Type 0
 AreDistinct [] = ⊤
 AreDistinct (f ∷ fs) = AllByRecursion (λ g. g.at ≢ f.at) fs × AreDistinct fs
@@ -74,7 +78,7 @@ pub record IsCounted (next : ℕ) (frozen : List Frozen) (cells : List Place) : 
 -- ---- values as trees
 
 unfoldable mutual
-  -- each shared cell with what it means in its place
+  -- each shared cell is replaced by its meaning
   pub replaced : (ℕ → Value) → Value → Value
   replaced meaning (node (Label.shared T p) vs) = meaning p
   replaced meaning (node label vs) = node label (replaced_each meaning vs)
@@ -92,7 +96,7 @@ abbrev pub owner_by : (Value → Value) → Option Value → Value
 owner_by tree None = Empty
 owner_by tree (Some v) = Full (tree v)
 
--- what a cell means that names the object at a position, going down at most n objects
+-- the meaning of a cell that points to the object at a position, through at most n objects
 unfoldable pub meaning : ℕ → List Frozen → ℕ → Value
 meaning zero frozen p = Empty
 meaning (suc n) frozen p =
@@ -101,7 +105,7 @@ meaning (suc n) frozen p =
 abbrev pub unfolded : ℕ → List Frozen → Value → Value
 unfolded n frozen v = replaced (meaning n frozen) v
 
--- ---- a cell more
+-- ---- a new cell
 
 abbrev pub with_count : Frozen → ℕ → Frozen
 with_count f n = record f { count = n }
@@ -111,25 +115,24 @@ abbrev pub raised : ℕ → List Frozen → List Frozen
 raised p [] = []
 raised p (f ∷ fs) = (if f.at == p then with_count f (suc f.count) else f) ∷ raised p fs
 
--- where cells with these names come too
 abbrev pub raised_by : List Place → List Frozen → List Frozen
 raised_by [] frozen = frozen
 raised_by (q ∷ names) frozen = raised q.at (raised_by names frozen)
 
--- ---- cells that go
+-- ---- released cells
 
 -- the numbers don't rise
 abbrev pub IsFalling : List Frozen → Type 0
 IsFalling [] = ⊤
 IsFalling (f ∷ fs) = AllByRecursion (λ g. g.number ≤ f.number) fs × IsFalling fs
 
--- an object of which n cells are left stays, and goes where that is 0
+-- an object with n remaining cells: it stays if n isn't 0
 abbrev pub kept_with : Frozen → ℕ → List Frozen → List Frozen → List Frozen
 kept_with f zero without with_it = without
 kept_with f (suc n) without with_it = with_count f (suc n) ∷ with_it
 
--- of objects in falling order, those that stay where cells with these names are gone: an object that
--- goes takes its own cells with it
+-- The objects are by falling numbers. An object that is freed releases its own cells, which point
+-- to objects after it.
 abbrev pub left : List Place → List Frozen → List Frozen
 left gone [] = []
 left gone (f ∷ fs) = kept_with f (f.count - times_named f.at gone)
@@ -139,14 +142,14 @@ abbrev pub freed_with : Frozen → ℕ → List Frozen → List Frozen → List 
 freed_with f zero without with_it = f ∷ without
 freed_with f (suc n) without with_it = with_it
 
--- those that go
+-- the objects that are freed
 abbrev pub freed : List Place → List Frozen → List Frozen
 freed gone [] = []
 freed gone (f ∷ fs) = freed_with f (f.count - times_named f.at gone)
     (freed (gone ++ names_in f.value) fs) (freed gone fs)
 
--- names of objects at these positions are still to be released, beside cells that are kept: in the
--- end this is left
+-- Cells that point to these positions are still to be released, and cells that point to `kept`
+-- stay. In the end the objects are `final`.
 pub record IsReleasing (kept : List Place) (final : List Frozen) (names : List ℕ)
     (now : List Frozen) : Type 0 where
   pub pending : List Place

@@ -1,15 +1,16 @@
--- Cells that come to name frozen objects, and objects that become frozen, as calls find and leave them.
+-- Calls that make a cell share a frozen object, or freeze an object. `theirs` gives the blocks of
+-- each frozen object, by its position.
 --     FrozenBeside bytes table besides cells next theirs now
---                            frozen objects beside these blocks, which count these cells and those in themselves
---     cell_count object      what a cell counts that names this object, or none
+--                            frozen objects exist apart from these blocks, and count these cells and their own
+--     cell_count object      the count in a cell that points to this object, or to none
 --     frozen_now payload T number v
---                            an object that became frozen, which one cell names
+--                            a new frozen object, with one cell
 --     MovesFrozen allocator old new table T object v inside payload
---                            an object moved to a new block, and is frozen there
+--                            an object was moved to a new block, and is frozen there
 --     with_blocks payload its theirs
---                            the blocks that objects own, where the one at this position owns `its`
+--                            like `theirs`, but the object at this position owns `its`
 --     Freezes allocator old new table cell T object v inside blocks names theirs now
---                            a cell names it, and what the cell named before was released
+--                            an object was frozen, and a cell points to it
 use Rattle.std.specs.Prelude.{◌≡◌, ◌≢◌, ℕ, suc, ◌+◌, ◌-◌, ◌≤◌, ◌==◌, if◌then◌else◌, List, [], ◌∷◌, ◌++◌, length, Option, Some, None}
 use Rattle.std.specs.List.{AllByRecursion}
 use Rattle.seg_bytes.specs.Bytes.{word, IsSame}
@@ -26,8 +27,8 @@ use Rattle.seg_spec.specs.Frozen.{Frozen, frozen_words, root_of_frozen, blocks_b
 use Rattle.seg_spec.specs.Shared.{IsCounted, IsFalling, left}
 use Rattle.seg_spec.specs.Destroying.{AreLive, HoldFrozen, KeepFrozen}
 
--- these frozen objects own the blocks `theirs`, which are live once each with others; they count these cells and those in
--- themselves
+-- The frozen objects own the blocks `theirs`. These and `besides` are allocated and differ. They
+-- count `cells` and the cells in themselves.
 pub record FrozenBeside (bytes : List ℕ) (table : Table) (besides : List ℕ) (cells : List Place)
     (next : ℕ) (theirs : ℕ → List ℕ) (now : List Frozen) : Type 0 where
   pub holds : HoldFrozen bytes table theirs now
@@ -36,20 +37,18 @@ pub record FrozenBeside (bytes : List ℕ) (table : Table) (besides : List ℕ) 
   pub counted : IsCounted next now cells
   pub falling : IsFalling now
 
--- what a cell counts that names this object, or none
 abbrev pub cell_count : Option ℕ → ℕ
 cell_count None = 0
 cell_count (Some p) = 1
 
 -- ---- objects that become frozen
 
--- an object that became frozen, which one cell names
 abbrev pub frozen_now : ℕ → ℕ → ℕ → Value → Frozen
 frozen_now payload T number v =
     record { at = payload; type = T; number = number; count = 1; value = v }
 
--- an object moved from its block, which was given back, to a new one, and is frozen there with the next number; all other
--- live blocks are kept with their links
+-- The object was moved from its block, which was freed, to a new one, and is frozen there with the
+-- next number. All other allocated blocks are kept with their links.
 pub record MovesFrozen (allocator : ℕ) (old new : List ℕ) (table : Table) (T object : ℕ)
     (v : Value) (inside : List ℕ) (payload : ℕ) : Type 0 where
   pub length_kept : length new ≡ length old
@@ -72,12 +71,12 @@ pub record MovesFrozen (allocator : ℕ) (old new : List ℕ) (table : Table) (T
   pub kept : (h : ℕ) → 1 ≤ times h (positions (live old)) → h ≢ block_of object →
       KeepsBlock old new h × (link_at new h ≡ link_at old h)
 
--- the blocks that objects own, where the one at this position owns `its`
 abbrev pub with_blocks : ℕ → List ℕ → (ℕ → List ℕ) → ℕ → List ℕ
 with_blocks payload its theirs p = if p == payload then its else theirs p
 
--- An object moved to a new block, and is frozen there; a cell names it, which owned `blocks`, and what the cell named
--- before was released. Of the frozen objects `now` this is left: all that cells other than those with these names name.
+-- An object was moved to a new block, and is frozen there. The cell owned `blocks`, and now points
+-- to the object; what it pointed to before was released. Of the frozen objects `now` those stay
+-- that have other cells than those that point to `names`.
 pub record Freezes (allocator : ℕ) (old new : List ℕ) (table : Table) (cell : Place) (T object : ℕ)
     (v : Value) (inside blocks : List ℕ) (names : List Place) (theirs : ℕ → List ℕ)
     (now : List Frozen) : Type 0 where
