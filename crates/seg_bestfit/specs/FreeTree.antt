@@ -1,4 +1,5 @@
--- The tree of gaps and the bytes around it. A gap's node is the first unit of its payload.
+-- The tree of free blocks (gaps), and the bytes around it. The node of a gap is the first unit of
+-- its payload.
 use Rattle.std.specs.Prelude.{◌≡◌, ◌≢◌, ℕ, ◌+◌, ◌-◌, ◌*◌, false, List, [], ◌∷◌, ◌++◌, length, Some, None}
 use Rattle.std.specs.List.{AllByRecursion}
 use Rattle.std.specs.Ordering.{nat_cmp, ordering_then}
@@ -18,38 +19,38 @@ use Rattle.seg_rbtree.specs.Paths.{IsAmong, node_at}
 use Rattle.seg_rbtree.specs.Roots.{path_root}
 use Rattle.seg_rbtree.specs.Ways.{LeadsTo}
 
--- the units of the gap with this node
+-- the size in units of the gap with this node
 abbrev pub node_units : List ℕ → ℕ → ℕ
 node_units bytes x = units_at bytes (x - 16)
 
--- how two nodes compare: by the units of their gaps, then by position
+-- the order of nodes: by the size of their gaps, then by position
 abbrev pub by_units : List ℕ → ℕ → ℕ → Ordering
 by_units bytes x y = ordering_then (nat_cmp (node_units bytes x) (node_units bytes y)) (nat_cmp x y)
 
--- n bytes from p lie beside the nodes of these gaps
+-- the n bytes from p don't overlap the nodes of these gaps
 abbrev pub Beside : ℕ → ℕ → List Span → Type 0
 Beside p n gs = AllByRecursion (λ g. Separate p n (g.at + 16) 16) gs
 
--- all bytes are kept but the pointer to the root and the nodes of these gaps
+-- all bytes are kept, except the pointer to the root and the nodes of these gaps
 pub record KeepsBesideNodes (old new : List ℕ) (gs : List Span) : Type 0 where
   pub length_kept : length new ≡ length old
   pub others : (p n : ℕ) → Separate p n FREE 4 → Beside p n gs → IsSame old new p n
 
--- this gap left the tree of all
+-- the gap g was removed from the tree of all gaps
 pub record LeavesTree (old new : List ℕ) (xs : List Span) (g : Span) (ys : List Span) : Type 0 where
   pub tree : IsFreeTree new (xs ++ ys)
   pub kept : KeepsBesideNodes old new (xs ++ g ∷ ys)
 
--- this gap came to the tree of the others
+-- the gap g was added to the tree of the other gaps
 pub record JoinsTree (old new : List ℕ) (xs : List Span) (g : Span) (ys : List Span) : Type 0 where
   pub tree : IsFreeTree new (xs ++ g ∷ ys)
   pub kept : KeepsBesideNodes old new (xs ++ g ∷ ys)
 
--- these are free blocks of the heap, in ascending position
+-- free blocks of the heap, by ascending position
 abbrev pub AreGaps : List ℕ → List Span → Type 0
 AreGaps bytes gs = AreFreeBlocks bytes heap_start gs
 
--- another gap compares with all others as this one does, and so may take its place in their order
+-- `another` compares with all others like `gap`, and so may take its place in their order
 abbrev pub KeepsPlace : List Span → Span → Span → Type 0
 KeepsPlace others gap another =
     AllByRecursion (λ h. is_smaller gap h ≡ is_smaller another h) others
@@ -59,24 +60,24 @@ abbrev pub set_free : List ℕ → ℕ → ℕ → List ℕ
 set_free bytes at units =
     set_size (set_pointer (set_word bytes (at + 8) 0) (at + 12) None) at units false
 
--- The tiles that n units at a position cover are one gap now. The tree held none of them.
+-- The tiles in the n units at a position were made one gap. None of them was in the tree.
 abbrev pub MakesGap : List ℕ → List ℕ → ℕ → ℕ → Type 0
 MakesGap old new at n = (xs ms ys : List Tile) (t : Tile) → IsTiled old (xs ++ ((t ∷ ms) ++ ys))
     → IsFreeTree old (free_of xs ++ free_of ys) → Fill at (t ∷ ms) (at + 16 * n)
     → Retiles 1 old new xs (tile at n false ∷ []) ys
 
--- a gap of so many units at a position as tiles, none where they are 0
+-- a gap of n units at a position as a list of tiles; empty if n is 0
 abbrev pub IsGapAt : ℕ → ℕ → List Tile → Type 0
 IsGapAt at n gap = (n ≡ 0 → gap ≡ []) × (n ≢ 0 → gap ≡ tile at n false ∷ [])
 
--- those tiles, and the gap of `more` units right after them, which the tree held
+-- the same, with the gap of `more` units right after them, which was in the tree
 abbrev pub MakesGapWith : List ℕ → List ℕ → ℕ → ℕ → ℕ → Type 0
 MakesGapWith old new at n more = (xs ms gap ys : List Tile) (t : Tile)
     → IsGapAt (at + 16 * n) more gap → IsTiled old (xs ++ ((t ∷ ms) ++ (gap ++ ys)))
     → IsFreeTree old (free_of xs ++ free_of (gap ++ ys)) → Fill at (t ∷ ms) (at + 16 * n)
     → Retiles 1 old new xs (tile at (n + more) false ∷ []) ys
 
--- a path leads to this node of a gap from the root of the tree
+-- the path from the root of the tree ends at this node of a gap
 pub record LeadsToGap (bytes : List ℕ) (path : Path) (node : ℕ) : Type 0 where
   pub root_is : path_root path ≡ FREE
   pub leads : (shape : Tree) → IsSearchTree bytes FREE shape

@@ -1,10 +1,10 @@
--- A heap that is to take in the units after it.
+-- A heap to which the units after it are added.
 use Rattle.std.specs.Prelude.{◌≡◌, ℕ, Bool, List, [], ◌∷◌, ◌++◌, length}
 use Rattle.seg_spec.specs.Heap.{Tile, AreHeaders, HoldsGaps, free_of}
 use Rattle.seg_block.specs.Tiling.{tile, Spares}
 
--- the last of these tiles, which had u units, has n now, and the free structure
--- holds the gaps among them
+-- The last of these tiles, which had u units, now has n, and the free structure has the gaps among
+-- them.
 pub record Enlarges (allocator : ℕ) (old new : List ℕ) (xs : List Tile) (at u n : ℕ)
     (live : Bool) : Type 0 where
   pub length_kept : length new ≡ length old

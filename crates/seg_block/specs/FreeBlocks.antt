@@ -1,4 +1,4 @@
--- Free blocks in ascending position.
+-- Free blocks by ascending position.
 use Rattle.std.specs.Prelude.{ℕ, ◌≤◌, List, [], ◌∷◌, ⊤}
 use Rattle.seg_spec.specs.Heap.{Span, end_of}
 use Rattle.seg_block.specs.Blocks.{IsSized}

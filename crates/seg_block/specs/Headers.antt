@@ -1,6 +1,6 @@
--- The headers that bytes hold.
---     header_at bytes at     the header at a position, all of which lies among the bytes
---     no_header bytes at     what is read where it doesn't: its words are 0
+-- The headers in bytes.
+--     header_at bytes at     the header at a position, if all of it lies in the bytes
+--     no_header bytes at     what is read otherwise: its words are 0
 use Rattle.std.specs.Prelude.{ℕ, false, List}
 use Rattle.seg_spec.specs.Heap.{units_at, is_live_at, units_before, tag_at, link_at}
 use Rattle.seg_block.specs.declared.header.Header.{Header}

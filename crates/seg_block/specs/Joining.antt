@@ -1,11 +1,11 @@
--- A live block that becomes free, with the gap before it.
+-- An allocated block that is freed and merged with the gap before it.
 use Rattle.std.specs.Prelude.{◌≡◌, ℕ, true, false, List, ◌∷◌, ◌++◌}
 use Rattle.seg_spec.specs.Heap.{Tile, AreApart, live_of}
 use Rattle.seg_spec.proofs.TileLaws.{live_after}
 use Rattle.seg_block.specs.Tiling.{tile, IsTiling, Spares}
 
--- the live tile after xs is free and took in the gap before it, where there is one: it begins at
--- a position now
+-- The allocated tile after xs is now free, merged with the gap before it if there is one. It begins
+-- at `at`.
 pub record JoinsBefore (allocator : ℕ) (old new : List ℕ) (xs : List Tile)
     (at units : ℕ) (ys : List Tile) : Type 0 where
   pub front : List Tile

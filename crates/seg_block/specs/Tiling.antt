@@ -1,4 +1,5 @@
--- The tiles of a heap, whatever holds the free ones. Free tiles may be neighbours.
+-- The tiles of a heap, apart from how an allocator stores the free ones. Free tiles may be adjacent
+-- here.
 use Rattle.std.specs.Prelude.{ℕ, ◌+◌, ◌-◌, ◌*◌, ◌≤◌, Bool, List, [], ◌∷◌, ◌++◌, length, Contains}
 use Rattle.seg_bytes.specs.Bytes.{Agrees}
 use Rattle.seg_spec.specs.Heap.{Span, Tile, end_of, Fill, AreHeaders, HoldsGaps, live_of, free_of, heap_start}
@@ -22,12 +23,12 @@ tile_after b units live = tile (b.at + 16 * b.units) units live
 abbrev pub grown : Block → ℕ → Bool → Tile
 grown b more live = tile b.at (b.units + more) live
 
--- the two tiles of a block that is cut: the front has these units
+-- the two tiles of a split block: the front has `units` units
 abbrev pub halves : Block → ℕ → Bool → Bool → List Tile
 halves b units front_live back_live =
     tile b.at units front_live ∷ tile (b.at + 16 * units) (b.units - units) back_live ∷ []
 
--- these tiles, and a block as the last one
+-- these tiles, and then a block as the last one
 abbrev pub ending : List Tile → Block → Bool → List Tile
 ending xs b live = xs ++ tile_of b live ∷ []
 
@@ -37,48 +38,47 @@ pub record IsTiled (bytes : List ℕ) (ts : List Tile) : Type 0 where
   pub filled : Fill heap_start ts (length bytes)
   pub headers : AreHeaders bytes 0 ts
 
--- the bytes before the heap but the pointer to the free blocks, and the tag, link and payload of
--- each of these live tiles
+-- The bytes before the heap are kept, except the pointer to the free blocks. So are the tag, link
+-- and payload of each of these allocated tiles.
 pub record Spares (old new : List ℕ) (ts : List Tile) : Type 0 where
   pub front_kept : Agrees old new 0 FREE
   pub back_kept : Agrees old new (FREE + 4) heap_start
   pub tiles_kept : (b : Span) → Contains (live_of ts) b → Agrees old new (b.at + TAG) (end_of b)
 
--- between the tiles xs and ys there are now the tiles ns, and the first of them kept n bytes of its
--- own tag, link and payload
+-- The tiles between xs and ys were replaced by ns. The first of ns kept n bytes of its own tag,
+-- link and payload.
 pub record Replaces (old new : List ℕ) (xs ns ys : List Tile) (at n : ℕ) : Type 0 where
   pub tiled : IsTiled new (xs ++ (ns ++ ys))
   pub spared : Spares old new (xs ++ ys)
   pub own_kept : Agrees old new (at + TAG) (at + n)
 
--- these tiles fill the heap with their headers, and the allocator's free
--- structure holds the free ones
+-- These tiles fill the heap with their headers, and the allocator's free structure has the free
+-- ones.
 pub record IsTiling (allocator : ℕ) (bytes : List ℕ) (ts : List Tile) : Type 0 where
   pub tiled : IsTiled bytes ts
   pub free : HoldsGaps allocator bytes (free_of ts)
 
--- between the tiles xs and ys there are now the tiles ns, and the free
--- structure holds the free ones
+-- The tiles between xs and ys were replaced by ns, and the free structure has the free ones.
 pub record Retiles (allocator : ℕ) (old new : List ℕ) (xs ns ys : List Tile) : Type 0 where
   pub tiling : IsTiling allocator new (xs ++ (ns ++ ys))
   pub spared : Spares old new (xs ++ ys)
 
--- ---- the neighbours of a block, whatever the other tiles are
+-- ---- the neighbours of a block, for any other tiles
 
--- what the tile right after it meets
+-- P is true of the tile right after it
 abbrev pub ForNext : List ℕ → Block → (Tile → Type 0) → Type 0
 ForNext bytes b P =
     (xs ys : List Tile) (l : Bool) (t : Tile) → IsTiled bytes (xs ++ (tile_of b l ∷ t ∷ ys)) → P t
 
--- what holds where it is the last one
+-- P is true if it is the last one
 abbrev pub WhereLast : List ℕ → Block → Type 0 → Type 0
 WhereLast bytes b P = (xs : List Tile) (l : Bool) → IsTiled bytes (xs ++ tile_of b l ∷ []) → P
 
--- what the tile right before it meets
+-- P is true of the tile right before it
 abbrev pub ForPrevious : List ℕ → Block → (Tile → Type 0) → Type 0
 ForPrevious bytes b P =
     (xs ys : List Tile) (l : Bool) (t : Tile) → IsTiled bytes (xs ++ (t ∷ tile_of b l ∷ ys)) → P t
 
--- what holds where it is the first one
+-- P is true if it is the first one
 abbrev pub WhereFirst : List ℕ → Block → Type 0 → Type 0
 WhereFirst bytes b P = (ys : List Tile) (l : Bool) → IsTiled bytes (tile_of b l ∷ ys) → P

@@ -1,12 +1,14 @@
--- Contents of the program as the definitions know them.
+-- The program's layouts (`Content`) in the definitions' terms. A layout describes the blocks to
+-- which a cell points.
 --     IsContent table shape tag before U content
---                                         blocks of this shape and tag, with such entries
+--                                         blocks of this shape and tag; each entry has a value of the type U after
+--                                         `before` bytes
 --     IsText tag content                  a buffer of bytes
 --     kind_of_shape shape                 the kind of the blocks of a shape
---     ContentOf table T form content      what the cell of a type names, by the form of the type
---     OfBlock table kind T content        what a block of a tag is a part of
---     IsIndexBuffer, IsIndexNode content  what the flat index and the tree have: entries of 8 bytes
---                                         that begin with a pointer to an object
+--     ContentOf table T form content      the layout of what the cell of a type points to, by the type's form
+--     OfBlock table kind T content        the layout that a block of a tag belongs to
+--     IsIndexBuffer, IsIndexNode content  the layouts of the flat index and the tree index: entries of 8 bytes that
+--                                         begin with a pointer to an object
 use Rattle.std.specs.Prelude.{◌≡◌, ℕ, ⊤, Option, Some, None, IsSomeAnd}
 use Rattle.seg_spec.specs.Types.{Form, Table, form_at}
 use Rattle.seg_spec.specs.Frozen.{frozen_words}
@@ -23,14 +25,12 @@ use Rattle.seg_cells.specs.declared.content.Content.{Content}
 use Rattle.seg_cells.specs.declared.content.Shape.{Shape}
 use Rattle.seg_cells.specs.declared.content.Shape.TheVariants as shape
 
--- blocks of this shape and tag, with such entries
 pub record IsContent (table : Table) (shape : Shape) (tag before U : ℕ)
     (content : Content) : Type 0 where
   pub shape_is : content.shape ≡ shape
   pub tag_is : word_of content.tag ≡ tag
   pub entry_is : IsEntryOf table before U content.entry
 
--- a buffer of bytes
 pub record IsText (tag : ℕ) (content : Content) : Type 0 where
   pub shape_is : content.shape ≡ shape.Buffer
   pub tag_is : word_of content.tag ≡ tag
@@ -38,14 +38,13 @@ pub record IsText (tag : ℕ) (content : Content) : Type 0 where
   pub before_is : content.entry.before ≡ 0
   pub held_is : content.entry.held ≡ held.Bytes
 
--- the kind of the blocks of a shape
 abbrev pub kind_of_shape : Shape → block.Kind
 kind_of_shape shape.Buffer = block.Kind.buffer
 kind_of_shape shape.Ring = block.Kind.node
 kind_of_shape shape.Tree = block.Kind.node
 kind_of_shape shape.Object = block.Kind.object
 
--- what the cell of a type of this form names
+-- the layout of what the cell of a type of this form points to
 abbrev pub ContentOf : Table → ℕ → Option Form → Option Content → Type 0
 ContentOf table T None None = ⊤
 ContentOf table T (Some Form.i64) None = ⊤
@@ -64,7 +63,8 @@ ContentOf table T (Some (Form.own U)) (Some content) =
     IsContent table shape.Object (tag_of block.Kind.object U) 0 U content
 ContentOf _ _ _ _ = ⊥
 
--- what a block of a kind and a type is a part of, where no name leads to it
+-- the layout that a block of a kind and a type belongs to, if it isn't a named object or in the
+-- index
 abbrev pub OfBlock : Table → Kind → ℕ → Option Content → Type 0
 OfBlock table kind.Object T content =
     IsSomeAnd content (IsContent table shape.Object (tag_of block.Kind.object T) 0 T)
@@ -84,7 +84,7 @@ pub record IsIndexBuffer (content : Content) : Type 0 where
   pub before_is : content.entry.before ≡ 0
   pub held_is : content.entry.held ≡ held.Pointer
 
--- a node of the index's tree: its tree words, then an entry as a buffer of them has it
+-- a node of the tree index: tree words, then an entry like those in a buffer
 pub record IsIndexNode (content : Content) : Type 0 where
   pub shape_is : content.shape ≡ shape.Tree
   pub tag_is : word_of content.tag ≡ tag_of block.Kind.index_node 0

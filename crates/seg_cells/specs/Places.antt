@@ -1,4 +1,4 @@
--- Places of the program as the definitions know them.
+-- The program's places in the definitions' terms.
 --     place_of place                   the place of a value
 --     object_at p U                    the place of an object's value
 --     LiesWithin bytes table place     a place's value lies in the bytes of a segment
@@ -11,10 +11,8 @@ use Rattle.seg_cells.specs.declared.place.Place.{Place}
 abbrev pub place_of : Place → reads.Place
 place_of place = record { at = place.at; type = place.type_id }
 
--- the place of an object's value
 abbrev pub object_at : ℕ → ℕ → reads.Place
 object_at at U = record { at = at; type = U }
 
--- the value of a place lies in the bytes of a segment
 abbrev pub LiesWithin : List ℕ → Table → Place → Type 0
 LiesWithin bytes table place = IsWithin bytes place.at (size table place.type_id)

@@ -1,16 +1,16 @@
--- Entries that hold a pointer, and move.
---     PointsAgain distance old new start each before n     the distances in the pointers of n entries are greater by so much
---     MovesPointers old new each before from to n          n entries stand elsewhere, and their pointers name what they named
+-- Entries with a pointer that were moved. A pointer has the distance from its own position.
+--     PointsAgain distance old new start each before n     the distances in the pointers of n entries grew by `distance`
+--     MovesPointers old new each before from to n          n entries were moved, and their pointers have the same targets
 use Rattle.std.specs.Prelude.{◌≡◌, ◌≢◌, ℕ, ◌+◌, ◌*◌, ◌<◌, ◌≤◌, ◌⊎◌, List, Some}
 use Rattle.seg_bytes.specs.Bytes.{word, slice, IsSame, ChangesOnly}
 use Rattle.seg_spec.specs.Pointer.{target}
 use Rattle.seg_spec.specs.Cells.{further}
 
--- where the pointer of an entry stands
+-- the position of the pointer of an entry
 abbrev pub pointer_at : ℕ → ℕ → ℕ → ℕ → ℕ
 pointer_at start each before i = start + i * each + before
 
--- only the pointers of n entries changed: their distances are greater by so much, unless they name nothing
+-- only the pointers of n entries changed: their distances grew, unless the pointer is null
 pub record PointsAgain (distance : ℕ) (old new : List ℕ) (start each before n : ℕ) : Type 0 where
   pub changes : ChangesOnly old new start (n * each)
   pub words : (i : ℕ) → i < n →
@@ -21,8 +21,8 @@ pub record PointsAgain (distance : ℕ) (old new : List ℕ) (start each before 
       ⊎ (pointer_at start each before i + 4 ≤ q)) →
       IsSame old new q m
 
--- n entries are copied, with what stands beside their pointers. Each pointer names what it named, unless that was the byte
--- after its new position, which no pointer there can name
+-- N entries were copied, with the bytes beside their pointers. Each pointer has the same target,
+-- unless that was the byte after its new position, to which no pointer there can point.
 pub record MovesPointers (old new : List ℕ) (each before from to n : ℕ) : Type 0 where
   pub changes : ChangesOnly old new to (n * each)
   pub named : (i : ℕ) → i < n →

@@ -1,6 +1,6 @@
 -- Entries of the index as bytes.
 --     zero_at bytes entry              the last byte of an entry
---     entry_read bytes entry           what the entry at a position says
+--     entry_read bytes entry           the entry at a position
 --     rest_of entry                    the second word of an entry
 --     write_entry bytes at entry       the bytes with an entry at a position
 use Rattle.std.specs.Prelude.{ℕ, ◌+◌, ◌*◌, ◌^◌, List}
@@ -9,11 +9,9 @@ use Rattle.seg_spec.specs.Pointer.{target, set_pointer}
 use Rattle.seg_entry.specs.Names.{values_at, len_at}
 use Rattle.seg_entry.specs.declared.entry.NameEntry.{NameEntry}
 
--- the last byte
 abbrev pub zero_at : List ℕ → ℕ → ℕ
 zero_at bytes entry = byte bytes (entry + 7)
 
--- what the entry at a position says
 abbrev pub entry_read : List ℕ → ℕ → NameEntry
 entry_read bytes entry = record {
   object = target bytes entry;
@@ -22,10 +20,8 @@ entry_read bytes entry = record {
   zero = zero_at bytes entry;
 }
 
--- the second word
 abbrev pub rest_of : NameEntry → ℕ
 rest_of entry = entry.count + 2 ^ 16 * entry.name_len + 2 ^ 24 * entry.zero
 
--- the bytes with an entry at a position
 abbrev pub write_entry : List ℕ → ℕ → NameEntry → List ℕ
 write_entry bytes at entry = set_word (set_pointer bytes at entry.object) (at + 4) (rest_of entry)

@@ -1,5 +1,5 @@
--- What growing an image leaves.
---     Lengthens allocator old new picture extra      more bytes at its end, and its picture
+-- Growing an image.
+--     Lengthens allocator old new picture extra      the image has more bytes at its end, and the same picture
 use Rattle.std.specs.Prelude.{◌≡◌, ℕ, ◌+◌, ◌-◌, ◌/◌, ◌≤◌, List, length, replicate}
 use Rattle.seg_bytes.specs.Bytes.{slice}
 use Rattle.seg_spec.specs.Heap.{live, after_extend}
@@ -9,8 +9,9 @@ use Rattle.seg_value.specs.Stored.{Stored}
 use Rattle.seg_manager.specs.Segments.{IsSegment}
 use Rattle.seg_space.specs.Sizes.{used_front}
 
--- the segment has so many bytes more than these, its picture and every live block; a single new unit
--- goes to a block that ended at the end; the new bytes after the used front are 0
+-- The segment has `extra` bytes more than these, the same picture, and each allocated block. A
+-- single new unit is added to a block that ended at the end. The new bytes after the used front are
+-- 0.
 pub record Lengthens (allocator : ℕ) (old : List ℕ) (new : Stored) (picture : Picture)
     (extra : ℕ) : Type 0 where
   pub segment : IsSegment allocator new picture

@@ -1,10 +1,10 @@
--- What clauses see of an open image.
---     segment_of image       its segment: the window, and the types
---     allocator_of image     the number of the allocator that it is on
+-- An open image in contracts.
+--     segment_of image       its segment: the window and the types
+--     allocator_of image     the number of its allocator
 --     number_of kind         the number of an allocator
 --     bytes_in image         its bytes
 --     types_of image         its types
---     IsOpen image picture   its bytes hold this picture, with its types, and its allocator keeps their heap
+--     IsOpen image picture   its bytes contain this picture, with its types and its allocator
 --     ChangesBytes old new   only its bytes may have changed
 use Rattle.std.specs.Prelude.{◌≡◌, ℕ, List}
 use Rattle.seg_spec.specs.Sound.{Picture}
@@ -38,8 +38,8 @@ types_of image = (segment_of image).types
 abbrev pub IsOpen : {A : Type 0} → Image A → Picture → Type 0
 IsOpen image picture = IsSegment (allocator_of image) (segment_of image) picture
 
--- only the bytes of the image may have changed: its allocator and its types are the same, and so is
--- what its memory has beside them
+-- Only the bytes of the image may have changed. Its allocator and its types are the same, and so is
+-- the memory around its bytes.
 pub record ChangesBytes {A : Type 0} (old new : Image A) : Type 0 where
   pub allocator : allocator_of new ≡ allocator_of old
   pub types : types_of new ≡ types_of old

@@ -1,7 +1,7 @@
--- What an own leaves that came to hold a new object.
+-- An own that got a new object.
 --     PutsNew allocator old new table own U blocks at theirs now final
---                            the object at a position has the default value of its type; what the
---                            own held before went, with the frozen objects that it named last
+--                            the object at a position has the default value of its type; what the own had before
+--                            was destroyed, with the frozen objects that lost their last cell
 use Rattle.std.specs.Prelude.{◌≡◌, ℕ, List, [], ◌∷◌, ◌++◌, length, Some}
 use Rattle.seg_spec.specs.Types.{Table}
 use Rattle.seg_spec.specs.Value.{Full, default_of}
@@ -15,8 +15,8 @@ use Rattle.seg_spec.specs.Destroying.{HoldFrozen, KeepFrozen}
 use Rattle.seg_spec.specs.Frozen.{Frozen, blocks_by}
 use Rattle.seg_manager.specs.Segments.{one_value}
 
--- the own, which owned `blocks`, owns the object's block; beside frozen objects that own `theirs`, of
--- which this is left in the end
+-- The own had `blocks`, and now has the object's block. `now` are the frozen objects before, which
+-- own `theirs`, and `final` those that stay.
 pub record PutsNew (allocator : ℕ) (old new : List ℕ) (table : Table) (own : Place) (U : ℕ)
     (blocks : List ℕ) (at : ℕ) (theirs : ℕ → List ℕ) (now final : List Frozen) : Type 0 where
   pub granted : List Span

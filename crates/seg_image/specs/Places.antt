@@ -1,13 +1,13 @@
--- What clauses see of the places that calls on an image are given and return.
+-- The places that calls on an image take and return.
 --     position_of result          the position of the place that a call returned
---     first_place T found         the place of the first value of an object that a search found
+--     first_place T found         the place of the first value of an object that was found
 --     item_place table T i found  the place of its value at an index
 --     value_count found           how many values it has
---     is_counted form             the cells of values of this form count something
+--     is_counted form             the cells of values of this form have a count
 --     object_type form            the type of the objects that they own
---     StandsIn image place v blocks   the place holds v, and owns these blocks
---     WhereMap image map claim    the claim holds of the map that stands at a place
---     content_place U at          the place of the object that an own names
+--     StandsIn image place v blocks   the place contains v, and owns these blocks
+--     WhereMap image map claim    the claim is true of the map at a place
+--     content_place U at          the place of the object to which an own points
 --     FieldPlace table place i result
 --                                 the place of a field of a struct, or why there is none
 use Rattle.std.specs.Prelude.{◌≡◌, ℕ, ◌+◌, ◌*◌, ◌%◌, ◌^◌, ℤ, ◌==◌, nat_lt, if◌then◌else◌, Bool, true, false, List, length, Option, Some, None, slice_get, MatchOption, Result, Ok, Err}
@@ -23,14 +23,13 @@ use Rattle.seg_map.specs.EitherMap.{WhereMaps}
 use Rattle.seg_image.specs.declared.image.Image.{Image}
 use Rattle.seg_image.specs.Images.{allocator_of, bytes_in, types_of}
 
--- the position of the place that a call returned
 abbrev pub position_of : Result Place Code → Result ℕ Code
 position_of (Ok place) = Ok place.at
 position_of (Err error) = Err error
 
 -- ---- named objects
 
--- the place of the first value of an object that a search found
+-- the place of the first value of an object that was found
 abbrev pub first_place : ℕ → Result Found Code → Result Place Code
 first_place T (Ok found) = Ok (record { at = found.at; type_id = T })
 first_place T (Err error) = Err error
@@ -49,7 +48,7 @@ value_count (Err error) = Err error
 
 -- ---- types of places
 
--- the cells of values of this form count something: bytes, items, keys or objects
+-- the cells of values of this form have a count: of bytes, items, keys or objects
 abbrev pub is_counted : Option Form → Bool
 is_counted None = false
 is_counted (Some Form.i64) = false
@@ -57,32 +56,31 @@ is_counted (Some (Form.struct fields)) = false
 is_counted (Some (Form.shared T)) = false
 is_counted (Some _) = true
 
--- the type of the objects that values of this form own
 abbrev pub object_type : Option Form → Option ℕ
 object_type (Some (Form.own U)) = Some U
 object_type _ = None
 
 -- ---- values
 
--- the place lies in a block of the image's heap, which is in order; it holds v, and owns these blocks
+-- The place lies in a block of the image's well-formed heap. It contains v, and owns these blocks.
 abbrev pub StandsIn : {A : Type 0} → Image A → Place → Value → List ℕ → Type 0
 StandsIn image place v blocks =
     Stands (allocator_of image) (bytes_in image) (types_of image) (place_of place) v blocks
 
--- the claim holds of a place of the image, where a map stands there: of the type of its values, its keys
--- and values, and the blocks that it owns
+-- If the place has a map, the claim is true of the type of its values, its keys and values, and the
+-- blocks that it owns.
 abbrev pub WhereMap : {A : Type 0} → Image A → Place →
     (ℕ → List ℤ → Values → List ℕ → Type 0) → Type 0
 WhereMap image map claim =
     WhereMaps (allocator_of image) (bytes_in image) (types_of image) (place_of map) claim
 
--- the place of the object that an own names, by their types
+-- the place of the object to which an own points, by their types
 abbrev pub content_place : Option ℕ → Option ℕ → Result Place Code
 content_place None at = Err code.OtherType
 content_place (Some U) None = Err code.Null
 content_place (Some U) (Some at) = Ok (record { at = at; type_id = U })
 
--- the place of a field of a struct, counted from 0
+-- the place of a field of a struct, by its index from 0
 abbrev pub FieldPlace : Table → Place → ℕ → Result Place Code → Type 0
 FieldPlace table place i result = MatchOption (slice_get (fields_of table place.type_id) i)
     (result ≡ Err (if length (fields_of table place.type_id) == 0 then code.OtherType

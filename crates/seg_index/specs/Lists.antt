@@ -1,23 +1,22 @@
--- The index of names, of either kind, as calls on it find and leave it.
---     entry_of root                         what the index's entry says of a root
---     comes_before name other               the test whether a name precedes another
---     root_after names name                 the first root whose name comes after another one
---     PartedNames names name index these    the roots before a name, these of the name itself, and
---                                           those after it
+-- The index of names, of either kind, before and after calls.
+--     entry_of root                         the index's entry for a root
+--     comes_before name other               whether a name precedes another
+--     root_after names name                 the first root whose name is after another one
+--     PartedNames names name index these    the roots before a name, the root with the name, if any, and those after
 --     IsNamed bytes table root              a named object's block, with its name after the values
 --     FindsNamesOf allocator bytes table names blocks
---                                           the heap is in order, and the index lists these names
---     WhereNames allocator bytes table claim      the claim holds of the names that calls find
---     WhereKind kind allocator bytes table claim      the same where the index is of this kind
---     LeadsToName bytes table name path     the path leads to a name's node, or to its empty place
+--                                           a well-formed heap whose index lists these names
+--     WhereNames allocator bytes table claim      the claim is true of the names that the index lists
+--     WhereKind kind allocator bytes table claim      the same, if the index is of this kind
+--     LeadsToName bytes table name path     the path ends at a name's node, or at the place to insert it at
 --     IsSpot bytes table names name these spot    where a search for a name ended
---     LooksUp names name found IsAt         what a search for a name returns
---     IsOccupied, IsVacant                  what a name's entry, and a missing name, are known by
---     IsRootOf object n len root            a root's position, count and bytes of its name
---     MayEnter bytes table names blocks root      a root that the index may come to list
---     ChangesNames ..                       only the index changed, which lists these names now
---     EntersName, EntersOrNot               the index lists a root too, or has no room for it
---     LeavesName                            the index doesn't list a root any more
+--     LooksUp names name found IsAt         the result of a search for a name
+--     IsOccupied, IsVacant                  the results for a name with an entry, and for one without
+--     IsRootOf object n len root            a root's position, its number of values, and the length of its name
+--     MayEnter bytes table names blocks root      a root that can be added to the index
+--     ChangesNames ..                       only the index changed, which now lists these names
+--     EntersName, EntersOrNot               the root was added to the index, or there was no room for it
+--     LeavesName                            the root was removed from the index
 use Rattle.std.specs.Prelude.{◌≡◌, ℕ, ◌+◌, ◌*◌, ◌≤◌, ◌==◌, ◌&&◌, ◌||◌, nat_lt, Bool, true, false, if◌then◌else◌, List, [], ◌∷◌, ◌++◌, length, Option, Some, None, MatchOption, Result, MatchResult}
 use Rattle.std.specs.List.{AllByRecursion}
 use Rattle.std.specs.Ordering.{nat_cmp, ordering_reverse}
@@ -48,7 +47,6 @@ use Rattle.seg_index.specs.declared.lookup.Vacant.{Vacant}
 
 -- ---- entries and names
 
--- what the entry of a root says
 abbrev pub entry_of : Root → NameEntry
 entry_of root = record {
   object = Some root.at;
@@ -57,20 +55,19 @@ entry_of root = record {
   zero = 0;
 }
 
--- whether a name comes before another by its bytes, a prefix first
+-- the order of names: by bytes, with a prefix first
 abbrev pub comes_before : List ℕ → List ℕ → Bool
 comes_before [] [] = false
 comes_before [] (y ∷ ys) = true
 comes_before (x ∷ xs) [] = false
 comes_before (x ∷ xs) (y ∷ ys) = nat_lt x y || ((x == y) && comes_before xs ys)
 
--- the first root whose name comes after another one
 abbrev pub root_after : List Root → List ℕ → Option Root
 root_after [] name = None
 root_after (root ∷ roots) name =
     if comes_before name root.name then Some root else root_after roots name
 
--- the roots before a name, these of the name itself, none or one, and those after it
+-- The roots are those before a name, the one with the name, if there is one, and those after it.
 pub record PartedNames (names : List Root) (name : List ℕ) (index : ℕ)
     (these : List Root) : Type 0 where
   pub before : List Root
@@ -83,7 +80,7 @@ pub record PartedNames (names : List Root) (name : List ℕ) (index : ℕ)
 
 -- ---- what calls find
 
--- a live block has the tag of a named object, with the name after the values
+-- an allocated block has the tag of a named object, with the name after the values
 pub record IsNamed (bytes : List ℕ) (table : Table) (root : Root) : Type 0 where
   pub block : IsBlock bytes root.at (tag_of block.Kind.named root.type)
       (count root.values * size table root.type + length root.name)
@@ -91,8 +88,8 @@ pub record IsNamed (bytes : List ℕ) (table : Table) (root : Root) : Type 0 whe
       (length root.name) ≡ root.name
   pub is_live : 1 ≤ times (block_of root.at) (positions (live bytes))
 
--- the heap is in order, the index lists these names and owns these live blocks, each once, and each
--- name's object stands in another live block
+-- The heap is well-formed. The index lists these names and owns these allocated blocks, each once.
+-- The object of each name is another allocated block.
 pub record FindsNamesOf (allocator : ℕ) (bytes : List ℕ) (table : Table) (names : List Root)
     (blocks : List ℕ) : Type 0 where
   pub heap : IsHeap allocator bytes
@@ -104,12 +101,12 @@ pub record FindsNamesOf (allocator : ℕ) (bytes : List ℕ) (table : Table) (na
   pub owned : (h : ℕ) → times h blocks ≤ times h (positions (live bytes))
   pub named : AllByRecursion (λ r. IsNamed bytes table r × (times (block_of r.at) blocks ≡ 0)) names
 
--- the claim holds of the names that calls find, and of the blocks that the index owns
+-- the claim is true of the names that the index lists, and of the blocks that it owns
 abbrev pub WhereNames : ℕ → List ℕ → Table → (List Root → List ℕ → Type 0) → Type 0
 WhereNames allocator bytes table claim = (names : List Root) (blocks : List ℕ) →
     FindsNamesOf allocator bytes table names blocks → claim names blocks
 
--- the same where the index is of this kind
+-- the same, if the index is of this kind
 abbrev pub WhereKind : ℕ → ℕ → List ℕ → Table → (List Root → List ℕ → Type 0) → Type 0
 WhereKind kind allocator bytes table claim = (names : List Root) (blocks : List ℕ) →
     FindsNamesOf allocator bytes table names blocks → word bytes index_kind_word ≡ kind →
@@ -117,34 +114,35 @@ WhereKind kind allocator bytes table claim = (names : List Root) (blocks : List 
 
 -- ---- where a search ends
 
--- the path goes down the tree of the index to a name's node, or to the place where one would stand
+-- the path in the index's tree ends at a name's node, or at the place to insert it at
 pub record LeadsToName (bytes : List ℕ) (table : Table) (name : List ℕ) (path : Path) : Type 0 where
   pub root_is : path_root path ≡ index_cell
   pub leads : (tree : shapes.Tree) → IsSearchTree bytes index_cell tree →
       LeadsTo (λ x. ordering_reverse (slice_cmp nat_cmp (name_at table bytes (x + 16)) name))
       tree path
 
--- these are the roots of the name, none or one, and the spot is theirs, or that of a new one
+-- these are the roots with the name, none or one, and the spot is that of its entry or the one to
+-- insert it at
 abbrev pub IsSpot : List ℕ → Table → List Root → List ℕ → List Root → Spot → Type 0
 IsSpot bytes table names name these (spot.Flat index) =
     (word bytes index_kind_word ≡ 0) × PartedNames names name index these
 IsSpot bytes table names name these (spot.Tree path) =
     (word bytes index_kind_word ≡ 1) × LeadsToName bytes table name path
 
--- the entry of the name's root with its spot, or no entry with the spot of a new one
+-- the entry of the name's root with its spot, or no entry and the spot to insert it at
 abbrev pub LooksUp : List Root → List ℕ → Option NameEntry → (List Root → Type 0) → Type 0
 LooksUp names name found IsAt = MatchOption (root_named names name)
     ((found ≡ None) × IsAt [])
     (λ root. (found ≡ Some (entry_of root)) × IsAt (root ∷ []))
 
--- the entry of the root of a name, at its spot
+-- the entry of the root with a name, and its spot
 pub record IsOccupied (bytes : List ℕ) (table : Table) (names : List Root) (name : List ℕ)
     (root : Root) (occupied : Occupied) : Type 0 where
   pub found : root_named names name ≡ Some root
   pub entry_is : occupied.entry ≡ entry_of root
   pub spot : IsSpot bytes table names name (root ∷ []) occupied.spot
 
--- no root has the name, and this is the spot of a new one
+-- no root has the name, and this is the spot to insert it at
 pub record IsVacant (bytes : List ℕ) (table : Table) (names : List Root) (name : List ℕ)
     (vacant : Vacant) : Type 0 where
   pub missing : root_named names name ≡ None
@@ -152,12 +150,12 @@ pub record IsVacant (bytes : List ℕ) (table : Table) (names : List Root) (name
 
 -- ---- what calls leave
 
--- the position of a root, how many values it has, and the bytes of its name
+-- the position of a root, the number of its values, and the length of its name
 abbrev pub IsRootOf : ℕ → ℕ → ℕ → Root → Type 0
 IsRootOf object n len root =
     (root.at ≡ object) × (count root.values ≡ n) × (length root.name ≡ len)
 
--- a named object in a block of its own, which the index may come to list
+-- a named object in a block of its own, which can be added to the index
 pub record MayEnter (bytes : List ℕ) (table : Table) (blocks : List ℕ) (root : Root) : Type 0 where
   pub is_name : IsName root.name
   pub no_words : root.words ≡ []
@@ -166,8 +164,8 @@ pub record MayEnter (bytes : List ℕ) (table : Table) (blocks : List ℕ) (root
   pub named : IsNamed bytes table root
   pub other : times (block_of root.at) blocks ≡ 0
 
--- nothing changed but the index, which owned `blocks`: it lists these names and owns `others` now,
--- and the live blocks are these
+-- Only the index changed, which owned `blocks`. It now lists these names and owns `others`, and the
+-- allocated blocks are these.
 pub record ChangesNames (old new : List ℕ) (table : Table) (spans : List Span) (blocks : List ℕ)
     (names : List Root) (others : List ℕ) : Type 0 where
   pub length_kept : length new ≡ length old
@@ -183,7 +181,7 @@ pub record ChangesNames (old new : List ℕ) (table : Table) (spans : List Span)
       KeepsBlock old new h
   pub lists : ListsNames new names others
 
--- the requests were granted, and the index lists the root too, among the others in order
+-- the requests were granted, and the root was added to the index in order
 pub record EntersName (allocator : ℕ) (old new : List ℕ) (table : Table) (names : List Root)
     (blocks : List ℕ) (root : Root) : Type 0 where
   pub before : List Root
@@ -195,14 +193,14 @@ pub record EntersName (allocator : ℕ) (old new : List ℕ) (table : Table) (na
   pub others : List ℕ
   pub changes : ChangesNames old new table left blocks (before ++ root ∷ after) others
 
--- the index comes to list the root, or one of the requests for its entry gets nothing
+-- the root was added to the index, or one of the requests for its entry wasn't granted
 abbrev pub EntersOrNot : {X Y : Type 0} → ℕ → List ℕ → List ℕ → Table → List Root → List ℕ → Root
     → Result X Y → Type 0
 EntersOrNot allocator old new table names blocks root result = MatchResult result
     (λ done. EntersName allocator old new table names blocks root)
     (λ code. Refuses allocator old new (entry_asks (word old index_kind_word) old))
 
--- the index doesn't list the root any more, and gave back what went with its entry
+-- the root was removed from the index, and the blocks of its entry were freed
 pub record LeavesName (old new : List ℕ) (table : Table) (names : List Root)
     (blocks : List ℕ) (root : Root) : Type 0 where
   pub before : List Root

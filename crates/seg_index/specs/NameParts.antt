@@ -1,5 +1,5 @@
--- A name is read from its parts alone.
---     parts_at types bytes entry       the bytes that the name of an entry is read from
+-- The bytes that determine a name.
+--     parts_at types bytes entry       the bytes from which the name of an entry is read
 use Rattle.std.proofs.Common.{◌≡◌, ℕ, ◌+◌, ◌-◌, ◌*◌, ◌%◌, ◌^◌, ◌≤◌, List, [], ◌∷◌, Option, Some, None, refl, ap, ◌∙◌, arith}
 use Rattle.std.specs.Prelude.{◌==◌, nat_le, if◌then◌else◌}
 use Rattle.std.specs.List.{AllByRecursion}
@@ -12,7 +12,7 @@ use Rattle.seg_rbtree.specs.Parts.{Part, part}
 use Rattle.seg_entry.specs.Names.{named_type, type_at, values_at, len_at}
 use Rattle.seg_entry.specs.Names.{name_after, name_of, name_at}
 
--- the bytes that a name is read from
+-- the bytes from which a name is read
 abbrev pub parts_after : Table → ℕ → ℕ → ℕ → Option ℕ → List Part
 parts_after types object count len None = []
 parts_after types object count len (Some T) = part (object + count * size types T) len ∷ []
@@ -26,7 +26,7 @@ abbrev pub parts_at : Table → List ℕ → ℕ → List Part
 parts_at types bytes entry = part entry 4 ∷ part (entry + 4) 4
     ∷ parts_of types bytes (target bytes entry) (values_at bytes entry) (len_at bytes entry)
 
--- what a pointer names
+-- the target of a pointer
 target_same : (old new : List ℕ) (at : ℕ) → IsSame old new at 4 → target new at ≡ target old at
 unfolding target
 target_same old new at e =

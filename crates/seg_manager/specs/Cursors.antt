@@ -1,5 +1,5 @@
--- The way to a key of a map.
---     IsInside bytes cursor      a way that is kept leads to a place of each search tree at its root
+-- The path to a key of a map.
+--     IsInside bytes cursor      a path that is kept is one in each search tree at its root
 use Rattle.std.specs.Prelude.{◌≡◌, ℕ, List, true}
 use Rattle.seg_rbtree.specs.Following.{LeadsInside}
 use Rattle.seg_manager.specs.declared.cursor.Cursor.{Cursor}

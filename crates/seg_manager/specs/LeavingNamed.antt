@@ -1,7 +1,7 @@
--- A named object that goes.
+-- Destroying a named object.
 --     IsUnlisted allocator bytes table root blocks
---                                            an object that no index lists owns these live blocks
---     LosesNamed ..                          the object of a name and a type goes, with its entry
+--                                            an object without an entry in the index owns these allocated blocks
+--     LosesNamed ..                          the object with a name and a type was destroyed, with its entry
 use Rattle.std.specs.Prelude.{◌≡◌, ℕ, ◌≤◌, List, [], ◌∷◌, ◌++◌, Some}
 use Rattle.std.specs.List.{AllByRecursion}
 use Rattle.seg_bytes.specs.Bytes.{word}
@@ -21,8 +21,8 @@ use Rattle.seg_spec.specs.Spending.{EntryBlocks, killed}
 use Rattle.seg_value.specs.Stored.{Stored}
 use Rattle.seg_manager.specs.Segments.{Becomes}
 
--- an object that no index lists: the root holds its values in these live blocks, each once, and
--- nothing before them
+-- The root isn't in the index. It contains its values in these allocated blocks, each once, and has
+-- no words before them.
 pub record IsUnlisted (allocator : ℕ) (bytes : List ℕ) (table : Table) (root : Root)
     (blocks : List ℕ) : Type 0 where
   pub heap : IsHeap allocator bytes
@@ -33,9 +33,9 @@ pub record IsUnlisted (allocator : ℕ) (bytes : List ℕ) (table : Table) (root
   pub no_words : root.words ≡ []
   pub owned : (h : ℕ) → times h blocks ≤ times h (positions (live bytes))
 
--- the object of the name and type goes, with its blocks, those that went with its entry, and the
--- frozen objects that it named last, with theirs; the others are where they were, and each live block
--- that isn't the index's is kept, but for the counts of the objects that are left
+-- The object with this name and type was destroyed, with its blocks, those of its entry, and the
+-- frozen objects that lost their last cell. The other objects stay where they were. Each allocated
+-- block outside the index is kept, except for the counts of frozen objects.
 pub record LosesNamed (allocator : ℕ) (old new : Stored) (picture : Picture)
     (index_blocks name : List ℕ) (T : ℕ) : Type 0 where
   pub before : List Root

@@ -1,12 +1,12 @@
--- Named objects of a segment.
---     found_of root            where the first value of a root is, and how many
---     found_as T root          what a search for an object of a type returns, by its name's root
---     Says name T n root       the name of a root, its type, and how many values it has
---     IsMissing names name     the name is one, and no root has it
---     IsCount n                so many values an object may have
---     RefusesName              no object was made, for the reason that the code says
---     FindsOrMakesNamed        where the object of a name is, or that there was none
---     RefusesToFind            none was found nor made, for the reason that the code says
+-- The named objects of a segment.
+--     found_of root            the position of a root's first value, and their number
+--     found_as T root          the result of a search for an object of a type, by its name's root
+--     Says name T n root       the name of a root, its type, and the number of its values
+--     IsMissing names name     the name is allowed, and no root has it
+--     IsCount n                an object may have n values
+--     RefusesName              no object was made, for the reason in the code
+--     FindsOrMakesNamed        the position of the object with a name, which may be new
+--     RefusesToFind            no object was found or made, for the reason in the code
 use Rattle.std.specs.Prelude.{◌≡◌, ℕ, ◌≤◌, ◌⊎◌, ◌==◌, IsSome, if◌then◌else◌, List, Option, Some, None, Result, Ok, Err}
 use Rattle.seg_spec.specs.Index.{Root, IsName, root_named}
 use Rattle.seg_spec.specs.Value.{count}
@@ -15,30 +15,26 @@ use Rattle.seg_raw.specs.declared.code.Code.TheVariants as code
 use Rattle.seg_value.specs.Stored.{Stored}
 use Rattle.seg_manager.specs.declared.names.Found.{Found}
 
--- where the first value is, and how many there are
 abbrev pub found_of : Root → Found
 found_of root = record { at = root.at; count = count root.values }
 
--- what a search for an object of the type returns, by the root of its name
+-- the result of a search for an object of the type, by the root of its name
 abbrev pub found_as : ℕ → Option Root → Result Found Code
 found_as T None = Err code.Absent
 found_as T (Some root) = if root.type == T then Ok (found_of root) else Err code.OtherType
 
--- the name of a root, its type, and how many values it has
 abbrev pub Says : List ℕ → ℕ → ℕ → Root → Type 0
 Says name T n root = (name ≡ root.name) × (T ≡ root.type) × (n ≡ count root.values)
 
 -- ---- whether an object may be made
 
--- the name is one, and no root has it
 abbrev pub IsMissing : List Root → List ℕ → Type 0
 IsMissing names name = IsName name × (root_named names name ≡ None)
 
--- so many values an object may have
 abbrev pub IsCount : ℕ → Type 0
 IsCount n = (1 ≤ n) × (n ≤ 65535)
 
--- no object of a name and so many values was made, for the reason that the code says
+-- no object with this name and n values was made, for the reason in the code
 abbrev pub RefusesName : Stored → Stored → List Root → List ℕ → ℕ → Code → Type 0
 RefusesName old new names name n code.OutOfRange = (IsName name × IsCount n → ⊥) × (new ≡ old)
 RefusesName old new names name n code.AlreadyExists =
@@ -46,13 +42,12 @@ RefusesName old new names name n code.AlreadyExists =
 RefusesName old new names name n code.BadAlloc = IsMissing names name × IsCount n
 RefusesName _ _ _ _ _ _ = ⊥
 
--- the object of the name and type begins here, or no root had the name
+-- the object with the name and type begins here, or no root had the name
 abbrev pub FindsOrMakesNamed : Stored → Stored → List Root → List ℕ → ℕ → ℕ → Type 0
 FindsOrMakesNamed old new names name T at =
     ((root : Root) × (root_named names name ≡ Some root) × (root.type ≡ T) × (root.at ≡ at)
     × (new ≡ old)) ⊎ IsMissing names name
 
--- no object was found nor made, for the reason that the code says
 abbrev pub RefusesToFind : Stored → Stored → List Root → List ℕ → ℕ → Code → Type 0
 RefusesToFind old new names name T code.OutOfRange =
     (root_named names name ≡ None) × (IsName name → ⊥) × (new ≡ old)

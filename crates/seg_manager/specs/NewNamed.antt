@@ -1,10 +1,10 @@
--- A new named object, before the index lists it.
+-- A new named object, before it is in the index.
 --     HasValuesRoom bytes table at T n       n values of a type lie in the segment
 --     GivesNamed allocator old new table root
 --                                            the block of a new object with its name
---     MakesNamed ..                          the segment holds a new named object
+--     MakesNamed ..                          the segment has a new named object
 --     FindsNoRoom allocator old new picture asks
---                                            a request gets nothing, and the segment is as before
+--                                            a request wasn't granted, and the segment has the same picture
 use Rattle.std.specs.Prelude.{◌≡◌, ℕ, ◌+◌, ◌*◌, ◌<◌, ◌≤◌, List, [], ◌∷◌, ◌++◌, length, Some, None}
 use Rattle.seg_spec.specs.Header.{KeepsFront, KeepsBack}
 use Rattle.seg_spec.specs.Types.{Table, IsTable, size}
@@ -32,7 +32,7 @@ abbrev pub root_asks : Table → Root → List Ask
 root_asks table root =
     block_for (count root.values * size table root.type + length root.name) ∷ []
 
--- the root holds its values in a new block, and owns no other; all other live blocks are kept
+-- The root has its values in a new block, and no other block. All other allocated blocks are kept.
 pub record GivesNamed (allocator : ℕ) (old new : List ℕ) (table : Table) (root : Root)
     : Type 0 where
   pub length_kept : length new ≡ length old
@@ -47,9 +47,9 @@ pub record GivesNamed (allocator : ℕ) (old new : List ℕ) (table : Table) (ro
   pub now_live : times (block_of root.at) (positions (live new)) ≡ 1
   pub kept : (h : ℕ) → 1 ≤ times h (positions (live old)) → KeepsLinked old new h
 
--- the requests for a new named object of n default values and for its entry were granted, and the
--- segment holds it at this position, among the others in order; each live block that isn't the
--- index's is kept
+-- The requests for a new named object of n default values and for its entry were granted. The
+-- segment has it at this position, and in order among the others. Each allocated block outside the
+-- index is kept.
 pub record MakesNamed (allocator : ℕ) (old new : Stored) (picture : Picture)
     (index_blocks name : List ℕ) (T n at : ℕ) : Type 0 where
   pub before : List Root
@@ -60,8 +60,8 @@ pub record MakesNamed (allocator : ℕ) (old new : Stored) (picture : Picture)
       index_blocks
   pub spends : Spends allocator old new (object_asks old.window.bytes old.types T n name) []
 
--- one of the requests gets nothing; the segment has its picture, and all live blocks with their
--- bytes, as before: what was taken for it was given back
+-- One of the requests wasn't granted. The segment has the same picture and the same allocated
+-- blocks with their bytes: what was allocated for the object was freed again.
 pub record FindsNoRoom (allocator : ℕ) (old new : Stored) (picture : Picture) (asks : List Ask)
     : Type 0 where
   pub no_room : NoRoom allocator (live old.window.bytes) (length old.window.bytes) asks

@@ -1,16 +1,16 @@
--- What the calls of a segment find and leave.
---     IsSegment allocator s picture       the bytes hold the picture, whose types the segment has
+-- The calls on a segment: what they require of it, and what they leave.
+--     IsSegment allocator s picture       the bytes contain the picture, whose types the segment has
 --     Becomes allocator old new other gone
---                                         the bytes hold another picture, and each live block
---                                         that isn't gone is kept
+--                                         the bytes contain another picture, and each allocated block outside
+--                                         `gone` is kept
 --     Spends allocator old new asks gives
---                                         the requests were granted, and these blocks given back
+--                                         the requests were granted, and these blocks freed
 --     new_root table name T n at          an object of n default values
---     MakesLoose, LosesLoose              a loose object comes, and goes
+--     MakesLoose, LosesLoose              a loose object was made; one was destroyed
 --     MakesUnique, FindsOrMakes, RefusesUnique, LosesUnique
---                                         a unique object comes, is found or refused, and goes
---     AddsTypes                           the table becomes a longer one
---     unique_at picture T                 where the unique object of a type begins
+--                                         a unique object was made, found, refused; one was destroyed
+--     AddsTypes                           the table was replaced by a longer one
+--     unique_at picture T                 the position of the unique object of a type
 use Rattle.std.specs.Prelude.{◌≡◌, ℕ, ◌+◌, ◌≤◌, List, [], ◌∷◌, ◌++◌, length, ◌⊎◌, Option, Some, None, IsSome, option_map}
 use Rattle.seg_bytes.specs.Bytes.{word, ChangesOnly}
 use Rattle.seg_spec.specs.Header.{allocator_word, next_word, types_start, types_size, KeepsFront}
@@ -32,16 +32,16 @@ use Rattle.seg_raw.specs.declared.code.Code.{Code}
 use Rattle.seg_raw.specs.declared.code.Code.TheVariants as code
 use Rattle.seg_value.specs.Stored.{Stored}
 
--- the segment's bytes hold the picture, whose frozen objects are counted, its types are the
--- picture's, and its allocator is this one
+-- The segment's bytes contain the picture, whose frozen objects count their cells. The segment has
+-- the picture's types, and this allocator.
 pub record IsSegment (allocator : ℕ) (s : Stored) (picture : Picture) : Type 0 where
   pub held : IsHeld s.window.bytes picture
   pub counted : AreCounted (word s.window.bytes next_word) picture
   pub table_is : s.types ≡ picture.table
   pub allocator_is : word s.window.bytes allocator_word ≡ allocator
 
--- the segment has another picture now, and each live block that isn't among those that are gone is
--- kept where it was; so is the next number
+-- The segment now has another picture. Each allocated block that isn't in `gone` is kept, and so is
+-- the number of the next frozen object.
 pub record Becomes (allocator : ℕ) (old new : Stored) (other : Picture)
     (gone : List ℕ) : Type 0 where
   pub segment : IsSegment allocator new other
@@ -51,13 +51,12 @@ pub record Becomes (allocator : ℕ) (old new : Stored) (other : Picture)
   pub kept : (h : ℕ) → 1 ≤ times h (positions (live old.window.bytes)) → times h gone ≡ 0 →
       KeepsBlock old.window.bytes new.window.bytes h
 
--- the requests were granted, and these blocks given back: the live blocks are those that are left
+-- the requests were granted, and these blocks freed
 abbrev pub Spends : ℕ → Stored → Stored → List Ask → List ℕ → Type 0
 Spends allocator old new asks gives =
     spent allocator (live old.window.bytes) (length old.window.bytes) asks gives
     ≡ Some (live new.window.bytes)
 
--- an object of n default values of a type
 abbrev pub new_root : Table → List ℕ → ℕ → ℕ → ℕ → Root
 new_root table name T n at = plain_root name at T (copies n (default_of table T))
 
@@ -67,7 +66,7 @@ one_value table T = block_for (size table T) ∷ []
 
 -- ---- loose objects
 
--- an object of the type at this position joins the loose ones, anywhere among them
+-- an object of the type at this position was added somewhere among the loose ones
 pub record MakesLoose (allocator : ℕ) (old new : Stored) (picture : Picture)
     (T at : ℕ) : Type 0 where
   pub spends : Spends allocator old new (one_value old.types T) []
@@ -75,8 +74,8 @@ pub record MakesLoose (allocator : ℕ) (old new : Stored) (picture : Picture)
       Becomes allocator old new
       (with_roots picture Listed.loose (before ++ new_root old.types [] T 1 at ∷ after)) []
 
--- the root goes, with its blocks, and the frozen objects that it named last, with theirs; the picture
--- is the other one, with what is left of those objects
+-- The root was destroyed, with its blocks, and the frozen objects that lost their last cell, with
+-- theirs. The picture is the other one, with the frozen objects that stay.
 pub record LosesRoot (allocator : ℕ) (old new : Stored) (root : Root) (other : Picture) :
     Type 0 where
   pub blocks : List ℕ
@@ -92,18 +91,18 @@ pub record LosesRoot (allocator : ℕ) (old new : Stored) (root : Root) (other :
   pub live_is : live new.window.bytes ≡ after_gives (live old.window.bytes)
       (blocks ++ blocks_by theirs (freed (names_each root.values) other.frozen))
 
--- the one that stood between these leaves them
+-- the loose object between these was destroyed
 abbrev pub LosesLoose : ℕ → Stored → Stored → Picture → List Root → Root → List Root → Type 0
 LosesLoose allocator old new picture before root after =
     LosesRoot allocator old new root (with_roots picture Listed.loose (before ++ after))
 
 -- ---- unique objects
 
--- where the unique object of a type begins, if there is one
+-- the position of the unique object of a type, if there is one
 abbrev pub unique_at : Picture → ℕ → Option ℕ
 unique_at picture T = option_map (λ r. r.at) (root_of_type picture.uniques T)
 
--- there was no unique object of the type, and the new one at this position joins them
+-- there was no unique object of the type, and the new one is at this position
 pub record MakesUnique (allocator : ℕ) (old new : Stored) (picture : Picture)
     (T at : ℕ) : Type 0 where
   pub none : root_of_type picture.uniques T ≡ None
@@ -114,12 +113,12 @@ pub record MakesUnique (allocator : ℕ) (old new : Stored) (picture : Picture)
   pub becomes : Becomes allocator old new
       (with_roots picture Listed.by_type (before ++ new_root old.types [] T 1 at ∷ after)) []
 
--- the unique object of the type was found, or one was made
+-- the unique object of the type was found, or made
 abbrev pub FindsOrMakes : ℕ → Stored → Stored → Picture → ℕ → ℕ → Type 0
 FindsOrMakes allocator old new picture T at =
     ((unique_at picture T ≡ Some at) × (new ≡ old)) ⊎ MakesUnique allocator old new picture T at
 
--- none was made, for the reason that the code says, and nothing changed
+-- no unique object was made, for the reason in the code, and nothing changed
 abbrev pub RefusesUnique : ℕ → Stored → Stored → Picture → ℕ → Code → Type 0
 RefusesUnique allocator old new picture T code.AlreadyExists =
     IsSome (unique_at picture T) × (new ≡ old)
@@ -128,7 +127,7 @@ RefusesUnique allocator old new picture T code.BadAlloc =
     Refuses allocator old.window.bytes new.window.bytes (one_value old.types T)
 RefusesUnique _ _ _ _ _ _ = ⊥
 
--- the unique object of the type leaves them
+-- the unique object of the type was destroyed
 pub record LosesUnique (allocator : ℕ) (old new : Stored) (picture : Picture)
     (T : ℕ) : Type 0 where
   pub before : List Root
@@ -141,7 +140,7 @@ pub record LosesUnique (allocator : ℕ) (old new : Stored) (picture : Picture)
 
 -- ---- types
 
--- the table is the longer one, in the bytes too, and nothing else changed
+-- the table was replaced by the longer one, also in the bytes, and nothing else changed
 pub record AddsTypes (allocator : ℕ) (old new : Stored) (picture : Picture)
     (more : Table) : Type 0 where
   pub segment : IsSegment allocator new (record picture { table = longer old.types more })

@@ -1,12 +1,12 @@
--- Maps of either kind, as the calls on both find them.
+-- Maps of both kinds, flat maps and trees.
 --     has_keys form                    values of this form are maps
 --     IsMapOf form U                   they are maps to values of type U
---     WhereMaps allocator bytes table map claim     the claim holds of a place that is a map
+--     WhereMaps allocator bytes table map claim     the claim is true of a place that is a map
 --     key_asks bytes table at form     the requests for one more key
 --     KindOf table T form result       the kind of the maps of a type
---     KeepsTreePaths form old new table map         paths into a map that is a tree lead where they led
---     KeepsKeysBut form old new table map key       paths through other keys do: through all of them in
---                                                   a tree, through lower ones in a flat map
+--     KeepsTreePaths form old new table map         paths into a tree map still reach the same places
+--     KeepsKeysBut form old new table map key       so do paths through other keys: through all of them in a tree,
+--                                                   through lower ones in a flat map
 use Rattle.std.specs.Prelude.{⊤, ◌≡◌, ℕ, ◌+◌, ℤ, Bool, true, false, List, [], ◌∷◌, Option, Some, Result, Ok, Err}
 use Rattle.seg_spec.specs.Types.{Form, Table, form_at, size}
 use Rattle.seg_spec.specs.Value.{Values, Map}
@@ -25,32 +25,30 @@ use Rattle.seg_map.specs.declared.map.Kind.TheVariants as kind
 use Rattle.seg_map.specs.Maps.{KeepsLowerKeys}
 use Rattle.seg_map.specs.Trees.{VALUE, NamesTree, KeepsOtherKeys}
 
--- values of this form are maps
 abbrev pub has_keys : Option Form → Bool
 has_keys (Some (Form.flat_map U)) = true
 has_keys (Some (Form.map U)) = true
 has_keys _ = false
 
--- they are maps to values of type U
 abbrev pub IsMapOf : Option Form → ℕ → Type 0
 IsMapOf (Some (Form.flat_map V)) U = V ≡ U
 IsMapOf (Some (Form.map V)) U = V ≡ U
 IsMapOf _ U = ⊥
 
--- the claim holds of the place, where calls find a map there: of the type of its values, its keys
--- and values, and the blocks that it owns
+-- If the place has a map, the claim is true of the type of its values, its keys and values, and the
+-- blocks that it owns.
 abbrev pub WhereMaps : ℕ → List ℕ → Table → Place → (ℕ → List ℤ → Values → List ℕ → Type 0) → Type 0
 WhereMaps allocator bytes table map claim =
     (U : ℕ) (keys : List ℤ) (vs : Values) (blocks : List ℕ) → IsMapOf (form_at table map.type) U →
     Stands allocator bytes table map (Map keys vs) blocks → claim U keys vs blocks
 
--- what is asked of the heap for one more key of a map of this form
+-- the requests for one more key of a map of this form
 abbrev pub key_asks : List ℕ → Table → ℕ → Option Form → List Ask
 key_asks bytes table at (Some (Form.flat_map U)) = flat_asks bytes table at U
 key_asks bytes table at (Some (Form.map U)) = block_for (VALUE + size table U) ∷ []
 key_asks bytes table at form = []
 
--- the kind of the maps of a type: none where its values are no maps
+-- the kind of the maps of a type; `OtherType` if its values are no maps
 abbrev pub KindOf : Table → ℕ → Option Form → Result map.Kind Code → Type 0
 KindOf table T (Some (Form.flat_map U)) (Ok (kind.Flat content)) =
     IsContent table shape.Buffer (tag_of Kind.buffer T) 8 U content
@@ -60,13 +58,12 @@ KindOf table T (Some (Form.map U)) _ = ⊥
 KindOf table T form (Ok content) = ⊥
 KindOf table T form (Err error) = error ≡ code.OtherType
 
--- each path into a map that is a tree leads where it led
 abbrev pub KeepsTreePaths : Option Form → List ℕ → List ℕ → Table → Place → Type 0
 KeepsTreePaths (Some (Form.map U)) old new table map = KeepsPathsInside old new table map
 KeepsTreePaths form old new table map = ⊤
 
--- each path through another key leads where it led: in a flat map, through a lower one, since the
--- values of the others moved
+-- Paths through other keys still reach the same places. In a flat map only those through lower keys
+-- do, since the values of the others moved.
 abbrev pub KeepsKeysBut : Option Form → List ℕ → List ℕ → Table → Place → ℤ → Type 0
 KeepsKeysBut (Some (Form.flat_map U)) old new table map key = KeepsLowerKeys old new table map key
 KeepsKeysBut (Some (Form.map U)) old new table map key = KeepsOtherKeys old new table map key

@@ -1,16 +1,15 @@
--- Calls on maps of both kinds.
+-- Calls on maps of one kind.
 --     first_of keys               the first of keys, if there is one
 --     keys_above keys after       those above another, in their order
 --     value_of U at               the place of a value of type U
 --     WhereMap form allocator bytes table cell claim
---                                 the claim holds of each map of this form at a cell
+--                                 the claim is true of each map of this form at a cell
 --     FindsValue bytes table map U keys key found
---                                 where the value of a key stands: nowhere exactly where the map
---                                 doesn't have the key
---     AddsKey, PutsKey            a key came to a map; what putting a key leaves
---     TakesKey, RemovesKey        a key went from a map; what removing a key leaves
+--                                 the position of a key's value; none exactly if the map doesn't have the key
+--     AddsKey, PutsKey            a key was added to a map; the result of `put`
+--     TakesKey, RemovesKey        a key was removed from a map; the result of `remove`
 --     KeepsLowerKeys old new table map key
---                                 paths through keys below another lead where they led
+--                                 paths through keys below another still reach the same places
 use Rattle.std.specs.Prelude.{◌≡◌, ◌<ℤ◌, ℕ, Bool, true, false, ℤ, int_lt, List, [], ◌∷◌, filter, slice_get, Option, Some, None, MatchOption, Result, MatchResult}
 use Rattle.seg_spec.specs.Types.{Form, Table, form_at}
 use Rattle.seg_spec.specs.Value.{Value, Values, Map, Selector, nth, default_of}
@@ -25,20 +24,17 @@ use Rattle.seg_spec.specs.Growing.{Succeeds}
 use Rattle.seg_spec.specs.Owning.{Stands}
 use Rattle.seg_cells.specs.Places.{object_at}
 
--- the first of keys, if there is one
 abbrev pub first_of : List ℤ → Option ℤ
 first_of keys = slice_get keys 0
 
--- those above another, in their order
 abbrev pub keys_above : List ℤ → ℤ → List ℤ
 keys_above keys after = filter (λ x. int_lt after x) keys
 
--- the place of a value of type U
 abbrev pub value_of : ℕ → ℕ → Place
 value_of U at = record { at = at; type = U }
 
--- the claim holds of each map of this form that calls find at a cell: of its type and that of its
--- values, its keys and values, and the blocks that it owns
+-- If the cell has a map of this form, the claim is true of its type and that of its values, its
+-- keys and values, and the blocks that it owns.
 abbrev pub WhereMap : (ℕ → Form) → ℕ → List ℕ → Table → ℕ
     → (ℕ → ℕ → List ℤ → Values → List ℕ → Type 0) → Type 0
 WhereMap form allocator bytes table cell claim =
@@ -46,12 +42,11 @@ WhereMap form allocator bytes table cell claim =
     → Stands allocator bytes table (object_at cell T) (Map keys vs) blocks
     → claim T U keys vs blocks
 
--- where the value of a key stands: nowhere exactly where the map doesn't have the key
 abbrev pub FindsValue : List ℕ → Table → Place → ℕ → List ℤ → ℤ → Option ℕ → Type 0
 FindsValue bytes table map U keys key found = MatchOption found (key_place keys key ≡ None)
     (λ p. Leads bytes table map (Selector.key key ∷ []) (value_of U p))
 
--- a map has one more key, with the default of a value, which stands at p
+-- the map has one more key, with a default value at position p
 pub record AddsKey (allocator : ℕ) (old new : List ℕ) (table : Table) (map : Place) (U : ℕ)
     (keys : List ℤ) (vs : Values) (key : ℤ) (blocks : List ℕ) (asks : List Ask)
     (p : ℕ) : Type 0 where
@@ -60,7 +55,8 @@ pub record AddsKey (allocator : ℕ) (old new : List ℕ) (table : Table) (map :
       (with_entry (keys, vs) key (default_of table U)) asks [] blocks others
   pub stands_at : Leads new table map (Selector.key key ∷ []) (value_of U p)
 
--- what putting a key leaves, by its place among the map's keys: nothing changes where it has one
+-- The result of `put`, by the index of the key among the map's keys. Nothing changes if it has an
+-- index.
 abbrev pub PutsKey : {E : Type 0} → ℕ → List ℕ → List ℕ → Table → Place → ℕ → List ℤ → Values → ℤ
     → List ℕ → List Ask → Option ℕ → Result ℕ E → Type 0
 PutsKey allocator old new table map U keys vs key blocks asks None result = MatchResult result
@@ -70,16 +66,16 @@ PutsKey allocator old new table map U keys vs key blocks asks (Some i) result = 
     (λ p. (new ≡ old) × Leads old table map (Selector.key key ∷ []) (value_of U p))
     (λ code. ⊥)
 
--- a map lost the key at a place among its keys, with its value and the frozen objects that it named
--- last; what is said of paths holds
+-- The map lost the key at an index, with its value and the frozen objects that lost their last
+-- cell. `keeps` is true, a statement on paths.
 pub record TakesKey (old new : List ℕ) (table : Table) (map : Place) (keys : List ℤ) (vs : Values)
     (blocks : List ℕ) (keeps : Type 0) (i : ℕ) (theirs : ℕ → List ℕ) (now final : List Frozen) :
     Type 0 where
   pub loses : LosesPart old new table map (without_entry (keys, vs) i) i blocks theirs now final
   pub kept : keeps
 
--- what removing a key leaves, by its place among the keys of a map that lies in the block `home`:
--- nothing changes where it has none
+-- The result of `remove`, by the index of the key among the map's keys; the map lies in the block
+-- `home`. Nothing changes if the key has no index.
 abbrev pub RemovesKey : List ℕ → List ℕ → Table → Place → List ℤ → Values → ℕ → List ℕ → Type 0 →
     Option ℕ → Bool → Type 0
 RemovesKey old new table map keys vs home blocks keeps None gone = (gone ≡ false) × (new ≡ old)
@@ -88,7 +84,6 @@ RemovesKey old new table map keys vs home blocks keeps (Some i) gone =
     BesideShared old table (home ∷ blocks) (named_in v)
     (TakesKey old new table map keys vs blocks keeps i))
 
--- each path through a key below another leads where it led
 abbrev pub KeepsLowerKeys : List ℕ → List ℕ → Table → Place → ℤ → Type 0
 KeepsLowerKeys old new table map key =
     (other : ℤ) (path : List Selector) (inner : Place) → other <ℤ key

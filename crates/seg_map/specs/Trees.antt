@@ -1,9 +1,8 @@
 -- Maps as trees of nodes.
 --     VALUE                           the bytes of a node before its value
---     NamesTree table T U content     the cell of a type T names a tree of nodes, with values of
---                                     type U
+--     NamesTree table T U content     the cell of a type T points to a tree of nodes with values of type U
 --     KeepsOtherKeys old new table map key
---                                     paths through other keys of a map lead where they led
+--                                     paths through other keys of a map still reach the same places
 use Rattle.std.specs.Prelude.{◌≢◌, ℕ, ℤ, List, ◌∷◌}
 use Rattle.seg_spec.specs.Types.{Table}
 use Rattle.seg_spec.specs.Value.{Selector}
@@ -13,15 +12,13 @@ use Rattle.seg_cells.specs.Contents.{IsContent}
 use Rattle.seg_cells.specs.declared.content.Content.{Content}
 use Rattle.seg_cells.specs.declared.content.Shape.TheVariants as shape
 
--- the bytes of a node before its value: the tree words and the key
+-- tree words and the key
 abbrev pub VALUE : ℕ
 VALUE = 24
 
--- the cell of the type T names a tree of nodes, each with a value of the type U
 abbrev pub NamesTree : Table → ℕ → ℕ → Content → Type 0
 NamesTree table T U content = IsContent table shape.Tree (tag_of Kind.node T) VALUE U content
 
--- each path through another key of a map leads where it led
 abbrev pub KeepsOtherKeys : List ℕ → List ℕ → Table → Place → ℤ → Type 0
 KeepsOtherKeys old new table map key =
     (other : ℤ) (path : List Selector) (inner : Place) → other ≢ key

@@ -1,4 +1,4 @@
--- A segment whose bytes are lent to be written.
+-- A segment whose bytes are borrowed to be written.
 --     lent_to old xs     the window after xs was written over its bytes
 use Rattle.std.specs.Prelude.{ℕ, ◌+◌, List, length, take, drop}
 use Rattle.seg_spec.specs.Window.{Placement, region_of}

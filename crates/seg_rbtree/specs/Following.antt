@@ -1,9 +1,9 @@
--- From a place of a tree to the next node in order.
---     IsPartAt bytes path layers part      a part of a search tree stands at the place that a path leads to
---     LeadsInside bytes path               the path leads to a place of each search tree at its root
---     AreRight layers                      every way on is to the right
---     Climbs layers path node              the path goes back up to the nearest node that it left on its left side
---     GoesOn bytes layers part path next   the path goes on to the first node after a place
+-- From a place in a tree to the next node in order.
+--     IsPartAt bytes path layers part      a subtree of a search tree is at the end of a path
+--     LeadsInside bytes path               the path is valid in each search tree at its root
+--     AreRight layers                      the path always goes right
+--     Climbs layers path node              the path goes up to the nearest node from which it went left
+--     GoesOn bytes layers part path next   the path goes to the first node after a place
 use Rattle.std.specs.Prelude.{◌≡◌, ℕ, List, [], ◌∷◌, ◌++◌, slice_get, Option, Some, MatchOption}
 use Rattle.std.specs.List.{AllByRecursion}
 use Rattle.seg_spec.specs.Shapes.{Tree}
@@ -13,21 +13,19 @@ use Rattle.seg_rbtree.specs.declared.path.Path.{Path}
 use Rattle.seg_rbtree.specs.Ways.{Layer, plug, steps_of, IsWayIn, following, after_root}
 use Rattle.seg_rbtree.specs.Paths.{node_at}
 
--- a part of a search tree stands at the place that a path leads to, below layers
+-- the subtree at the end of a path, below layers
 pub record IsPartAt (bytes : List ℕ) (path : Path) (layers : List Layer) (part : Tree) :
     Type 0 where
   pub steps_are : path.steps.items ≡ steps_of layers
   pub whole : IsSearchTree bytes path.root (plug part layers)
 
--- the path leads to a place of each search tree at its root
 abbrev pub LeadsInside : List ℕ → Path → Type 0
 LeadsInside bytes path = (shape : Tree) → IsSearchTree bytes path.root shape → IsWayIn shape path
 
--- every way on is to the right
 abbrev pub AreRight : List Layer → Type 0
 AreRight layers = AllByRecursion (λ layer. layer.side ≡ Right) layers
 
--- the path goes back up to the node of the nearest layer whose place is on its left side
+-- the path goes up to the node of the nearest layer whose place is on its left side
 pub record Climbs (layers : List Layer) (path : Path) (node : ℕ) : Type 0 where
   pub lower : List Layer
   pub layer : Layer
@@ -38,8 +36,8 @@ pub record Climbs (layers : List Layer) (path : Path) (node : ℕ) : Type 0 wher
   pub node_is : layer.at ≡ node
   pub steps_are : path.steps.items ≡ steps_of upper
 
--- From the place of a part below layers a path goes on to the first of the nodes after it: after the
--- part's root, or after the empty place. Where there is none it leads to the root.
+-- From the place of a subtree below layers a path goes to the first node after it: after the
+-- subtree's root, or after the empty place. If there is none, the path goes to the root.
 pub record GoesOn (bytes : List ℕ) (layers : List Layer) (part : Tree) (path : Path)
     (next : Option ℕ) : Type 0 where
   pub next_is : next ≡ slice_get (after_root part ++ following layers) 0

@@ -1,4 +1,4 @@
--- Parts of a segment that an order reads.
+-- The bytes that an order reads.
 use Rattle.std.specs.Prelude.{ℕ}
 
 -- len bytes from a position on

@@ -1,16 +1,16 @@
--- What a search of a tree finds.
---     WhereOrdered compare w root claim      a claim of each search tree at a pointer word whose nodes are in order
---     before_first found                     how the empty place before all that is at or above a key compares with a node
---     sought_by nodes key sought             how what is sought compares with a node
+-- Searches in a tree, and changes at the end of a path.
+--     WhereOrdered compare w root claim      the claim is true of each search tree at a pointer word whose nodes are in order
+--     before_first found                     how the empty place before all nodes at or above a key compares with a node
+--     sought_by nodes key sought             how what is looked for compares with a node
 --     end_word path, word_after steps path   the position of the pointer at the end of a path, and after some of its steps
 --     node_at bytes path                     the node at the end of a path
---     AddsAt old new path node               a node is added at the end of a path
---     TakesOutAt old new path                the node at the end of a path is taken out
---     RenamesAt old new path to              another node is put in the place of the node at the end of a path
+--     AddsAt old new path node               a node was added at the end of a path
+--     TakesOutAt old new path                the node at the end of a path was removed
+--     RenamesAt old new path to              the node at the end of a path was replaced by another
 --     IsAmong node nodes                     it is one of the nodes
 --     IsLastAt bytes path                    the node at the end of a path is the last of the tree
---     TellsLast bytes path is_last           it tells whether that is so, in a tree whose nodes are in order
---     FindsEqual compare nodes found         one of the nodes that compares as equal, where one does
+--     TellsLast bytes path is_last           is_last is whether that is so, in a tree whose nodes are in order
+--     FindsEqual compare nodes found         one of the nodes that compare as equal, if there is one
 use Rattle.std.specs.Prelude.{◌≡◌, ◌≢◌, ◌↔◌, ℕ, List, [], ◌∷◌, ◌++◌, ◌+◌, ◌<◌, ◌^◌, length, take, Bool, IsTrue, Option, Some, MatchOption}
 use Rattle.std.specs.Cmp.{IsTotalOrder}
 use Rattle.std.specs.List.{AllByRecursion}
@@ -27,51 +27,45 @@ use Rattle.seg_rbtree.specs.declared.path.Path.{Path}
 use Rattle.seg_rbtree.specs.Ways.{last_word, LeadsTo}
 use Rattle.seg_rbtree.specs.Changes.{StandApart, IsNew, with_node, without_node, renamed, Leaves}
 
--- the claim holds of each search tree at the pointer word whose nodes are in order
 abbrev pub WhereOrdered : (List ℕ → ℕ → ℕ → Ordering) → Placement → ℕ → (Tree → Type 0) → Type 0
 WhereOrdered compare w root claim =
     (shape : Tree) → IsSearchTree w.bytes root shape → Ascend (compare w.bytes) (nodes_of shape)
     → claim shape
 
--- how the empty place before all that is at or above a key compares with a node, by how the node
+-- how the empty place before all nodes at or above a key compares with a node, by how the node
 -- compares with the key
 abbrev pub before_first : Ordering → Ordering
 before_first Less = Greater
 before_first Equal = Less
 before_first Greater = Less
 
--- how what is sought compares with a node
 abbrev pub sought_by : {K : Type 0} → (ℕ → ℕ → Ordering) → (ℕ → K → Ordering) → Sought K
     → ℕ → Ordering
 sought_by nodes key (Node sought) x = nodes sought x
 sought_by nodes key (Key sought) x = ordering_reverse (key x sought)
 sought_by nodes key (First sought) x = before_first (key x sought)
 
--- the position of the pointer at the end of a path, and after some of its steps
 abbrev pub end_word : Path → ℕ
 end_word path = last_word path.root path.steps.items
 
 abbrev pub word_after : ℕ → Path → ℕ
 word_after steps path = last_word path.root (take steps path.steps.items)
 
--- the node at the end of a path
 abbrev pub node_at : List ℕ → Path → Option ℕ
 node_at bytes path = target bytes (end_word path)
 
--- a node among others, which compares as equal
+-- one of the nodes, which compares as equal
 pub record IsEqualAmong (compare : ℕ → Ordering) (nodes : List ℕ) (node : ℕ) : Type 0 where
   pub front : List ℕ
   pub back : List ℕ
   pub nodes_are : nodes ≡ front ++ node ∷ back
   pub equals : compare node ≡ Equal
 
--- one of the nodes that compares as equal, where one does
 abbrev pub FindsEqual : (ℕ → Ordering) → List ℕ → Option ℕ → Type 0
 FindsEqual compare nodes found =
     MatchOption found (AllByRecursion (λ x. compare x ≢ Equal) nodes)
     (λ node. IsEqualAmong compare nodes node)
 
--- it is one of the nodes
 abbrev pub IsAmong : ℕ → List ℕ → Type 0
 IsAmong node nodes = AllByRecursion (λ x. node ≢ x) nodes → ⊥
 
@@ -80,21 +74,20 @@ pub record IsLast (node : ℕ) (nodes : List ℕ) : Type 0 where
   pub front : List ℕ
   pub nodes_are : nodes ≡ front ++ node ∷ []
 
--- the node at the end of a path is the last of the tree
 abbrev pub IsLastAt : List ℕ → Path → Type 0
 IsLastAt bytes path = (turn : ℕ → Ordering) (node : ℕ) (shape : Tree)
     → IsSearchTree bytes path.root shape → LeadsTo turn shape path
     → node_at bytes path ≡ Some node → IsLast node (nodes_of shape)
 
--- it tells whether the node at the end of a path is the last of the tree, in any total order of the nodes; where they are in
--- none, one node may stand at several places
+-- Whether the node at the end of a path is the last of the tree, in any total order of the nodes.
+-- Without an order one node may occur several times.
 abbrev pub TellsLast : List ℕ → Path → Bool → Type 0
 TellsLast bytes path is_last = (turn : ℕ → Ordering) (order : ℕ → ℕ → Ordering) (node : ℕ)
     (shape : Tree) → IsTotalOrder order → IsSearchTree bytes path.root shape
     → Ascend order (nodes_of shape) → LeadsTo turn shape path → node_at bytes path ≡ Some node
     → IsTrue is_last ↔ IsLast node (nodes_of shape)
 
--- a node is added at the end of a path, in any total order that leads there
+-- a node was added at the end of a path, in any total order for which the path is its place
 abbrev pub AddsAt : List ℕ → List ℕ → Path → ℕ → Type 0
 AddsAt old new path node = (order : ℕ → ℕ → Ordering) (shape : Tree) → IsTotalOrder order
     → IsSearchTree old path.root shape → Ascend order (nodes_of shape)
@@ -103,7 +96,6 @@ AddsAt old new path node = (order : ℕ → ℕ → Ordering) (shape : Tree) →
     → length (nodes_of shape) + 1 < 2 ^ 32
     → Leaves old new path.root (node ∷ nodes_of shape) (with_node order node (nodes_of shape))
 
--- the node at the end of a path is taken out
 abbrev pub TakesOutAt : List ℕ → List ℕ → Path → Type 0
 TakesOutAt old new path = (turn : ℕ → Ordering) (node : ℕ) (shape : Tree)
     → IsSearchTree old path.root shape → LeadsTo turn shape path
@@ -111,8 +103,8 @@ TakesOutAt old new path = (turn : ℕ → Ordering) (node : ℕ) (shape : Tree)
     → StandApart (length old) path.root (nodes_of shape)
     → Leaves old new path.root (nodes_of shape) (without_node node (nodes_of shape))
 
--- another node is put in the place of the node at the end of a path; the words of the other may share bytes with those of
--- that node alone
+-- The node at the end of a path was replaced by another, whose words may only overlap those of the
+-- replaced node.
 abbrev pub RenamesAt : List ℕ → List ℕ → Path → ℕ → Type 0
 RenamesAt old new path to = (turn : ℕ → Ordering) (node : ℕ) (shape : Tree)
     → IsSearchTree old path.root shape → LeadsTo turn shape path

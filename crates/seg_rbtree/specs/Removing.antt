@@ -1,8 +1,9 @@
--- Taking a node out of a tree.
---     IsShort layers tree                 it has one black node too few on each way down
---     turns layers tree                   so many turns make that good at most
---     StandsAt bytes path layers tree     a tree stands at the place that a path leads to
---     WhereRedBlack bytes path layers tree claim      a claim of such a place in a red-black tree
+-- Removing a node from a tree. A subtree is *short* if it has one black node too few on each path,
+-- so that the whole tree isn't balanced.
+--     IsShort layers tree                 the subtree is short
+--     turns layers tree                   an upper bound on the steps that repair that
+--     StandsAt bytes path layers tree     the subtree is at the end of a path
+--     WhereRedBlack bytes path layers tree claim      the claim is true if the whole tree is a red-black tree
 --     Lengthens, Unlinks ..               what the steps do
 use Rattle.std.specs.Prelude.{◌≡◌, ℕ, suc, ◌+◌, ◌^◌, ◌<◌, ⊤, Bool, MatchBool, List, [], ◌∷◌, ◌++◌, length, Option, Some}
 use Rattle.seg_bytes.specs.Bytes.{set_word}
@@ -19,7 +20,7 @@ use Rattle.seg_rbtree.specs.Ways.{Layer, branch, plug, steps_of}
 use Rattle.seg_rbtree.specs.Turns.{Turns}
 use Rattle.seg_rbtree.specs.Balance.{height_above, Wants}
 
--- each way down meets h black nodes; a red root may have red children
+-- each path has h black nodes; a red root may have red children
 abbrev pub IsNearly : Tree → ℕ → Type 0
 IsNearly leaf h = h ≡ 0
 IsNearly (fork left at black right) h = IsBalanced (fork left at black right) h
@@ -30,14 +31,14 @@ abbrev pub blacks : List Layer → ℕ
 blacks [] = 0
 blacks (l ∷ ls) = height_above l.colour (blacks ls)
 
--- the part at the place has one black node too few on each way down
+-- the subtree at the place has one black node too few on each path
 pub record IsShort (layers : List Layer) (tree : Tree) : Type 0 where
   pub height : ℕ
   pub wanted : Wants layers (suc height)
   pub nearly : IsNearly tree height
   pub low : blacks layers + height < 32
 
--- how many turns it takes at most to lengthen a short part, where a layer of a colour is the innermost
+-- an upper bound on the steps for a short subtree, if the innermost layer has this colour
 abbrev pub turns_over : Colour → List Layer → ℕ
 turns_over black layers = blacks layers + 3
 turns_over red layers = 2
@@ -51,7 +52,7 @@ turns layers leaf = turns_above layers
 turns layers (fork left at black right) = turns_above layers
 turns layers (fork left at red right) = 1
 
--- every way on is to the left
+-- the path always goes left
 abbrev pub AreLeft : List Layer → Type 0
 AreLeft [] = ⊤
 AreLeft (layer ∷ layers) = (layer.side ≡ Left) × AreLeft layers
@@ -66,7 +67,7 @@ pub record Loses (node : ℕ) (old new : List ℕ) : Type 0 where
 abbrev pub layer_at : Side → ℕ → Colour → Tree → Layer
 layer_at side at colour other = record { side = side; at = at; colour = colour; other = other }
 
--- the bytes with the children and the colour of a node given to another
+-- the bytes with the children and the colour of one node copied to another
 abbrev pub in_place_of : List ℕ → ℕ → ℕ → List ℕ
 in_place_of bytes from to =
     let left = with_child bytes to Left (target bytes from) in
@@ -77,25 +78,25 @@ in_place_of bytes from to =
 abbrev pub as_another : List ℕ → ℕ → ℕ → List ℕ
 as_another bytes from to = set_word (in_place_of bytes from to) (to + 12) 0
 
--- a tree stands at the place that a path leads to, below layers
+-- the subtree is at the end of a path, below layers
 pub record StandsAt (bytes : List ℕ) (path : Path) (layers : List Layer)
     (tree : Tree) : Type 0 where
   pub steps_are : path.steps.items ≡ steps_of layers
   pub hangs : IsTree bytes (target bytes path.root) (plug tree layers)
   pub apart : StandApart (length bytes) path.root (nodes_of (plug tree layers))
 
--- the claim holds where the whole tree keeps the rules of colour, and has no more nodes than a segment
+-- the claim is true if the whole tree is a red-black tree, and has no more nodes than a segment
 abbrev pub WhereRedBlack : List ℕ → Path → List Layer → Tree → Type 0 → Type 0
 WhereRedBlack bytes path layers tree claim =
     StandsAt bytes path layers tree → IsRedBlack (plug tree layers)
     → length (nodes_of (plug tree layers)) < 2 ^ 32 → claim
 
--- what a removed node of a colour leaves
+-- what the removal of a node of this colour leaves
 abbrev pub IsLeft : Tint → List Layer → Tree → Type 0
 IsLeft Black layers tree = IsShort layers tree
 IsLeft Red layers tree = IsRedBlack (plug tree layers)
 
--- a node is taken out of a tree, which may be short then at the place that the path leads to
+-- A node was unlinked from a tree, which may then be short at the end of the path.
 pub record Unlinks (old new : List ℕ) (path : Path) (layers : List Layer) (tree : Tree) (node : ℕ)
     (gone : Tint) : Type 0 where
   pub above : List Layer
@@ -105,7 +106,8 @@ pub record Unlinks (old new : List ℕ) (path : Path) (layers : List Layer) (tre
   pub lost : Loses node (nodes_of (plug tree layers)) (nodes_of (plug part above))
   pub state : IsLeft gone above part
 
--- a short part is made longer, or a larger one around it is short, or one for which it is easier
+-- A short subtree was repaired, or a larger one around it is short, or one that is easier to
+-- repair.
 pub record Lengthens (old new : List ℕ) (path : Path) (layers : List Layer) (tree : Tree)
     (more : Bool) : Type 0 where
   pub above : List Layer
@@ -117,7 +119,7 @@ pub record Lengthens (old new : List ℕ) (path : Path) (layers : List Layer) (t
       × (turns above part < turns layers tree))
       (IsRedBlack (plug part above))
 
--- from a place below layers a path goes on to the first node below it
+-- from a place below layers a path goes to the first node below it
 pub record Descends (path : Path) (layers : List Layer) (tree : Tree)
     (result : Option ℕ) : Type 0 where
   pub lower : List Layer
@@ -129,7 +131,7 @@ pub record Descends (path : Path) (layers : List Layer) (tree : Tree)
   pub leftward : AreLeft lower
   pub steps_are : path.steps.items ≡ steps_of (lower ++ layers)
 
--- the sibling comes up, black, and the path goes on to the part beside it
+-- the sibling moved up and became black, and the path goes to the subtree beside it
 pub record Lowers (old new : List ℕ) (path : Path) (side : Side) (node sibling : ℕ)
     (colour other : Colour) (layers : List Layer) (tree inner outer : Tree) : Type 0 where
   pub turned : Turns old new path.root
@@ -138,7 +140,8 @@ pub record Lowers (old new : List ℕ) (path : Path) (side : Side) (node sibling
   pub steps_are : path.steps.items
       ≡ steps_of (layer_at side node red inner ∷ layer_at side sibling black outer ∷ layers)
 
--- the node beside a part comes up in the colour of the node above both, which goes down, black
+-- the sibling of a subtree moved up in the colour of their parent, which moved down and became
+-- black
 abbrev pub ComesUp : List ℕ → List ℕ → ℕ → Side → ℕ → ℕ → Colour → Colour → List Layer
     → Tree → Tree → Tree → Type 0
 ComesUp old new root side node up colour other layers tree inner outer =
@@ -146,7 +149,7 @@ ComesUp old new root side node up colour other layers tree inner outer =
     (plug (branch side node colour tree (branch side up other inner outer)) layers)
     (plug (branch side up colour (branch side node black tree inner) outer) layers)
 
--- the rules of colour hold again
+-- the tree is a red-black tree again
 pub record Restores (old new : List ℕ) (root : ℕ) (whole : Tree) : Type 0 where
   pub shape : Tree
   pub turned : Turns old new root whole shape

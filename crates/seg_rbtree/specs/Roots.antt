@@ -1,12 +1,12 @@
--- What a tree and a path show.
+-- A tree and a path in contracts.
 use Rattle.std.specs.Prelude.{ℕ}
 use Rattle.seg_rbtree.specs.declared.tree.Tree as declared
 use Rattle.seg_rbtree.specs.declared.path.Path.{Path}
 
--- the position of the pointer word that names its root
+-- the position of the pointer word to its root
 abbrev pub root_word : declared.Tree → ℕ
 root_word t = t.root
 
--- the position of the pointer word of the tree that a path goes down
+-- the position of the pointer word to the root of the path's tree
 abbrev pub path_root : Path → ℕ
 path_root path = path.root

@@ -1,34 +1,32 @@
--- Whether the buffer that a cell names has room for an entry more, as the program reads it.
---     LacksEntry bytes cell size      the cell names no buffer or doesn't all lie in the segment, or
---                                     the buffer has no room for an entry of some bytes
---     HasEntry bytes cell size room   it has, and the entry stands there
+-- Whether the buffer to which a cell points has room for one more entry, as the program reads it.
+--     LacksEntry bytes cell size      the cell has no buffer or doesn't lie in the segment, or the buffer has no room for
+--                                     an entry of `size` bytes
+--     HasEntry bytes cell size room   the buffer has room, and this is the position of the new entry
 use Rattle.std.specs.Prelude.{◌≡◌, ℕ, ◌+◌, ◌*◌, ◌<◌, ◌≤◌, ◌⊎◌, List, length, Some, None}
 use Rattle.seg_spec.specs.Pointer.{target}
 use Rattle.seg_spec.specs.Reads.{count_at}
 use Rattle.seg_spec.specs.Spending.{units_named}
 use Rattle.seg_seq.specs.declared.room.Room.{Room}
 
--- the cell names no buffer, or doesn't all lie in the segment
+-- the cell's pointer is null, or the cell doesn't lie in the segment
 abbrev pub NamesNone : List ℕ → ℕ → Type 0
 NamesNone bytes cell = (target bytes cell ≡ None) ⊎ (length bytes < cell + 8)
 
--- the buffer at `start` has no room for an entry more, or the segment ends before it
+-- the buffer at `start` has no room for one more entry, or the segment ends before it
 abbrev pub IsShort : List ℕ → ℕ → ℕ → ℕ → Type 0
 IsShort bytes cell size start =
     (16 * units_named bytes cell < (count_at bytes cell + 1) * size + 16)
     ⊎ (length bytes < start + (count_at bytes cell + 1) * size)
 
--- the cell names a buffer, and it has none
+-- the cell has a buffer without room
 pub record NamesShort (bytes : List ℕ) (cell size : ℕ) : Type 0 where
   pub start : ℕ
   pub start_is : target bytes cell ≡ Some start
   pub short : 16 ≤ start → IsShort bytes cell size start
 
--- no entry more has room
 abbrev pub LacksEntry : List ℕ → ℕ → ℕ → Type 0
 LacksEntry bytes cell size = NamesNone bytes cell ⊎ NamesShort bytes cell size
 
--- one has, and stands at a place
 pub record HasEntry (bytes : List ℕ) (cell size : ℕ) (room : Room) : Type 0 where
   pub start : ℕ
   pub start_is : target bytes cell ≡ Some start

@@ -1,7 +1,7 @@
--- Sequences of any kind, as the calls on them find them.
---     is_sequence form              values of this form are strings, vectors or lists
+-- The kinds of sequences: strings, vectors and lists.
+--     is_sequence form              values of this form are sequences
 --     HasNumbers table T            values of a type are vectors of numbers
---     KindOf table T form result    the kind of the sequences of a type, and what their cells name
+--     KindOf table T form result    the kind of the sequences of a type, and the layout of what their cells point to
 use Rattle.std.specs.Prelude.{◌≡◌, ℕ, Bool, true, false, Option, Some, Result, Ok, Err}
 use Rattle.seg_spec.specs.Types.{Form, Table, form_at}
 use Rattle.seg_spec.specs.Block.{Kind, tag_of}
@@ -13,20 +13,19 @@ use Rattle.seg_cells.specs.declared.content.Shape.TheVariants as shape
 use Rattle.seg_seq.specs.declared.kind.Kind as sequence
 use Rattle.seg_seq.specs.declared.kind.Kind.TheVariants as kind
 
--- values of this form are strings, vectors or lists
 abbrev pub is_sequence : Option Form → Bool
 is_sequence (Some Form.str) = true
 is_sequence (Some (Form.vec U)) = true
 is_sequence (Some (Form.list U)) = true
 is_sequence _ = false
 
--- values of the type are vectors of numbers
 pub record HasNumbers (table : Table) (T : ℕ) : Type 0 where
   pub item : ℕ
   pub vector_is : form_at table T ≡ Some (Form.vec item)
   pub number_is : form_at table item ≡ Some Form.i64
 
--- the kind of the sequences of a type, and what their cells name: none where its values are no sequences
+-- the kind of the sequences of a type, and the layout of what their cells point to; `OtherType` if
+-- its values are no sequences
 abbrev pub KindOf : Table → ℕ → Option Form → Result (sequence.Kind × Content) Code → Type 0
 KindOf table T (Some Form.str) (Ok (kind.Text, content)) = IsText (tag_of Kind.buffer T) content
 KindOf table T (Some (Form.vec U)) (Ok (kind.Vector, content)) =

@@ -1,13 +1,13 @@
--- What calls on lists find and leave.
---     IsList table T U content         the type is a list of values of this type, with these nodes
---     HasList allocator heap list U vs blocks     a list stands at a place, with these items
+-- Lists before and after calls.
+--     IsList table T U content         the type is a list of values of type U, with these nodes
+--     HasList allocator heap list U vs blocks     a place has a list with these items
 --     IsNoList table T                 the type is no list
---     MovesItems old new table list to      each path from an item leads where it led, from the index that the item has now
---     without_index j i                the index that item i has without item j
---     AddsItem ..                      a list with one item more: a default, in a node of its own
---     RemovesItem ..                   a list without one of its items
+--     MovesItems old new table list to      a path from an item reaches the same place, from the item's new index
+--     without_index j i                the new index of item i after item j was removed
+--     AddsItem ..                      the list has one item more: a default value, in a new node
+--     RemovesItem ..                   an item was removed from the list
 --     LosesItem old new table list vs j items home blocks
---                                      so it is beside whichever frozen objects
+--                                      the same, for any frozen objects
 use Rattle.std.specs.Prelude.{◌≡◌, ◌≢◌, ℕ, ◌+◌, ◌-◌, ◌==◌, nat_lt, if◌then◌else◌, List, [], ◌∷◌, Option, Some, None}
 use Rattle.std.specs.Option.{IfSome}
 use Rattle.seg_spec.specs.Types.{Form, Table, form_at, size}
@@ -25,33 +25,29 @@ use Rattle.seg_cells.specs.Contents.{IsContent}
 use Rattle.seg_cells.specs.declared.content.Content.{Content}
 use Rattle.seg_cells.specs.declared.content.Shape.TheVariants as shape
 
--- the cell of the type names the nodes of a list with values of a type
 pub record IsList (table : Table) (T U : ℕ) (content : Content) : Type 0 where
   pub form_is : form_at table T ≡ Some (Form.list U)
   pub content_is : IsContent table shape.Ring (tag_of Kind.node T) 8 U content
 
--- a list stands at the place, with these items
 pub record HasList (allocator : ℕ) (heap : Stored) (list : Place) (U : ℕ) (vs : Values)
     (blocks : List ℕ) : Type 0 where
   pub form_is : form_at heap.types list.type ≡ Some (Form.list U)
   pub stands : Stands allocator heap.window.bytes heap.types list (Seq vs) blocks
 
--- the type is no list
 abbrev pub IsNoList : Table → ℕ → Type 0
 IsNoList table T = (U : ℕ) → form_at table T ≢ Some (Form.list U)
 
--- each path from an item leads where it led, but from the index that the item has now, if it is there
+-- a path from an item reaches the same place, from the item's new index, if the item is still there
 abbrev pub MovesItems : List ℕ → List ℕ → Table → Place → (ℕ → Option ℕ) → Type 0
 MovesItems old new table list to = (i : ℕ) (path : List Selector) (inner : Place) →
     Leads old table list (Selector.item i ∷ path) inner →
     IfSome (to i) (λ k. Leads new table list (Selector.item k ∷ path) inner)
 
--- the index of item i where item j is gone
 abbrev pub without_index : ℕ → ℕ → Option ℕ
 without_index j i = if i == j then None else Some (if nat_lt i j then i else i - 1)
 
--- the list has these items now: item i, which stands at a position, is new, in a node that was asked for, and the others
--- stand where they stood
+-- The list now has these items. Item i is new, at this position, in a new node. The others didn't
+-- move.
 pub record AddsItem (allocator : ℕ) (old new : List ℕ) (table : Table) (list : Place) (U : ℕ)
     (items : Values) (blocks : List ℕ) (i at : ℕ) (to : ℕ → Option ℕ) : Type 0 where
   pub others : List ℕ
@@ -60,14 +56,14 @@ pub record AddsItem (allocator : ℕ) (old new : List ℕ) (table : Table) (list
   pub stands : Leads new table list (Selector.item i ∷ []) (record { at = at; type = U })
   pub moves : MovesItems old new table list to
 
--- the list has these items now: item j is gone, its node and what it owned were given back, with the
--- frozen objects that it named last, and the others stand where they stood
+-- The list now has these items. Item j was destroyed: its node and what it owned were freed, with
+-- the frozen objects that lost their last cell. The others didn't move.
 pub record RemovesItem (old new : List ℕ) (table : Table) (list : Place) (items : Values)
     (blocks : List ℕ) (j : ℕ) (theirs : ℕ → List ℕ) (now final : List Frozen) : Type 0 where
   pub loses : LosesPart old new table list (Seq items) j blocks theirs now final
   pub moves : MovesItems old new table list (without_index j)
 
--- so it is beside whichever frozen objects, where the list lies in the block `home`
+-- the same for any frozen objects, if the list lies in the block `home`
 abbrev pub LosesItem : List ℕ → List ℕ → Table → Place → Values → ℕ → Values → ℕ → List ℕ → Type 0
 LosesItem old new table list vs j items home blocks = (v : Value) → nth vs j ≡ Some v →
     BesideShared old table (home ∷ blocks) (named_in v)

@@ -1,31 +1,28 @@
--- What calls on sequences find and leave.
---     HasText allocator heap place xs blocks      a string stands at a place, with this text
---     HasItems allocator heap place U vs blocks   a vector stands at a place, with these items
+-- Strings and vectors before and after calls.
+--     HasText allocator heap place xs blocks      the place has a string with this text
+--     HasItems allocator heap place U vs blocks   the place has a vector with these items
 --     item_type form                              the type of the items of a vector or a list
---     IsFull heap place U                         a vector's buffer has no room for an item more
---     LacksByte heap place                        a string's buffer has no room for a byte more
+--     IsFull heap place U                         a vector's buffer has no room for one more item
+--     LacksByte heap place                        a string's buffer has no room for one more byte
 --     Declines code old new result                the call returned a code, and nothing changed
---     HasNone old new n code                      of n there was none to take, and nothing changed
---     LacksRoom allocator old new asks code       one of the requests got nothing, and nothing
---                                                 changed
+--     HasNone old new n code                      n is 0, so nothing could be taken, and nothing changed
+--     LacksRoom allocator old new asks code       one of the requests wasn't granted, and nothing changed
 --     ComesToHold allocator old new place w asks gives blocks
---         a place holds w, after requests that were granted; these blocks went back
---     text_asks heap place n, push_asks heap place U      the requests for a buffer of n bytes, and
---                                                         for one of an item more
+--         the place contains w, after requests that were granted; the blocks `gives` were freed
+--     text_asks heap place n, push_asks heap place U      the requests for a buffer of n bytes, and for one more item
 --     Rewrites allocator old new place n ys blocks result
---         a string, whose buffer is to have n bytes, has this text now, or it lacked the room
+--         a string now has this text, in a buffer with room for n bytes, or there was no room
 --     ExtendsText allocator old new place kept n xs blocks at len
---         a string keeps its first bytes, and has n more from a position on, whatever they are
---     CountsItem allocator old new place U vs blocks at   an item more is counted, and isn't written
---     PushesItem item allocator old new place U vs blocks p   an item joined the others, and stands
---                                                             at a position
---     PushesBack allocator old new place U vs blocks p    a default item did
+--         a string keeps its first bytes, and has n more from a position on, with any values
+--     CountsItem allocator old new place U vs blocks at   one more item is counted, but isn't written
+--     PushesItem item allocator old new place U vs blocks p   an item was appended, at a position
+--     PushesBack allocator old new place U vs blocks p    a default item was appended
 --     PushesNumber allocator old new place number result
---         a number joined the items of a vector of numbers, or it lacked the room
---     PopsBack old new place vs home blocks               the last item went, with what it owned
---     IsPast index n code                         of n there is none at the index
---     ShowsByte heap place xs index p             the byte of a text at an index stands there
---     ShowsItem heap place U index p              the item of a vector or a list at an index does
+--         a number was appended to a vector of numbers, or there was no room
+--     PopsBack old new place vs home blocks               the last item was destroyed, with what it owned
+--     IsPast index n code                         the index isn't below n
+--     ShowsByte heap place xs index p             the byte of a text at an index is at position p
+--     ShowsItem heap place U index p              the item of a vector or a list at an index is at position p
 use Rattle.std.specs.Prelude.{◌≡◌, ℕ, ℤ, ◌+◌, ◌-◌, ◌*◌, ◌%◌, ◌^◌, ◌<◌, ◌≤◌, List, [], ◌∷◌, length, take, slice_index, Option, Some, None, Result, Err, MatchResult}
 use Rattle.seg_bytes.specs.Bytes.{byte, set_word}
 use Rattle.seg_spec.specs.Types.{Form, form_at, size}
@@ -43,76 +40,67 @@ use Rattle.seg_raw.specs.declared.code.Code.{Code}
 use Rattle.seg_raw.specs.declared.code.Code.TheVariants.{BadAlloc, Null, OutOfRange}
 use Rattle.seg_value.specs.Stored.{Stored}
 
--- ---- what calls find
+-- ---- before calls
 
--- a string stands at the place, with this text
 pub record HasText (allocator : ℕ) (heap : Stored) (place : Place) (xs blocks : List ℕ) :
     Type 0 where
   pub form_is : form_at heap.types place.type ≡ Some Form.str
   pub stands : Stands allocator heap.window.bytes heap.types place (Text xs) blocks
 
--- a vector stands at the place, with these items
 pub record HasItems (allocator : ℕ) (heap : Stored) (place : Place) (U : ℕ) (vs : Values)
     (blocks : List ℕ) : Type 0 where
   pub form_is : form_at heap.types place.type ≡ Some (Form.vec U)
   pub stands : Stands allocator heap.window.bytes heap.types place (Seq vs) blocks
 
--- the type of the items of a vector or a list
 abbrev pub item_type : Option Form → Option ℕ
 item_type (Some (Form.vec U)) = Some U
 item_type (Some (Form.list U)) = Some U
 item_type _ = None
 
--- the vector's buffer has no room for an item more
 abbrev pub IsFull : Stored → Place → ℕ → Type 0
 IsFull heap place U = 16 * units_named heap.window.bytes place.at - 16
     < (count_at heap.window.bytes place.at + 1) * size heap.types U
 
--- the string's buffer has no room for a byte more
 abbrev pub LacksByte : Stored → Place → Type 0
 LacksByte heap place = 16 * units_named heap.window.bytes place.at - 16
     < count_at heap.window.bytes place.at + 1
 
--- ---- what they leave
+-- ---- after calls
 
--- the call returned a code, and nothing changed
 pub record Declines {A : Type 0} (code : Code) (old new : Stored) (result : Result A Code) :
     Type 0 where
   pub result_is : result ≡ Err code
   pub same : new.window ≡ old.window
 
--- of n there was none to take, and nothing changed
 pub record HasNone (old new : Stored) (n : ℕ) (code : Code) : Type 0 where
   pub code_is : code ≡ Null
   pub none : n ≡ 0
   pub same : new.window ≡ old.window
 
--- one of the requests got nothing, and nothing changed
 pub record LacksRoom (allocator : ℕ) (old new : Stored) (asks : List Ask) (code : Code) :
     Type 0 where
   pub code_is : code ≡ BadAlloc
   pub refuses : Refuses allocator old.window.bytes new.window.bytes asks
 
--- the place holds w now, and owns other blocks; the requests were granted, and these blocks
--- went back
+-- The place now contains w, and owns other blocks. The requests were granted, and the blocks
+-- `gives` were freed.
 pub record ComesToHold (allocator : ℕ) (old new : Stored) (place : Place) (w : Value)
     (asks : List Ask) (gives blocks : List ℕ) : Type 0 where
   pub others : List ℕ
   pub succeeds : Succeeds allocator old.window.bytes new.window.bytes old.types place w
       asks gives blocks others
 
--- the requests for a buffer of n bytes
 abbrev pub text_asks : Stored → Place → ℕ → List Ask
 text_asks heap place n = buffer_asks heap.window.bytes place.at 1 n
 
--- the string has the text ys now, for which its buffer was to have n bytes; or it lacked the room
+-- The string now has the text ys, for which it requested a buffer of n bytes. Or there was no room.
 abbrev pub Rewrites : {A : Type 0} → ℕ → Stored → Stored → Place → ℕ → List ℕ → List ℕ →
     Result A Code → Type 0
 Rewrites allocator old new place n ys blocks result = MatchResult result
     (λ done. ComesToHold allocator old new place (Text ys) (text_asks old place n) [] blocks)
     (LacksRoom allocator old new (text_asks old place n))
 
--- the string keeps its first bytes, and has n more after them, whatever they are
+-- The string keeps its first bytes, and has n more after them, with any values.
 pub record ExtendsText (allocator : ℕ) (old new : Stored) (place : Place) (kept n : ℕ)
     (xs blocks : List ℕ) (at len : ℕ) : Type 0 where
   pub ys : List ℕ
@@ -123,12 +111,11 @@ pub record ExtendsText (allocator : ℕ) (old new : Stored) (place : Place) (kep
   pub len_is : len ≡ kept + n
   pub at_is : at ≡ start new.window.bytes place.at + kept
 
--- the requests for a buffer of one item more
 abbrev pub push_asks : Stored → Place → ℕ → List Ask
 push_asks heap place U = buffer_asks heap.window.bytes place.at (size heap.types U)
     (count_at heap.window.bytes place.at + 1)
 
--- an item more is counted, and has room at a position, where it isn't written yet
+-- One more item is counted, and has room at a position, but isn't written yet.
 pub record CountsItem (allocator : ℕ) (old new : Stored) (place : Place) (U : ℕ) (vs : Values)
     (blocks : List ℕ) (at : ℕ) : Type 0 where
   pub mid : List ℕ
@@ -139,7 +126,7 @@ pub record CountsItem (allocator : ℕ) (old new : Stored) (place : Place) (U : 
   pub at_is : at
       ≡ (start mid place.at + count_at old.window.bytes place.at * size old.types U) % 2 ^ 32
 
--- an item joined the others, and stands at the position p
+-- an item was appended, at the position p
 pub record PushesItem (item : Value) (allocator : ℕ) (old new : Stored) (place : Place) (U : ℕ)
     (vs : Values) (blocks : List ℕ) (p : ℕ) : Type 0 where
   pub holds_it : ComesToHold allocator old new place (Seq (append vs (cons item nil)))
@@ -147,12 +134,11 @@ pub record PushesItem (item : Value) (allocator : ℕ) (old new : Stored) (place
   pub leads : Leads new.window.bytes old.types place (Selector.item (count vs) ∷ [])
       (record { at = p; type = U })
 
--- a default item did
+-- a default item was appended
 abbrev pub PushesBack : ℕ → Stored → Stored → Place → ℕ → Values → List ℕ → ℕ → Type 0
 PushesBack allocator old new place U vs blocks p =
     PushesItem (default_of old.types U) allocator old new place U vs blocks p
 
--- a number joined the items of a vector of numbers, or it lacked the room
 abbrev pub PushesNumber : ℕ → Stored → Stored → Place → ℤ → Result ℕ Code → Type 0
 PushesNumber allocator old new place number result =
     (U : ℕ) (vs : Values) (blocks : List ℕ) → HasItems allocator old place U vs blocks →
@@ -160,8 +146,8 @@ PushesNumber allocator old new place number result =
     MatchResult result (PushesItem (Int number) allocator old new place U vs blocks)
     (LacksRoom allocator old new (push_asks old place U))
 
--- the last item went, with what it owned, and with the frozen objects that it named last; the place
--- lies in the block `home`
+-- The last item was destroyed, with what it owned, and the frozen objects that lost their last
+-- cell. The place lies in the block `home`.
 pub record PopsBack (old new : Stored) (place : Place) (vs : Values) (home : ℕ)
     (blocks : List ℕ) : Type 0 where
   pub some : 1 ≤ count vs
@@ -170,20 +156,19 @@ pub record PopsBack (old new : Stored) (place : Place) (vs : Values) (home : ℕ
       (LosesPart old.window.bytes new.window.bytes old.types place (Seq (without_last vs))
       (count vs - 1) blocks)
 
--- ---- what they find
+-- ---- results
 
--- of n there is none at the index
 pub record IsPast (index n : ℕ) (code : Code) : Type 0 where
   pub code_is : code ≡ OutOfRange
   pub past : n ≤ index
 
--- the byte of a text at an index stands at the position p
+-- the byte of a text at an index is at position p
 pub record ShowsByte (heap : Stored) (place : Place) (xs : List ℕ) (index p : ℕ) : Type 0 where
   pub below : index < length xs
   pub at_is : p ≡ start heap.window.bytes place.at + index
   pub byte_is : byte heap.window.bytes p ≡ slice_index xs index
 
--- the item at an index stands at the position p
+-- the item at an index is at position p
 abbrev pub ShowsItem : Stored → Place → ℕ → ℕ → ℕ → Type 0
 ShowsItem heap place U index p =
     Leads heap.window.bytes heap.types place (Selector.item index ∷ [])

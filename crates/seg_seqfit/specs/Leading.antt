@@ -1,4 +1,4 @@
--- The pointer word after some tiles, where one more is put to them.
+-- The pointer word after some tiles, if one more is added to them.
 use Rattle.std.proofs.Common.{◌≡◌, ℕ, ◌+◌, true, List, [], ◌∷◌, ◌++◌, cond, refl, sym, ◌∙◌}
 use Rattle.seg_spec.specs.Heap.{Tile}
 use Rattle.seg_ptr.specs.declared.header.TheConstants.{FREE}
@@ -11,7 +11,7 @@ pub link_past-append : (xs ys : List Tile) (p : ℕ) →
 link_past-append [] ys p = refl
 link_past-append (t ∷ xs) ys p = link_past-append xs ys (cond t.live p (t.at + LINK))
 
--- a live tile has no pointer word of the list
+-- an allocated tile has no pointer word of the list
 pub leads_past : (link : ℕ) (xs : List Tile) (at u : ℕ) → link ≡ link_to xs →
     link ≡ link_to (xs ++ tile at u true ∷ [])
 leads_past link xs at u e = e ∙ sym (link_past-append xs (tile at u true ∷ []) FREE)

@@ -1,8 +1,7 @@
--- What is free in a heap.
---     bytes_of gaps, largest_of gaps      the bytes of all gaps and of the largest, with headers
---     spare_start, spare_size             the bytes of a gap that hold no header and that the
---                                         allocator doesn't use
---     IsZeroed, LiesBeside, ZeroesGaps    they are 0; bytes beside them; a call that makes them 0
+-- The free memory of a heap. Its free blocks are called gaps.
+--     bytes_of gaps, largest_of gaps      the size of all gaps and of the largest in bytes, with headers
+--     spare_start, spare_size             the bytes of a gap outside its header that the allocator doesn't use
+--     IsZeroed, LiesBeside, ZeroesGaps    these bytes are 0; bytes outside them; a call that zeroes them
 use Rattle.std.specs.Prelude.{◌≡◌, ℕ, ◌+◌, ◌-◌, ◌*◌, max, List, [], ◌∷◌, length, replicate}
 use Rattle.std.specs.List.{AllByRecursion}
 use Rattle.seg_bytes.specs.Bytes.{slice, IsSame}
@@ -16,31 +15,31 @@ abbrev pub bytes_of : List Span → ℕ
 bytes_of [] = 0
 bytes_of (g ∷ gs) = 16 * g.units + bytes_of gs
 
--- none has 0
+-- 0 if there is no gap
 abbrev pub largest_of : List Span → ℕ
 largest_of [] = 0
 largest_of (g ∷ gs) = max (16 * g.units) (largest_of gs)
 
 -- ---- gaps that are zeroed
 
--- what an allocator with this number leaves unused of a gap, after the header and its own words
+-- what this allocator doesn't use of a gap: the bytes after the header and its own words
 abbrev pub spare_start : ℕ → Span → ℕ
 spare_start allocator g = g.at + (16 + 16 * allocator)
 
 abbrev pub spare_size : ℕ → Span → ℕ
 spare_size allocator g = 16 * g.units - (16 + 16 * allocator)
 
--- all of it is 0
+-- these bytes are 0
 abbrev pub IsZeroed : ℕ → List ℕ → Span → Type 0
 IsZeroed allocator bytes g =
     slice bytes (spare_start allocator g) (spare_size allocator g)
     ≡ replicate (spare_size allocator g) 0
 
--- n bytes have none of it
+-- n bytes don't overlap them
 abbrev pub LiesBeside : ℕ → ℕ → ℕ → Span → Type 0
 LiesBeside allocator p n g = Separate p n (spare_start allocator g) (spare_size allocator g)
 
--- the unused bytes of the gaps are 0, no other byte changed, and the segment holds its picture
+-- The unused bytes of the gaps are 0, no other byte changed, and the segment has the same picture.
 pub record ZeroesGaps (allocator : ℕ) (old new : Stored) (picture : Picture) : Type 0 where
   pub segment : IsSegment allocator new picture
   pub length_kept : length new.window.bytes ≡ length old.window.bytes

@@ -1,8 +1,8 @@
 -- A new segment.
 --     nothing                             the empty picture
---     word_of_kind index                  what the image's word for the index says of a kind
+--     word_of_kind index                  the image's word for a kind of index
 --     IsNew allocator s region base len index
---                                         a segment with nothing in it, at a base of a region
+--                                         an empty segment at a base of a region
 use Rattle.std.specs.Prelude.{◌≡◌, ℕ, ◌+◌, take, drop, List, [], length}
 use Rattle.seg_bytes.specs.Bytes.{word}
 use Rattle.seg_spec.specs.Header.{version_word, index_kind_word, sharing_version}
@@ -17,13 +17,12 @@ use Rattle.seg_manager.specs.Segments.{IsSegment}
 abbrev pub nothing : Picture
 nothing = record { table = []; names = []; uniques = []; loose = []; frozen = [] }
 
--- what the image's word for the index says of a kind
 abbrev pub word_of_kind : IndexKind → ℕ
 word_of_kind kind.Flat = 0
 word_of_kind kind.Tree = 1
 
--- a segment of this length, at a base of a region that is kept around it, with nothing in it; its
--- version may have frozen objects
+-- An empty segment of this length at a base of a region. The region is kept around it. Its version
+-- is the one that may have frozen objects.
 pub record IsNew (allocator : ℕ) (s : Stored) (region : List ℕ) (base len : ℕ)
     (index : IndexKind) : Type 0 where
   pub segment : IsSegment allocator s nothing

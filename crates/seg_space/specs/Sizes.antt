@@ -1,8 +1,8 @@
--- What a segment's change of size leaves.
---     MayGrowTo extra len                        a segment may have so many more bytes
---     used_front allocator extra                 where among them a header may stand
---     Grows allocator old new picture extra      it has more bytes at its end, and its picture
---     Shrinks allocator old new picture size     the gap at its end was cut, and it has its picture
+-- Changes of a segment's size.
+--     MayGrowTo extra len                        a segment may have `len` bytes after it grows by `extra`
+--     used_front allocator extra                 how many of these bytes a header may use
+--     Grows allocator old new picture extra      the segment has more bytes at its end, and the same picture
+--     Shrinks allocator old new picture size     the gap at the end was cut, and the picture is the same
 use Rattle.std.specs.Prelude.{◌≡◌, ℕ, ◌+◌, ◌-◌, ◌*◌, ◌/◌, ◌%◌, ◌≤◌, ◌==◌, if◌then◌else◌, length, drop, replicate}
 use Rattle.seg_bytes.specs.Bytes.{slice}
 use Rattle.seg_spec.specs.Heap.{live, gaps, after_extend, units_to_cut}
@@ -12,18 +12,18 @@ use Rattle.seg_spec.specs.Sound.{Picture, times, positions}
 use Rattle.seg_value.specs.Stored.{Stored}
 use Rattle.seg_manager.specs.Segments.{IsSegment}
 
--- so many more bytes are whole units, and the sum is a length that an image may have
+-- the extra bytes are whole units, and the sum is a possible length of an image
 abbrev pub MayGrowTo : ℕ → ℕ → Type 0
 MayGrowTo extra len = (extra % 16 ≡ 0) × IsImageLength len
 
--- how many bytes at the front of the new ones may hold the header of a gap and the allocator's own
--- words: a single unit has no header
+-- How many bytes at the front of the new ones the header of a gap and the allocator's own words may
+-- use. A single unit gets no header.
 abbrev pub used_front : ℕ → ℕ → ℕ
 used_front allocator extra = if extra == 16 then 0 else 16 + 16 * allocator
 
--- the picture and every live block are kept; a single new unit goes to a block that ended at the
--- end; the new bytes after the used front are 0; the host's bytes before and after the larger
--- segment are kept
+-- The picture and each allocated block are kept. A single new unit is added to a block that ended
+-- at the end. The new bytes after the used front are 0. The host's bytes before and after the
+-- larger segment are kept.
 pub record Grows (allocator : ℕ) (old new : Stored) (picture : Picture) (extra : ℕ) : Type 0 where
   pub segment : IsSegment allocator new picture
   pub length_is : length new.window.bytes ≡ length old.window.bytes + extra
@@ -36,7 +36,8 @@ pub record Grows (allocator : ℕ) (old new : Stored) (picture : Picture) (extra
   pub before_is : new.window.before ≡ old.window.before
   pub after_is : new.window.after ≡ drop extra old.window.after
 
--- the picture, the live blocks and their bytes are kept; what was cut is the host's now
+-- The picture, the allocated blocks and their bytes are kept. The bytes that were cut belong to the
+-- host.
 pub record Shrinks (allocator : ℕ) (old new : Stored) (picture : Picture) (size : ℕ) : Type 0 where
   pub segment : IsSegment allocator new picture
   pub result_is : size ≡ length new.window.bytes

@@ -1,6 +1,6 @@
--- Buffers of the program as the definitions know them.
---     NamesBuffer table T content     the cell of a type names a buffer, with these entries
---     MakesRoom ..                    a buffer comes to have room for entries, or that is refused
+-- The program's buffers in the definitions' terms.
+--     NamesBuffer table T content     the cell of a type points to a buffer, with these entries
+--     MakesRoom ..                    a buffer got room for entries, or the request was refused
 use Rattle.std.specs.Prelude.{◌≡◌, ℕ, ◌*◌, List, Some, Result, MatchResult}
 use Rattle.seg_spec.specs.Calls.{Refuses}
 use Rattle.seg_spec.specs.Growing.{Reserves}
@@ -12,12 +12,11 @@ use Rattle.seg_cells.specs.Contents.{ContentOf}
 use Rattle.seg_cells.specs.declared.content.Content.{Content}
 use Rattle.seg_cells.specs.declared.content.Shape.TheVariants as shape
 
--- the cell of the type names a buffer, with these entries
 abbrev pub NamesBuffer : Table → ℕ → Content → Type 0
 NamesBuffer table T content =
     ContentOf table T (form_at table T) (Some content) × (content.shape ≡ shape.Buffer)
 
--- the buffer of a place that holds a value comes to have room for so many entries of some bytes each, or that is refused
+-- The buffer of a place with a value got room for `limit` entries, or the request was refused.
 abbrev pub MakesRoom : {X Y : Type 0} → ℕ → List ℕ → List ℕ → Table → Place → Value →
     List ℕ → ℕ → ℕ → Result X Y → Type 0
 MakesRoom allocator old new table place v blocks each limit result = MatchResult result

@@ -1,8 +1,8 @@
--- Contents of the program as the definitions know them.
---     AreContents table contents                  what the cell of each type names
+-- The layouts of types that a heap stores.
+--     AreContents table contents                  for each type, the layout of what its cells point to
 --     numbers_in table T                          the type of the items of a vector of numbers
---     AreNumbers table each                       that of each type
---     IsDescribed table contents cells numbers    what a heap knows of each type of a valid table
+--     AreNumbers table each                       the same for each type
+--     IsDescribed table contents cells numbers    what a heap stores about each type of a valid table
 --     GivesBlock ..                               a new block, with the default of a value
 use Rattle.std.specs.Prelude.{◌≡◌, ℕ, ◌+◌, ◌≤◌, List, [], ◌∷◌, length, Option, Some, None, get_or}
 use Rattle.seg_spec.specs.Header.{KeepsFront, KeepsBack}
@@ -18,31 +18,31 @@ use Rattle.seg_cells.specs.Cells.{AreCells}
 use Rattle.seg_cells.specs.Contents.{ContentOf}
 use Rattle.seg_cells.specs.declared.content.Content.{Content}
 
--- what the cell of each type names, one after the other
+-- a list with an element for each type
 abbrev pub AreContents : Table → List (Option Content) → Type 0
 AreContents table contents =
     (T : ℕ) → ContentOf table T (form_at table T) (get_or contents T None)
 
--- the type of a vector's items, where their form is that of numbers
+-- the type of a vector's items, if they are numbers
 abbrev pub number_item : ℕ → Option Form → Option ℕ
 number_item U (Some Form.i64) = Some U
 number_item U _ = None
 
--- the type of the items, where values of this form are vectors of numbers
+-- the type of the items, if values of this form are vectors of numbers
 abbrev pub numbers_by : Table → Option Form → Option ℕ
 numbers_by table (Some (Form.vec U)) = number_item U (form_at table U)
 numbers_by table _ = None
 
--- the type of the items, where values of this type are vectors of numbers
+-- the type of the items, if values of this type are vectors of numbers
 abbrev pub numbers_in : Table → ℕ → Option ℕ
 numbers_in table T = numbers_by table (form_at table T)
 
--- the type of the items of each vector of numbers, one after the other
+-- a list with an element for each type
 abbrev pub AreNumbers : Table → List (Option ℕ) → Type 0
 AreNumbers table each = (T : ℕ) → get_or each T None ≡ numbers_in table T
 
--- what is known of each type of a valid table: what its cells name, what its values are made of, and which are
--- vectors of numbers
+-- For each type of a valid table: the layout of what its cells point to, what its values consist
+-- of, and whether it is a vector of numbers.
 pub record IsDescribed (table : Table) (contents : List (Option Content)) (each : List Cells)
     (numbers : List (Option ℕ)) : Type 0 where
   pub valid : IsTable table
@@ -50,7 +50,8 @@ pub record IsDescribed (table : Table) (contents : List (Option Content)) (each 
   pub cells_are : AreCells table each
   pub numbers_are : AreNumbers table numbers
 
--- a new block of this tag, with the default of a value after so many bytes; all other live blocks are kept
+-- A new block with this tag, and in it the default of a value after `before` bytes. All other
+-- allocated blocks are kept.
 pub record GivesBlock (allocator : ℕ) (old new : List ℕ) (table : Table) (tag before U : ℕ)
     (payload : ℕ) : Type 0 where
   pub length_kept : length new ≡ length old

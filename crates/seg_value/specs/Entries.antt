@@ -1,10 +1,10 @@
--- Entries of flat maps, as they come and go.
---     NamesFlatMap table T U content        the cell of a type names the entries of a flat map of U
---     flat_entry bytes table cell U i       the position of an entry: of its key
+-- Inserting and removing entries of flat maps.
+--     NamesFlatMap table T U content        the cell of a type points to the entries of a flat map of U
+--     flat_entry bytes table cell U i       the position of an entry, which begins with its key
 --     flat_value bytes table cell U i       the place of its value
 --     flat_asks bytes table cell U          the requests for one more entry
 --     OpensEntry ..                         a flat map has room for an entry at an index
---     ClosesEntry ..                        the entry at an index is gone, and those before it stay
+--     ClosesEntry ..                        the entry at an index was removed, and those before it didn't move
 use Rattle.std.specs.Prelude.{◌≡◌, ℕ, ◌+◌, ◌*◌, ◌%◌, ◌<◌, ℤ, List, [], Some, insert}
 use Rattle.seg_spec.specs.Apart.{Separate}
 use Rattle.seg_spec.specs.Block as block
@@ -25,28 +25,25 @@ use Rattle.seg_cells.specs.declared.content.Content.{Content}
 use Rattle.seg_cells.specs.declared.content.Shape.TheVariants as shape
 use Rattle.seg_cells.specs.Contents.{IsContent}
 
--- the cell of the type names the entries of a flat map, with values of the type U
+-- the cell of the type points to the entries of a flat map, with values of the type U
 abbrev pub NamesFlatMap : Table → ℕ → ℕ → Content → Type 0
 NamesFlatMap table T U content =
     (form_at table T ≡ Some (Form.flat_map U)) ×
     IsContent table shape.Buffer (tag_of block.Kind.buffer T) 8 U content
 
--- where an entry begins, with its key
 abbrev pub flat_entry : List ℕ → Table → ℕ → ℕ → ℕ → ℕ
 flat_entry bytes table cell U index = start bytes cell + index * (8 + size table U)
 
--- the place of the value after the key
 abbrev pub flat_value : List ℕ → Table → ℕ → ℕ → ℕ → Place
 flat_value bytes table cell U index =
     record { at = flat_entry bytes table cell U index + 8; type = U }
 
--- what is asked of the heap for one more entry
 abbrev pub flat_asks : List ℕ → Table → ℕ → ℕ → List Ask
 flat_asks bytes table cell U = buffer_asks bytes cell (8 + size table U) (count_at bytes cell + 1)
 
--- A flat map with these keys and values has room for an entry at an index. Once a key that keeps
--- the order and a value that owns nothing are written there, the place holds the map with both: the
--- requests for the room were granted.
+-- A flat map with these keys and values has room for an entry at an index, since the requests for
+-- the room were granted. After a key that keeps the order and a value that owns nothing are written
+-- there, the place contains the map with both.
 pub record OpensEntry (allocator : ℕ) (old new : List ℕ) (table : Table) (place : Place) (U : ℕ)
     (keys : List ℤ) (vs : Values) (blocks : List ℕ) (index at : ℕ) : Type 0 where
   pub at_is : at ≡ flat_entry new table place.at U index
@@ -61,8 +58,8 @@ pub record OpensEntry (allocator : ℕ) (old new : List ℕ) (table : Table) (pl
       (Map (insert keys index (signed_long written at)) (insert_nth vs index w))
       (flat_asks old table place.at U) [] blocks others
 
--- The entry at an index is gone, and with it the key and the value there, which owned nothing. The
--- buffer stands where it stood; paths from the values before that index lead where they led.
+-- The entry at an index was removed, with its key and its value, which owned nothing. The buffer
+-- didn't move, and paths from the values before that index still reach the same places.
 pub record ClosesEntry (old new : List ℕ) (table : Table) (place : Place) (U : ℕ) (keys : List ℤ)
     (vs : Values) (blocks : List ℕ) (index : ℕ) : Type 0 where
   pub changes : ChangesPlace old new table place (without_entry (keys, vs) index) blocks

@@ -1,18 +1,18 @@
--- The buffer of the flat index, as calls on it find and leave it.
---     index_cell                          where the index's cell stands
+-- The buffer of the flat index before and after calls.
+--     index_cell                          the position of the index's cell
 --     name_entry bytes i                  the position of an entry
---     FindsNames allocator bytes table    the heap is in order, and the cell names a buffer of entries
---     FindsIndex allocator bytes table content cell    the call is on the index, with its content
---     ChangesIndex old new table spans    nothing changed but the cell and its buffer
---     IsSameEntry old new from to         an entry is what another one was
---     KeepsNames old new                  each entry is what it was
---     ReservesIndex ..                    the buffer has room for so many bytes
---     MakesIndexRoom ..                   it comes to have it, or is refused
---     MovesIndex ..                       the buffer moved to a block that was taken before
+--     FindsNames allocator bytes table    a well-formed heap, and the cell points to a buffer of entries
+--     FindsIndex allocator bytes table content cell    the call is on the index, with its layout
+--     ChangesIndex old new table spans    only the cell and its buffer changed
+--     IsSameEntry old new from to         an entry was copied
+--     KeepsNames old new                  all entries are kept
+--     ReservesIndex ..                    the buffer has room for n bytes
+--     MakesIndexRoom ..                   the buffer got room, or the request was refused
+--     MovesIndex ..                       the buffer moved to a block that was allocated before
 --     OpensName ..                        there is room for an entry at an index
 --     AddsName ..                         an entry was written there
---     ClosesName old new table index      the entry at an index is gone
---     EmptiesIndex old new table          the buffer is gone
+--     ClosesName old new table index      the entry at an index was removed
+--     EmptiesIndex old new table          the buffer was freed
 use Rattle.std.specs.Prelude.{◌≡◌, ℕ, ◌+◌, ◌*◌, ◌%◌, ◌<◌, ◌≤◌, ◌-◌, List, [], length, Some, None, Result, MatchResult}
 use Rattle.std.specs.List.{AllByRecursion}
 use Rattle.seg_bytes.specs.Bytes.{word, IsSame, ChangesOnly, slice}
@@ -33,12 +33,12 @@ use Rattle.seg_spec.specs.Sound.{times, positions}
 use Rattle.seg_cells.specs.Contents.{IsIndexBuffer}
 use Rattle.seg_cells.specs.declared.content.Content.{Content}
 
--- the position of an entry
 abbrev pub name_entry : List ℕ → ℕ → ℕ
 name_entry bytes i = start bytes index_cell + i * 8
 
--- what calls on the index find: the heap is in order, and the index's cell names nothing and counts nothing, or names a
--- live block with room for its entries; what an entry names isn't the byte after its pointer
+-- What calls on the index find. The heap is well-formed. The index's cell has a null pointer and
+-- counts 0, or points to an allocated block with room for its entries. No entry points to the byte
+-- after its pointer.
 pub record FindsNames (allocator : ℕ) (bytes : List ℕ) (table : Table) : Type 0 where
   pub heap : IsHeap allocator bytes
   pub allocator_is : word bytes 16 ≡ allocator
@@ -49,12 +49,13 @@ pub record FindsNames (allocator : ℕ) (bytes : List ℕ) (table : Table) : Typ
   pub aligned : (i t : ℕ) → i < count_at bytes index_cell →
       target bytes (name_entry bytes i) ≡ Some t → t % 8 ≡ 0
 
--- a call on the index, with its cell and the content of its buffer
+-- a call on the index, with its cell and the layout of its buffer
 abbrev pub FindsIndex : ℕ → List ℕ → Table → Content → ℕ → Type 0
 FindsIndex allocator bytes table content cell =
     IsIndexBuffer content × (cell ≡ index_cell) × FindsNames allocator bytes table
 
--- only the index's cell and its buffer changed; the live blocks are these now, and all others are kept
+-- Only the index's cell and its buffer changed. The allocated blocks are now these, and all others
+-- are kept.
 pub record ChangesIndex (old new : List ℕ) (table : Table) (spans : List Span) : Type 0 where
   pub length_kept : length new ≡ length old
   pub front_kept : KeepsFront old new
@@ -70,18 +71,18 @@ pub record ChangesIndex (old new : List ℕ) (table : Table) (spans : List Span)
       KeepsBlock old new h
   pub room : NamesRoom new index_cell (tag_of block.Kind.index_buffer 0) 8
 
--- an entry names what the other one named, with the same bytes after its pointer
+-- an entry points to what the other one pointed to, with the same bytes after its pointer
 abbrev pub IsSameEntry : List ℕ → List ℕ → ℕ → ℕ → Type 0
 IsSameEntry old new from to =
     (target new to ≡ target old from) × (slice new (to + 4) 4 ≡ slice old (from + 4) 4)
 
--- each entry is what it was, wherever the buffer stands now
+-- each entry is kept, also if the buffer moved
 pub record KeepsNames (old new : List ℕ) : Type 0 where
   pub counted : count_at new index_cell ≡ count_at old index_cell
   pub entries : (i : ℕ) → i < count_at old index_cell →
       IsSameEntry old new (name_entry old i) (name_entry new i)
 
--- the requests were granted, and the buffer has room for n bytes now
+-- the requests were granted, and the buffer has room for n bytes
 pub record ReservesIndex (allocator : ℕ) (old new : List ℕ) (table : Table) (asks : List Ask)
     (n : ℕ) : Type 0 where
   pub left : List Span
@@ -90,19 +91,19 @@ pub record ReservesIndex (allocator : ℕ) (old new : List ℕ) (table : Table) 
   pub names : KeepsNames old new
   pub room : HasRoomFor new index_cell n
 
--- the buffer comes to have room for so many entries, or that is refused
+-- the buffer got room for `limit` entries, or the request was refused
 abbrev pub MakesIndexRoom : {X Y : Type 0} → ℕ → List ℕ → List ℕ → Table → ℕ → Result X Y → Type 0
 MakesIndexRoom allocator old new table limit result = MatchResult result
     (λ done. ReservesIndex allocator old new table (buffer_asks old index_cell 8 limit) (limit * 8))
     (λ code. Refuses allocator old new (buffer_asks old index_cell 8 limit))
 
--- the buffer moved to a block of u units that was taken before, and the old one was given back
+-- the buffer moved to a block of u units that was allocated before, and the old buffer was freed
 pub record MovesIndex (old taken new : List ℕ) (table : Table) (u : ℕ) : Type 0 where
   pub changes : ChangesIndex old new table (after_gives (live taken) (named old index_cell))
   pub names : KeepsNames old new
   pub room : HasRoomFor new index_cell (16 * u - 16)
 
--- an entry stands at a position that is the one of an index, before those that stood from there on
+-- an entry was written at a position, the one of an index, before the entries that were there
 pub record AddsName (old new : List ℕ) (table : Table) (left : List Span) (index at : ℕ)
     : Type 0 where
   pub changes : ChangesIndex old new table left
@@ -113,7 +114,7 @@ pub record AddsName (old new : List ℕ) (table : Table) (left : List Span) (ind
   pub after : (i : ℕ) → index ≤ i → i < count_at old index_cell →
       IsSameEntry old new (name_entry old i) (name_entry new (i + 1))
 
--- the requests were granted, and there is room for an entry at an index, whatever is written there
+-- the requests were granted, and there is room for an entry at an index, for any bytes
 pub record OpensName (allocator : ℕ) (old new : List ℕ) (table : Table) (index at : ℕ)
     : Type 0 where
   pub left : List Span
@@ -123,7 +124,7 @@ pub record OpensName (allocator : ℕ) (old new : List ℕ) (table : Table) (ind
   pub becomes : (written : List ℕ) → ChangesOnly new written at 8 →
       AddsName old written table left index at
 
--- the entry at an index is gone, and those after it stand one before
+-- the entry at an index was removed, and those after it moved down by one
 pub record ClosesName (old new : List ℕ) (table : Table) (index : ℕ) : Type 0 where
   pub changes : ChangesIndex old new table (live old)
   pub counted : count_at old index_cell ≡ count_at new index_cell + 1
@@ -132,7 +133,7 @@ pub record ClosesName (old new : List ℕ) (table : Table) (index : ℕ) : Type 
   pub after : (i : ℕ) → index ≤ i → i < count_at new index_cell →
       IsSameEntry old new (name_entry old (i + 1)) (name_entry new i)
 
--- the index names no buffer any more, and has no entries
+-- the index has no buffer and no entries
 pub record EmptiesIndex (old new : List ℕ) (table : Table) : Type 0 where
   pub changes : ChangesIndex old new table (after_gives (live old) (named old index_cell))
   pub names_none : target new index_cell ≡ None

@@ -1,7 +1,7 @@
--- What calls on owns leave.
---     TakesOwn old new table own U v blocks result     an own gave up its object, and holds nothing now
+-- Calls on owns.
+--     TakesOwn old new table own U v blocks result     an own gave up its object, and is now empty
 --     SetsOwn old new table own w blocks taken theirs now final
---                                      an own holds an object with this value; what it held went
+--                                      an own got an object with this value; its old object was destroyed
 use Rattle.std.specs.Prelude.{◌≡◌, ℕ, ◌≤◌, List, [], ◌∷◌, ◌++◌, Option, Some}
 use Rattle.seg_spec.specs.Types.{Table}
 use Rattle.seg_spec.specs.Value.{Value, Empty, Full}
@@ -15,7 +15,8 @@ use Rattle.seg_spec.specs.Frozen.{Frozen}
 use Rattle.seg_spec.specs.Sound.{times}
 use Rattle.seg_cells.specs.Places.{object_at}
 
--- the own holds nothing now; the object that it held is loose, with its value, and the live blocks are those before
+-- The own is now empty. The object that it had is loose, with its value, and the allocated blocks
+-- are the same.
 pub record TakesOwn (old new : List ℕ) (table : Table) (own : reads.Place) (U : ℕ) (v : Value)
     (blocks : List ℕ) (result : Option ℕ) : Type 0 where
   pub object : ℕ
@@ -25,8 +26,8 @@ pub record TakesOwn (old new : List ℕ) (table : Table) (own : reads.Place) (U 
   pub loose : IsLoose new table (object_at object U) v inside
   pub changes : ChangesPlace old new table own Empty [] (live old) blocks blocks
 
--- the own, which owned `blocks`, holds an object with the value w now, whose blocks `taken` are kept;
--- what it held before went, with the frozen objects that it named last
+-- The own had `blocks`, and now has an object with the value w, whose blocks `taken` are kept. Its
+-- old object was destroyed, with the frozen objects that lost their last cell.
 pub record SetsOwn (old new : List ℕ) (table : Table) (own : reads.Place) (w : Value)
     (blocks taken : List ℕ) (theirs : ℕ → List ℕ) (now final : List Frozen) : Type 0 where
   pub clears : ClearsPlace old new table own (Full w) (blocks ++ taken) taken theirs now final

@@ -1,4 +1,4 @@
--- What clauses see of a heap of values: the bytes in their region, and the table of the types.
+-- A heap of values in contracts: the bytes in their region, and the type table.
 use Rattle.seg_spec.specs.Window.{Placement}
 use Rattle.seg_spec.specs.Types.{Table}
 

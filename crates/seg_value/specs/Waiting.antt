@@ -1,11 +1,12 @@
--- Blocks that wait to be destroyed, as the program's steps find and leave them.
+-- Blocks that wait to be destroyed, before and after the program's steps. `Destroying` in seg_spec
+-- explains them.
 --     AddsIn old new table first next beside xs ns
---                                         blocks joined those that wait: xs go with them, and the names ns
---                                         are released or wait with them
---     AddsWaiting old new first next beside xs ns     the same of what is stored
+--                                         blocks were added to the waiting ones: xs are freed with them, and the cells that
+--                                         point to ns were released, or are with them
+--     AddsWaiting old new first next beside xs ns     the same, for a heap
 --     OpensPending old new first next p xs ns
---                                         of xs and ns, which go with a block, all others wait now
---     links_of shape p                    the words of a node that name further ones
+--                                         the block p with xs and ns was opened: the others of them wait now
+--     links_of shape p                    the pointer words of a node to further ones
 use Rattle.std.specs.Prelude.{ℕ, ◌+◌, List, [], ◌∷◌, ◌++◌, Option}
 use Rattle.seg_spec.specs.Types.{Table, IsTable}
 use Rattle.seg_spec.specs.Block.{block_of}
@@ -17,8 +18,8 @@ use Rattle.seg_value.specs.Stored.{Stored}
 use Rattle.seg_cells.specs.declared.content.Shape.{Shape}
 use Rattle.seg_cells.specs.declared.content.Shape.TheVariants as shape
 
--- where all these blocks are live, each once: xs go with what waits now, beside what went with it
--- before, and the names ns are no longer to be released beside it
+-- If all these blocks are allocated and differ: xs are freed with the waiting blocks, besides those
+-- before, and the cells that point to ns need no longer be released apart from them.
 abbrev pub AddsIn :
     List ℕ → List ℕ → Table → Option ℕ → Option ℕ → List ℕ → List ℕ → List ℕ → Type 0
 AddsIn old new table first next beside xs ns =
@@ -33,7 +34,8 @@ abbrev pub AddsWaiting :
 AddsWaiting old new first next beside xs ns =
     AddsIn old.window.bytes new.window.bytes old.types first next beside xs ns
 
--- a block was opened that no longer waits: the others that go with it go with what waits now
+-- A block that no longer waits was opened: the others that are freed with it are now freed with the
+-- waiting ones.
 pub record IsOpened (allocator : ℕ) (old new : List ℕ) (table : Table) (next : Option ℕ) (p : ℕ)
     (xs ys names : List ℕ) (kept : List Place) (theirs : ℕ → List ℕ) (final : List Frozen) :
     Type 0 where
@@ -52,7 +54,7 @@ OpensPending old new first next p xs ns =
     IsOpened allocator old.window.bytes new.window.bytes old.types next p xs ys names kept theirs
     final
 
--- the words of a block that name further nodes
+-- the pointer words of a block to further nodes
 abbrev pub links_of : Shape → ℕ → List ℕ
 links_of shape.Ring p = p ∷ []
 links_of shape.Tree p = p ∷ (p + 4) ∷ []
