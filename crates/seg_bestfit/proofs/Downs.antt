@@ -1,4 +1,4 @@
--- Tiles that the tree doesn't hold become one gap with the free tile after them. Where that is the last in the order, the whole takes its place in the tree.
+-- Tiles that the tree doesn't contain become one gap with the free tile after them. If that is the last in the order, the whole takes its place in the tree.
 use Rattle.std.proofs.Common.{◌≡◌, ◌≢◌, ℕ, ◌+◌, ◌*◌, ◌≤◌, ◌⊎◌, inl, inr, false, List, [], ◌∷◌, ◌++◌, length, refl, sym, subst, arith}
 use Rattle.std.proofs.lemmas.List.{append_assoc}
 use Rattle.seg_bytes.specs.Bytes.{IsSame}

@@ -200,7 +200,7 @@ module _ (old : List ℕ) (xs ys : List Tile) (at n u r : ℕ) (was : IsTiling 1
 
 -- ---- the rest of the smallest gap
 
--- a rest that holds the request too keeps the gap's place
+-- a rest that is large enough for the request keeps the gap's place
 pub rest_in_place : (old : List ℕ) (xs ys : List Tile) (at n need : ℕ) → IsTiling 1 old (xs ++ tile at n false ∷ ys) → need + need ≤ n → 1 ≤ need
     → best_fit (free_of xs ++ record { at = at; units = n } ∷ free_of ys) need ≡ Some (record { at = at; units = n })
     → KeepsPlace (by_size (free_of xs ++ free_of ys)) (record { at = at; units = n }) (record { at = at + 16 * need; units = n - need })

@@ -1,4 +1,4 @@
--- Tiles become one free tile, which comes to the tree. The tree held none of them.
+-- Tiles become one free tile, which comes to the tree. The tree contained none of them.
 use Rattle.std.proofs.Common.{◌≡◌, ℕ, ◌+◌, ◌*◌, ◌≤◌, false, List, [], ◌∷◌, ◌++◌, length, Some, None, refl, sym, ap, ◌∙◌, subst, arith, inl, inr, ◌⊎◌, ⊎_elim}
 use Rattle.seg_bytes.specs.Bytes.{word, set_word, Agrees}
 use Rattle.seg_spec.specs.Pointer.{distance, set_pointer}

@@ -197,7 +197,8 @@ renamed_gap g r (h ∷ hs) ne k =
 
 -- ---- what keeps a gap's place
 
--- Where the rest of the smallest gap holds the request too, each smaller gap is too small for it, and so below the rest.
+-- If the rest of the smallest gap is large enough for the request, each smaller gap is too small
+-- for it, and so below the rest.
 pub rest_keeps : (g r : Span) (need : ℕ) → need ≤ r.units → r.units < g.units → (hs : List Span) → AllByRecursion (λ (h : Span). h.at ≢ g.at) hs → AreBySize (insert_by_size g hs) → first_fit (insert_by_size g hs) need ≡ Some g
     → KeepsPlace hs g r
 rest_keeps g r need fits less [] ne s f = tt

@@ -1,4 +1,4 @@
--- A free tile leaves the tree and becomes live.
+-- A free tile leaves the tree and is allocated.
 use Rattle.std.proofs.Common.{◌≡◌, ℕ, ◌+◌, ◌*◌, true, false, List, [], ◌∷◌, ◌++◌, length, None, refl, sym, ◌∙◌, subst, arith, inl, inr}
 use Rattle.seg_bytes.specs.Bytes.{set_word}
 use Rattle.seg_spec.specs.Heap.{Tile, link_at, free_of, IsFreeTree}
@@ -19,7 +19,7 @@ use Rattle.seg_bestfit.proofs.TreeFrame.{tiled_kept, link_kept, gaps_beside, ret
 pub gaps_around : (xs ys : List Tile) (at u : ℕ) → free_of (xs ++ tile at u false ∷ ys) ≡ free_of xs ++ record { at = at; units = u } ∷ free_of ys
 gaps_around xs ys at u = free_of-append xs (tile at u false ∷ ys)
 
--- the free blocks, beside tiles that the tree doesn't hold
+-- the free blocks, beside tiles that the tree doesn't contain
 pub blocks_beside : (bytes : List ℕ) (xs ms ys : List Tile) → IsTiled bytes (xs ++ (ms ++ ys)) → AreFreeBlocks bytes 704 (free_of xs ++ free_of ys)
 blocks_beside bytes xs ms ys was =
     free_drops bytes 704 (free_of xs) (free_of ms) (free_of ys) (subst (λ gs. AreFreeBlocks bytes 704 gs) (gaps_beside xs ms ys) (free_blocks bytes (xs ++ (ms ++ ys)) was))
@@ -65,6 +65,6 @@ module _ (old : List ℕ) (xs ys : List Tile) (at u : ℕ) (was : IsTiling 1 old
         ∙ link_kept old mid xs ys (tile at u false) at (length old) p.0 (refl, p.1, p.2) left_kept
         ∙ each_pick (λ g. link_at old g.at ≡ None) (free_of xs) (record { at = at; units = u }) (free_of ys) tree_around.links
 
-    -- so it is live in the bytes that follow
+    -- so it is allocated in the bytes that follow
     pub made_live : (new : List ℕ) → new ≡ taken → Retiles 1 old new xs (tile at u true ∷ []) ys × (link_at new at ≡ None)
     made_live new e = subst (λ b. Retiles 1 old b xs (tile at u true ∷ []) ys × (link_at b at ≡ None)) (sym e) (taken-retiles, taken-link)

@@ -42,7 +42,7 @@ head_beside xs ys from mid to p n front back low high =
     subst (λ gs. Beside p n gs) (sym (free_of-append xs ys))
     (each_append (λ g. Separate p n (g.at + 16) 16) (free_of xs) (free_of ys) (beside_high xs from mid p n front low) (beside_low ys mid to p n back high))
 
--- a live tile, from its tag on
+-- an allocated tile, from its tag on
 live_beside : (ts : List Tile) (from to : ℕ) (b : Span) → Fill from ts to → Contains (live_of ts) b → (2 ≤ b.units) × AllByRecursion (λ (g : Span). (end_of b ≤ g.at + 16) ⊎ (g.at + 16 + 16 ≤ b.at + 8)) (free_of ts)
 live_beside [] from to b f (n, k, e) = absurd (omega arith)
 live_beside (t ∷ ts) from to b f c =

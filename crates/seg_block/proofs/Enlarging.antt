@@ -1,4 +1,4 @@
--- The last tile gets more units, whatever the allocator is.
+-- The last tile gets more units, for any allocator.
 use Rattle.std.proofs.Common.{◌≡◌, ℕ, ◌+◌, ◌*◌, ◌^◌, ◌≤◌, Bool, true, List, [], ◌∷◌, ◌++◌, length, refl, sym, ap, ◌∙◌, subst, arith, inl, inr, ◌⊎◌, ⊎_elim}
 use Rattle.std.specs.Prelude.{Contains}
 use Rattle.std.proofs.lemmas.List.{append-nil}
@@ -15,7 +15,7 @@ use Rattle.seg_block.proofs.LiveTiles.{live_within}
 use Rattle.seg_block.proofs.SizeLaws.{set_size-headers, Agrees-set_size, length-set_size}
 use Rattle.seg_block.proofs.Tiled.{around}
 
--- whether the last tile is live
+-- whether the last tile is allocated
 pub flag_is : (old : List ℕ) (xs : List Tile) (at u : ℕ) (l : Bool) → AreHeaders old 0 (xs ++ tile at u l ∷ []) → is_live_at old at ≡ l
 flag_is old xs at u l heads = (AreHeaders-back old xs (tile at u l ∷ []) 0 heads).0.live_is
 
@@ -63,7 +63,7 @@ module _ (old : List ℕ) (xs : List Tile) (at u n end : ℕ) (l : Bool) (small 
       let same = λ (q m : ℕ) (high : q + m ≤ at). IsSame-agrees old larger q (q + m) q m (larger-kept q (q + m) (inl high) (omega (arith, p.2))) (omega arith) (omega arith) (omega arith) in
       HoldsGaps-kept old larger allocator (free_of xs) (same 24 4 (omega arith)) (free_kept old larger xs heap_start at (λ q m a b. same q m b) p.0) holds
 
-  -- a live tile
+  -- an allocated tile
   pub enlarges_live : (allocator : ℕ) → l ≡ true → HoldsGaps allocator old (free_of (xs ++ tile at u l ∷ [])) → Enlarges allocator old larger xs at u n l
   enlarges_live allocator is holds =
       let gaps : (v : ℕ) → free_of (xs ++ tile at v l ∷ []) ≡ free_of xs = λ v. free_of-append xs (tile at v l ∷ []) ∙ ap (λ b. free_of xs ++ free_of (tile at v b ∷ [])) is ∙ append-nil (free_of xs) in

@@ -1,4 +1,4 @@
--- A heap as its tiles, its live blocks and its gaps, whatever the allocator is.
+-- A heap as its tiles, its allocated blocks and its gaps, for any allocator.
 use Rattle.std.proofs.Common.{◌≡◌, ℕ, ◌+◌, ◌*◌, ◌<◌, ◌≤◌, Bool, true, false, List, [], ◌∷◌, ◌++◌, length, min, cond, ltb, refl, sym, ap, ◌∙◌, subst, arith, ⊎_elim}
 use Rattle.std.specs.Prelude.{Contains}
 use Rattle.std.proofs.lemmas.Bool.Decides.{nat_tests}
@@ -52,7 +52,7 @@ heap_of_tiling {n} bytes ts t apart =
       gaps_is = free_is;
     }
 
--- ---- the live blocks
+-- ---- the allocated blocks
 
 less : (a b : ℕ) → a < b → ltb a b ≡ true
 less a b h = grind (arith, nat_tests)
@@ -98,7 +98,7 @@ Spares-trans a b c ts x y = record {
   tiles_kept = λ s h. Agrees-trans a b c (s.at + 8) (end_of s) (x.tiles_kept s h) (y.tiles_kept s h);
 }
 
--- only the live tiles count
+-- only the allocated tiles count
 pub Spares-same : (a b : List ℕ) (ts us : List Tile) → live_of us ≡ live_of ts → Spares a b ts → Spares a b us
 Spares-same a b ts us e s = record {
   front_kept = s.front_kept;

@@ -1,4 +1,4 @@
--- Live tiles are joined and cut. The free structure stays as it is.
+-- Allocated tiles are joined and cut. The free structure stays as it is.
 use Rattle.std.proofs.Common.{◌≡◌, ℕ, ◌+◌, ◌*◌, ◌≤◌, true, List, [], ◌∷◌, ◌++◌, refl, arith}
 use Rattle.seg_spec.specs.Heap.{Tile}
 use Rattle.seg_block.specs.Sizes.{set_size, set_split}

@@ -1,4 +1,4 @@
--- A live block of another size, and what is left of the gap after it.
+-- An allocated block of another size, and what is left of the gap after it.
 use Rattle.std.proofs.Common.{◌≡◌, ◌≢◌, ℕ, ◌+◌, ◌-◌, ◌*◌, ◌<◌, ◌≤◌, true, false, Bool, List, [], ◌∷◌, ◌++◌, length, min, cond, eqb, Some, None, refl, sym, ap, ◌∙◌, subst, arith, inl, inr, ◌⊎◌, ⊎_elim, le-leb}
 use Rattle.std.specs.Prelude.{Contains}
 use Rattle.std.proofs.lemmas.Bool.Decides.{nat_tests}
@@ -126,7 +126,7 @@ module _ {allocator : ℕ} (old : List ℕ) (at u : ℕ) (h : IsHeap allocator o
 
   -- ---- the gap after
 
-  -- no free tile stands right after
+  -- no free tile is right after
   pub gap_none : AreApart false following → room_at (gaps old) (at + 16 * u) ≡ 0
   gap_none apart = room_is ∙ room_at-apart following (at + 16 * u) (length old) parts.2 apart
 
@@ -152,7 +152,7 @@ module _ {allocator : ℕ} (old : List ℕ) (at u : ℕ) (h : IsHeap allocator o
         fill = fill.2;
       }
 
-  -- either holds
+  -- one of the two is true
   pub room_cases : (AreApart false following × (room_at (gaps old) (at + 16 * u) ≡ 0)) ⊎ ((v : ℕ) × HasGap v)
   room_cases = go following refl
     where

@@ -1,4 +1,5 @@
--- A live tile takes in the gap after it, or gives its end back. `Place` is what an allocator has to know of the tiles in front.
+-- An allocated tile takes in the gap after it, or gives its end back. `Place` is what an allocator
+-- has to know of the tiles in front.
 use Rattle.std.proofs.Common.{◌≡◌, ℕ, ◌+◌, ◌*◌, ◌≤◌, true, false, List, [], ◌∷◌, ◌++◌, length, refl, sym, ap, ◌∙◌, subst, arith}
 use Rattle.std.specs.Prelude.{Contains}
 use Rattle.std.proofs.lemmas.List.{append_assoc}

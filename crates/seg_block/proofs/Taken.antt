@@ -1,4 +1,4 @@
--- A gap becomes a live block, whose rest is a gap again.
+-- A gap becomes an allocated block, whose rest is a gap again.
 use Rattle.std.proofs.Common.{◌≡◌, ℕ, ◌+◌, ◌-◌, ◌*◌, ◌<◌, ◌≤◌, true, false, List, [], ◌∷◌, ◌++◌, length, min, Option, Some, None, refl, sym, ap, ◌∙◌, subst, arith, ⊎_elim}
 use Rattle.std.specs.Prelude.{Contains}
 use Rattle.std.proofs.lemmas.Bool.{cases_lt}
@@ -39,7 +39,7 @@ module _ {allocator : ℕ} (old new : List ℕ) (u at units : ℕ) (xs ys : List
     blocks_kept = λ b c held _ _. Agrees-within old new (b.at + 8) (end_of b) (b.at + 8) (b.at + 16 * min b.units c.units) (s.tiles_kept b (subst (λ l. Contains l b) old_live held)) (omega arith) (omega arith);
   }
 
-  -- the block stands at the gap's front, before these tiles
+  -- the block is at the gap's front, before these tiles
   finish : (n : ℕ) (zs : List Tile) → granted units u ≡ n → live_of zs ≡ live_of ys → AreApart true zs → Fill (at + 16 * n) zs (length new) → 2 ≤ n
       → IsTiling allocator new (xs ++ tile at n true ∷ zs) → Spares old new (xs ++ ys) → link_at new at ≡ None → Takes allocator old new u (Some at)
   finish n zs n_is same apart fits large tiling spared link_none =
@@ -80,7 +80,7 @@ module _ {allocator : ℕ} (old new : List ℕ) (u at units : ℕ) (xs ys : List
       no : true ≡ false → ⊥
       no e = cc
 
-  -- it was taken whole, and its rest given back
+  -- it was taken whole, and its rest freed
   takes_part : (mid : List ℕ) → 2 ≤ u → u + 2 ≤ units → Retiles allocator old mid xs (tile at units true ∷ []) ys → link_at mid at ≡ None
       → Retiles allocator mid new xs (tile at u true ∷ rest_tile ∷ []) ys × Agrees mid new (at + 8) (at + 16 * u) → Takes allocator old new u (Some at)
   takes_part mid large room r link_none s =

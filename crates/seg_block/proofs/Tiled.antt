@@ -1,4 +1,4 @@
--- A few tiles in the middle of the heap are replaced by others, whatever the free structure is.
+-- A few tiles in the middle of the heap are replaced by others, for any free structure.
 use Rattle.std.proofs.Common.{◌≡◌, ℕ, ◌+◌, ◌*◌, ◌%◌, ◌^◌, ◌≤◌, Bool, List, [], ◌∷◌, ◌++◌, length, sym, ap, ◌∙◌, subst, arith, inl, inr, ◌⊎◌, ⊎_elim}
 use Rattle.std.specs.Prelude.{Contains, ⊤}
 use Rattle.std.proofs.lemmas.List.Elements.{Contains-append_cases}
@@ -59,7 +59,7 @@ module _ (old new : List ℕ) (misses : ℕ → ℕ → Type 0) (part_misses : (
               (AreHeaders-append new ns ys (units_after 0 xs) ns_is (headers_next ys (length old) (units_after (units_after 0 xs) ms) (units_after (units_after 0 xs) ns) following back next_is rest));
         }
 
-    -- the tag, link and payload of each live tile beside the middle
+    -- the tag, link and payload of each allocated tile beside the middle
     pub spared_tiles : ((b : Span) → Contains (live_of (xs ++ ys)) b → misses (b.at + 8) (end_of b)) → (b : Span) → Contains (live_of (xs ++ ys)) b → Agrees old new (b.at + 8) (end_of b)
     spared_tiles clear b c =
         ⊎_elim

@@ -60,7 +60,7 @@ moved_items old new table valid T from to n s from_in allocator home vs blocks h
     let h' = subst (λ ps. HoldsEach old table (places_of T ps) vs blocks) (sym here) h in
     subst (λ ps. HoldsEach new table (places_of T ps) vs blocks) there (moved_values old new table valid 0 T (size table T) from to n s from_in allocator home vs blocks heap stands (omega arith) even e8 refl h')
 
--- where the bytes stand that lie in a live block
+-- where the bytes are that lie in an allocated block
 pub stands_within : (bytes : List ℕ) (allocator home at n : ℕ) (blocks : List ℕ) → IsHeap allocator bytes → StandsBeside bytes home at n blocks → IsWithin bytes at n
 stands_within bytes allocator home at n blocks heap s =
     let l = there (LiesIn bytes heap_start (length bytes)) home (positions (live bytes)) (live-lie bytes allocator heap) s.home_live in

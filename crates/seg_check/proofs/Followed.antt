@@ -39,7 +39,8 @@ module _ (bytes : List ℕ) (root wanted : ℕ) where
     pub all_are : all ≡ entered ++ entering
     pub completes : Completes bytes height stage rest entering
 
-  -- these nodes were passed and those were entered, and a tree hangs at the pointer just where one goes on from the stage
+  -- these nodes were passed and those were entered, and a tree hangs at the pointer exactly if one
+  -- continues from the stage
   pub record Followed (stage : Stage) (turns : ℕ) (passed entered : List ℕ) : Type 0 where
     pub steady : IsSteady bytes stage turns
     pub spent : turns + (length passed + length entered) ≡ length bytes / 16
@@ -107,7 +108,7 @@ module _ (bytes : List ℕ) (root wanted : ℕ) where
         let none = step.1 height r.rest r.entering r.completes in
         r.nodes_are ∙ ap (λ xs. passed ++ xs) none.0 ∙ append-nil passed
 
-    -- where the walk can't go on there is none
+    -- where the walk can't continue there is none
     pub follow_refused : ((height : ℕ) (rest entering : List ℕ) → Completes bytes height old rest entering → height < 30 → length rest + length entering < turns → ⊥)
         → (height : ℕ) (nodes all : List ℕ) → Hangs bytes root wanted height nodes all → 16 + 32 * length nodes ≤ length bytes → ⊥
     follow_refused never height nodes all w few =

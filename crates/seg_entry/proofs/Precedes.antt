@@ -1,4 +1,4 @@
--- A name comes before another exactly where it compares as less, and is the same exactly where it compares as equal.
+-- A name comes before another exactly if it compares as less, and is the same exactly if it compares as equal.
 use Rattle.std.proofs.Common.{◌≡◌, ◌≢◌, ℕ, ◌<◌, ◌⊎◌, inl, inr, Bool, true, false, List, [], ◌∷◌, refl, sym, ap, ◌∙◌, arith}
 use Rattle.std.specs.Prelude.{◌==◌, ◌&&◌}
 use Rattle.std.specs.Ordering.{nat_cmp, ordering_then, ordering_reverse}

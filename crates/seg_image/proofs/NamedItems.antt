@@ -30,7 +30,7 @@ module _ (allocator : ℕ) (s : Stored) (picture : Picture) (is : IsSegment allo
       let before = mul-le-mul_right (size s.types root.type) no_more in
       omega (arith, n.block.room, n.block.after_header, lies.high, lies.size, header.not_large)
 
-  -- where the value at an index stands
+  -- the position of the value at an index
   pub item_fits : (name : List ℕ) (T : ℕ) (found : Found) → Ok found ≡ found_as T (root_named picture.names name) → (i : ℕ) → i < found.count → found.at + i * size s.types T ≤ 2 ^ 30
   item_fits name T found e i below = go (root_named picture.names name) refl e
     where

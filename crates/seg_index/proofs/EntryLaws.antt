@@ -48,7 +48,7 @@ fourth_byte n = omega arith
 pub entry_reads : (bytes : List ℕ) (entry : ℕ) (root : Root) → IsEntry bytes entry root → entry_read bytes entry ≡ entry_of root
 entry_reads bytes entry root o = λ i. record { object = o.points i; count = o.counted i; name_len = o.measured i; zero = o.zero_is i }
 
--- an entry that stands elsewhere now is that of the same root
+-- an entry that was moved is that of the same root
 pub entry_moved : (old new : List ℕ) (from to : ℕ) (root : Root) → IsSameEntry old new from to → IsEntry old from root → IsEntry new to root
 entry_moved old new from to root s o =
     let part = λ (i w : ℕ) (inside : i + w ≤ 4). number-slice w old new (to + 4 + i) (from + 4 + i)

@@ -205,7 +205,7 @@ module _ (allocator : ℕ) (old : List ℕ) (table : Table) (names : List Root) 
 
     -- ---- the last one goes, and the buffer with it
 
-    -- the cell still names the buffer
+    -- the cell still points to the buffer
     same_buffer : named mid index_cell ≡ named old index_cell
     same_buffer = one_block (target mid index_cell) (target old index_cell) (λ h.
         let are = c.live_are h in

@@ -27,7 +27,7 @@ use Rattle.seg_entry.specs.declared.entry.NameEntry.{NameEntry}
 use Rattle.seg_index.proofs.EntryLaws.{entry_reads, name_reads, type_small}
 use Rattle.seg_index.proofs.RootOrder.{InOrder, get_there, get_below, halves_end, Searched, next_found}
 
--- ---- entries that stand one after the other
+-- ---- entries that are one after the other
 
 -- each root has the entry at its index
 abbrev pub Indexed : List ℕ → ℕ → List Root → Type 0
@@ -92,11 +92,11 @@ module _ (allocator : ℕ) (bytes : List ℕ) (table : Table) (names : List Root
   pub flat_named : (i : ℕ) (r : Root) → slice_get names i ≡ Some r → IsNamed bytes table r
   flat_named i r e = (each_at _ names i r f.named e).0
 
-  -- the buffer is live
+  -- the buffer is allocated
   pub flat_live : (h : ℕ) → times h (named bytes index_cell) ≤ times h (positions (live bytes))
   flat_live h = subst (λ bs. times h bs ≤ times h (positions (live bytes))) flat_blocks (f.owned h)
 
-  -- an object stands at a multiple of 8 in the segment
+  -- an object is at a multiple of 8 in the segment
   pub object_lies : (r : Root) → IsNamed bytes table r → (r.at % 8 ≡ 0) × (r.at < 2 ^ 32)
   object_lies r o =
       let l = there (LiesIn bytes heap_start (length bytes)) (block_of r.at) (positions (live bytes)) (live-lie bytes allocator f.heap) o.is_live in

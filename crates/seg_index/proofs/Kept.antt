@@ -1,6 +1,6 @@
 -- The index where something else changed: it lists the same names, and a spot where a search ended is good still.
 --     finds_kept      calls find the same names
---     leads_kept      a path leads where it led
+--     leads_kept      a path still reaches the same place
 --     vacant_kept     the spot of a new name is what it was
 use Rattle.std.proofs.Common.{◌≡◌, ℕ, ◌+◌, ◌*◌, ◌≤◌, List, [], ◌∷◌, length, sym, ap, ◌∙◌, subst, arith}
 use Rattle.std.specs.List.{AllByRecursion}
@@ -87,7 +87,7 @@ module _ (allocator : ℕ) (old new : List ℕ) (table : Table) (names : List Ro
       turns_same (x ∷ xs) [] h k = absurd h
       turns_same (x ∷ xs) (r ∷ rs) h k = (ap (λ n. ordering_reverse (slice_cmp nat_cmp n name)) (h.0.name_is ∙ sym k.0.name_is), turns_same xs rs h.1 k.1)
 
-      -- a path leads where it led
+      -- a path still reaches the same place
       pub leads_kept : (path : Path) → LeadsToName old table name path → LeadsToName new table name path
       leads_kept path way = record { root_is = way.root_is; leads = λ tree t. go tree t }
         where

@@ -24,7 +24,7 @@ use Rattle.seg_rbtree.specs.Changes.{NodesApart, StandApart, Leaves}
 abbrev pub words_of : ℕ → Range
 words_of q = record { at = q; n = 16; block = block_of q }
 
--- a node whose tree words may be written: they lie in a live block
+-- a node whose tree words may be written: they lie in an allocated block
 pub record IsTouched (bytes : List ℕ) (q : ℕ) : Type 0 where
   pub after_header : 16 ≤ q
   pub is_live : 1 ≤ times (block_of q) (positions (live bytes))

@@ -1,4 +1,4 @@
--- Roots in ascending order of their names, and where a name stands among them.
+-- Roots in ascending order of their names, and where a name is among them.
 use Rattle.std.proofs.Common.{◌≡◌, ℕ, zero, suc, ◌+◌, ◌-◌, ◌<◌, ◌≤◌, ◌⊎◌, inl, inr, Bool, true, false, List, [], ◌∷◌, ◌++◌, length, map, Option, Some, None, Result, Ok, Err, MatchResult, MatchOption, IfOk, IfErr, option_map, refl, sym, ap, ◌∙◌, subst, arith, zero-add, length-append, lt-ltb, le-ltb, ltb-true}
 use Rattle.std.specs.Prelude.{◌==◌, ◌&&◌, ◌||◌, nat_lt, slice_get}
 use Rattle.std.specs.List.{AllByRecursion}
@@ -68,12 +68,12 @@ order_without (x ∷ xs) r ys a =
     let h = order_head x (xs ++ r ∷ ys) a in
     order_cons x (xs ++ ys) (after_append x.name xs ys (after_left x.name xs (r ∷ ys) h) (after_right x.name xs (r ∷ ys) h).1) (order_without xs r ys (order_tail x (xs ++ r ∷ ys) a))
 
--- ---- where a name stands
+-- ---- the position of a name
 
 one_more : (x : Root) (names : List Root) (name : List ℕ) (i : ℕ) (these : List Root) → Precedes x.name name → PartedNames names name i these → PartedNames (x ∷ names) name (suc i) these
 one_more x names name i these h p = record { before = x ∷ p.before; after = p.after; names_are = ap (λ rs. x ∷ rs) p.names_are; index_is = ap suc p.index_is; low = (h, p.low); its = p.its; high = p.high }
 
--- what stands at an index comes after what stands at the front
+-- what is at an index comes after what is at the front
 front_before : (name : List ℕ) (roots : List Root) (i : ℕ) (r : Root) → AllAfter name roots → slice_get roots i ≡ Some r → Precedes name r.name
 front_before name [] i r all e = cc
 front_before name (s ∷ roots) zero r all e = let same : s ≡ r = cc in subst (λ (t : Root). Precedes name t.name) same all.0
@@ -88,7 +88,7 @@ stands_there (x ∷ names) name zero r a e same =
 stands_there (x ∷ names) name (suc i) r a e same =
     one_more x names name i (r ∷ []) (subst (λ n. Precedes x.name n) same (front_before x.name names i r (order_head x names a) e)) (stands_there names name i r (order_tail x names a) e same)
 
--- a name that would stand before one after it, and after one before it
+-- a name that would be before one after it, and after one before it
 pub stands_front : (names : List Root) (name : List ℕ) → InOrder names → ((r : Root) → slice_get names 0 ≡ Some r → Precedes name r.name) → PartedNames names name 0 []
 stands_front [] name a f = record { before = []; after = []; names_are = refl; index_is = refl; low = tt; its = tt; high = tt }
 stands_front (x ∷ names) name a f =
@@ -241,7 +241,7 @@ module _ (names : List Root) (in_order : InOrder names) (name : List ℕ) (n : �
 
 -- ---- what calls return by what a search says
 
--- the index of the name's root, or the one where it would stand
+-- the index of the name's root, or the one where it would be
 abbrev pub Searched : List Root → List ℕ → Result ℕ ℕ → Type 0
 Searched names name r = MatchResult r (λ i. (root : Root) × PartedNames names name i (root ∷ [])) (λ i. PartedNames names name i [])
 

@@ -54,13 +54,13 @@ AddsFrom old new root path node = (order : ℕ → ℕ → Ordering) (shape : Tr
 times_cons : (h x : ℕ) (xs : List ℕ) → times h (x ∷ xs) ≡ times h (x ∷ []) + times h xs
 times_cons h x xs = times-append h (x ∷ []) xs
 
--- a new node stands in the segment
+-- a new node is in the segment
 pub node_fits : (allocator : ℕ) (old mid : List ℕ) (node : ℕ) → GivesNode allocator old mid node → node + 24 ≤ 2 ^ 30
 node_fits allocator old mid node g =
     let lies = there (LiesIn mid heap_start (length mid)) (block_of node) (positions (live mid)) (live-lie mid allocator g.heap) (let one = g.now_live in omega arith) in
     let back = g.is_block.after_header in let high = lies.high in let small = g.heap.small in let room = g.is_block.room in let two = lies.size in omega arith
 
--- ---- where a new node stands
+-- ---- the position of a new node
 
 pub record Places (bytes : List ℕ) (table : Table) (node : ℕ) (name : List ℕ) (xs : List ℕ) (rs : List Root) : Type 0 where
   pub front : List ℕ
@@ -204,7 +204,7 @@ module _ (allocator : ℕ) (old mid wrote : List ℕ) (table : Table) (names : L
   back_then : KeepsBack old wrote
   back_then = IsSame-trans old mid wrote 28 676 g.back_kept (low_then 28 676 (omega arith))
 
-  -- ---- all live blocks may be owned
+  -- ---- all allocated blocks may be owned
 
   own_ownable : IsOwnable mid table (block_of node)
   own_ownable = record { kind = Kind.index_node; type = 0; allowed = refl; tag_is = g.is_block.has_tag; link_is = g.link_is }

@@ -136,7 +136,7 @@ module _ (allocator : ℕ) (bytes : List ℕ) (table : Table) (names : List Root
   entries_are : AreEntries bytes (map (λ p. p + 16) nodes) names
   entries_are = subst (λ es. AreEntries bytes es names) (ap (λ (i : Index). i.entries) its.index_is) s.lists.entries
 
-  -- a node is the payload of a live block
+  -- a node is the payload of an allocated block
   pub record IsNode (p : ℕ) : Type 0 where
     pub block : IsBlock bytes p (tag_of Kind.index_node 0) 24
     pub is_live : 1 ≤ times (block_of p) (positions (live bytes))

@@ -1,4 +1,4 @@
--- A node leaves the tree of the index, and its block is given back: the index lists one name less.
+-- A node leaves the tree of the index, and its block is freed: the index lists one name less.
 use Rattle.std.proofs.Common.{◌≡◌, ◌≢◌, ℕ, ◌+◌, ◌-◌, ◌^◌, ◌<◌, ◌≤◌, inl, inr, List, [], ◌∷◌, ◌++◌, length, map, Option, Some, None, option_map, refl, sym, ap, ◌∙◌, subst, arith}
 use Rattle.std.specs.Prelude.{Contains}
 use Rattle.std.proofs.lemmas.List.{length-append}
@@ -101,7 +101,7 @@ module _ (allocator : ℕ) (old : List ℕ) (table : Table) (names : List Root) 
   names_are : names ≡ parts.before ++ root ∷ parts.after
   names_are = parts.names_are ∙ ap (λ r. parts.before ++ r ∷ parts.after) it_root
 
-  -- ---- the nodes stand apart
+  -- ---- the nodes are apart
 
   each_node : AllByRecursion (IsNode allocator old table names blocks s kind) ns
   each_node = are_nodes allocator old table names blocks s kind

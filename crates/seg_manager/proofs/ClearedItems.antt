@@ -1,4 +1,4 @@
--- The values of an object are cleared one after the other beside frozen objects, then its block is given back.
+-- The values of an object are cleared one after the other beside frozen objects, then its block is freed.
 use Rattle.std.proofs.Common.{◌≡◌, ◌≢◌, ℕ, suc, ◌+◌, ◌-◌, ◌*◌, ◌%◌, ◌^◌, ◌<◌, ◌≤◌, inl, inr, List, [], ◌∷◌, ◌++◌, length, refl, sym, ap, ◌∙◌, subst, arith}
 use Rattle.std.specs.List.{AllByRecursion}
 use Rattle.seg_bytes.specs.Bytes.{word, IsSame}
@@ -58,8 +58,8 @@ first (holds_more {v = v} {vs = vs} {blocks = its} {owned = more} h hs) = record
 none_left : {bytes : List ℕ} {table : Table} {vs : Values} {blocks : List ℕ} → HoldsEach bytes table [] vs blocks → (vs ≡ nil) × (blocks ≡ [])
 none_left holds_none = (refl, refl)
 
--- Of the n values of an object the first k were cleared: the blocks of these were given back, with those of the frozen objects that went with
--- them; those of the other values and objects are live.
+-- Of the n values of an object the first k were cleared: the blocks of these were freed, with those
+-- of the frozen objects that went with them; those of the other values and objects are allocated.
 pub record Cleared (allocator : ℕ) (old now : List ℕ) (table : Table) (at T n : ℕ) (inside : List ℕ) (theirs : ℕ → List ℕ) (frozen final : List Frozen) (k : ℕ) : Type 0 where
   pub length_kept : length now ≡ length old
   pub front_kept : KeepsFront old now
@@ -73,7 +73,7 @@ pub record Cleared (allocator : ℕ) (old now : List ℕ) (table : Table) (at T 
   pub gone : List ℕ
   pub rest : List ℕ
   pub values : HoldsEach now table (items table (at + k * size table T) T (n - k)) vs rest
-  -- the objects that are left
+  -- the objects that stay
   pub objects : List Frozen
   pub holds : HoldFrozen now table theirs objects
   pub shared_kept : KeepFrozen old now theirs objects
@@ -134,7 +134,7 @@ module _ (allocator : ℕ) (old now : List ℕ) (table : Table) (valid : IsTable
   abbrev left : ℕ
   left = n - suc k
 
-  -- the blocks of the objects that are left
+  -- the blocks of the objects that stay
   abbrev theirs_now : List ℕ
   theirs_now = blocks_by theirs c.objects
 
@@ -149,7 +149,7 @@ module _ (allocator : ℕ) (old now : List ℕ) (table : Table) (valid : IsTable
   pub f : First now table place (items table (at + k * each + each) T left) c.vs c.rest
   f = first (subst (λ m. HoldsEach now table (items table (at + k * each) T m) c.vs c.rest) (let e : n - k ≡ suc left = omega arith in e) c.values)
 
-  -- what the value names is released before what the others name
+  -- what the value points to is released before what the others name
   pub turn : InTurn c.cells final (named_in f.v) (named_each f.vs) c.objects
   turn = in_turn c.cells final (named_in f.v) (named_each f.vs) c.objects (subst (λ ns. IsReleasing c.cells final ns c.objects) (ap named_each f.values_are ∙ named_more f.v f.vs) c.releasing)
 
@@ -235,7 +235,7 @@ module _ (allocator : ℕ) (old now : List ℕ) (table : Table) (valid : IsTable
     others_held : HoldsEach next table (items table (at + k * each + each) T left) f.vs f.more
     others_held = HoldsEach-kept now next table valid f.others (places-same now next table valid T (spaced (at + k * each + each) each left) (spaced-same now next (at + k * each + each) each left others_same)) more_kept
 
-    -- what was given back, and what is left of the objects' blocks
+    -- what was freed, and what is left of the objects' blocks
     gives_are : (h : ℕ) → times h f.its + times h theirs_now ≡ times h clears.gives + times h (blocks_by theirs turn.mid)
     gives_are h = omega (arith, clears.all_are h, times-append h f.its theirs_now, times-append h clears.gives ([] ++ blocks_by theirs turn.mid))
 
@@ -323,7 +323,7 @@ module _ (allocator : ℕ) (old now new : List ℕ) (table : Table) (valid : IsT
     not_home : (h : ℕ) → times h (home' ∷ []) ≡ 0 → h ≢ home'
     not_home h none e = let mine : times home' (home' ∷ []) ≡ 0 = subst (λ x. times x (home' ∷ []) ≡ 0) e none in omega (arith, times-same home' [])
 
-    -- the objects that are left are kept
+    -- the objects that stay are kept
     theirs_kept : (h : ℕ) → 1 ≤ times h theirs_left → KeepsBlock now new h
     theirs_kept h some =
         let o = owned_now h in

@@ -277,7 +277,7 @@ module _ (allocator : ℕ) (old new : Stored) (picture : Picture) (is : IsSegmen
       live_is = live_given allocator a' b' picture.table blocks its.theirs cells picture.frozen heap is.held.laid_out.blocks destroyed;
     }
 
-    -- what was found was live, each block once
+    -- what was found was allocated, each block once
     pub lost_owned : (h : ℕ) → times h lost.blocks + times h (blocks_by lost.theirs picture.frozen) ≤ times h (positions (live a'))
     unfolding lost
     lost_owned h = omega (arith, its.counts h)

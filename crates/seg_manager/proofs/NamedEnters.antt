@@ -162,7 +162,7 @@ module _ (allocator : ℕ) (old mid : List ℕ) (picture : Picture) (held : IsHe
           spends = rw (new_is, old_is, table_is) granted;
         }
 
-  -- ---- the index has no room for it, and its block is given back
+  -- ---- the index has no room for it, and its block is freed
 
   pub is_live_mid : IsLive mid (block_of object)
   is_live_mid =

@@ -1,4 +1,4 @@
--- A named object goes: its entry leaves the index, then its blocks are given back.
+-- A named object goes: its entry leaves the index, then its blocks are freed.
 use Rattle.std.proofs.Common.{◌≡◌, ◌≢◌, ℕ, ◌+◌, ◌≤◌, ◌⊎◌, inl, inr, true, false, List, [], ◌∷◌, ◌++◌, map, Option, Some, None, Ok, Err, is_ok, eqb, refl, sym, ap, ◌∙◌, subst, append_assoc, arith}
 use Rattle.std.proofs.lemmas.Bool.Decides.{nat_tests}
 use Rattle.std.proofs.lemmas.Bool.{cases_eq}
@@ -72,7 +72,7 @@ not_killed T (Some root) e = go (cases_eq root.type T)
         let test : eqb root.type T ≡ false = grind (arith, nat_tests) in
         rw test refl
 
--- nothing stands before the values of an object that the index lists
+-- nothing is before the values of an object that the index lists
 nothing_before : (bytes entries : List ℕ) (before : List Root) (root : Root) (after : List Root) → AreEntries bytes entries (before ++ root ∷ after) → root.words ≡ []
 nothing_before bytes [] [] root after h = absurd h
 nothing_before bytes (entry ∷ entries) [] root after h = h.0.no_words
@@ -188,7 +188,7 @@ module _ (allocator : ℕ) (old mid : Stored) (picture : Picture) (is : IsSegmen
         holds_no_root (roots_held c table first.theirs rest g.holds) (λ h.
         omega (arith, first.counts h, mid_are h, then_are h, times-append h e.others (first.apart.around ++ blocks_by first.theirs rest), times-append h first.apart.around (blocks_by first.theirs rest)))
 
-    -- the objects that are left were kept before
+    -- the objects that stay were kept before
     left_mid : KeepFrozen a b first.theirs rest
     left_mid = frozen_kept allocator a b heap_old first.theirs rest (λ h some. let l = left_fewer first.theirs cells picture.frozen h in omega (arith, first.counts h))
         (λ h some. let l = left_fewer first.theirs cells picture.frozen h in kept_mid h (omega arith))

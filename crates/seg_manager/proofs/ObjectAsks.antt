@@ -2,7 +2,7 @@
 --     entry_asks_kept     an index that keeps its buffer's room has the same request for an entry
 --     spent_after, asks_after, no_room_first
 --                         requests after one for a new block
---     returned_one        a new block that is given back leaves the live blocks as they were
+--     returned_one        a new block that is freed leaves the allocated blocks as they were
 use Rattle.std.proofs.Common.{◌≡◌, ◌≢◌, ℕ, zero, suc, ◌+◌, ◌-◌, ◌*◌, ◌≤◌, ◌⊎◌, inl, inr, true, false, List, [], ◌∷◌, cond, eqb, leb, Option, Some, None, option_map, option_to_list, refl, sym, ap, ◌∙◌, arith}
 use Rattle.std.specs.Prelude.{nat_lt}
 use Rattle.std.proofs.lemmas.Bool.Decides.{nat_tests}
@@ -86,7 +86,7 @@ module _ (allocator : ℕ) (bs mid : List Span) (end u : ℕ) (asks : List Ask) 
           let is : taking g ≡ mid = cc in
           rw (p, ← is) refl
 
-  -- the new block is given back
+  -- the new block is freed
   module _ (block : ℕ) (was_free : times block (positions bs) ≡ 0) (now_live : times block (positions mid) ≡ 1) where
     pub returned_one : without block mid ≡ bs
     returned_one = go (pick allocator (gaps_of bs end) u) refl

@@ -15,7 +15,7 @@ use Rattle.seg_manager.specs.Segments.{IsSegment, AddsTypes}
 use Rattle.seg_spec.proofs.AddTypes.{types_added, heap_same}
 use Rattle.seg_spec.proofs.CountedKept.{counted_still}
 
--- the longer one goes on where the other ends
+-- the longer one continues where the other ends
 record GoesOn (old new : Table) : Type 0 where
   rest : Table
   is : longer old new ≡ old ++ rest

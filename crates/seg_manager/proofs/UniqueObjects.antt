@@ -43,14 +43,14 @@ names_unique allocator s picture T is less = is.held.laid_out.uniques.words T le
 pub few_types : (allocator : ℕ) (s : Stored) (picture : Picture) (T : ℕ) → IsSegment allocator s picture → T < length s.types → T < 32
 few_types allocator s picture T is less = let few = is.held.laid_out.is_table.few in let same : length s.types ≡ length picture.table = ap length is.table_is in omega arith
 
--- a live block stands in the heap
+-- an allocated block is in the heap
 above : (allocator : ℕ) (s : Stored) (picture : Picture) → IsSegment allocator s picture → (h : ℕ) → 1 ≤ times h (positions (live s.window.bytes)) → heap_start ≤ h
 above allocator s picture is h some = (there (LiesIn s.window.bytes heap_start (length s.window.bytes)) h (positions (live s.window.bytes))
     (live-lie s.window.bytes (word s.window.bytes allocator_word) is.held.laid_out.heap) some).low
 
 -- ---- one comes
 
--- the first loose object stands in the heap
+-- the first loose object is in the heap
 first_high : (bytes : List ℕ) (picture : Picture) (held : IsHeld bytes picture) (root : Root) (rest : List Root) → picture.loose ≡ root ∷ rest → (heap_start ≤ root.at) × (root.at < 2 ^ 32)
 first_high bytes picture held root rest split =
     let mine = its bytes bytes picture held [] (root ∷ []) rest split in

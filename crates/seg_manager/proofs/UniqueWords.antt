@@ -54,7 +54,7 @@ module _ (old new : List ℕ) (picture : Picture) (held : IsHeld old picture) (T
   pub word_kept : (h : ℕ) → 1 ≤ times h (positions (live old)) → KeepsBlock old new h
   word_kept h some = header_kept allocator old new (unique_word T) 4 heap changes fits after_root h some
 
-  -- whatever stands in the heap
+  -- whatever is in the heap
   pub above_kept : (h : ℕ) → heap_start ≤ h → KeepsBlock old new h
   above_kept h low =
       let first = word-same old new h (changes.others h 4 (inr (omega arith))) in

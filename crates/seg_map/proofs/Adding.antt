@@ -137,7 +137,7 @@ module _ (allocator : ℕ) (old mid : List ℕ) (table : Table) (place : Place) 
   turns_same : AllByRecursion (λ x. ordering_reverse (int_cmp (key_at old x) key) ≡ order node x) nodes
   turns_same = each_weaker _ _ (λ x k. ap (λ n. ordering_reverse (int_cmp n key)) (sym k) ∙ sym (int_cmp_total.antisymm key (key_at mid x)) ∙ ap (λ n. int_cmp n (key_at mid x)) (sym key_mid)) nodes keys_mid
 
-  -- ---- the nodes stand apart
+  -- ---- the nodes are apart
 
   touched_old : (x : ℕ) → IsNode allocator old table place U keys vs blocks f s x → IsTouched mid s.home x
   touched_old x n = record { after_header = n.after_header; is_live = mid_live (block_of x) n.is_live; other = owned_other allocator old table place (Map keys vs) blocks s (block_of x) n.owned }

@@ -23,7 +23,8 @@ use Rattle.seg_map.proofs.SeveralWrites.{Range, Beside, IsWritable, low_same, he
 
 -- ---- the node
 
--- a node with a key and the default of a value stands in a block of its own; all that was live is kept
+-- a node with a key and the default of a value is in a block of its own; all that was allocated is
+-- kept
 pub record Entered (allocator : ℕ) (old new : List ℕ) (table : Table) (T U node : ℕ) (key : ℤ) : Type 0 where
   pub length_kept : length new ≡ length old
   pub front_kept : IsSame old new 0 24

@@ -136,7 +136,7 @@ module _ (allocator : ℕ) (old opened stored new : List ℕ) (table here : Tabl
 
 -- ---- a key goes
 
--- what stands in the front of places
+-- what is in the front of places
 in_front : (xs ys : List Place) (j : ℕ) (p : Place) → j < length xs → slice_get (xs ++ ys) j ≡ Some p → slice_get xs j ≡ Some p
 in_front [] ys j p l e = absurd (omega arith)
 in_front (x ∷ xs) ys zero p l e = e
@@ -268,7 +268,7 @@ module _ (allocator : ℕ) (old : List ℕ) (table : Table) (place : Place) (U :
   pub inner_stands : Stands allocator old table inner c.value c.its
   inner_stands = part.inner_stands allocator old table place (Map keys vs) blocks s inner (Selector.key key ∷ []) led (block_of b.p) inside mine aligned
 
-  -- what calls find there that destroy the value, which stands at the key's place among the values
+  -- what calls find there that destroy the value, which is at the key's place among the values
   pub inner_beside : (v : Value) → nth vs i ≡ Some v → (theirs : ℕ → List ℕ) (kept : List Place) (now final : List Frozen) → SharedBeside old table (s.home ∷ blocks) (named_in v) theirs kept now final
       → SharedBeside old table (inner_stands.home ∷ c.its) (named_in c.value) theirs kept now final
   unfolding inner_stands
@@ -378,7 +378,7 @@ module _ (allocator : ℕ) (old : List ℕ) (table : Table) (cell T U : ℕ) (ke
       let missing : key_place keys key ≡ None = subst (λ k. key_place keys k ≡ None) back none in
       subst (λ o. RemovesKey old old table (object_at cell T) keys vs s.home blocks (KeepsLowerKeys old old table (object_at cell T) key) o false) (sym missing) (refl, refl)
 
-  -- the value is cleared, beside whichever frozen objects
+  -- the value is cleared, for any frozen objects
   abbrev pub ClearsValue : List ℕ → code.Place → Type 0
   ClearsValue mid value = (v : Value) (bs : List ℕ) (st : Stands allocator old table (place_of value) v bs) →
       BesideShared old table (st.home ∷ bs) (named_in v) (ClearsPlace old mid table (place_of value) (default_of table value.type_id) bs [])

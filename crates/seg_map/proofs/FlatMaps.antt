@@ -65,7 +65,7 @@ one_less i = omega arith
 same_map : (keys others : List ℤ) (vs ws : Values) → Map keys vs ≡ Map others ws → (keys ≡ others) × (vs ≡ ws)
 same_map keys others vs ws e = (cc, cc)
 
--- ---- a place that holds a map
+-- ---- a place that contains a map
 
 module _ (bytes : List ℕ) (table : Table) (place : Place) (U : ℕ) (keys : List ℤ) (vs : Values) (blocks : List ℕ) (f : form_at table place.type ≡ Some (Form.flat_map U)) (h : Holds bytes table place (Map keys vs) blocks) where
   abbrev held_entries : List ℕ

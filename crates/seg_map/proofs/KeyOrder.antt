@@ -92,7 +92,7 @@ module _ (f : ℕ → ℤ) where
   ascending_of (x ∷ []) h = tt
   ascending_of (x ∷ y ∷ ys) h = (below_of_less (f x) (f y) h.0.0, ascending_of (y ∷ ys) h.1)
 
-  -- ---- where a number would stand
+  -- ---- where a number would be
 
   -- all before a number, then all above it
   pub record Apart (k : ℤ) (nodes : List ℕ) : Type 0 where
@@ -342,7 +342,7 @@ module _ (f : ℕ → ℤ) where
 
   -- ---- the same node among others
 
-  -- in order a number stands where its node does
+  -- in order, the index of a number is that of its node
   pub place_of : (k : ℤ) (nodes : List ℕ) (x j : ℕ) → Ascend by nodes → slice_get nodes j ≡ Some x → int_cmp (f x) k ≡ Equal → key_place (map f nodes) k ≡ Some j
   place_of k [] x j a at e = cc
   place_of k (y ∷ ys) x zero a at e = let same : y ≡ x = cc in here (same_int k) (f y) (map f ys) (equals k y (ap (λ z. int_cmp (f z) k) same ∙ e))
@@ -369,13 +369,13 @@ module _ (f : ℕ → ℤ) where
       go Less d h = later (key_place (map f ys) k) (sym (past (same_int k) (f y) (map f ys) (differs k y (λ same. let both : Less ≡ Equal = sym d ∙ same in cc))) ∙ e) h
       go Greater d h = later (key_place (map f ys) k) (sym (past (same_int k) (f y) (map f ys) (differs k y (λ same. let both : Greater ≡ Equal = sym d ∙ same in cc))) ∙ e) h
 
--- an element stands among more
+-- an element is among more
 pub still_among : (front : List ℕ) (node : ℕ) (back : List ℕ) (i x : ℕ) → slice_get (front ++ back) i ≡ Some x → (j : ℕ) × (slice_get (front ++ node ∷ back) j ≡ Some x)
 still_among [] node back i x e = (suc i, e)
 still_among (y ∷ front) node back zero x e = (zero, e)
 still_among (y ∷ front) node back (suc i) x e = let r = still_among front node back i x e in (suc r.0, r.1)
 
--- another one stands among the others
+-- another one is among the others
 pub left_among : (front : List ℕ) (node : ℕ) (back : List ℕ) (i x : ℕ) → slice_get (front ++ node ∷ back) i ≡ Some x → x ≢ node → (j : ℕ) × (slice_get (front ++ back) j ≡ Some x)
 left_among [] node back zero x e ne = absurd (ne (let same : node ≡ x = cc in sym same))
 left_among [] node back (suc i) x e ne = (i, e)

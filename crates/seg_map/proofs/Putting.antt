@@ -45,7 +45,7 @@ module _ (allocator : ℕ) (old : List ℕ) (table : Table) (place : Place) (U :
   pub value_known : U < length table
   value_known = s.is_table.forms place.type (Form.map U) f
 
-  -- ---- what the way down found
+  -- ---- what the path found
 
   -- one of the nodes that compare as equal, where one does, in a search tree at a pointer word
   abbrev pub Finds : List ℕ → ℕ → Option ℕ → Type 0
@@ -104,13 +104,13 @@ module _ (allocator : ℕ) (old : List ℕ) (table : Table) (place : Place) (U :
     pub puts_refused : {E : Type 0} (new : List ℕ) (asks : List Ask) (code : E) → Refuses allocator old new asks → PutsKey allocator old new table place U keys vs key blocks asks (key_place keys key) (Err code)
     puts_refused new asks code r = rw (no_key absent) r
 
-    -- a new node stands where positions don't wrap
+    -- a new node is where positions don't wrap
     new_low : (mid : List ℕ) (node : ℕ) → GivesBlock allocator old mid table (tag_of Kind.node place.type) 24 U node → node + 8192 < 2 ^ 32
     new_low mid node g =
         let lies = there (LiesIn mid heap_start (length mid)) (block_of node) (positions (live mid)) (live-lie mid allocator g.heap) (let one = g.now_live in omega arith) in
         let back = g.is_block.after_header in let high = lies.high in let small = g.heap.small in let two = lies.size in omega arith
 
-    -- a new one: the map has its key, and each path leads where it led
+    -- a new one: the map has its key, and each path still reaches the same place
     pub added_new : (mid with_key three new now : List ℕ) (node kp n count root : ℕ) (path : Path) → GivesBlock allocator old mid table (tag_of Kind.node place.type) 24 U node → kp ≡ (node + 16) % 2 ^ 32 → ChangesOnly mid with_key kp 8
         → (kp + 8 ≤ length mid → signed_long with_key kp ≡ key) → now ≡ old → root ≡ place.at → path.root ≡ root
         → ((tree : Tree) → IsSearchTree now root tree → LeadsTo (λ x. ordering_reverse (int_cmp (key_at now x) key)) tree path) → AddsFrom with_key three path.root path node

@@ -15,7 +15,7 @@ use Rattle.seg_spec.proofs.OneReading.{Opens-one}
 use Rattle.seg_spec.proofs.Leading.{Leads-each}
 use Rattle.seg_map.proofs.TreeMaps.{IsTreeMap, same_form, mapped_at}
 
--- where the values of nodes stand
+-- the position of the values of nodes
 abbrev pub value_places : ℕ → List ℕ → List Place
 value_places U nodes = places_of U (map (λ p. p + 24) nodes)
 
@@ -85,7 +85,7 @@ module _ (bytes : List ℕ) (table : Table) where
       let o : OpensTree bytes table place.at (tag_of Kind.node place.type) U opened = record { tree = tree; is_tree = t; red_black = b; counted = c; are_nodes = n; ascending = subst IsAscending k a; opened_is = refl } in
       holds {place = place} (Form.map U) opened vs owned f o h (ap (λ ks. Map ks vs) k) refl
 
-  -- a path through a key goes on from the value in its node
+  -- a path through a key continues from the value in its node
   pub map_leads : (place : Place) (U : ℕ) (tree : Tree) → form_at table place.type ≡ Some (Form.map U) → IsTree bytes (target bytes place.at) tree → IsRedBlack tree
       → length (nodes_of tree) ≡ count_at bytes place.at → AreNodes bytes (tag_of Kind.node place.type) (24 + size table U) (nodes_of tree) → IsAscending (keys_at bytes (map (λ p. p + 16) (nodes_of tree)))
       → (key : ℤ) (i node : ℕ) → key_place (keys_at bytes (map (λ p. p + 16) (nodes_of tree))) key ≡ Some i → slice_get (nodes_of tree) i ≡ Some node
@@ -147,7 +147,7 @@ module _ (old new : List ℕ) (table : Table) (valid : IsTable table) (place : P
         goes = subst (λ p. Leads new table p path inner) (sym a.is ∙ ap (value_of U) (sym b.is)) (Leads-each old new table valid part i m.each part' same kept rest);
       }
 
--- all paths from a place, by those that go on
+-- all paths from a place, by those that continue
 pub paths_by : (old new : List ℕ) (table : Table) (place : Place) → ((s : Selector) (path : List Selector) (inner : Place) → Leads old table place (s ∷ path) inner → Leads new table place (s ∷ path) inner)
     → (path : List Selector) (inner : Place)
     → Leads old table place path inner → Leads new table place path inner

@@ -26,7 +26,7 @@ words_of q = record { at = q; n = 16; block = block_of q }
 abbrev pub written : ℕ → ℕ → List ℕ → List Range
 written cell home touched = record { at = cell; n = 8; block = home } ∷ map words_of touched
 
--- a node whose tree words may be written: they lie in a live block, which isn't the cell's
+-- a node whose tree words may be written: they lie in an allocated block, which isn't the cell's
 pub record IsTouched (bytes : List ℕ) (home q : ℕ) : Type 0 where
   pub after_header : 16 ≤ q
   pub is_live : 1 ≤ times (block_of q) (positions (live bytes))

@@ -1,4 +1,4 @@
--- A node leaves the tree of a map, and is given back with what its value owns: the map has one key less.
+-- A node leaves the tree of a map, and is freed with what its value owns: the map has one key less.
 use Rattle.std.proofs.Common.{◌≡◌, ◌≢◌, ℕ, ◌+◌, ◌-◌, ◌^◌, ◌<◌, ◌≤◌, inl, inr, ℤ, List, [], ◌∷◌, ◌++◌, length, map, Some, refl, sym, ap, ◌∙◌, subst, arith}
 use Rattle.std.proofs.lemmas.List.{length-append}
 use Rattle.std.specs.Prelude.{remove, slice_get, Contains}
@@ -380,7 +380,7 @@ module _ (allocator : ℕ) (old : List ℕ) (table : Table) (place : Place) (U :
       abbrev left : List ℕ
       left = blocks_by theirs final
 
-      -- their blocks are live, and none of the map's
+      -- their blocks are allocated, and none of the map's
       all_fit : (h : ℕ) → times h (s.home ∷ blocks) + times h shared ≤ times h (positions (live old))
       all_fit h = omega (arith, beside.owned h, times-append h (s.home ∷ blocks) shared)
 
@@ -401,7 +401,7 @@ module _ (allocator : ℕ) (old : List ℕ) (table : Table) (place : Place) (U :
           (shared_still old mid table s.is_table (s.home ∷ blocks) (block_of node ∷ k.zs) (named_in k.value) theirs kept now final shared_whole ownable_mid
           (λ h. omega (arith, all_fit h, live_mid h, shares h, times-more h s.home blocks, times-append h (block_of node ∷ k.zs) shared)) beside)
 
-      -- ---- the value is cleared, and the node given back
+      -- ---- the value is cleared, and the node freed
 
       module _ (cleared new : List ℕ) (c : ClearsPlace mid cleared table (value_of U (node + 24)) (default_of table U) k.zs [] theirs now final) (gives : IsHeap allocator cleared → IsLive cleared (block_of node)
           → Gives allocator cleared new (block_of node)) where
@@ -544,7 +544,7 @@ module _ (allocator : ℕ) (old : List ℕ) (table : Table) (place : Place) (U :
             around_twice old mid new place.at (size table place.type) h first (around_twice mid cleared new place.at (size table place.type) h (around_kept mid cleared place.at (size table place.type) h (omega arith) step)
             (around_kept cleared new place.at (size table place.type) h (omega arith) last))
 
-        -- ---- the frozen objects that are left
+        -- ---- the frozen objects that stay
 
         left_away : (h : ℕ) → 1 ≤ times h left → (1 ≤ times h shared) × (1 ≤ times h (positions (live cleared))) × (h ≢ block_of node)
         left_away h some =

@@ -1,4 +1,4 @@
--- What writes inside the payloads of several live blocks keep, where nothing else was written.
+-- What writes inside the payloads of several allocated blocks keep, where nothing else was written.
 use Rattle.std.proofs.Common.{◌≡◌, ◌≢◌, ℕ, ◌+◌, ◌*◌, ◌≤◌, inl, List, length, arith}
 use Rattle.std.specs.List.{AllByRecursion}
 use Rattle.seg_bytes.specs.Bytes.{IsSame}
@@ -36,7 +36,7 @@ module _ (old new : List ℕ) (allocator : ℕ) (heap : IsHeap allocator old) (r
   pub ownable_same : (table : Table) → AllByRecursion (λ b. IsOwnable old table b.at) (live old) → AllByRecursion (λ b. IsOwnable new table b.at) (live new)
   ownable_same table o = writes.ownable_same old new allocator heap ranges writable length_kept root_kept in_heap table o
 
-  -- ---- a live block
+  -- ---- an allocated block
 
   module _ (x : ℕ) (is_live : 1 ≤ times x (positions (live old))) where
     pub part_same : (p m : ℕ) → x ≤ p → p + m ≤ x + 16 * units_at old x → AllByRecursion (λ r. (r.block ≡ x) → Separate p m r.at r.n) ranges → IsSame old new p m

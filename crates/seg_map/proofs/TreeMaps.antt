@@ -28,7 +28,7 @@ use Rattle.seg_map.proofs.KeyOrder.{ascend_of, found, AtPlace, first_found, next
 abbrev pub key_at : List ℕ → ℕ → ℤ
 key_at bytes node = signed_long bytes ((node + 16) % 2 ^ 32)
 
--- nodes stand where positions don't wrap
+-- nodes are where positions don't wrap
 abbrev pub AreLow : List ℕ → Type 0
 AreLow nodes = AllByRecursion (λ p. p + 8192 < 2 ^ 32) nodes
 
@@ -99,7 +99,7 @@ module _ (allocator : ℕ) (bytes : List ℕ) (table : Table) (place : Place) (U
   abbrev pub nodes : List ℕ
   nodes = nodes_of its.opens.tree
 
-  -- a node is the payload of a live block
+  -- a node is the payload of an allocated block
   pub record IsNode (p : ℕ) : Type 0 where
     pub after_header : 16 ≤ p
     pub owned : 1 ≤ times (block_of p) blocks
@@ -141,7 +141,7 @@ module _ (allocator : ℕ) (bytes : List ℕ) (table : Table) (place : Place) (U
   pub is_search_tree : IsSearchTree bytes place.at its.opens.tree
   is_search_tree = record { is_tree = its.opens.is_tree; red_black = its.opens.red_black; few = let n = few_nodes in let small = s.heap.small in omega arith }
 
-  -- the value of a node's key stands in the node
+  -- the value of a node's key is in the node
   pub leads_to : (key : ℤ) (node : ℕ) → AtPlace (key_at bytes) key nodes node → Leads bytes table place (Selector.key key ∷ []) (value_of U (node + 24))
   leads_to key node a =
       let o' : Opens bytes table place (Form.map U) its.opened = its.opens in

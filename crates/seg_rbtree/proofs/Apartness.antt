@@ -158,7 +158,7 @@ parts-apart len word Right at colour near far h =
       far_near = s.left_right;
     }
 
--- the nodes of what stands at a place are apart from its pointer word
+-- the nodes of what is at a place are apart from its pointer word
 pub apart-down : (len root : ℕ) (tree : Tree) (layers : List Layer) → StandApart len root (nodes_of (plug tree layers)) → StandApart len (place root layers) (nodes_of tree)
 apart-down len root tree [] h = h
 apart-down len root tree (layer ∷ layers) h =

@@ -48,7 +48,7 @@ red-parts Right at near far h b = record { near_black = b.1; far_black = b.0; ne
 
 -- ---- a place
 
--- what stands at a place is balanced, the rest wants its height, and no red node stands below a red one
+-- what is at a place is balanced, the rest wants its height, and no red node is below a red one
 pub record IsBalancedAt (tree : Tree) (layers : List Layer) : Type 0 where
   pub height : ℕ
   pub balanced : IsBalanced tree height

@@ -63,7 +63,7 @@ pub nodes-rotated : (side : Side) (node up : ℕ) (cn cu dn du : Colour) (x m d 
 nodes-rotated Left node up cn cu dn du x m d = append_assoc (nodes_of x) (node ∷ nodes_of m) (up ∷ nodes_of d)
 nodes-rotated Right node up cn cu dn du x m d = sym (append_assoc (nodes_of d) (up ∷ nodes_of m) (node ∷ nodes_of x))
 
--- what stands at a place hangs at its pointer word
+-- what is at a place hangs at its pointer word
 pub tree-down : (bytes : List ℕ) (root : ℕ) (tree : Tree) (layers : List Layer) → IsTree bytes (target bytes root) (plug tree layers) → IsTree bytes (target bytes (place root layers)) tree
 tree-down bytes root tree [] h = h
 tree-down bytes root tree (layer ∷ layers) h =

@@ -110,7 +110,7 @@ unfolding before nodes_before
 before_none [] l = refl
 before_none (layer ∷ layers) l = ap (λ side. before layers ++ nodes_before side layer.other layer.at) l.0 ∙ ap (λ xs. xs ++ []) (before_none layers l.1)
 
--- the first node below layers on whose left sides it stands
+-- the first node below layers on whose left sides it is
 first_below : (only : Tree) (next : ℕ) (tint : Colour) (lower : List Layer) (back : List ℕ) → AreLeft lower → slice_get (nodes_of (plug (fork leaf next tint only) lower) ++ back) 0 ≡ Some next
 first_below only next tint lower back l =
     ap (λ ns. slice_get (ns ++ back) 0) (nodes_plug lower (fork leaf next tint only) ∙ ap (λ xs. xs ++ (next ∷ nodes_of only ++ following lower)) (before_none lower l))
@@ -118,7 +118,7 @@ first_below only next tint lower back l =
 -- ---- the node at the end
 
 module _ (bytes : List ℕ) (path new : Path) (layers : List Layer) (part : Tree) (same : new.root ≡ path.root) (s : IsPartAt bytes path layers part) where
-  -- what stands at the place below other layers
+  -- what is at the place below other layers
   pub stands_below : (above : List Layer) (rest : Tree) → plug rest above ≡ plug part layers → new.steps.items ≡ steps_of above → IsTree bytes (node_at bytes new) rest
   stands_below above rest is e =
       let word : last_word new.root new.steps.items ≡ place path.root above = ap (last_word new.root) e ∙ last_word-steps new.root above ∙ ap (λ root. place root above) same in
@@ -183,7 +183,7 @@ fork_there bytes None node part h e = cc
 fork_there bytes (Some p) node leaf h e = absurd h
 fork_there bytes (Some p) node (fork l at c r) h e = record { left = l; colour = c; right = r; part_is = ap (λ q. fork l q c r) (h.0 ∙ (let same : p ≡ node = cc in same)) }
 
--- what stands where a path leads to
+-- what is where a path leads to
 pub part_there : (bytes : List ℕ) (path : Path) (shape : Tree) (layers : List Layer) (rest : Tree) → plug rest layers ≡ shape → path.steps.items ≡ steps_of layers → IsSearchTree bytes path.root shape → IsPartAt bytes path layers rest
 part_there bytes path shape layers rest is steps t = record { steps_are = steps; whole = subst (λ x. IsSearchTree bytes path.root x) (sym is) t }
 
@@ -195,7 +195,7 @@ apart_nodes xs ls at rs ys = ap (λ zs. xs ++ zs) (append_assoc ls (at ∷ rs) y
 
 -- what is sought is before all that is after a node, after all that is before it, and equals it
 module _ (order : ℕ → ℕ → Ordering) (turn : ℕ → Ordering) (node : ℕ) (above : (y : ℕ) → order node y ≡ Less → turn y ≡ Less) (below : (x : ℕ) → order x node ≡ Less → turn x ≡ Greater) (equal : turn node ≡ Equal) where
-  -- from the layers above the node the way goes on to the sides where what is sought is
+  -- from the layers above the node the way continues to the sides where what is sought is
   lead_by : (layers : List Layer) → AllByRecursion (λ x. order x node ≡ Less) (before layers) → AllByRecursion (λ y. order node y ≡ Less) (following layers) → LeadBy turn layers
   unfolding before following nodes_before nodes_after
   lead_by [] lows highs = tt
@@ -229,7 +229,7 @@ module _ (order : ℕ → ℕ → Ordering) (turn : ℕ → Ordering) (node : �
 
 -- ---- the first node of which something is true
 
--- It is true of a node to whose left a way goes on, and not of one to whose right it does.
+-- It is true of a node to whose left a way continues, and not of one to whose right it does.
 module _ (order : ℕ → ℕ → Ordering) (p : ℕ → Bool) (turn : ℕ → Ordering) (up : (x y : ℕ) → order x y ≡ Less → p x ≡ true → p y ≡ true) (lefts : (x : ℕ) → turn x ≡ Less → p x ≡ true) (rights : (x : ℕ) → turn x ≡ Greater → p x ≡ false) where
   -- nothing before a node of which it isn't true comes first
   none_below : (xs : List ℕ) (at : ℕ) (ys : List ℕ) → Ascend order (xs ++ at ∷ ys) → p at ≡ false → first_where p (xs ++ at ∷ ys) ≡ first_where p ys
@@ -252,7 +252,8 @@ module _ (order : ℕ → ℕ → Ordering) (p : ℕ → Bool) (turn : ℕ → O
           ∙ or_some (first_where p (nodes_of rest)) layer.at (slice_get (following layers) 0)
       go Right e h = ap (λ o. option_or o (slice_get (following layers) 0)) (none_below (nodes_of layer.other) layer.at (nodes_of rest) h (rights layer.at e))
 
-  -- where a path goes on from the end of such a way, it comes to the first node of which it is true
+  -- where a path continues from the end of such a way, it comes to the first node of which it is
+  -- true
   pub goes_past : (bytes : List ℕ) (new : Path) (shape : Tree) (layers : List Layer) (rest : Tree) (result : Option ℕ) → Ascend order (nodes_of shape) → plug rest layers ≡ shape → LeadBy turn layers
       → (Ascend order (nodes_of rest) → option_or (first_where p (nodes_of rest)) (slice_get (following layers) 0) ≡ slice_get (after_root rest ++ following layers) 0)
       → GoesOn bytes layers rest new result → result ≡ first_where p (nodes_of shape)
@@ -298,7 +299,7 @@ module _ (compare : ℕ → Ordering) (order : ℕ → ℕ → Ordering) (keyed 
   up : (x y : ℕ) → order x y ≡ Less → past x ≡ true → past y ≡ true
   up x y l e = reaches_up Greater (compare x) (compare y) (keyed x y l) e
 
-  -- a node to whose left the way goes on is above the key
+  -- a node to whose left the way continues is above the key
   lefts : (x : ℕ) → turn x ≡ Less → past x ≡ true
   lefts x e = ap (reaches Greater) (back (compare x) Less e)
 
@@ -320,14 +321,14 @@ module _ (compare : ℕ → Ordering) (order : ℕ → ℕ → Ordering) (keyed 
       ap (λ o. option_or o (slice_get ys 0)) (none_below order past turn up lefts rights (nodes_of l) at (nodes_of r) a (ap (reaches Greater) equal))
       ∙ first_all (nodes_of r) ys (each_weaker _ _ (λ y m. ap (reaches Greater) (above at y (compare y) refl equal m)) (nodes_of r) parts.following)
 
-  -- where a path to a key goes on, it comes to the first node above it
+  -- where a path to a key continues, it comes to the first node above it
   pub goes_above : (bytes : List ℕ) (path new : Path) (shape : Tree) (result : Option ℕ) → IsSearchTree bytes path.root shape → Ascend order (nodes_of shape) → (way : LeadsTo turn shape path)
       → (IsPartAt bytes path way.layers way.rest → GoesOn bytes way.layers way.rest new result) → result ≡ first_where past (nodes_of shape)
   goes_above bytes path new shape result t a way on =
       goes_past order past turn up lefts rights bytes new shape way.layers way.rest result a way.shape_is way.leads (at_end way.rest (following way.layers) way.ends)
       (on (part_there bytes path shape way.layers way.rest way.shape_is way.steps_are t))
 
--- a path that goes on stays inside
+-- a path that continues stays inside
 pub goes_inside : (bytes : List ℕ) (path new : Path) (result : Option ℕ) → new.root ≡ path.root → ((layers : List Layer) (part : Tree) → IsPartAt bytes path layers part → GoesOn bytes layers part new result)
     → ((shape : Tree) → IsSearchTree bytes path.root shape → IsWayIn shape path) → (shape : Tree) → IsSearchTree bytes new.root shape → IsWayIn shape new
 goes_inside bytes path new result same on inside shape t =

@@ -43,7 +43,7 @@ module _ (compare : ℕ → Ordering) where
   abbrev turn : ℕ → Ordering
   turn x = before_first (compare x)
 
-  -- the way ends where nothing stands
+  -- the way ends where nothing is
   ends_empty : (rest : Tree) → EndsAt turn rest → after_root rest ≡ []
   ends_empty leaf e = refl
   ends_empty (fork l at c r) e = absurd (never_equal (compare at) e)
@@ -53,12 +53,12 @@ module _ (compare : ℕ → Ordering) where
   at_end leaf ys e = refl
   at_end (fork l at c r) ys e = absurd (never_equal (compare at) e)
 
--- a path leads to the first node that is at or above a key, which is the result, and stands there
+-- a path leads to the first node that is at or above a key, which is the result, and is there
 pub record IsLedToFirst (compare : ℕ → Ordering) (order : ℕ → ℕ → Ordering) (bytes : List ℕ) (shape : Tree) (path : Path) (result : Option ℕ) : Type 0 where
   pub node_is : result ≡ first_where (reached compare) (nodes_of shape)
   pub leads : IfSome result (λ node. LeadsTo (order node) shape path × (node_at bytes path ≡ Some node))
 
--- a path that goes on to a node leads to it
+-- a path that continues to a node leads to it
 leads_on : (order : ℕ → ℕ → Ordering) → IsTotalOrder order → (bytes : List ℕ) (path : Path) (layers : List Layer) (rest : Tree) (result : Option ℕ) → IsSearchTree bytes path.root (plug rest layers)
     → Ascend order (nodes_of (plug rest layers)) → GoesOn bytes layers rest path result → IfSome result (λ node. LeadsTo (order node) (plug rest layers) path × (node_at bytes path ≡ Some node))
 leads_on order total bytes path layers rest None t a on = tt

@@ -27,7 +27,7 @@ use Rattle.seg_rbtree.proofs.Walking.{length-steps}
 use Rattle.seg_rbtree.proofs.Orders.{nodes-added, each_with, apart-with_node, length-with_node}
 use Rattle.seg_rbtree.proofs.Balancing.{balanced-down}
 
--- what is true of each node is true of those that stand at a place
+-- what is true of each node is true of those that are at a place
 pub each-down : (P : ℕ → Type 0) (tree : Tree) (layers : List Layer) → AllByRecursion P (nodes_of (plug tree layers)) → AllByRecursion P (nodes_of tree)
 each-down P tree [] h = h
 each-down P tree (layer ∷ layers) h = go layer.side (each-down P (grow layer tree) layers h)
@@ -126,7 +126,7 @@ module _ (order : ℕ → ℕ → Ordering) (total : IsTotalOrder order) (old : 
     start_below steps layers leaf whole e leads ends new = start_at steps layers whole e leads
     start_below steps layers (fork left at colour right) whole e leads ends new = absurd ((each_right _ (nodes_of left) (at ∷ nodes_of right) new).0 ends)
 
-    -- the new node stands, red, at the place that the order leads to
+    -- the new node is red, and at the place to which the order leads
     pub growing_start : (path : Path) → IsNew order node (nodes_of shape) → LeadsTo (order node) shape path
         → IsGrowing old (set_pointer (with_new_node old node) (last_word root path.steps.items) (Some node)) root nodes path.steps.items (Some node) 0
     growing_start path new w =

@@ -93,7 +93,7 @@ module _ (bytes : List ℕ) (path : Path) (turn : ℕ → Ordering) (node : ℕ)
   behind : List ℕ
   behind = nodes_of part.far ++ following way.layers
 
-  -- it stands between them
+  -- it is between them
   nodes_are : nodes_of shape ≡ ahead ++ node ∷ behind
   unfolding ahead behind
   nodes_are = ap nodes_of (sym way.shape_is) ∙ nodes_plug way.layers way.rest ∙ ap (λ x. before way.layers ++ (nodes_of x ++ following way.layers)) part.tree_is ∙ simp append_assoc

@@ -72,7 +72,7 @@ pub no_tree : (bytes : List ℕ) (tree : Tree) → IsTree bytes None tree → tr
 no_tree bytes leaf h = refl
 no_tree bytes (fork l a c r) h = absurd h
 
--- ---- a tree that turned stands as the one before
+-- ---- a tree that turned is as the one before
 
 pub apart_again : (old new : List ℕ) (root : ℕ) (before after : Tree) → length new ≡ length old → nodes_of after ≡ nodes_of before → StandApart (length old) root (nodes_of before) → StandApart (length new) root (nodes_of after)
 apart_again old new root before after l n a = subst (λ m. StandApart m root (nodes_of after)) (sym l) (subst (λ ns. StandApart (length old) root ns) (sym n) a)

@@ -9,12 +9,12 @@ use Rattle.seg_rbtree.specs.declared.node.Side.{Side}
 use Rattle.seg_rbtree.specs.Ways.{branch}
 use Rattle.seg_rbtree.proofs.Branches.{branch-parts}
 
--- a pointer past the end of the bytes reads as 0, and so names itself
+-- a pointer past the end of the bytes reads as 0, and so points to itself
 names_itself : (bytes : List ℕ) (at : ℕ) → length bytes < at + 4 → at < 2 ^ 32 → target bytes at ≡ Some at
 unfolding target
 names_itself bytes at past small = rw (number_past 4 bytes at past) (ap Some (omega arith))
 
--- no tree hangs at a pointer that names itself: it would have no end
+-- no tree hangs at a pointer that points to itself: it would have no end
 no_tree_past : (bytes : List ℕ) (at : ℕ) → target bytes at ≡ Some at → (tree : Tree) → IsTree bytes (Some at) tree → ⊥
 no_tree_past bytes at self leaf h = h
 no_tree_past bytes at self (fork left node colour right) h = no_tree_past bytes at self left (subst (λ o. IsTree bytes o left) self h.2)

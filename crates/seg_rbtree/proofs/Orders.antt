@@ -34,7 +34,7 @@ ascend-parts order (x ∷ xs) at ys a =
       right = rest.right;
     }
 
--- what stands at a place is in order
+-- what is at a place is in order
 pub ascend-down : (order : ℕ → ℕ → Ordering) (tree : Tree) (layers : List Layer) → Ascend order (nodes_of (plug tree layers)) → Ascend order (nodes_of tree)
 ascend-down order tree [] a = a
 ascend-down order tree (layer ∷ layers) a = go layer.side (ascend-down order (grow layer tree) layers a)
@@ -88,7 +88,7 @@ module _ (order : ℕ → ℕ → Ordering) (node : ℕ) where
       go true e k = subst NodesApart (sym (here x ns e)) h
       go false e k = subst NodesApart (sym (later x ns e)) (each_with (λ y. Separate x 16 y 16) ns (separate-swap node 16 x 16 h.0.0) h.1.0, k)
 
-  -- the nodes with the new one stand apart in whatever order
+  -- the nodes with the new one are apart in whatever order
   pub apart-with_node : (len root : ℕ) (ns : List ℕ) → StandApart len root (node ∷ ns) → StandApart len root (with_node order node ns)
   apart-with_node len root ns h = record {
     small = h.small;
@@ -136,7 +136,7 @@ module _ (order : ℕ → ℕ → Ordering) (node : ℕ) where
     nodes-added x t (layer ∷ layers) l a h =
         nodes-added (grow layer x) (grow layer t) layers l.1 a (grown layer.side layer x t l.0 (ascend-down order (grow layer t) layers a) h)
 
-    -- a new node stands in order among the others
+    -- a new node is in order among the others
     pub Ascend-with_node : (ns : List ℕ) → IsNew order node ns → Ascend order ns → Ascend order (with_node order node ns)
     Ascend-with_node [] new a = (tt, tt)
     Ascend-with_node (x ∷ ns) new a = go (order node x) refl (Ascend-with_node ns new.1 a.1)

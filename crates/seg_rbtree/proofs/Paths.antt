@@ -1,6 +1,6 @@
 -- What a path to a key leads to.
---     finds_equal      the node at its end is one that equals the key, where there is one
---     leads_same       it leads where it led while the nodes compare as they did
+--     finds_equal      the node at its end is one that equals the key, if there is one
+--     leads_same       it still reaches the same place while the nodes compare as they did
 --     finds_new        a node with that key is new where none equals it
 --     finds_first      where no two nodes equal the key, what is found is the first that does
 use Rattle.std.proofs.Common.{◌≡◌, ◌≢◌, ℕ, ◌≤◌, false, List, [], ◌∷◌, ◌++◌, Option, Some, None, refl, sym, ap, ◌∙◌, subst, append_assoc, arith}
@@ -83,7 +83,7 @@ module _ (compare : ℕ → Ordering) (order : ℕ → ℕ → Ordering) (keyed 
       subst (λ n. IsEqualAmong compare (nodes_of (plug (fork left at colour right) layers)) n) h.0
       (among layers left right at _ (nodes_plug layers (fork left at colour right)) (reversed (compare at) Equal e))
 
-  -- the node at the end of a path to a key is one that equals it, where there is one
+  -- the node at the end of a path to a key is one that equals it, if there is one
   pub finds_equal : (bytes : List ℕ) (root : ℕ) (path : Path) (shape : Tree) → path.root ≡ root → IsSearchTree bytes root shape → Ascend order (nodes_of shape) → LeadsTo turn shape path
       → FindsEqual compare (nodes_of shape) (node_at bytes path)
   finds_equal bytes root path shape r t a way =
@@ -108,7 +108,7 @@ ends_same : (turn other : ℕ → Ordering) (rest : Tree) → AllByRecursion (λ
 ends_same turn other leaf same e = tt
 ends_same turn other (fork left at colour right) same e = sym (each_right _ (nodes_of left) (at ∷ nodes_of right) same).0 ∙ e
 
--- a path leads where it led while what is sought compares with each node as it did
+-- a path still reaches the same place while what is sought compares with each node as it did
 pub leads_same : (turn other : ℕ → Ordering) (shape : Tree) (path : Path) → AllByRecursion (λ x. turn x ≡ other x) (nodes_of shape) → LeadsTo turn shape path → LeadsTo other shape path
 leads_same turn other shape path same way =
     let both = leads_by_same turn other way.layers way.rest (subst (λ s. AllByRecursion (λ x. turn x ≡ other x) (nodes_of s)) (sym way.shape_is) same) way.leads in

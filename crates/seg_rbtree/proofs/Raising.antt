@@ -62,7 +62,7 @@ pub record Straightens (old new : List ℕ) (at : ℕ) (before : Tree) (height :
   pub black_root : IsBlack after
   pub balanced : IsBalanced after (suc height)
 
--- the way down doesn't turn
+-- the path doesn't turn
 straight_on : (bytes : List ℕ) (at : ℕ) (way : Side) (g p : ℕ) (lower sibling uncle : Tree) (h : ℕ) → IsTree bytes (target bytes at) (branch way g black (branch way p red lower sibling) uncle)
     → StandApart (length bytes) at (nodes_of (branch way g black (branch way p red lower sibling) uncle)) → IsBalanced lower h → IsBlack sibling → IsBalanced sibling h → IsBlack uncle → IsBalanced uncle h
     → Straightens bytes (raised bytes at g (opposite way)) at (branch way g black (branch way p red lower sibling) uncle) h

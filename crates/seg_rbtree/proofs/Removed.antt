@@ -141,7 +141,7 @@ fewer node old new l few =
 
 module _ (bytes one : List ℕ) (root : ℕ) (path last : Path) (turn : ℕ → Ordering) (node : ℕ) (shape : Tree) (r : path.root ≡ root) (way : LeadsTo turn shape path) (q : last.root ≡ path.root) (t : IsSearchTree bytes root shape)
     (a : StandApart (length bytes) root (nodes_of shape)) where
-  -- a red node was taken out: the rules of colour hold
+  -- a red node was taken out: the rules of colours are satisfied
   pub red_left : Unlinks bytes one last way.layers way.rest node Red → Leaves bytes one root (nodes_of shape) (without_node node (nodes_of shape))
   red_left u =
       let lost : Loses node (nodes_of shape) (nodes_of (plug u.part u.above)) = subst (λ s. Loses node (nodes_of s) (nodes_of (plug u.part u.above))) way.shape_is u.lost in

@@ -30,7 +30,7 @@ restoring_start bytes path layers tree s short = record {
   left = omega (arith, (turns_few layers tree short).1);
 }
 
--- it stands where the path leads to
+-- it is where the path leads to
 pub restoring_stands : (old now : List ℕ) (first path : Path) (layers : List Layer) (tree : Tree) (count : ℕ) → path.root ≡ first.root → StandsAt old first layers tree → (i : IsRestoring old now first path layers tree count)
     → StandsAt now path i.above i.part
 restoring_stands old now first path layers tree count r s i = stands_again old now first path layers i.above tree i.part s r i.steps_are i.turned i.nodes_are

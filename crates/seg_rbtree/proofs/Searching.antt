@@ -10,7 +10,7 @@ use Rattle.seg_spec.specs.Shapes.{Tree, leaf, fork, nodes_of, IsTree}
 use Rattle.seg_spec.specs.Search.{rank_of, reaches, Ascend, first_where, IsUpward, looks}
 use Rattle.seg_spec.proofs.Frame.{each_weaker}
 
--- what hangs at `place` is still to be searched; a later found was found, if `found` is one; so many nodes were looked at
+-- what hangs at `place` is still to be searched; a later found was found, if `found` is one; so many nodes were read
 pub record IsSearching (bytes : List ℕ) (is_past : ℕ → Bool) (shape : Tree) (place found : Option ℕ) (count : ℕ) : Type 0 where
   pub rest : Tree
   pub hangs : IsTree bytes place rest

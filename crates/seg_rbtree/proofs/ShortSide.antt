@@ -1,4 +1,4 @@
--- A part with one black node too few on each way down, and each way to give it one.
+-- A part with one black node too few on each path, and each way to give it one.
 use Rattle.std.proofs.Common.{◌≡◌, ℕ, suc, ◌+◌, ◌*◌, ◌^◌, ◌<◌, ◌≤◌, ◌⊎◌, inl, inr, List, [], ◌∷◌, length, refl, sym, ap, ◌∙◌, subst, arith}
 use Rattle.std.proofs.lemmas.Bool.{cases_lt}
 use Rattle.std.proofs.Math.Pow.{pow_mono}
@@ -73,7 +73,7 @@ nearly_branch Left near far at red h n f = (n, f)
 nearly_branch Right near far at black h n f = (h, refl, f, n)
 nearly_branch Right near far at red h n f = (f, n)
 
--- beside a short part stands a node
+-- beside a short part is a node
 pub sibling_stands : (side : Side) (at : ℕ) (colour : Colour) (layers : List Layer) (tree : Tree) → IsShort (record { side = side; at = at; colour = colour; other = leaf } ∷ layers) tree → ⊥
 sibling_stands side at colour layers tree s = let e = (side_parts colour leaf layers (suc s.height) s.wanted.0).balanced in absurd (omega arith)
 
@@ -81,7 +81,7 @@ module _ (side : Side) (at sibling : ℕ) (colour : Colour) (inner outer : Tree)
   abbrev beside : Colour → List Layer
   beside c = record { side = side; at = at; colour = colour; other = branch side sibling c inner outer } ∷ layers
 
-  -- above a red sibling stands a black node
+  -- above a red sibling is a black node
   pub above_red : IsShort (beside red) tree → colour ≡ black
   above_red s = not_red colour (λ e. red-branch side sibling inner outer ((side_parts colour (branch side sibling red inner outer) layers (suc s.height) s.wanted.0).below_red e).0)
 

@@ -123,7 +123,7 @@ lone_unlinked bytes new path node empty gone eg en e3 layers tree s r few named 
 
 -- ---- the way to the first node below a place
 
--- a part in a search tree, from one that stands apart from others
+-- a part in a search tree, from one that is apart from others
 pub as_part : (bytes now : List ℕ) (path : Path) (layers : List Layer) (tree : Tree) → now ≡ bytes → StandsAt bytes path layers tree → IsRedBlack (plug tree layers) → length (nodes_of (plug tree layers)) < 2 ^ 32
     → IsPartAt now path layers tree
 as_part bytes now path layers tree e s r few =
@@ -188,7 +188,7 @@ descended bytes path layers tree first count to e n d =
       steps_are = d.steps_are;
     }
 
--- the node that the way goes on from is low
+-- the node that the way continues from is low
 pub descending_low : (bytes : List ℕ) (path now : Path) (layers : List Layer) (tree : Tree) (first count : ℕ) → length bytes ≤ 2 ^ 30 → IsPartAt bytes path layers tree → IsDescending bytes now layers tree first count → first < 2 ^ 31
 descending_low bytes path now layers tree first count small s d =
     let at = place path.root layers in

@@ -49,7 +49,7 @@ lone_lost layers Right only node colour = record {
   new_is = nodes_plug layers only ∙ sym (append_assoc (before layers) (nodes_of only) (following layers));
 }
 
--- red: the rules of colour hold
+-- red: the rules of colours are satisfied
 pub red_unlinked : (layers : List Layer) (side : Side) (only : Tree) (node : ℕ) → IsRedBlack (plug (branch side node red leaf only) layers) → IsRedBlack (plug only layers)
 red_unlinked layers side only node r =
     let w = balanced-down (branch side node red leaf only) layers r in
@@ -113,7 +113,7 @@ module _ (colour : Colour) (other : Tree) (layers : List Layer) where
   after_next [] x y = refl
   after_next (l ∷ ls) x y = ap (λ ns. nodes_after l.side l.other l.at ++ ns) (after_next ls x y)
 
-  -- the next node stands in the place of the one that it follows
+  -- the next node is in the place of the one that it follows
   pub next_lost : (lower : List Layer) (node next : ℕ) (tint : Colour) (only : Tree) → AreLeft lower
       → Loses node (nodes_of (plug (fork leaf next tint only) (lower ++ right_of node))) (nodes_of (plug only (lower ++ right_of next)))
   next_lost lower node next tint only a =

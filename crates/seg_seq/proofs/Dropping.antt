@@ -1,4 +1,4 @@
--- A list without one of its nodes, with the frozen objects that the item in it named last.
+-- A list without one of its nodes, with the frozen objects that lost their last cell.
 use Rattle.std.proofs.Common.{◌≡◌, ◌≢◌, ℕ, suc, ◌+◌, ◌%◌, ◌≤◌, ◌⊎◌, inl, inr, List, [], ◌∷◌, ◌++◌, length, map, Some, refl, sym, ap, ◌∙◌, subst, arith, append_assoc}
 use Rattle.std.specs.Prelude.{slice_get}
 use Rattle.std.specs.List.{AllByRecursion}
@@ -120,7 +120,7 @@ module _ (allocator : ℕ) (old : List ℕ) (table : Table) (list : Place) (U no
   low : AllByRecursion (λ q. 16 ≤ q) all
   low = each_weaker (λ q. IsBlock old q (tag_of Kind.node list.type) (8 + size table U)) (λ q. 16 ≤ q) (λ q k. k.after_header) all are_nodes
 
-  -- how often each block stands in the parts
+  -- how often each block is in the parts
   all_count : (h : ℕ) → times h (map block_of all) ≡ times h (b ∷ map block_of rest)
   all_count h =
       let a : times h (map block_of all) ≡ times h (map block_of xs ++ b ∷ map block_of ys) = ap (times h) (mapped_append xs (node ∷ ys)) in
@@ -228,7 +228,7 @@ module _ (allocator : ℕ) (old : List ℕ) (table : Table) (list : Place) (U no
         let two = (there (LiesIn one heap_start (length one)) b (positions (live one)) (live-lie one allocator one_heap) (let c = one_count b in let l = b_live in omega arith)).size in
         record { low = omega arith; high = omega arith }
 
-    -- where the item stands meanwhile
+    -- where the item is meanwhile
     pub item_stands : Stands allocator one table (value_in U node) p.value p.its
     item_stands = record {
       heap = one_heap;
@@ -288,7 +288,7 @@ module _ (allocator : ℕ) (old : List ℕ) (table : Table) (list : Place) (U no
         releasing = shared.releasing;
       }
 
-      -- ---- what the item owned is given back, and then its node
+      -- ---- what the item owned is freed, and then its node
 
       module _ (two : List ℕ) (c : ClearsPlace one two table (value_in U node) (default_of table U) p.its [] theirs now final) where
         pub two_heap : IsHeap allocator two
@@ -313,7 +313,7 @@ module _ (allocator : ℕ) (old : List ℕ) (table : Table) (list : Place) (U no
         pub node_live_still : IsLive two (block_of node)
         node_live_still = is_live two b b_two
 
-        -- the blocks of the frozen objects that are left
+        -- the blocks of the frozen objects that stay
         left_one : (h : ℕ) → 1 ≤ times h left → KeepsBlock old one h
         left_one h some = beside_kept h (let n = owned_count h in let g = goes h in omega arith)
 

@@ -37,7 +37,7 @@ use Rattle.seg_seq.proofs.Listed.{values_in, value_in, value_at_index, ListOf, l
 use Rattle.seg_seq.proofs.Dropping.{SplitAt, split_at}
 use Rattle.seg_seq.proofs.Removed.{node_split, index_back, leads_nowhere}
 
--- ---- a list that stands
+-- ---- a list at a place
 
 module _ (allocator : ℕ) (bytes : List ℕ) (table : Table) (list : Place) (U : ℕ) (f : form_at table list.type ≡ Some (Form.list U)) (vs : Values) (blocks : List ℕ) (s : Stands allocator bytes table list (Seq vs) blocks) where
   pub its_list : ListOf bytes table list U vs blocks
@@ -90,7 +90,7 @@ module _ (allocator : ℕ) (bytes : List ℕ) (table : Table) (list : Place) (U 
       go (x ∷ xs) zero p e a = let same : x ≡ p = cc in let b = a.0.1 in omega arith
       go (x ∷ xs) (suc i) p e a = go xs i p e a.1
 
-  -- where item i stands, once its node is known by the index
+  -- where item i is, once its node is known by the index
   pub stands_at : (i node at : ℕ) → i < count vs → node ≡ get_or its_list.nodes i 0 → at ≡ (node + 8) % 2 ^ 32 → Leads bytes table list (Selector.item i ∷ []) (record { at = at; type = U })
   stands_at i node at h e at_is =
       let c = its_count in
@@ -115,7 +115,7 @@ module _ (allocator : ℕ) (bytes : List ℕ) (table : Table) (list : Place) (U 
       subst (λ m. Leads bytes table list (Selector.item (around w m i 1) ∷ []) (record { at = result; type = U })) c
       (stands_at (around w (length its_list.nodes) i 1) other result (omega arith) named result_is)
 
-  -- an empty list names nothing
+  -- an empty list points to nothing
   pub nothing_named : vs ≡ nil → target bytes list.at ≡ None
   nothing_named e = go (target bytes list.at) its_list.nodes its_list.ring.ring (its_count ∙ ap count e)
     where
@@ -213,7 +213,7 @@ module _ (allocator : ℕ) (mid : List ℕ) (table : Table) (list : Place) (U no
   whole_nodes : AllByRecursion (λ q. IsSame mid new q (8 + size table U)) (xs ++ node ∷ [])
   whole_nodes = nodes-same mid new (tag_of Kind.node list.type) (8 + size table U) (xs ++ node ∷ []) nodes_kept_too are_nodes
 
-  -- what holds of each node, in the new order
+  -- what is true of each node, in the new order
   turn : (P : ℕ → Type 0) → AllByRecursion P (xs ++ node ∷ []) → AllByRecursion P (node ∷ xs)
   turn P a = ((each_right P xs (node ∷ []) a).0, each_left P xs (node ∷ []) a)
 
@@ -309,7 +309,7 @@ module _ (allocator : ℕ) (mid : List ℕ) (table : Table) (list : Place) (U no
   unfolding l_new
   first_stands = leads_on new table list U f (cons v vs) turned l_new 0 node [] (value_in U node) refl here
 
--- a list with one item more at its end, which the cell names then
+-- a list with one item more at its end, which the cell points to then
 pub item_fronted : (allocator : ℕ) (old mid : List ℕ) (table : Table) (list : Place) (U at node : ℕ) (f : form_at table list.type ≡ Some (Form.list U)) (vs : Values) (v : Value) (blocks : List ℕ)
     (s : Stands allocator old table list (Seq vs) blocks) (a : AddsItem allocator old mid table list U (append vs (cons v nil)) blocks (count vs) at (λ i. Some i)) → node ≡ (at + (2 ^ 32 - 8)) % 2 ^ 32 →
     AddsItem allocator old (set_pointer mid list.at (Some node)) table list U (cons v vs) blocks 0 at (λ i. Some (suc i))

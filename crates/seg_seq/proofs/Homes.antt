@@ -1,4 +1,4 @@
--- The cell of a list and its nodes lie in live blocks, apart from each other.
+-- The cell of a list and its nodes lie in allocated blocks, apart from each other.
 use Rattle.std.proofs.Common.{◌≡◌, ◌≢◌, ℕ, ◌+◌, ◌%◌, ◌≤◌, inl, inr, ⊎_elim, List, ◌∷◌, length, map, sym, subst, arith}
 use Rattle.std.specs.List.{AllByRecursion}
 use Rattle.std.proofs.lemmas.Bool.{cases_eq, cases_lt}
@@ -40,7 +40,7 @@ module _ (allocator : ℕ) (bytes : List ℕ) (heap : IsHeap allocator bytes) (c
       let none : times (block_of p) (map block_of nodes) ≡ 0 = subst (λ h. times h (map block_of nodes) ≡ 0) (sym e) home_alone in
       absurd (omega arith)
 
-  -- a place lies in one live block
+  -- a place lies in one allocated block
   one_home : (h k p : ℕ) → 1 ≤ times h (positions (live bytes)) → 1 ≤ times k (positions (live bytes)) → IsInside bytes h p 8 → IsInside bytes k p 8 → h ≡ k
   one_home h k p a b i j = go (there (OneOrApart bytes k) h (positions (live bytes)) (there (λ t. AllByRecursion (OneOrApart bytes t) (positions (live bytes))) k (positions (live bytes)) (live-apart bytes allocator heap) b) a)
     where
@@ -113,7 +113,7 @@ module _ (allocator : ℕ) (bytes : List ℕ) (heap : IsHeap allocator bytes) (c
               absurd (node_other p among (sym (one_home home (block_of p) p home_live (node_live p among) i (node_inside p among))))) (cases_eq cell p));
         }
 
-    -- what a node holds
+    -- what a node contains
     pub value_kept : (q n : ℕ) → 1 ≤ times q nodes → 8 + n ≤ payload_size bytes (block_of q) → IsSame bytes new (q + 8) n
     value_kept q n some room =
         let low_q = node_low q some in

@@ -127,7 +127,7 @@ module _ (allocator : ℕ) (old : Stored) (cell T U : ℕ) (vs : Values) (blocks
           let enough : len * size old.types U ≤ 16 * units_named old.window.bytes cell - 16 = rw longer (omega arith) in
           has_room allocator old.window.bytes old.types cell T (Seq vs) blocks content (of_form old.types T content (names_it old.types T U some h.form_is)) h.stands len (16 * units_named old.window.bytes cell - 16) refl enough
 
-      -- the item is a number, written where it stands
+      -- the item is a number, written in place
       module _ (number : form_at old.types U ≡ Some Form.i64) (x : ℕ) (fits_word : x < 2 ^ 64) where
         eight : size old.types U ≡ 8
         eight = size-form old.types h.stands.is_table U Form.i64 number

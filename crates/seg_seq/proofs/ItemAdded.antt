@@ -124,7 +124,7 @@ module _ (allocator : ℕ) (old mid : List ℕ) (table : Table) (place : Place) 
         let fits = room in
         IsSame-part mid counted (block_of p + 16) (payload_size mid (block_of p)) p (n * size table U) (omega (arith, g.low)) (omega (arith, g.low)) k.payload
 
-    -- where the item stands
+    -- the position of the item
     abbrev pub q : ℕ
     q = p + n * size table U
 

@@ -38,7 +38,7 @@ item_known table T U valid f = valid.forms T (Form.vec U) f
 pub item_at : (first kept each before p n z at : ℕ) → first ≡ p → kept ≡ n → each ≡ z → before ≡ 0 → at ≡ (first + kept * each + before) % 2 ^ 32 → p + n * z < 2 ^ 32 → at ≡ p + n * z
 item_at first kept each before p n z at a b c d e l = let f : at ≡ (p + n * z + 0) % 2 ^ 32 = rw (a, b, c, d) at e in omega arith
 
--- one option names one place
+-- an option has at most one place
 pub one_place : (o : Option Where) (a b : Where) → o ≡ Some a → o ≡ Some b → a ≡ b
 one_place o a b e f = cc
 
@@ -117,7 +117,7 @@ module _ (allocator : ℕ) (old : Stored) (cell T U : ℕ) (vs : Values) (blocks
       any_pushed allocator old cell T U vs blocks h (size old.types U) (count_at old.window.bytes cell) (count_at old.window.bytes cell + 1) (sym (zero-add (size old.types U))) refl counted_few
       (record { window = with_bytes old.window c.mid; types = old.types }) counted new c.reserves c.counted same_types (start c.mid cell) 0 at U refl refl place_is refl v changes item
 
--- a vector whose cell names no buffer has no room for an item
+-- a vector whose cell points to no buffer has no room for an item
 pub none_is_full : (allocator : ℕ) (old : Stored) (cell T U : ℕ) (vs : Values) (blocks : List ℕ) → HasItems allocator old (object_at cell T) U vs blocks → NamesNone old.window.bytes cell → IsFull old (object_at cell T) U
 none_is_full allocator old cell T U vs blocks h (inl e) =
     let none : units_named old.window.bytes cell ≡ 0 = rw e refl in

@@ -1,4 +1,5 @@
--- A vector that loses its last item, with the frozen objects that the item named last, from what the steps leave.
+-- A vector that loses its last item, with the frozen objects that lost their last cell, from what
+-- the steps leave.
 use Rattle.std.proofs.Common.{◌≡◌, ◌≢◌, ℕ, ◌+◌, ◌*◌, ◌/◌, ◌%◌, ◌^◌, ◌<◌, ◌≤◌, ◌⊎◌, inl, inr, List, [], ◌∷◌, ◌++◌, length, Option, Some, None, refl, sym, ap, ◌∙◌, subst, arith}
 use Rattle.std.specs.Prelude.{option_map, option_to_list}
 use Rattle.std.specs.List.{AllByRecursion}
@@ -36,7 +37,7 @@ use Rattle.seg_seq.proofs.Rooms.{block_again, Reaches, reaches, none_counted}
 use Rattle.seg_seq.proofs.Items.{get_item, one_more, how_many, Last, last_of, all_but_last, its_items}
 use Rattle.seg_seq.proofs.ItemAdded.{same_items, HasEach, has_each}
 
--- the items of a buffer stand at multiples of 8
+-- the items of a buffer are at multiples of 8
 aligned_item : (p n z : ℕ) → p % 8 ≡ 0 → z % 8 ≡ 0 → (p + n * z) % 8 ≡ 0
 aligned_item p n z a b =
     let k : z ≡ 8 * (z / 8) = omega arith in
@@ -224,7 +225,7 @@ module _ (allocator : ℕ) (old : List ℕ) (table : Table) (place : Place) (U :
               (omega (arith, live_mid s.home, goes s.home, all_fit s.home, times-same s.home (others ++ left), times-append s.home others left, times-same s.home blocks, blocks_are s.home))
           stay h (inr other) = omega (arith, live_mid h, goes h, all_fit h, times-other h s.home (others ++ left) other, times-append h others left, times-other h s.home blocks other, blocks_are h)
 
-      -- the blocks of the frozen objects that are left
+      -- the blocks of the frozen objects that stay
       left_mid : (h : ℕ) → 1 ≤ times h left → 1 ≤ times h (positions (live mid))
       left_mid h some = omega (arith, live_mid h, goes h, all_fit h, blocks_are h, times-more h s.home blocks)
 

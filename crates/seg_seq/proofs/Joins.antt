@@ -87,7 +87,7 @@ pub last_among : (x : ℕ) (ys : List ℕ) → 1 ≤ times (last_of x ys) (x ∷
 last_among x [] = omega (arith, times-same x [])
 last_among x (y ∷ ys) = let rest = last_among y ys in let more = times-more (last_of y ys) x (y ∷ ys) in omega arith
 
--- the node after a chain is named by the last one, and names it
+-- the node after a chain is pointed to by the last one, and points to it
 pub chain_end : (bytes : List ℕ) (z x : ℕ) (ys : List ℕ) → IsLinked bytes z x ys → AreLinked bytes (last_of x ys) z
 chain_end bytes z x [] l = l
 chain_end bytes z x (y ∷ ys) l = chain_end bytes z y ys l.1

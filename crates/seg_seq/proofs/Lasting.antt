@@ -1,4 +1,5 @@
--- A place while a call on it is under way: all that its steps keep, whatever the place holds meanwhile.
+-- A place while a call on it is under way: all that its steps keep, whatever the place contains
+-- meanwhile.
 use Rattle.std.proofs.Common.{◌≡◌, ◌≢◌, ℕ, ◌+◌, ◌≤◌, ◌⊎◌, inl, inr, List, ◌∷◌, refl, sym, ap, ◌∙◌, subst, arith}
 use Rattle.std.specs.List.{AllByRecursion}
 use Rattle.seg_spec.specs.Header.{free_word, back_start, back_size}
@@ -19,8 +20,8 @@ use Rattle.seg_spec.proofs.WriteInside.{tiles_kept, low_kept, KeptBut, live_kept
 use Rattle.seg_spec.proofs.Composing.{around_kept}
 use Rattle.seg_spec.proofs.Standing.{Frames, frames_twice, stands_after}
 
--- the heap is in order with these live blocks, of which the place, with the frozen objects that go with it, owns others than before, and
--- all around is kept
+-- the heap is well-formed with these allocated blocks, of which the place, with the frozen objects
+-- that go with it, owns others than before, and all around is kept
 pub record Leaves (allocator : ℕ) (old mid : List ℕ) (table : Table) (place : Place) (blocks others : List ℕ) (spans : List Span) : Type 0 where
   pub allocator_is : word old 16 ≡ allocator
   pub heap : IsHeap allocator mid
@@ -79,7 +80,7 @@ module _ (allocator : ℕ) (old mid : List ℕ) (table : Table) (place : Place) 
       let mine : 1 ≤ times l.home others = subst (λ x. 1 ≤ times x others) e some in
       omega (arith, l.owned l.home, times-same l.home others, live-once mid allocator l.heap l.home)
 
-  -- ---- bytes of one live block are written
+  -- ---- bytes of one allocated block are written
 
   module _ (new : List ℕ) (g at m : ℕ) (changes : ChangesOnly mid new at m) (within : IsInside mid g at m) (g_live : 1 ≤ times g (positions (live mid))) where
     but : (h : ℕ) → 1 ≤ times h (positions (live mid)) → KeptBut mid new at m changes allocator l.heap g within g_live h

@@ -9,11 +9,11 @@ use Rattle.seg_spec.proofs.CellOwed.{same_form}
 use Rattle.seg_spec.proofs.OneReading.{Opens-one}
 use Rattle.seg_seq.specs.Rings.{HasRing}
 
--- where the values of nodes stand
+-- the position of the values of nodes
 abbrev pub values_in : ℕ → List ℕ → List Place
 values_in U nodes = places_of U (map (λ p. p + 8) nodes)
 
--- where the value of a node stands
+-- the position of the value of a node
 abbrev pub value_in : ℕ → ℕ → Place
 value_in U p = record { at = p + 8; type = U }
 
@@ -83,7 +83,7 @@ module _ (bytes : List ℕ) (table : Table) (list : Place) (U : ℕ) (f : form_a
     pub holds_list : Holds bytes table list (Seq vs) blocks
     holds_list = holds (Form.list U) (opened_of l.nodes) vs l.owned f opens_list l.each refl l.blocks_are
 
-    -- a path from an item goes on from the value in its node
+    -- a path from an item continues from the value in its node
     pub leads_on : (i p : ℕ) (path : List Selector) (inner : Place) → slice_get l.nodes i ≡ Some p → Leads bytes table (value_in U p) path inner → Leads bytes table list (Selector.item i ∷ path) inner
     leads_on i p path inner e m = into (Form.list U) (opened_of l.nodes) i (value_in U p) f opens_list refl (value_at_index U l.nodes i p e) m
 

@@ -1,4 +1,4 @@
--- A list without one of its items, beside whichever frozen objects, and where paths from the others lead.
+-- A list without one of its items, for any frozen objects, and where paths from the others lead.
 use Rattle.std.proofs.Common.{◌≡◌, ℕ, zero, suc, ◌+◌, ◌-◌, ◌%◌, ◌^◌, ◌<◌, ◌≤◌, ⊎_elim, true, false, eqb, ltb, cond, List, [], ◌∷◌, ◌++◌, length, map, Option, Some, None, refl, sym, ap, ◌∙◌, subst, arith}
 use Rattle.std.specs.Prelude.{slice_get, option_to_list}
 use Rattle.std.specs.Option.{IfSome}
@@ -72,7 +72,7 @@ if_none P o e = subst (λ (p : Option ℕ). IfSome p P) (sym e) tt
 if_some : (P : ℕ → Type 0) (o : Option ℕ) (k : ℕ) → o ≡ Some k → P k → IfSome o P
 if_some P o k e h = subst (λ (p : Option ℕ). IfSome p P) (sym e) h
 
--- an item that is cleared beside whichever frozen objects
+-- an item that is cleared for any frozen objects
 abbrev pub Clears : ℕ → List ℕ → List ℕ → Table → Place → Type 0
 Clears allocator one two table place = (v : Value) (bs : List ℕ) (s : Stands allocator one table place v bs) →
     BesideShared one table (s.home ∷ bs) (named_in v) (ClearsPlace one two table place (default_of table place.type) bs [])

@@ -17,7 +17,7 @@ use Rattle.seg_seq.specs.Rings.{coupled, AreSpread, ChangesAt, HasRing, Relinks}
 use Rattle.seg_seq.proofs.Joins.{word_other, target_other, names, joined_next, joined_second, joined_length, linked_to, linked_beside, linked_append, linked_split, last_among, chain_end}
 use Rattle.seg_seq.proofs.Inserting.{spread_part, aligned_of, first_once, rest_once, not_among, changes_none, changes_word, changes_joined, nodes_kept, ring_recounted}
 
--- the cell of a ring with nodes names the first one
+-- the cell of a ring with nodes points to the first one
 pub ring_first : (bytes : List ℕ) (o : Option ℕ) (x : ℕ) (xs : List ℕ) → IsRing bytes o (x ∷ xs) → (o ≡ Some x) × IsLinked bytes x x xs
 ring_first bytes None x xs r = absurd r
 ring_first bytes (Some p) x xs r = (ap Some (sym r.0), subst (λ q. IsLinked bytes q x xs) (sym r.0) r.1)
@@ -106,7 +106,7 @@ module _ (bytes : List ℕ) (cell node x : ℕ) (xs after : List ℕ) (s : AreSp
   front_once : (h : ℕ) → times h (x ∷ xs) ≤ 1
   front_once h = let c = counts h in let o = all_once h in omega arith
 
-  -- the cell names the first one still, which is another one
+  -- the cell points to the first one still, which is another one
   names_other : target bytes cell ≢ Some node
   names_other e =
       let both : Some x ≡ Some node = sym first.0 ∙ e in

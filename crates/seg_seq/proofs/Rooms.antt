@@ -1,4 +1,4 @@
--- The buffer that a place names: where it lies, and how many entries it has.
+-- The buffer that a place points to: where it lies, and how many entries it has.
 use Rattle.std.proofs.Common.{◌≡◌, ◌≢◌, ℕ, ◌+◌, ◌*◌, ◌≤◌, true, List, [], ◌++◌, length, Some, None, refl, ap, ◌∙◌, arith}
 use Rattle.std.proofs.Math.Nat.{mul-one}
 use Rattle.seg_bytes.specs.Bytes.{slice, IsSame}

@@ -54,7 +54,7 @@ text_of table T (Some (Form.map U)) c k = absurd k
 text_of table T (Some (Form.own U)) c k = absurd k
 text_of table T (Some (Form.shared U)) c k = absurd k
 
--- a vector whose entries hold values of a type is one of that type
+-- a vector whose entries contain values of a type is one of that type
 pub vector_of : (table : Table) (T V : ℕ) (form : Option Form) (c : Content) → KindOf table T form (Ok (kind.Vector, c)) → c.entry.held ≡ held.Value V → form ≡ Some (Form.vec V)
 vector_of table T V (Some (Form.vec U)) c k h = let same : held.Value U ≡ held.Value V = sym k.entry_is.held_is ∙ h in let e : U ≡ V = cc in ap (λ n. Some (Form.vec n)) e
 vector_of table T V None c k h = absurd k

@@ -1,4 +1,5 @@
--- What is kept where 8 bytes change at each of several places in the payloads of live blocks: the heap, and all else.
+-- What is kept where 8 bytes change at each of several places in the payloads of allocated blocks:
+-- the heap, and all else.
 use Rattle.std.proofs.Common.{◌≡◌, ℕ, ◌+◌, ◌*◌, ◌%◌, ◌^◌, ◌≤◌, ◌⊎◌, inl, inr, true, false, List, [], ◌∷◌, length, sym, ap, ◌∙◌, subst, arith}
 use Rattle.std.proofs.lemmas.Bool.{false≢true}
 use Rattle.std.specs.List.{AllByRecursion}
@@ -16,14 +17,14 @@ use Rattle.seg_spec.proofs.HeapFrame.{IsHeap-kept, live-kept, IsOwnable-kept}
 use Rattle.seg_spec.proofs.WriteInside.{Spot, spots, each_free_tile}
 use Rattle.seg_seq.specs.Rings.{ChangesAt}
 
--- the 8 bytes at a place lie in the payload of a live block
+-- the 8 bytes at a place lie in the payload of an allocated block
 pub record HasHome (bytes : List ℕ) (p : ℕ) : Type 0 where
   pub home : ℕ
   pub inside : IsInside bytes home p 8
   pub home_live : 1 ≤ times home (positions (live bytes))
 
 module _ (allocator : ℕ) (old new : List ℕ) (places : List ℕ) (heap : IsHeap allocator old) (changes : ChangesAt old new places) (homes : AllByRecursion (HasHome old) places) where
-  -- what lies apart from the payload of each live block lies apart from each place
+  -- what lies apart from the payload of each allocated block lies apart from each place
   beside : (q m : ℕ) → ((h p : ℕ) → 1 ≤ times h (positions (live old)) → IsInside old h p 8 → Separate q m p 8) → IsSame old new q m
   beside q m f = changes.others q m (each_weaker (HasHome old) (λ p. Separate q m p 8) (λ p w. f w.home p w.home_live w.inside) places homes)
 
@@ -106,7 +107,7 @@ module _ (allocator : ℕ) (old new : List ℕ) (places : List ℕ) (heap : IsHe
   pub ownable_same : (table : Table) → AllByRecursion (λ b. IsOwnable old table b.at) (live old) → AllByRecursion (λ b. IsOwnable new table b.at) (live new)
   ownable_same table a = IsOwnable-kept old new allocator heap tiles_same table a
 
-  -- ---- one live block
+  -- ---- one allocated block
 
   module _ (x : ℕ) (some : 1 ≤ times x (positions (live old))) where
     pair : (h : ℕ) → 1 ≤ times h (positions (live old)) → OneOrApart old x h

@@ -100,7 +100,7 @@ module _ (allocator : ℕ) (old : Stored) (place : Place) (xs blocks : List ℕ)
   pub all_kept : (count : ℕ) → count ≡ count_at old.window.bytes place.at → take count xs ≡ xs
   all_kept count e = take_all count xs (omega (arith, counted_all count e))
 
--- a string whose cell names no buffer has no room for a byte
+-- a string whose cell points to no buffer has no room for a byte
 pub none_lacks : (allocator : ℕ) (old : Stored) (place : Place) (xs blocks : List ℕ) → HasText allocator old place xs blocks → NamesNone old.window.bytes place.at → LacksByte old place
 none_lacks allocator old place xs blocks t (inl e) =
     let none : units_named old.window.bytes place.at ≡ 0 = rw e refl in
@@ -110,7 +110,7 @@ none_lacks allocator old place xs blocks t (inr short) =
     let large = size_large old.types t.stands.is_table place.type in
     absurd (omega arith)
 
--- a string whose cell names a buffer has no more bytes than the segment
+-- a string whose cell points to a buffer has no more bytes than the segment
 pub counts_few : (allocator : ℕ) (old : Stored) (place : Place) (xs blocks : List ℕ) → HasText allocator old place xs blocks → (p : ℕ) → target old.window.bytes place.at ≡ Some p → count_at old.window.bytes place.at < 2 ^ 31
 counts_few allocator old place xs blocks t p e =
     let fits : p + count_at old.window.bytes place.at ≤ length old.window.bytes = rw mul-one at (entries_fit allocator old.window.bytes old.types place Form.str (Text xs) blocks t.form_is refl t.stands p e) in
@@ -122,7 +122,7 @@ pub one_byte : (bytes : List ℕ) (at x : ℕ) → x < 256 → set_byte bytes at
 unfolding set_number
 one_byte bytes at x small = let same : x % 256 ≡ x = omega arith in ap (λ y. put bytes at (y ∷ [])) same
 
--- what a string's buffer holds
+-- what a string's buffer contains
 pub text_entry : (table : Table) (T : ℕ) (content : Content) → form_at table T ≡ Some Form.str → NamesBuffer table T content → content.entry.held ≡ Bytes
 text_entry table T content f n = let c = rw f at n.0 in c.held_is
 

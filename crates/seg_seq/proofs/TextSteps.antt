@@ -54,7 +54,7 @@ no_length : (xs : List ℕ) → length xs ≡ 0 → xs ≡ []
 no_length [] e = refl
 no_length (x ∷ xs) e = absurd (omega (arith, e))
 
--- what a string holds that names the same buffer as before
+-- what a string contains that points to the same buffer as before
 holds_text : (old new : List ℕ) (table : Table) (place : Place) (others ys : List ℕ) → form_at table place.type ≡ Some Form.str → others ≡ named old place.at ++ [] → target new place.at ≡ target old place.at
     → NamesRoom new place.at (tag_of Kind.buffer place.type) 1 → ys ≡ slice new (start new place.at) (count_at new place.at) → Holds new table place (Text ys) others
 holds_text old new table place others ys f own names room text =

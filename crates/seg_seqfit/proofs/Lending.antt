@@ -16,12 +16,12 @@ lent_keeps old lent xs same is =
     let written = lent_same old xs (same ∙ ap length is) in
     written ∙ ap (λ (p : Placement). with_bytes old p.bytes) (sym written)
 
--- a gap is taken: these tiles stand in its place
+-- a gap is taken: these tiles are in its place
 abbrev pub TakesGap : List ℕ → List ℕ → ℕ → ℕ → ℕ → Option ℕ → List Tile → Type 0
 TakesGap old new link at u next ns = (xs ys : List Tile) → link ≡ link_past 24 xs → next ≡ link_at old at → IsTiling 0 old (xs ++ tile at u false ∷ ys)
     → Retiles 0 old new xs ns ys × (link_at new at ≡ None)
 
--- tiles become a gap that a pointer word names
+-- tiles become a gap that a pointer word points to
 abbrev pub PutsIn : List ℕ → List ℕ → ℕ → ℕ → ℕ → Option ℕ → Type 0
 PutsIn old new link at u next = (xs ms ys : List Tile) (t : Tile) → link ≡ link_past 24 xs → IsTiling 0 old (xs ++ ((t ∷ ms) ++ ys)) → Fill at (t ∷ ms) (at + 16 * u)
     → next ≡ target old (link_past link (t ∷ ms)) → Retiles 0 old new xs (tile at u false ∷ []) ys

@@ -104,14 +104,14 @@ names_tile bytes (s ∷ ts) p from to t aligned f l e =
     same : Some t ≡ Some (s.at + 16) → t ≡ s.at + 16
     same h = cc
 
--- ---- a live tile lies beside the pointer word after the tiles
+-- ---- an allocated tile lies beside the pointer word after the tiles
 
 beside_own : (ts : List Tile) (p from to : ℕ) (t : Tile) (b : Span) → p + 4 ≤ from → t.at ≡ from → Fill (from + 16 * t.units) ts to → span_of t ≡ b → (end_of b ≤ link_past p ts) ⊎ (link_past p ts + 4 ≤ b.at)
 beside_own ts p from to t b low at_is f e =
     subst (λ (s : Span). (end_of s ≤ link_past p ts) ⊎ (link_past p ts + 4 ≤ s.at)) e
     (⊎_elim (λ is. inr (omega arith)) (λ above. inl (omega arith)) (link_past-cases ts p (from + 16 * t.units) to f))
 
--- a live tile lies beside the pointer word after the tiles
+-- an allocated tile lies beside the pointer word after the tiles
 pub live_beside_link : (ts : List Tile) (p from to : ℕ) (b : Span) → p + 4 ≤ from → Fill from ts to → Contains (live_of ts) b → (end_of b ≤ link_past p ts) ⊎ (link_past p ts + 4 ≤ b.at)
 live_beside_link [] p from to b low f (n, k, e) = absurd (omega arith)
 live_beside_link (t ∷ ts) p from to b low f c =

@@ -45,7 +45,7 @@ passed_first bytes xs ys at u l was =
 
 -- ---- down the tiles
 
--- the tiles from this one up to the tiles xs are live
+-- the tiles from this one up to the tiles xs are allocated
 pub record IsNear (bytes : List ℕ) (xs : List Tile) (near : Block) : Type 0 where
   pub before : List Tile
   pub following : List Tile

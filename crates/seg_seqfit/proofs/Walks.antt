@@ -37,7 +37,7 @@ first_fit-passed g gs u h = rw (leb_no u g.units h) refl
 first_fit-here : (g : Span) (gs : List Span) (u : ℕ) → u ≤ g.units → first_fit (g ∷ gs) u ≡ Some g
 first_fit-here g gs u h = rw (le-leb u g.units h) refl
 
--- a walk reads the position of what a pointer word names: nothing, or a free block from low on
+-- a walk reads the position of what a pointer word points to: nothing, or a free block from low on
 abbrev pub Reads : List ℕ → ℕ → ℕ → ℕ → Type 0
 Reads bytes link low at =
     (target bytes link ≡ None → ⊥) × ((g : Span) → target bytes link ≡ Some (g.at + 16) → IsSized bytes g → low ≤ g.at → at ≡ g.at)
@@ -58,7 +58,8 @@ some_is false n p e = cc
 one_is : (n : ℕ) → (n == 1) ≡ true → n ≡ 1
 one_is n e = grind (arith, nat_tests)
 
--- the block that is named by the link of a block at a position, where the link holds this distance
+-- the block that is pointed to by the link of a block at a position, where the link contains this
+-- distance
 abbrev pub led : ℕ → ℕ → ℕ
 led at distance = ((at + distance) % 2 ^ 32 + (2 ^ 32 - 4)) % 2 ^ 32
 
@@ -76,7 +77,7 @@ led_to bytes at distance p is named =
     let same = some_is (d == 1) ((at + 12 + d) % 2 ^ 32) (p + 16) named in
     omega (arith, is, same)
 
--- what a pointer word leads to: the position of what it names from low on
+-- what a pointer word leads to: the position of what it points to from low on
 pub record Follows (bytes : List ℕ) (link low : ℕ) (next : Option ℕ) : Type 0 where
   pub none : target bytes link ≡ None → next ≡ None
   pub named : (p : ℕ) → target bytes link ≡ Some (p + 16) → low ≤ p → next ≡ Some p
@@ -187,7 +188,7 @@ end bytes gs (g ∷ rest) u link low reads first_is links blocks = absurd (reads
 pub searched_end : (bytes : List ℕ) (gs : List Span) (u link low : ℕ) → ReadsNone bytes link low → IsSearched bytes gs u link low → first_fit gs u ≡ None
 searched_end bytes gs u link low reads s = end bytes gs s.rest u link low reads s.first_is s.links s.blocks
 
--- where such a walk stands
+-- the state of such a walk
 pub record IsSearching (bytes : List ℕ) (gs : List Span) (u link : ℕ) (next : Option ℕ) : Type 0 where
   pub low : ℕ
   pub searched : IsSearched bytes gs u link low
@@ -249,7 +250,7 @@ pub passed_end : (bytes : List ℕ) (seen rest : List Span) (block link low : �
     → IsPassed bytes seen rest block link low → link ≡ link_after 24 seen
 passed_end bytes seen rest block link low never p = stop bytes seen rest p.done p.todo block link low never p.parts p.link_is p.links p.blocks p.below
 
--- where such a walk stands
+-- the state of such a walk
 pub record IsPassing (bytes : List ℕ) (seen rest : List Span) (block link : ℕ) (next : Option ℕ) : Type 0 where
   pub low : ℕ
   pub passed : IsPassed bytes seen rest block link low

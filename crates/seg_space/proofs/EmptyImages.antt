@@ -58,7 +58,7 @@ pub few_kinds_of : (i : IndexKind) → word_of_kind i ≤ 1
 few_kinds_of kinds.Flat = omega arith
 few_kinds_of kinds.Tree = omega arith
 
--- the words of the first types name nothing
+-- the words of the first types point to nothing
 pub one_more_null : (first old new : List ℕ) (t : ℕ) → ChangesOnly first old uniques_start uniques_size → t < 32 → new ≡ set_pointer old (unique_word t) None
     → (heap_start ≤ length first → (T : ℕ) → T < t → target old (unique_word T) ≡ None)
     → ChangesOnly first new uniques_start uniques_size × (heap_start ≤ length first → (T : ℕ) → T < t + 1 → target new (unique_word T) ≡ None)
@@ -113,7 +113,7 @@ module _ (len allocator kind : ℕ) (old zeros magic version units with_allocato
       let part : slice (slice zeros 0 len) p n ≡ slice zeros p n = slice-slice zeros 0 len p n fits ∙ ap (λ q. slice zeros q n) from in
       sym part ∙ ap (λ b. slice b p n) whole ∙ zeros_sliced len p n fits
 
-  -- what a step wrote stands in the end
+  -- what a step wrote is in the end
   from_kind : (p n : ℕ) → p + n ≤ 32 → IsSame with_kind empty p n
   from_kind p n l = c6.others p n (inl l)
 
@@ -138,7 +138,8 @@ module _ (len allocator kind : ℕ) (old zeros magic version units with_allocato
   long_enough : min_length ≤ len
   long_enough = sized.not_small
 
-  -- what holds of the bytes before the words of the unique objects, and of the pointer to the free structure
+  -- what is true of the bytes before the words of the unique objects, and of the pointer to the
+  -- free structure
   pub record Front (bytes : List ℕ) : Type 0 where
     pub magic_there : slice bytes 0 8 ≡ codes "SEGIMAGE"
     pub version_there : word bytes version_word ≡ sharing_version

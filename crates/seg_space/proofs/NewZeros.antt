@@ -18,7 +18,7 @@ use Rattle.seg_space.specs.Sizes.{used_front}
 use Rattle.seg_space.proofs.KeptOrder.{KeepsOrder, order_live, order_heap}
 use Rattle.seg_space.proofs.ZeroedGaps.{free_before, tiles_after}
 
--- what holds of the live tiles and of the free ones holds of each
+-- what is true of the allocated tiles and of the free ones is true of each
 each_tile : (P : Span → Type 0) (ts : List Tile) → AllByRecursion P (live_of ts) → AllByRecursion P (free_of ts) → AllByRecursion (λ t. P (span_of t)) ts
 each_tile P [] l f = tt
 each_tile P (t ∷ ts) l f =

@@ -1,4 +1,4 @@
--- A segment whose heap ends elsewhere holds its picture still.
+-- A segment whose heap ends elsewhere still contains its picture.
 use Rattle.std.proofs.Common.{◌≡◌, ◌≢◌, ℕ, suc, ◌+◌, ◌-◌, ◌*◌, ◌/◌, ◌%◌, ◌<◌, ◌≤◌, ◌⊎◌, inl, inr, ◌&&◌, true, false, eqb, List, [], ◌∷◌, ◌++◌, length, replicate, take, drop, cond, refl, sym, ap, ◌∙◌, subst, arith}
 use Rattle.std.specs.Prelude.{Contains, slice_index_or}
 use Rattle.std.specs.List.{AllByRecursion}
@@ -36,7 +36,7 @@ slice_front bytes len p n fits = slice-slice bytes 0 len p n fits ∙ ap (λ q. 
 
 -- ---- blocks that are no smaller
 
--- each block stands where it stood, and is no smaller
+-- each block doesn't move, and is no smaller
 abbrev NoSmaller : List Span → List Span → Type 0
 NoSmaller [] [] = Rattle.std.specs.Prelude.⊤
 NoSmaller [] (c ∷ cs) = ⊥
@@ -74,7 +74,8 @@ each_of P (b ∷ bs) f = (f b (0, omega arith, refl), each_of P bs (λ c h. f c 
 
 -- ---- the picture
 
--- new bytes with the header, the index's cell, the tables and the live blocks of the old ones, and a heap in order
+-- new bytes with the header, the index's cell, the tables and the allocated blocks of the old ones,
+-- and a heap in order
 pub record Resized (old new : List ℕ) : Type 0 where
   pub long : IsImageLength (length new)
   pub front : IsSame old new 0 units_word

@@ -28,7 +28,7 @@ first_sized bytes at t ts r =
 pub next_rest : (bytes : List ℕ) (at : ℕ) (t : Tile) (ts : List Tile) → Rest bytes at (t ∷ ts) → Rest bytes (at + 16 * t.units) ts
 next_rest bytes at t ts r = let a = r.aligned in record { aligned = omega arith; fill = r.fill.2; before = t.units; headers = r.headers.1 }
 
--- what a walk reads where it stands
+-- what a walk reads at its position
 pub record Reads (bytes : List ℕ) (at units : ℕ) (ts : List Tile) : Type 0 where
   pub tile : Tile
   pub others : List Tile
@@ -165,7 +165,7 @@ same_test l n e = grind (arith, nat_tests)
 test_same : (l n : ℕ) → l ≡ n → eqb l n ≡ true
 test_same l n e = grind (arith, nat_tests)
 
--- the largest gap is the whole heap where nothing is live
+-- the largest gap is the whole heap where nothing is allocated
 pub one_gap : (allocator : ℕ) (bytes : List ℕ) (largest size : ℕ) → IsHeap allocator bytes → largest ≡ largest_of (gaps bytes) → size ≡ length bytes - heap_start → (eqb largest size ≡ true) ↔ (live bytes ≡ [])
 unfolding live
 one_gap allocator bytes largest size heap largest_is size_is =

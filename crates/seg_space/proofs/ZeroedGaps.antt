@@ -177,7 +177,7 @@ all_beside (t ∷ ts) from to f =
       | false ↦ (λ e. ((inl (e, refl), mine), both))
     ] refl
 
--- what holds of each tile, said of the live ones
+-- what is true of each tile, said of the allocated ones
 each_live_tile : (P : Tile → Type 0) (Q : Span → Type 0) → ((t : Tile) → t.live ≡ true → P t → Q (span_of t)) → (ts : List Tile) → AllByRecursion P ts → AllByRecursion Q (live_of ts)
 each_live_tile P Q f [] a = tt
 each_live_tile P Q f (t ∷ ts) a =
@@ -258,7 +258,7 @@ module _ (a : ℕ) (old new : List ℕ) (heap : IsHeap a old) (few : a ≤ 1) (z
   pub heap_same : IsHeap a new
   heap_same = order_heap a old new heap kept_order
 
-  -- a live block with its header
+  -- an allocated block with its header
   record LiveSame (b : Span) : Type 0 where
     first : IsSame old new b.at (16 * b.units)
     two : 2 ≤ b.units

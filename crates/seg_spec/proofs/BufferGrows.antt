@@ -1,4 +1,4 @@
--- A place where calls find it, after a block that it owns got more units where it stands.
+-- A place where calls find it, after a block that it owns got more units in place.
 use Rattle.std.proofs.Common.{◌≡◌, ◌≢◌, ℕ, ◌≤◌, ◌⊎◌, inl, inr, List, ◌∷◌, length, refl, sym, ap, ◌∙◌, subst, arith}
 use Rattle.std.specs.Prelude.{Contains}
 use Rattle.std.proofs.lemmas.Bool.{cases_eq}
@@ -28,7 +28,7 @@ module _ (allocator : ℕ) (old : List ℕ) (table : Table) (place : Place) (v :
   pub one_size : (b : Span) → Contains (live old) b → b.at ≡ at → b.units ≡ x
   one_size b c e = sym (states b c).units_is ∙ ap (units_at old) e ∙ (states (span at x) it).units_is
 
-  -- each live block is there again, with no fewer units
+  -- each allocated block is there again, with no fewer units
   record Again (h : ℕ) : Type 0 where
     whole : KeepsBlock old new h
     ownable : IsOwnable new table h

@@ -1,5 +1,5 @@
--- A buffer that moves to a new block, step by step: the block gets its tag, the entries move there, the cell names it, and the
--- old block is given back.
+-- A buffer that moves to a new block, step by step: the block gets its tag, the entries move there,
+-- the cell points to it, and the old block is freed.
 use Rattle.std.proofs.Common.{◌≡◌, ◌≢◌, ℕ, ◌+◌, ◌-◌, ◌*◌, ◌%◌, ◌^◌, ◌<◌, ◌≤◌, inr, true, List, [], ◌∷◌, ◌++◌, length, Option, Some, None, option_to_list, option_map, MatchOption, refl, sym, ap, ◌∙◌, subst, arith}
 use Rattle.std.specs.Prelude.{Contains}
 use Rattle.seg_bytes.specs.Bytes.{set_word, IsSame, ChangesOnly}
@@ -109,7 +109,7 @@ module _ (allocator : ℕ) (old taken : List ℕ) (table : Table) (place : Place
   owned_too : (h : ℕ) → 1 ≤ times h its.owned → 1 ≤ times h blocks
   owned_too h some = rw its.blocks_are (omega (arith, times-append h (named tagged place.at) its.owned))
 
-  -- the entries lie in the segment, where they stand and where they go
+  -- the entries lie in the segment, where they are and where they go
   pub from_within : (p : ℕ) → target tagged place.at ≡ Some p → IsWithin tagged p (n * each)
   from_within p e =
       let room : IsBlock tagged p (tag_of Kind.buffer place.type) (n * each) = rw e at its.room in
@@ -176,7 +176,7 @@ module _ (allocator : ℕ) (old taken : List ℕ) (table : Table) (place : Place
     cell_same : IsSame tagged moved place.at 8
     cell_same = let large = size_large table s.is_table place.type in IsSame-part tagged moved place.at (size table place.type) place.at 8 (omega arith) (omega arith) moved_place
 
-    -- ---- the cell names the new block
+    -- ---- the cell points to the new block
 
     abbrev pub pointed : List ℕ
     pointed = set_pointer moved place.at (Some (g + 16))
@@ -265,7 +265,7 @@ module _ (allocator : ℕ) (old taken : List ℕ) (table : Table) (place : Place
         (written_frames allocator moved table place v blocks moved_stands pointed cell_changes v (g ∷ its.owned) pointed_holds pointed_owned) (λ h some none. refl))
         (λ h some none. times-other h g [] (g_new h some))
 
-    -- ---- and the old block is given back
+    -- ---- and the old block is freed
 
     old_named : named tagged place.at ≡ named old place.at
     old_named = ap (λ o. option_to_list (option_map block_of o)) old_target

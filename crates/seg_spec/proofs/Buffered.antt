@@ -1,4 +1,4 @@
--- What a place holds whose type has a buffer, apart from where the buffer is.
+-- What a place contains whose type has a buffer, apart from where the buffer is.
 use Rattle.std.proofs.Common.{◌≡◌, ℕ, zero, suc, ◌+◌, ◌*◌, ◌%◌, ◌≤◌, ◌⊎◌, inl, inr, true, List, [], ◌∷◌, ◌++◌, length, map, Some, refl, sym, ap, ◌∙◌, subst, arith}
 use Rattle.std.proofs.Math.Nat.{mul-one, mul-le-mul_right}
 use Rattle.std.specs.List.{AllByRecursion}
@@ -90,7 +90,7 @@ module _ (bytes : List ℕ) (table : Table) where
       let same = same_form g form (sym e ∙ f) in
       buffered_by place form v blocks opened inside owned b (subst (λ h. Opens bytes table place h opened) same o) hs v_is blocks_is
 
-  -- what holds such entries
+  -- what contains such entries
   pub holds_buffered : (place : Place) (form : Form) (v : Value) (owned : List ℕ) → form_at table place.type ≡ Some form → has_buffer (Some form) ≡ true →
       NamesRoom bytes place.at (tag_of Kind.buffer place.type) (item_size table form) → HoldsEntries bytes table form (start bytes place.at) (count_at bytes place.at) v owned →
       Holds bytes table place v (named bytes place.at ++ owned)
@@ -154,7 +154,7 @@ keys_there old new each a b (suc k) f =
         rw (here, there) e
 
 module _ (old new : List ℕ) (table : Table) (valid : IsTable table) (from to n : ℕ) where
-  -- the keys stand where the entries do
+  -- the keys move with their entries
   moved_keys : (U : ℕ) → Shifts old new table 8 U (8 + size table U) from to n → from + n * (8 + size table U) ≤ length old → to + n * (8 + size table U) ≤ length old
       → keys_at new (spaced to (8 + size table U) n) ≡ keys_at old (spaced from (8 + size table U) n)
   moved_keys U s from_in to_in = keys_there old new (8 + size table U) to from n (λ j l. one j l)
@@ -244,7 +244,7 @@ slice_none : (bytes : List ℕ) (at : ℕ) → slice bytes at 0 ≡ []
 unfolding slice
 slice_none bytes at = refl
 
--- no entries stand anywhere
+-- no entries are anywhere
 pub entries_none : (bytes : List ℕ) (table : Table) (form : Form) (at to : ℕ) (v : Value) (owned : List ℕ) → HoldsEntries bytes table form at 0 v owned → HoldsEntries bytes table form to 0 v owned
 entries_none bytes table Form.i64 at to v owned e = absurd e
 entries_none bytes table (Form.list U) at to v owned e = absurd e

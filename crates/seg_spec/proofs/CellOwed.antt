@@ -1,4 +1,5 @@
--- What a cell names shows by itself what goes with it, once the rest of a buffer names nothing and a ring is open.
+-- What a cell points to shows what is freed with it, once the rest of a buffer points to nothing
+-- and a ring is open.
 use Rattle.std.proofs.Common.{◌≡◌, ◌≢◌, ℕ, zero, suc, ◌+◌, ◌-◌, ◌*◌, ◌/◌, ◌%◌, ◌^◌, ◌<◌, ◌≤◌, ◌⊎◌, inl, inr, ⊎_elim, true, List, [], ◌∷◌, ◌++◌, length, map, Option, Some, None, MatchOption, option_to_list, option_map, unwrap_or, refl, sym, ap, ◌∙◌, subst, arith}
 use Rattle.std.specs.Prelude.{nat_le}
 use Rattle.std.specs.List.{AllByRecursion}
@@ -26,7 +27,7 @@ use Rattle.seg_spec.proofs.Destruction.{others_more, no_common, heap_written, pa
 use Rattle.seg_spec.proofs.PartsOwed.{each_parts, parts_append, named_inside}
 use Rattle.seg_spec.specs.Shared.{named_in, named_each}
 
--- ---- the headers of live blocks, where one payload is written
+-- ---- the headers of allocated blocks, where one payload is written
 
 module _ (allocator : ℕ) (old new : List ℕ) (at m h : ℕ) (heap : IsHeap allocator old) (inside : IsInside old h at m) (owned : 1 ≤ times h (positions (live old))) (changes : ChangesOnly old new at m) where
   pub units_then : (x : ℕ) → 1 ≤ times x (positions (live old)) → units_at new x ≡ units_at old x
@@ -72,7 +73,7 @@ module _ (bytes : List ℕ) (table : Table) (place : Place) (p : ℕ) (e : targe
         owed_are = λ h. let n = times-append h owned [] in let f : times h xs ≡ times h (block_of p ∷ owned) = ap (times h) (is ∙ ap (λ bs. bs ++ owned) blocks) in omega arith;
       }
 
-  -- what a value names, where its label is known
+  -- what a value points to, where its label is known
   inside_names : (v : Value) (opened : Opened) (inside : Values) (label : Label) → v ≡ node opened.label inside → opened.label ≡ label → ((T q : ℕ) → label ≢ Label.shared T q) → named_each inside ≡ named_in v
   inside_names v opened inside label v_is e other = sym (ap named_in v_is ∙ ap (λ l. named_in (node l inside)) e ∙ named_inside label inside other)
 
@@ -134,7 +135,7 @@ module _ (bytes : List ℕ) (table : Table) (place : Place) (p : ℕ) (e : targe
       let o' : Opens bytes table place Form.str opened = subst (λ h. Opens bytes table place h opened) same o in
       subst (GoesWith bytes table p xs) (inside_names v opened inside _ v_is (ap (λ (r : Opened). r.label) o'.opened_is) (λ T q e. cc)) (text_by f opened _ inside owned xs o' refl refl hs is)
 
--- ---- a buffer of values, the rest of which names nothing
+-- ---- a buffer of values, the rest of which points to nothing
 
 spaced_append : (at step n k : ℕ) → spaced at step (n + k) ≡ spaced at step n ++ spaced (at + n * step) step k
 spaced_append at step zero k = let z : 0 + k ≡ k = omega arith in let a : at + 0 * step ≡ at = omega arith in rw (z, a) refl

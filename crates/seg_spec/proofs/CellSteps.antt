@@ -436,7 +436,7 @@ spaced_push at step (suc i) =
     rw (two, ← further) (ap (λ ps. at ∷ ps) (spaced_push (at + step) step i))
 
 module _ (R : List ℕ → List ℕ → ℕ → Option Form → Type 0) (local : IsLocal R) (table : Table) (valid : IsTable table) (T before each : ℕ) (fits : before + size table T ≤ each) where
-  -- where the values of entries begin
+  -- the position of the values of entries
   abbrev pub value_positions : ℕ → ℕ → List ℕ
   value_positions start k = map (λ p. p + before) (spaced start each k)
 

@@ -1,4 +1,4 @@
--- No frozen object is named more often than a segment has bytes: each shared cell stands in bytes of its own.
+-- No frozen object is named more often than a segment has bytes: each shared cell is in bytes of its own.
 use Rattle.std.proofs.Common.{◌≡◌, ℕ, suc, ◌+◌, ◌*◌, ◌≤◌, true, false, List, [], ◌∷◌, ◌++◌, length, map, Option, Some, None, option_to_list, option_map, MatchOption, sum_by, cond, eqb, refl, sym, ap, ◌∙◌, subst, arith}
 use Rattle.std.specs.List.{AllByRecursion}
 use Rattle.std.proofs.Math.Nat.{mul-le-mul_left}
@@ -33,7 +33,7 @@ room_append : (room : ℕ → ℕ) (xs ys : List ℕ) → room_of room (xs ++ ys
 room_append room [] ys = omega arith
 room_append room (x ∷ xs) ys = omega (arith, room_append room xs ys)
 
--- blocks that stand in a list no less often have no less room
+-- blocks that occur in a list no less often have no less room
 room_more : (room : ℕ → ℕ) (xs ys : List ℕ) → ((h : ℕ) → times h xs ≤ times h ys) → room_of room xs ≤ room_of room ys
 room_more room [] ys o = omega arith
 room_more room (x ∷ xs) ys o =
@@ -47,7 +47,7 @@ room_more room (x ∷ xs) ys o =
     let whole : room_of room ys ≡ room_of room (r.left ++ x ∷ r.right) = ap (room_of room) r.is in
     omega (arith, room_append room r.left (x ∷ r.right), room_append room r.left r.right)
 
--- ---- what live blocks have in a heap
+-- ---- what allocated blocks have in a heap
 
 -- the bytes of a block, by its header
 bytes_at : List ℕ → ℕ → ℕ
@@ -72,7 +72,7 @@ all_room : (allocator : ℕ) (bytes : List ℕ) → IsHeap allocator bytes → r
 unfolding live
 all_room allocator bytes heap = let l = live_room bytes (tiles bytes) heap_start (length bytes) 0 heap.filled heap.headers in omega arith
 
--- ---- the cells that name objects in a value
+-- ---- the cells that point to objects in a value
 
 -- how many objects a label names by itself
 abbrev own_names : Label → ℕ
@@ -120,7 +120,7 @@ module _ (bytes : List ℕ) (table : Table) (valid : IsTable table) where
   named_has None tag n each e = rw e (omega arith)
   named_has (Some p) tag n each b = omega (arith, block_has bytes p tag (n * each) b)
 
-  -- places in a buffer that a cell names
+  -- places in a buffer that a cell points to
   buffer_has : (U : ℕ) (ps : List ℕ) (o : Option ℕ) (tag n each : ℕ) → length ps ≡ n → size table U ≤ each → MatchOption o (n ≡ 0) (λ p. IsBlock bytes p tag (n * each))
       → width (places_of U ps) ≤ room (option_to_list (option_map block_of o))
   buffer_has U ps o tag n each long le b =
@@ -134,7 +134,8 @@ module _ (bytes : List ℕ) (table : Table) (valid : IsTable table) where
   nodes_have tag more U f [] a = omega arith
   nodes_have tag more U f (p ∷ ps) a = omega (arith, block_has bytes p tag (more + size table U) a.0, nodes_have tag more U f ps a.1)
 
-  -- the cell itself, and the blocks that it names, have room for the places inside and for a name
+  -- the cell itself, and the blocks that it points to, have room for the places inside and for a
+  -- name
   abbrev HasRoom : ℕ → Opened → Type 0
   HasRoom n opened = own_names opened.label + width opened.parts ≤ n + room opened.blocks
 
@@ -197,7 +198,7 @@ module _ (bytes : List ℕ) (table : Table) (valid : IsTable table) where
 
 -- ---- the cells of a picture
 
--- no name stands there more often than there are names
+-- no name occurs there more often than there are names
 few_named : (p : ℕ) (qs : List Place) → times_named p qs ≤ length qs
 few_named p [] = omega arith
 few_named p (q ∷ qs) =
@@ -228,7 +229,7 @@ all_cells picture =
       cells_beside picture.loose frozen,
     )
 
--- the blocks of the roots are live, and none stands there twice
+-- the blocks of the roots are allocated, and none occurs there twice
 cells_fit : (bytes : List ℕ) (picture : Picture) → IsHeld bytes picture → length (cells_in (roots_of picture)) ≤ length bytes
 cells_fit bytes picture held =
     let cells = roots_room bytes picture.table held.laid_out.is_table held.roots in

@@ -1,4 +1,4 @@
--- The frozen objects of a picture, counted where a part of a root changes: what stands beside the part, and what is left of them.
+-- The frozen objects of a picture, counted where a part of a root changes: what is beside the part, and what is left of them.
 use Rattle.std.proofs.Common.{◌≡◌, ℕ, zero, suc, ◌+◌, ◌<◌, ◌≤◌, ℤ, List, [], ◌∷◌, ◌++◌, length, map, get_or, Option, Some, None, option_and_then, refl, sym, ap, ◌∙◌, subst, append_assoc, arith, pos}
 use Rattle.std.specs.List.{AllByRecursion}
 use Rattle.std.proofs.lemmas.List.{append-nil}
@@ -82,7 +82,7 @@ names_first xs ys zs = names_then (names_same (sym (append_assoc xs ys zs))) (na
 pub names_counted : (next : ℕ) (fs : List Frozen) {xs ys : List Place} → SameNames xs ys → IsCounted next fs xs → IsCounted next fs ys
 names_counted next fs {xs = xs} {ys = ys} same c = counted_by next fs xs ys same.counts (same.below next fs c.named) c
 
--- ---- defaults name nothing
+-- ---- defaults point to nothing
 
 abbrev NamesNone : Value → Type 0
 NamesNone v = names_in v ≡ []
@@ -262,7 +262,8 @@ module _ (root : Root) (j : ℕ) (item : Value) (item_is : nth root.values j ≡
           falling = subst IsFalling (sym frozen) (falling_left gone picture.frozen c.falling);
         }
 
-    -- where the part is another value, whose cells name objects that are there: they were counted, and what it named was released
+    -- where the part is another value, whose cells point to objects that are there: they were
+    -- counted, and what it named was released
     pub counted_shared : (w : Value) → AllByRecursion (IsBelow next picture.frozen) (names_in w) → (other : Picture) → owners_in other ≡ before ++ with_item root j (with_value_at path w) ∷ after
         → other.frozen ≡ left (names_in v) (raised_by (names_in w) picture.frozen) → AreCounted next other
     counted_shared w below other owners frozen =
@@ -273,11 +274,11 @@ module _ (root : Root) (j : ℕ) (item : Value) (item_is : nth root.values j ≡
           falling = subst IsFalling (sym frozen) r.0;
         }
 
-    -- where it names what it named
+    -- where it points to what it named
     pub counted_still : (w : Value) → SameNames (names_in v) (names_in w) → (other : Picture) → owners_in other ≡ before ++ with_item root j (with_value_at path w) ∷ after → other.frozen ≡ picture.frozen → AreCounted next other
     counted_still w same other owners frozen = counted_then [] w same other owners (frozen ∙ sym (none_gone picture.frozen c.counted.some))
 
-    -- what stands beside blocks of the root, where the part gives up cells with these names
+    -- what is beside blocks of the root, where the part gives up cells with these names
     module _ (bytes : List ℕ) (held : IsHeld bytes picture) where
       abbrev beside_root : OwnerBeside bytes picture held before root after
       beside_root = owner_beside next bytes picture held before root after split c
@@ -300,7 +301,7 @@ module _ (root : Root) (j : ℕ) (item : Value) (item_is : nth root.values j ≡
             };
           }
 
--- ---- a call on a place that gives up cells, or names other objects, with what is left of the frozen objects
+-- ---- a call on a place that gives up cells, or names other objects, with the frozen objects that stay
 
 module _ (bytes new : List ℕ) (picture : Picture) (held : IsHeld bytes picture) (which : Listed) (before : List Root) (root : Root) (after : List Root) (among : roots_in picture which ≡ before ++ root ∷ after)
     (j : ℕ) (within : j < count root.values) (path : List Selector) (q : Place) (leads : Leads bytes picture.table (item_of picture.table root j) path q)
@@ -377,7 +378,7 @@ module _ (bytes new : List ℕ) (picture : Picture) (held : IsHeld bytes picture
             omega (arith, all, right, frozen_too, own_too, apart.blocks_are h, times-append h o.left (o.its ++ o.right), times-append h o.its o.right, times-append h s.left s.right);
       }
 
-  -- paths beside the place lead where they led
+  -- paths beside the place still reach the same places
   pub cleared_paths : KeepsPathsBeside bytes new picture.table root j path × AllByRecursion (KeepsPaths bytes new picture.table) (front ++ back)
   cleared_paths =
       let o = others_kept in

@@ -250,7 +250,7 @@ counted_apart next picture before root after split c =
     (counted_first next picture.frozen (cells_in before) (names_each root.values) (cells_in after)
     (subst (IsCounted next picture.frozen) (ap cells_in split ∙ cells_append before (root ∷ after)) c.counted))
 
--- the frozen objects count the cells that name them again
+-- the frozen objects count the cells that point to them again
 pub counted_without : (next : ℕ) (picture other : Picture) (before : List Root) (root : Root) (after : List Root) → owners_in picture ≡ before ++ root ∷ after → owners_in other ≡ before ++ after → other.frozen ≡ picture.frozen
     → AreCounted next picture → AreCounted next (without_cells (names_each root.values) other)
 counted_without next picture other before root after split others same c =
@@ -261,7 +261,7 @@ counted_without next picture other before root after split others same c =
       falling = subst (λ fs. IsFalling (left gone fs)) (sym same) (falling_left gone picture.frozen c.falling);
     }
 
--- and where the root stands elsewhere
+-- and where the root is elsewhere
 pub counted_elsewhere : (next : ℕ) (picture other : Picture) (before after others_before others_after : List Root) (root : Root) → owners_in picture ≡ before ++ root ∷ after → owners_in other ≡ others_before ++ root ∷ others_after
     → before ++ after ≡ others_before ++ others_after → other.frozen ≡ picture.frozen → AreCounted next picture → AreCounted next other
 counted_elsewhere next picture other before after others_before others_after root split others same frozen c =
@@ -280,7 +280,7 @@ owners_first picture before root after split =
     let regrouped : roots_of picture ≡ owners_in picture ++ frozen_roots picture = simp append_assoc in
     regrouped ∙ ap (λ rs. rs ++ frozen_roots picture) split ∙ simp (append_assoc, append-nil)
 
--- what stands beside a root where its values are destroyed
+-- what is beside a root where its values are destroyed
 pub record OwnerBeside (bytes : List ℕ) (picture : Picture) (held : IsHeld bytes picture) (before : List Root) (root : Root) (after : List Root) : Type 0 where
   pub apart : StretchesComeApart bytes picture held before (root ∷ []) after (frozen_roots picture) []
   pub theirs : ℕ → List ℕ

@@ -59,7 +59,7 @@ others_twice a b c xs ys zs f k l = record {
 pub others_more : (a b xs zs : List ℕ) → ((h : ℕ) → times h zs ≡ 0 → times h xs ≡ 0) → KeepsOthers a b xs → KeepsOthers a b zs
 others_more a b xs zs f k = record { length_kept = k.length_kept; front_kept = k.front_kept; live_kept = k.live_kept; others = λ h some none. k.others h some (f h none) }
 
--- blocks that are live once each have no block in common with others
+-- blocks that are allocated once each have no block in common with others
 pub no_common : (allocator : ℕ) (a : List ℕ) → IsHeap allocator a → (xs ys : List ℕ) → AreLive a (xs ++ ys) → (h : ℕ) → 1 ≤ times h ys → (1 ≤ times h (positions (live a))) × (times h xs ≡ 0)
 no_common allocator a heap xs ys owned h some =
     let n = times-append h xs ys in
@@ -67,7 +67,7 @@ no_common allocator a heap xs ys owned h some =
     let once = live-once a allocator heap h in
     (omega arith, omega arith)
 
--- ---- a write in the payload of a live block
+-- ---- a write in the payload of an allocated block
 
 module _ (allocator : ℕ) (old new : List ℕ) (at m h : ℕ) (heap : IsHeap allocator old) (inside : IsInside old h at m) (owned : 1 ≤ times h (positions (live old))) (changes : ChangesOnly old new at m) where
   pub heap_written : IsHeap allocator new
@@ -90,7 +90,7 @@ module _ (allocator : ℕ) (old new : List ℕ) (at m h : ℕ) (heap : IsHeap al
             link_kept = target-same old new (k + 12) (b.outside (k + 12) 4 (omega arith) (omega arith));
           }
 
--- ---- what waits goes on waiting
+-- ---- what waits continues waiting
 
 -- where each of these blocks is kept with its link
 pub pends_kept : (allocator : ℕ) (a b : List ℕ) (table : Table) → IsTable table → (first : Option ℕ) (blocks names : List ℕ) → IsHeap allocator b → ((h : ℕ) → 1 ≤ times h blocks → KeepsLinked a b h)
@@ -184,7 +184,7 @@ pub awaits_blocks : (allocator : ℕ) (a : List ℕ) (table : Table) (first : Op
     → Awaits allocator a table first ys names kept theirs final
 awaits_blocks allocator a table first xs ys names kept theirs final same w = record { named = w.named; frozen = w.frozen; beside = beside_same allocator a table first xs ys w.named theirs w.frozen same w.beside; releasing = w.releasing }
 
--- where the blocks of all objects are kept, and live, those of the objects that are left are too
+-- where the blocks of all objects are kept, and live, those of the objects that stay are too
 pub final_kept : (allocator : ℕ) (old new : List ℕ) (table : Table) (first : Option ℕ) (blocks names : List ℕ) (kept : List Place) (theirs : ℕ → List ℕ) (final : List Frozen)
     → (w : Awaits allocator old table first blocks names kept theirs final) → AreLive old blocks → ((h : ℕ) → 1 ≤ times h (blocks_by theirs w.frozen) → KeepsBlock old new h) → KeepFrozen old new theirs final
 final_kept allocator old new table first blocks names kept theirs final w owned whole =
@@ -329,13 +329,13 @@ released kept final names now r none = go r.pending r.pending_are r.leaves
     go [] are leaves = sym (no_cell_gone now r.counted.some) ∙ leaves
     go (q ∷ pending) are leaves = absurd (let a = are q.at in let n = none q.at in let s = times-same q.at (map (λ p. p.at) pending) in omega arith)
 
--- ---- blocks that are given back
+-- ---- blocks that are freed
 
 pub gives_more : (bs : List Span) (xs : List ℕ) (at : ℕ) → after_gives bs (xs ++ at ∷ []) ≡ without at (after_gives bs xs)
 gives_more bs [] at = refl
 gives_more bs (x ∷ xs) at = gives_more (without x bs) xs at
 
--- how far destruction has come: these were given back, and those go with what waits still or are shared
+-- how far destruction has come: these were freed, and those go with what waits still or are shared
 pub record HasFreed (allocator : ℕ) (old new : List ℕ) (table : Table) (first : Option ℕ) (blocks : List ℕ) (kept_cells : List Place) (theirs : ℕ → List ℕ) (final : List Frozen) (turns : ℕ) : Type 0 where
   pub given : List ℕ
   pub left : List ℕ
@@ -388,7 +388,7 @@ module _ (allocator : ℕ) (old now : List ℕ) (table : Table) (valid : IsTable
   pub left_live : AreLive now f.left
   left_live h = omega (arith, owned h, f.live_are h, f.blocks_are h, times-append h f.given f.left)
 
-  -- one turn: the first block is taken out, what it names joins the others, and it is given back
+  -- one turn: the first block is taken out, what it points to joins the others, and it is freed
   module _ (p : ℕ) (next : Option ℕ) (pop : Pops allocator now table p next f.left [] kept_cells theirs final) where
     pub pop_live : AreLive now (pop.popped ++ pop.others)
     pop_live h = omega (arith, left_live h, pop.blocks_are h)
@@ -485,7 +485,7 @@ module _ (allocator : ℕ) (old now : List ℕ) (table : Table) (valid : IsTable
           front : KeepsFront opened new × KeepsBack opened new
           front = front_kept opened new g.kept large
 
-  -- where none waits any more, all were given back but what holds the objects that are left
+  -- where none waits any more, all were freed but what contains the objects that stay
   pub all_freed : first ≡ None → Destroys allocator old now table blocks theirs final
   all_freed none = go (subst (λ o. Awaits allocator now table o f.left [] kept_cells theirs final) none f.awaits)
     where

@@ -8,7 +8,7 @@ use Rattle.seg_spec.proofs.LiveLaws.{times-append, times-same, times-other}
 
 -- ---- a list has no more elements than one that has each as often
 
--- a list around a block that stands in it
+-- a list around a block that is in it
 pub record SplitAt (h : ℕ) (ys : List ℕ) : Type 0 where
   pub left : List ℕ
   pub right : List ℕ
@@ -38,7 +38,7 @@ few_in (t ∷ ts) from to f =
     let two = f.1 in
     elim t.live as (λ b. from + 32 * length (cond b (span_of t ∷ live_of ts) (live_of ts)) ≤ to) [ true ↦ omega arith | false ↦ omega arith ]
 
--- each live block has 2 units at least
+-- each allocated block has 2 units at least
 pub few_live : (allocator : ℕ) (bytes : List ℕ) → IsHeap allocator bytes → heap_start + 32 * length (live bytes) ≤ length bytes
 unfolding live
 few_live allocator bytes heap = few_in (tiles bytes) heap_start (length bytes) heap.filled

@@ -1,4 +1,4 @@
--- What names mean once some frozen objects are gone, cells more name some of those that stay, or one more object stands in front: what they meant.
+-- What names mean once some frozen objects are gone, cells more point to some of those that stay, or one more object is in front: what they meant.
 use Rattle.std.proofs.Common.{◌≡◌, ◌≢◌, ℕ, zero, suc, ◌+◌, ◌-◌, ◌<◌, inl, inr, Bool, true, false, List, [], ◌∷◌, ◌++◌, Some, refl, sym, ◌∙◌, ap, subst, arith}
 use Rattle.std.specs.Prelude.{◌==◌, if◌then◌else◌}
 use Rattle.std.specs.List.{AllByRecursion}
@@ -82,7 +82,8 @@ module _ (next : ℕ) (fs : List Frozen) {cells : List Place} (c : IsCounted nex
       let deep = deep_enough fs c.distinct c.falling in
       deep next (n + next) q (omega arith) (below_weaker n next fs q c.numbered b) ∙ sym (deep n (n + next) q (omega arith) b)
 
-  -- what names objects of which these are left, where cells with these names came before, means what it meant
+  -- what points to objects of which these are left, where cells with these names came before, means
+  -- what it meant
   pub left_means : (names gone : List Place) (gs : List Frozen) → gs ≡ left gone (raised_by names fs) → AreDistinct gs → NameLower gs → (n : ℕ) (q : Place) → IsBelow n gs q → meaning next fs q.at ≡ meaning n gs q.at
   left_means names gone gs is d l n q b = subst (λ hs. AreDistinct hs → NameLower hs → IsBelow n hs q → meaning next fs q.at ≡ meaning n hs q.at) (sym is) go d l b
     where
@@ -115,7 +116,7 @@ module _ (next : ℕ) (fs : List Frozen) {cells : List Place} (c : IsCounted nex
         left_means [] gone stay refl apart.1 lower_stay n q b
         ∙ means_among (f ∷ stay) stay apart.1 lower_stay (λ k r h. sym (found_after f stay r.at (λ e. below_elsewhere f.at k stay r apart.0 h (sym e)))) n q b
 
-    -- what names one of the others means what it meant
+    -- what points to one of the others means what it meant
     pub others_mean : (n : ℕ) (q : Place) → IsBelow n gs q → q.at ≢ f.at → meaning next fs q.at ≡ meaning n gs q.at
     others_mean n q b other = subst (λ hs. IsBelow n hs q → meaning next fs q.at ≡ meaning n hs q.at) (sym is) go b
       where

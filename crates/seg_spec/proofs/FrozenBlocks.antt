@@ -55,7 +55,7 @@ module _ (allocator : ℕ) (old new : List ℕ) (heap : IsHeap allocator old) (t
 
 -- ---- what is left of them
 
--- what holds of the position of each object holds of those that are left
+-- what is true of the position of each object is true of those that are left
 pub left_each : (Q : ℕ → Type 0) (gone : List Place) (fs : List Frozen) → AllByRecursion (λ f. Q f.at) fs → AllByRecursion (λ f. Q f.at) (left gone fs)
 left_each Q gone [] a = tt
 left_each Q gone (f ∷ fs) a = go (f.count - times_named f.at gone) (left_each Q (gone ++ names_in f.value) fs a.1) (left_each Q gone fs a.1)

@@ -1,4 +1,4 @@
--- The order in which blocks are given back doesn't matter.
+-- The order in which blocks are freed doesn't matter.
 use Rattle.std.proofs.Common.{◌≡◌, ◌≢◌, ℕ, ◌≤◌, ◌⊎◌, inl, inr, true, false, List, [], ◌∷◌, ◌++◌, cond, eqb, refl, sym, ap, ◌∙◌, subst, arith}
 use Rattle.std.proofs.lemmas.Bool.Decides.{nat_tests}
 use Rattle.std.proofs.lemmas.Bool.{cases_eq}
@@ -29,7 +29,7 @@ swapped p q (b ∷ bs) = go (cases_eq b.at p) (cases_eq b.at q) (swapped p q bs)
         ap (without p) (without_past q b bs f) ∙ without_past p b (without q bs) e ∙ ap (λ cs. b ∷ cs) rest
         ∙ sym (ap (without q) (without_past p b bs e) ∙ without_past q b (without p bs) f)
 
--- a block may be given back before the others
+-- a block may be freed before the others
 before_others : (bs : List Span) (xs : List ℕ) (h : ℕ) (ys : List ℕ) → after_gives bs (xs ++ h ∷ ys) ≡ after_gives (without h bs) (xs ++ ys)
 before_others bs [] h ys = refl
 before_others bs (x ∷ xs) h ys = before_others (without x bs) xs h ys ∙ ap (λ cs. after_gives cs (xs ++ ys)) (swapped h x bs)

@@ -1,4 +1,4 @@
--- What is kept, and what waits, where a block is given back.
+-- What is kept, and what waits, where a block is freed.
 use Rattle.std.proofs.Common.{◌≡◌, ◌≢◌, ℕ, zero, suc, ◌+◌, ◌-◌, ◌*◌, ◌≤◌, ◌<◌, ◌⊎◌, inl, inr, true, false, List, [], ◌∷◌, length, Option, eqb, refl, sym, ap, ◌∙◌, subst, arith, min}
 use Rattle.std.specs.Prelude.{Contains, slice_index_or}
 use Rattle.std.proofs.lemmas.Bool.Decides.{nat_tests}
@@ -49,7 +49,7 @@ still_among at (c ∷ cs) b h ne = go (λ k. still_among at cs b k ne) h.0 h.1 h
     go rest (suc i) l e (inl same) = let on : eqb c.at at ≡ true = grind (arith, nat_tests) in rw on (i, omega arith, e)
     go rest (suc i) l e (inr other) = let off : eqb c.at at ≡ false = grind (arith, nat_tests) in rw off (more_among c b (without at cs) (rest (i, omega arith, e)))
 
--- after several were given back
+-- after several were freed
 still_given : (gives : List ℕ) (bs : List Span) (b : Span) → Contains bs b → times b.at gives ≡ 0 → Contains (after_gives bs gives) b
 still_given [] bs b h none = h
 still_given (x ∷ xs) bs b h none =
@@ -71,7 +71,7 @@ kept_linked allocator old new table heap heap_then gives live_is h some none was
     }
 
 module _ (allocator : ℕ) (old new : List ℕ) (at : ℕ) (heap : IsHeap allocator old) (g : Gives allocator old new at) where
-  -- every other live block is kept, with its size, tag and link
+  -- every other allocated block is kept, with its size, tag and link
   pub given_kept : (k : ℕ) → 1 ≤ times k (positions (live old)) → k ≢ at → KeepsLinked old new k
   given_kept k some ne =
       let f = found k (live old) some in
@@ -91,6 +91,6 @@ module _ (allocator : ℕ) (old new : List ℕ) (at : ℕ) (heap : IsHeap alloca
       } in
       subst (λ h. KeepsLinked old new h) b_at r
 
-  -- what waits goes on waiting, where the block isn't among it
+  -- what waits continues waiting, where the block isn't among it
   pub waits_then : (table : Table) → IsTable table → {first : Option ℕ} (ys ms : List ℕ) → ((h : ℕ) → 1 ≤ times h ys → (1 ≤ times h (positions (live old))) × (h ≢ at)) → Waits old table first ys ms → Waits new table first ys ms
   waits_then table valid ys ms apart w = Waits-kept old new table valid (each_there (KeepsLinked old new) ys (λ h some. let a = apart h some in given_kept h a.0 a.1)) w

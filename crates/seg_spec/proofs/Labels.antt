@@ -1,4 +1,4 @@
--- The tag and the link of a live block are no part of the heap's order.
+-- The tag and the link of an allocated block are no part of the heap's order.
 use Rattle.std.proofs.Common.{◌≡◌, ◌≢◌, ℕ, ◌+◌, ◌*◌, ◌-◌, ◌^◌, ◌%◌, ◌≤◌, ◌⊎◌, inl, inr, true, false, List, [], ◌∷◌, length, refl, sym, ap, ◌∙◌, subst, arith}
 use Rattle.std.specs.Prelude.{nat_le}
 use Rattle.std.proofs.lemmas.Bool.{false≢true}
@@ -89,7 +89,7 @@ module _ (old new : List ℕ) (h : ℕ) (changes : ChangesOnly old new (h + 8) 8
     small = rw changes.length_kept heap.small;
   }
 
-  -- every other live block is kept with its tag and link, and this one with its payload
+  -- every other allocated block is kept with its tag and link, and this one with its payload
   pub labelled_other : (k : ℕ) → 1 ≤ times k (positions (live old)) → k ≢ h → KeepsLinked old new k
   labelled_other k some other =
       let l = there _ k (positions (live old)) (live-lie old allocator heap) some in

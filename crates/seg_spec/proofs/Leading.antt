@@ -1,4 +1,5 @@
--- Where a place and the blocks that it owns are kept, each path from it leads where it led. Which path names a part.
+-- If a place and the blocks that it owns are kept, each path from it still reaches the same place.
+-- Which path points to a part.
 use Rattle.std.proofs.Common.{◌≡◌, ℕ, zero, suc, ◌<◌, ◌⊎◌, inl, inr, true, false, ℤ, pos, negsuc, List, [], ◌∷◌, ◌++◌, length, Some, refl, sym, ap, ◌∙◌, subst, ltb, arith}
 use Rattle.std.specs.Prelude.{slice_get, get_or, not, ◌&&◌, nat_lt}
 use Rattle.std.specs.List.{AllByRecursion}
@@ -65,7 +66,7 @@ same_key keys a b i e f =
     let q = position-Some (same_int b) keys i (pos 0) f in
     same_int_is a (get_or keys i (pos 0)) p.1 ∙ sym (same_int_is b (get_or keys i (pos 0)) q.1)
 
--- one selector names a part
+-- one selector selects a part
 pub same_selector : (label : Label) (s t : Selector) (i : ℕ) → index_of label s ≡ Some i → index_of label t ≡ Some i → s ≡ t
 same_selector Label.seq (Selector.item a) (Selector.item b) i e f = let g : a ≡ b = cc in ap Selector.item g
 same_selector Label.struct (Selector.field a) (Selector.field b) i e f = let g : a ≡ b = cc in ap Selector.field g

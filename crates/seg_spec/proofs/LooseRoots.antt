@@ -16,7 +16,8 @@ pub each_joined : {X : Type 0} (Q : X → Type 0) (xs ys : List X) → AllByRecu
 each_joined Q [] ys a b = b
 each_joined Q (x ∷ xs) ys a b = (a.0, each_joined Q xs ys a.1 b)
 
--- the new bytes have a heap in order, in which these live blocks were given up and others taken on
+-- the new bytes have a heap in order, in which these allocated blocks were given up and others
+-- taken on
 pub record Trades (old new : List ℕ) (picture : Picture) (its theirs : List ℕ) : Type 0 where
   pub length_kept : length new ≡ length old
   pub front_kept : KeepsFront old new
@@ -42,7 +43,7 @@ module _ (old new : List ℕ) (picture : Picture) (held : IsHeld old picture) (b
   unfolding its
   holds_its = apart.holds_them
 
-  -- they are live, each once
+  -- they are allocated, each once
   all_counts : (h : ℕ) → times h (positions (live old)) ≡ times h held.index_blocks + times h apart.left + times h its + times h apart.right
   unfolding its
   all_counts h =

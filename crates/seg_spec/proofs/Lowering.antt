@@ -1,4 +1,5 @@
--- A name is released: the object that it names counts one cell fewer, or goes with what it names.
+-- A name is released: the object that it points to counts one cell fewer, or goes with what it
+-- points to.
 use Rattle.std.proofs.Common.{◌≡◌, ◌≢◌, ℕ, ◌-◌, ◌≤◌, ◌⊎◌, inl, inr, true, false, List, [], ◌∷◌, ◌++◌, map, eqb, refl, sym, ap, ◌∙◌, subst, arith}
 use Rattle.std.specs.List.{AllByRecursion}
 use Rattle.std.proofs.lemmas.Bool.{cases_eq}
@@ -19,7 +20,7 @@ use Rattle.seg_spec.proofs.Releasing.{left_same, everywhere, turn_same, counted_
 abbrev pub positions_of : List Place → List ℕ
 positions_of qs = map (λ q. q.at) qs
 
--- what a value names, by positions
+-- what a value points to, by positions
 mutual
   unfolding names_in named_in
 
@@ -55,7 +56,7 @@ picked p (q ∷ qs) some = go (cases_eq q.at p) (λ later. picked p qs later)
         let r = pick (omega (arith, some, times-other p q.at (positions_of qs) ne)) in
         record { before = q ∷ r.before; name = r.name; after = r.after; are = ap (λ xs. q ∷ xs) r.are; at_is = r.at_is }
 
--- ---- the object that it names
+-- ---- the object that it points to
 
 pub record Named (p : ℕ) (now : List Frozen) : Type 0 where
   pub before : List Frozen

@@ -1,11 +1,11 @@
--- Nodes and the blocks that they stand in.
+-- Nodes and the blocks that they are in.
 use Rattle.std.proofs.Common.{◌≡◌, ℕ, ◌+◌, ◌≤◌, ⊎_elim, List, [], ◌∷◌, map, sym, subst, arith}
 use Rattle.std.proofs.lemmas.Bool.{cases_eq}
 use Rattle.seg_spec.specs.Block.{block_of}
 use Rattle.seg_spec.specs.Sound.{times}
 use Rattle.seg_spec.proofs.LiveLaws.{times-same, times-other, times-more}
 
--- a node stands no more often than its block
+-- a node occurs no more often than its block
 pub times_mapped : (h : ℕ) (xs : List ℕ) → times h xs ≤ times (block_of h) (map block_of xs)
 times_mapped h [] = omega arith
 times_mapped h (x ∷ xs) =

@@ -15,7 +15,7 @@ use Rattle.seg_spec.proofs.CellLaws.{cells-form}
 
 -- ---- the cells of a struct are those of its fields
 
--- of each cell of fields that stand one after the other
+-- of each cell of fields that are one after the other
 abbrev pub EachField : Table → ℕ → List ℕ → (ℕ → Option Form → Type 0) → Type 0
 EachField table n [] P = Unit {0}
 EachField table n (U ∷ Us) P = EachCell table U (λ d form. P (n + d) form) × EachField table (n + size table U) Us P
@@ -50,7 +50,7 @@ module _ (table : Table) (valid : IsTable table) (P : ℕ → Option Form → Ty
 -- ---- one cell
 
 module _ (old new : List ℕ) (table : Table) (valid : IsTable table) where
-  -- a step into the moved place, where the blocks that its cell names are kept
+  -- a step into the moved place, where the blocks that its cell points to are kept
   pub record Opens_there (place : Place) (to : ℕ) (form : Form) (opened : Opened) : Type 0 where
     pub opens : Opens new table (record { at = to; type = place.type }) form opened
     pub parts : AllByRecursion (SamePlace old new table) opened.parts

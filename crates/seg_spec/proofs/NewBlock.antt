@@ -193,7 +193,7 @@ module _ (allocator u h tag : ℕ) (old taken new : List ℕ) (heap : IsHeap all
           link_kept = target-same tagged new (k + 12) (word-same tagged new (k + 12) (b.outside (k + 12) 4 (omega arith) (omega arith)));
         }
 
-    -- every block that was live is kept with its link
+    -- every block that was allocated is kept with its link
     pub all_kept : (k : ℕ) → 1 ≤ times k (positions (live old)) → KeepsLinked old new k
     all_kept k some =
         let ne = other_than k some in

@@ -37,7 +37,7 @@ module _ (p : ℕ) (its : List ℕ) (theirs : ℕ → List ℕ) where
   keep_others old new [] a k = tt
   keep_others old new (f ∷ fs) a k = (subst (AllByRecursion (KeepsBlockAround old new f.at 4)) (with_other f.at a.0) k.0, keep_others old new fs a.1 k.1)
 
--- objects whose blocks are live don't stand in a block that was free
+-- objects whose blocks are allocated aren't in a block that was free
 pub not_there : (bytes : List ℕ) (table : Table) (theirs : ℕ → List ℕ) (p : ℕ) (fs : List Frozen) → times (block_of p) (blocks_by theirs fs) ≡ 0 → HoldFrozen bytes table theirs fs → AllByRecursion (λ (f : Frozen). f.at ≢ p) fs
 not_there bytes table theirs p [] free hold = tt
 not_there bytes table theirs p (f ∷ fs) free hold =

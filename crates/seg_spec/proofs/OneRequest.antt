@@ -1,4 +1,4 @@
--- The live blocks after one request for a new block.
+-- The allocated blocks after one request for a new block.
 use Rattle.std.proofs.Common.{◌≡◌, ◌≢◌, ℕ, ◌⊎◌, inl, inr, List, [], ◌∷◌, Option, Some, None, refl, sym, ap, ◌∙◌, arith}
 use Rattle.std.proofs.lemmas.Bool.{cases_eq}
 use Rattle.seg_spec.specs.Heap.{Span, with_block, granted, pick, gaps_of, after_take}
@@ -8,7 +8,7 @@ use Rattle.seg_spec.specs.Spending.{spent}
 use Rattle.seg_spec.proofs.LiveLaws.{times-other, times-with_block}
 use Rattle.seg_spec.proofs.Requested.{spent_fresh}
 
--- the block that was granted, and the live blocks with it
+-- the block that was granted, and the allocated blocks with it
 record Grants (allocator : ℕ) (bs after : List Span) (end u : ℕ) : Type 0 where
   at : ℕ
   taken : after_take allocator bs end u ≡ Some (at, after)

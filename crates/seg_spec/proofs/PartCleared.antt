@@ -1,5 +1,5 @@
--- A value inside a place that gives up what it owns, with frozen objects that it names last: the place holds the value changed, and all
--- around is kept.
+-- A value inside a place that gives up what it owns, with frozen objects that lose their last cell:
+-- the place contains the value changed, and all around is kept.
 use Rattle.std.proofs.Common.{◌≡◌, ◌≢◌, ℕ, ◌+◌, ◌*◌, ◌%◌, ◌≤◌, inl, inr, ⊎_elim, List, [], ◌∷◌, ◌++◌, length, refl, sym, ap, ◌∙◌, subst, arith}
 use Rattle.std.proofs.lemmas.Bool.{cases_eq}
 use Rattle.std.specs.List.{AllByRecursion}
@@ -172,7 +172,8 @@ module _ (allocator : ℕ) (old : List ℕ) (table : Table) (place : Place) (v :
       place_same = place_around place.at (size table place.type) (omega arith) (omega arith)
           (⊎_elim (λ l. inl (omega (arith, inside.low))) (λ l. inr (omega (arith, inside.high))) (there (λ h. Separate place.at (size table place.type) h (16 * units_at old h)) block rest place_beside mine))
 
-      -- each path from a part beside the value, in the same block and with other blocks, leads where it led
+      -- each path from a part beside the value, in the same block and with other blocks, still
+      -- reaches the same place
       pub beside_paths : (other : Place) (u : Value) (bs : List ℕ) → Holds old table other u bs → IsInside old block other.at (size table other.type)
           → Separate other.at (size table other.type) inner.at (size table inner.type) → ((h : ℕ) → 1 ≤ times h bs → (1 ≤ times h rest) × (h ≢ block)) → KeepsPathsInside old mid table other
       beside_paths other u bs holds_it in_block apart ours path goal way =
@@ -255,7 +256,7 @@ module _ (allocator : ℕ) (old : List ℕ) (table : Table) (place : Place) (v :
           go (inr (inl before)) = inr (omega (arith, inside.high))
           go (inr (inr following)) = let l = lies h some in inl (omega (arith, inside.low, l.size))
 
-      -- the blocks of the frozen objects that are left
+      -- the blocks of the frozen objects that stay
       left_mid : (h : ℕ) → 1 ≤ times h left → (1 ≤ times h (positions (live mid))) × (times h rest ≡ 0) × (h ≢ s.home)
       left_mid h some = (
         omega (arith, live_mid h, stays h, gone h, all_fit h, counts h),
@@ -263,7 +264,7 @@ module _ (allocator : ℕ) (old : List ℕ) (table : Table) (place : Place) (v :
         λ e. let z : times s.home left ≡ times h left = ap (λ x. times x left) (sym e) in absurd (omega (arith, home_stays, stays s.home)),
       )
 
-      -- then the place comes to hold another value, with the blocks that are left
+      -- then the place gets another value, with the blocks that are left
       module _ (new : List ℕ) (u : Value) (last : ChangesPlace mid new table place u rest (live mid) rest rest) where
         left_kept : (h : ℕ) → 1 ≤ times h left → KeepsBlock mid new h
         left_kept h some =

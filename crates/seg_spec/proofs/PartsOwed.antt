@@ -35,7 +35,7 @@ parts_append bytes table {qs = qs} {ys = ys} {ms = ms} (more_parts {place = plac
     append_is : (xs ys zs : List ℕ) → (xs ++ ys) ++ zs ≡ xs ++ (ys ++ zs)
     append_is xs ys zs = Rattle.std.proofs.Common.append_assoc xs ys zs
 
--- what a value names that isn't a shared cell: what the values inside name
+-- what a value points to that isn't a shared cell: what the values inside name
 pub named_inside : (label : Label) (vs : Values) → ((T q : ℕ) → label ≢ Label.shared T q) → named_in (node label vs) ≡ named_each vs
 unfolding named_in
 named_inside (Label.int k) vs other = refl

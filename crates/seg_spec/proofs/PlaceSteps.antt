@@ -1,4 +1,5 @@
--- A write to a place where calls find it: all around is kept, and the place may come to hold another value.
+-- A write to a place where calls find it: all around is kept, and the place may come to contain
+-- another value.
 use Rattle.std.proofs.Common.{◌≡◌, ◌≢◌, ℕ, ◌+◌, ◌≤◌, ⊎_elim, List, ◌∷◌, length, refl, sym, ap, subst, arith}
 use Rattle.std.proofs.lemmas.Bool.{cases_eq}
 use Rattle.std.specs.List.{AllByRecursion}
@@ -22,7 +23,7 @@ module _ (allocator : ℕ) (old : List ℕ) (table : Table) (place : Place) (v :
   pub home_live : 1 ≤ times s.home (positions (live old))
   home_live = omega (arith, s.owned s.home, times-same s.home blocks)
 
-  -- a block that the place owns is live, and isn't the one that the place lies in
+  -- a block that the place owns is allocated, and isn't the one that the place lies in
   pub owned_live : (h : ℕ) → 1 ≤ times h blocks → 1 ≤ times h (positions (live old))
   owned_live h some = ⊎_elim (λ e. omega (arith, s.owned h, subst (λ x. times h (x ∷ blocks) ≡ 1 + times h blocks) (sym e) (times-same h blocks))) (λ ne. omega (arith, s.owned h, times-other h s.home blocks ne)) (cases_eq s.home h)
 
@@ -75,7 +76,8 @@ module _ (allocator : ℕ) (old : List ℕ) (table : Table) (place : Place) (v :
     pub blocks_then : AllByRecursion (KeepsBlock old new) blocks
     blocks_then = each_there (KeepsBlock old new) blocks (λ h some. whole_then h (owned_live h some) (owned_other h some))
 
-    -- the place holds another value then; some of its blocks may go elsewhere, and all live blocks are those before
+    -- the place contains another value then; some of its blocks may go elsewhere, and all allocated
+    -- blocks are those before
     pub changes_place : (w : Value) (others given : List ℕ) → Holds new table place w others → ChangesPlace old new table place w others (live old) given given
     changes_place w others given h = record {
       length_kept = changes.length_kept;

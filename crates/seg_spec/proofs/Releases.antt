@@ -1,4 +1,5 @@
--- A cell that names a frozen object goes: the object's count is lowered in the bytes, and at 0 it waits to be destroyed.
+-- A cell that points to a frozen object goes: the object's count is lowered in the bytes, and at 0
+-- it waits to be destroyed.
 use Rattle.std.proofs.Common.{◌≡◌, ◌≢◌, ℕ, suc, ◌+◌, ◌-◌, ◌*◌, ◌^◌, ◌<◌, ◌≤◌, inl, inr, ⊎_elim, List, [], ◌∷◌, ◌++◌, length, Option, refl, sym, ap, ◌∙◌, subst, arith}
 use Rattle.std.specs.Prelude.{nat_le}
 use Rattle.std.specs.List.{AllByRecursion}
@@ -143,7 +144,7 @@ module _ (allocator : ℕ) (old new : List ℕ) (table : Table) (valid : IsTable
     blocks_are = o.blocks_are;
   }
 
-  -- it shows by itself what goes with it
+  -- it shows what is freed with it
   pub lowered_goes : GoesWith new table f.at mine (named_in f.value)
   lowered_goes = record {
     owed = block_of f.at ∷ ((o.inside ++ []) ++ []);
@@ -154,7 +155,7 @@ module _ (allocator : ℕ) (old new : List ℕ) (table : Table) (valid : IsTable
     named_are = λ h. omega (arith, times-append h (named_in f.value ++ []) [], times-append h (named_in f.value) []);
   }
 
--- ---- a cell that names an object goes
+-- ---- a cell that points to an object goes
 
 module _ (allocator : ℕ) (old : List ℕ) (table : Table) (valid : IsTable table) (p : ℕ) (first : Option ℕ) (ys more : List ℕ) (kept : List Place) (theirs : ℕ → List ℕ) (final : List Frozen)
     (waiting : Awaits allocator old table first ys (p ∷ more) kept theirs final) (owned : AreLive old ys) where
@@ -329,7 +330,7 @@ module _ (allocator : ℕ) (old : List ℕ) (table : Table) (valid : IsTable tab
         released_each (λ at. AllByRecursion (KeepsBlockAround old new at 4) (theirs at)) kept final (p ∷ more ++ ms) frozen waiting.releasing
         (subst (KeepFrozen old new theirs) (sym k.are) (each_joined (λ f. AllByRecursion (KeepsBlockAround old new f.at 4) (theirs f.at)) k.before (k.object ∷ k.after) before_it (it, after_it)))
 
-    -- other cells name it still
+    -- other cells point to it still
     pub stays : (n : ℕ) → word new p ≡ suc n → Adds allocator old new table first [] ys more kept theirs final
     stays n there_some =
         let some : k.object.count - 1 ≡ suc n = sym count_is ∙ there_some in
@@ -368,7 +369,7 @@ module _ (allocator : ℕ) (old : List ℕ) (table : Table) (valid : IsTable tab
           };
         }
 
-    -- no cell names it any more: it waits
+    -- no cell points to it any more: it waits
     pub goes : (last : List ℕ) (next : Option ℕ) → word new p ≡ 0 → ((xs ys ns names : List ℕ) → GoesWith new table p xs ns → Awaits allocator new table first ys (ns ++ names) kept theirs final → AreLive new (xs ++ ys)
         → Adds allocator new last table next xs ys names kept theirs final) → Adds allocator old last table next [] ys more kept theirs final
     goes last next there_none push =

@@ -166,7 +166,7 @@ some_lowered p fs a = lowered_each (λ (f : Frozen). 1 ≤ f.count) (λ f n h. o
 abbrev CountsBeside : ℕ → List Place → List Frozen → Type 0
 CountsBeside p names fs = AllByRecursion (λ (f : Frozen). f.at ≡ p → 1 + times_named p names ≤ f.count) fs
 
--- where another cell names an object it stays
+-- where another cell points to an object it stays
 below_lowered : (n p : ℕ) (fs : List Frozen) (q : Place) → AllByRecursion (λ (f : Frozen). f.at ≡ p → q.at ≡ p → 2 ≤ f.count) fs → IsBelow n fs q → IsBelow n (lowered p fs) q
 below_lowered n p [] q a h = h
 below_lowered n p (f ∷ fs) q a h = go (eqb f.at p) refl h (λ k. below_lowered n p fs q a.1 k)

@@ -130,17 +130,17 @@ module _ (allocator : ℕ) (bs : List Span) (end least : ℕ) where
       go t (inl f) = took_pair preferred t l f
       go t (inr f) = took_pair least t (omega arith) f
 
--- ---- the live blocks after one request
+-- ---- the allocated blocks after one request
 
--- it grew where it stood
+-- it grew in place
 pub spent_same : (allocator : ℕ) (bs after : List Span) (end : ℕ) (ask : Ask) → after_ask allocator bs end ask ≡ Some (same after) → spent allocator bs end (ask ∷ []) [] ≡ Some after
 spent_same allocator bs after end ask e = rw e refl
 
--- or its old block is given back
+-- or its old block is freed
 pub spent_fresh : (allocator : ℕ) (bs after : List Span) (end g : ℕ) (ask : Ask) → after_ask allocator bs end ask ≡ Some (fresh g after) → spent allocator bs end (ask ∷ []) [] ≡ Some (after_gives after (option_to_list ask.old))
 spent_fresh allocator bs after end g ask e = rw e (ap (λ ps. Some (after_gives after ps)) (append-nil (option_to_list ask.old ++ []) ∙ append-nil (option_to_list ask.old)))
 
--- ---- the units of a live block
+-- ---- the units of an allocated block
 
 room_at-in : (bs : List Span) (at x : ℕ) → Contains bs (span at x) → ((b : Span) → Contains bs b → b.at ≡ at → b.units ≡ x) → room_at bs at ≡ x
 room_at-in [] at x c one = absurd (omega (arith, c.1))

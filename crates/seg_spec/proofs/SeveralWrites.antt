@@ -1,5 +1,6 @@
--- What writes inside the payloads of several live blocks keep: the heap, and all of it beside the bytes written. Nothing is said
--- of the bytes before the heap but that the word of the free structure is kept.
+-- What writes inside the payloads of several allocated blocks keep: the heap, and all of it beside
+-- the bytes written. Nothing is said of the bytes before the heap but that the word of the free
+-- structure is kept.
 use Rattle.std.proofs.Common.{◌≡◌, ◌≢◌, ℕ, ◌+◌, ◌*◌, ◌≤◌, ◌⊎◌, inl, inr, true, false, List, [], ◌∷◌, length, refl, sym, ◌∙◌, subst, arith}
 use Rattle.std.proofs.lemmas.Bool.{false≢true}
 use Rattle.std.specs.Prelude.{⊤}
@@ -27,7 +28,7 @@ pub record Range : Type 0 where
 abbrev pub Beside : ℕ → ℕ → List Range → Type 0
 Beside p m ranges = AllByRecursion (λ r. Separate p m r.at r.n) ranges
 
--- a range lies in a live block
+-- a range lies in an allocated block
 pub record IsWritable (bytes : List ℕ) (r : Range) : Type 0 where
   pub inside : IsInside bytes r.block r.at r.n
   pub is_live : 1 ≤ times r.block (positions (live bytes))
@@ -90,7 +91,7 @@ module _ (old new : List ℕ) (allocator : ℕ) (heap : IsHeap allocator old) (r
   pub ownable_same : (table : Table) → AllByRecursion (λ b. IsOwnable old table b.at) (live old) → AllByRecursion (λ b. IsOwnable new table b.at) (live new)
   ownable_same table o = IsOwnable-kept old new allocator heap tiles_same table o
 
-  -- ---- a live block
+  -- ---- an allocated block
 
   module _ (x : ℕ) (is_live : 1 ≤ times x (positions (live old))) where
     lies : LiesIn old heap_start (length old) x

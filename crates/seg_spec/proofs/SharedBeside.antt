@@ -11,7 +11,7 @@ use Rattle.seg_spec.specs.Clearing.{SharedBeside}
 use Rattle.seg_spec.proofs.LiveLaws.{times-append}
 use Rattle.seg_spec.proofs.Destruction.{releasing_same}
 
--- nothing waits yet: what the value names is still to be released
+-- nothing waits yet: what the value points to is still to be released
 pub awaits_shared : (allocator : ℕ) (bytes : List ℕ) (table : Table) (first : Option ℕ) (besides names : List ℕ) (theirs : ℕ → List ℕ) (kept : List Place) (now final : List Frozen) → first ≡ None → IsHeap allocator bytes
     → SharedBeside bytes table besides names theirs kept now final → Awaits allocator bytes table first (blocks_by theirs now) (names ++ []) kept theirs final
 awaits_shared allocator bytes table first besides names theirs kept now final none heap s = record {

@@ -1,4 +1,4 @@
--- Objects that values share: what is left where cells that name some are gone.
+-- Objects that values share: what is left where cells that point to some are gone.
 use Rattle.std.proofs.Common.{◌≡◌, ◌≢◌, ℕ, zero, suc, ◌+◌, ◌-◌, ◌<◌, ◌≤◌, inl, inr, List, [], ◌∷◌, ◌++◌, map, refl, sym, ap, ◌∙◌, subst, arith}
 use Rattle.std.specs.List.{AllByRecursion}
 use Rattle.std.proofs.lemmas.List.{map-append}
@@ -59,7 +59,7 @@ unfolding NamesLater
 names_later [] l a = tt
 names_later (f ∷ fs) l a = (later_each f.number f fs (names_in f.value) (omega arith) a.0, names_later fs l.1 (later_all f fs fs l.0 a.1))
 
--- the names in objects that stand elsewhere are elsewhere
+-- the names in objects that are elsewhere are elsewhere
 pub below_elsewhere : (p n : ℕ) (fs : List Frozen) (q : Place) → AllByRecursion (λ (g : Frozen). g.at ≢ p) fs → IsBelow n fs q → q.at ≢ p
 below_elsewhere p n [] q a h = absurd h
 below_elsewhere p n (f ∷ fs) q a (inl h) = λ e. a.0 (h.0 ∙ e)
@@ -105,7 +105,7 @@ pub record Left (stay : List Place) (fs rs : List Frozen) : Type 0 where
   pub later : NamesLater rs
   pub some : AllByRecursion (λ (r : Frozen). 1 ≤ r.count) rs
   pub counts : AllByRecursion (λ (r : Frozen). r.count ≡ times_named r.at stay + times_named r.at (names_of rs)) rs
-  -- what a cell that stays names stays
+  -- what a cell that stays points to stays
   pub stays : (n : ℕ) → AllByRecursion (λ (q : Place). IsBelow n fs q → IsBelow n rs q) stay
 
 counts_more : (gone stay gone' stay' : List Place) (f : Frozen) (fs gs : List Frozen)
@@ -224,7 +224,7 @@ unnamed_over stay more rs [] a = tt
 unnamed_over stay more rs (g ∷ gs) a =
     ((let x = named-append g.at stay more in let y = named-append g.at more (names_of rs) in let now = a.0 in omega arith), unnamed_over stay more rs gs a.1)
 
--- no cell that stays names what goes
+-- no cell that stays points to what goes
 pub what_goes : (gone stay : List Place) (fs : List Frozen) → AreDistinct fs → NamesLater fs → CountsAll gone stay fs
     → AllByRecursion (λ (f : Frozen). times_named f.at stay + times_named f.at (names_of (left gone fs)) ≡ 0) (freed gone fs)
 unfolding NamesLater CountsAll

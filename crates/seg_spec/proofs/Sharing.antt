@@ -12,7 +12,7 @@ use Rattle.seg_spec.proofs.LiveLaws.{times-same, times-other}
 use Rattle.seg_spec.proofs.Frame.{each_weaker, each_left, each_right}
 use Rattle.seg_spec.proofs.SharedLaws.{named-append, elsewhere, wider}
 
--- ---- one cell more names an object
+-- ---- one cell more points to an object
 
 one_raised : Frozen → ℕ → Frozen
 one_raised f p = cond (eqb f.at p) (with_count f (suc f.count)) f

@@ -1,4 +1,4 @@
--- A place where calls find it, through the steps of a call: it stands where it stood, and all around is kept.
+-- A place where calls find it, through the steps of a call: it doesn't move, and all around is kept.
 use Rattle.std.proofs.Common.{◌≡◌, ◌≢◌, ℕ, ◌+◌, ◌-◌, ◌*◌, ◌^◌, ◌<◌, ◌≤◌, ◌⊎◌, inl, inr, true, List, [], ◌∷◌, length, Some, refl, sym, ap, ◌∙◌, subst, arith}
 use Rattle.std.proofs.lemmas.Bool.{cases_eq}
 use Rattle.std.specs.List.{AllByRecursion}
@@ -28,7 +28,8 @@ use Rattle.seg_spec.proofs.PlaceSteps.{home_live, heap_then, live_then, ownable_
 
 -- ---- frames
 
--- the bytes before the heap are kept, and so is each live block that doesn't go, but for n bytes from a position on
+-- the bytes before the heap are kept, and so is each allocated block that doesn't go, but for n
+-- bytes from a position on
 pub record Frames (old new : List ℕ) (at n : ℕ) (gone : List ℕ) : Type 0 where
   pub length_kept : length new ≡ length old
   pub front_kept : KeepsFront old new
@@ -46,7 +47,7 @@ frames_twice a b c at n gone more x y apart = record {
   stays = λ h some none. y.stays h (x.stays h some none) (apart h some none);
 }
 
--- what holds of the position of each live block
+-- what is true of the position of each allocated block
 pub each_live_at : (P : ℕ → Type 0) (bs : List Span) → ((h : ℕ) → 1 ≤ times h (positions bs) → P h) → AllByRecursion (λ b. P b.at) bs
 each_live_at P bs f = each_of_map P (λ b. b.at) bs (each_there P (positions bs) f)
 
@@ -72,7 +73,7 @@ module _ (allocator : ℕ) (old : List ℕ) (table : Table) (place : Place) (v :
       let two = solid s.home (home_live allocator old table place v blocks s) in
       IsSame-part old new (s.home + 16) (payload_size old s.home) place.at (size table place.type) s.inside.low (omega (arith, s.inside.high)) k.payload
 
-  -- ---- where every live block is kept, with others beside them
+  -- ---- where every allocated block is kept, with others beside them
 
   module _ (new : List ℕ) (heap : IsHeap allocator new) (front : KeepsFront old new) (kept : (h : ℕ) → 1 ≤ times h (s.home ∷ blocks) → KeepsBlock old new h)
       (ownable : AllByRecursion (λ b. IsOwnable new table b.at) (live new)) (stay : (h : ℕ) → times h (s.home ∷ blocks) ≤ times h (positions (live new))) where
@@ -177,7 +178,7 @@ module _ (allocator : ℕ) (old : List ℕ) (table : Table) (place : Place) (v :
       stays = λ h some away. omega (arith, marked_counts h);
     }
 
-  -- ---- another live block is written inside
+  -- ---- another allocated block is written inside
 
   module _ (new : List ℕ) (g at m : ℕ) (changes : ChangesOnly old new at m) (inside : IsInside old g at m) (g_live : 1 ≤ times g (positions (live old))) (apart : times g (s.home ∷ blocks) ≡ 0) where
     beside_but : (h : ℕ) → 1 ≤ times h (positions (live old)) → KeptBut old new at m changes allocator s.heap g inside g_live h
@@ -241,7 +242,7 @@ module _ (allocator : ℕ) (old : List ℕ) (table : Table) (place : Place) (v :
           room = rw own (omega arith);
         }
 
-  -- ---- the place is written, and holds another value
+  -- ---- the place is written, and contains another value
 
   module _ (new : List ℕ) (changes : ChangesOnly old new place.at (size table place.type)) (w : Value) (others : List ℕ) (holds_it : Holds new table place w others)
       (owned : (h : ℕ) → times h (s.home ∷ others) ≤ times h (positions (live old))) where
@@ -277,7 +278,7 @@ module _ (allocator : ℕ) (old : List ℕ) (table : Table) (place : Place) (v :
     unfolding written_stands
     written_home = refl
 
-  -- ---- a block that the place doesn't own is given back
+  -- ---- a block that the place doesn't own is freed
 
   module _ (new : List ℕ) (g : ℕ) (gives : Gives allocator old new g) (g_live : 1 ≤ times g (positions (live old))) (apart : times g (s.home ∷ blocks) ≡ 0) where
     left_counts : (h : ℕ) → times h (g ∷ positions (live new)) ≡ times h (positions (live old))

@@ -151,7 +151,7 @@ module _ (allocator : ℕ) (old : List ℕ) (table : Table) (place : Place) (U :
 
   -- ---- entries move in the buffer, and the cell counts others
 
-  -- a first entries that stay, k that stand elsewhere now, and c that the cell counts
+  -- a first entries that stay, k that were moved, and c that the cell counts
   pub record Moved (new : List ℕ) (a to k c : ℕ) (k1 k2 : List ℤ) (v1 v2 : Values) (o1 o2 : List ℕ) : Type 0 where
     pub heap : IsHeap allocator new
     pub live_is : live new ≡ live old

@@ -117,7 +117,7 @@ module _ (allocator : ℕ) (old : List ℕ) (table : Table) (cell T : ℕ) (v : 
   pub tag_small : tag_of block.Kind.buffer T < 2 ^ 32
   tag_small = let few = s.is_table.few in let k = known table T of.form of.form_is in omega arith
 
-  -- the block of the buffer is live
+  -- the block of the buffer is allocated
   pub record Named (p : ℕ) : Type 0 where
     pub units : ℕ
     pub among : Contains (live old) (span (block_of p) units)

@@ -169,7 +169,7 @@ module _ (allocator : ℕ) (old : List ℕ) (table : Table) (place : Place) (for
     not_home : block_of p ≢ s.home
     not_home = owned_other allocator old table place v blocks s (block_of p) mine
 
-    -- ---- a buffer that is cut where it stands
+    -- ---- a buffer that is cut in place
 
     module _ (n : ℕ) (n_is : n ≡ count_at old place.at * item_size table form) (some : 1 ≤ n) (x : ℕ) (it : Contains (live old) (span (block_of p) x)) (new : List ℕ)
         (cut : Shrinks allocator old new (block_of p) x (need n)) (fits : need n ≤ x) where
@@ -340,7 +340,7 @@ module _ (allocator : ℕ) (old : List ℕ) (table : Table) (place : Place) (for
         let cut = shrinks k.block.units s.heap (rw at_is it) (rw units_is fits) in
         cut_down (kept * each) n_is more k.block.units it new (rw (at_is, units_is) at cut) fits
 
-    -- ---- a buffer without entries, that is given back
+    -- ---- a buffer without entries, that is freed
 
     module _ (empty : count_at old place.at ≡ 0) where
       abbrev pub unnamed : List ℕ
@@ -405,7 +405,7 @@ module _ (allocator : ℕ) (old : List ℕ) (table : Table) (place : Place) (for
           home_again : stands_unnamed.home ≡ s.home
           home_again = written_home allocator old table place v blocks s unnamed cell_changes v its.owned unnamed_holds fewer_owned
 
-      -- the block is there to be given back
+      -- the block is there to be freed
       pub unnamed_heap : IsHeap allocator unnamed
       unnamed_heap = stands_unnamed.heap
 

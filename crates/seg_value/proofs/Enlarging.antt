@@ -49,7 +49,7 @@ module _ (allocator : ℕ) (old : List ℕ) (cell each limit : ℕ) where
     pub takes : Takes allocator old mid units (Some g)
     pub granted : after_ask allocator (live old) (length old) ask ≡ Some (fresh g (live mid))
 
-  -- by what the request returned; a buffer that grew where it stands is as it is to be
+  -- by what the request returned; a buffer that grew in place is as it is to be
   abbrev pub Enlarged : (List ℕ → Type 0) → List ℕ → Option Grant → Type 0
   Enlarged Grown mid None = Refuses allocator old mid (ask ∷ [])
   Enlarged Grown mid (Some (Same at)) = Grown mid

@@ -119,7 +119,7 @@ module _ (allocator : ℕ) (a b c d : List ℕ) (table : Table) (valid : IsTable
   values_b : HoldsEach b table (items table object T 1) (cons v nil) inside
   values_b = subst (λ xs. HoldsEach b table (items table object T 1) (cons v nil) xs) (append-nil inside) (holds_more value_b holds_none)
 
-  -- the value moves, and then its old block is given back
+  -- the value moves, and then its old block is freed
   module _ (changes : ChangesOnly b c (p + 8) (1 * size table T)) (values : HoldsEach c table (items table (p + 8) T 1) (cons v nil) inside) where
     changes_c : ChangesOnly b c (p + 8) (size table T)
     changes_c = subst (ChangesOnly b c (p + 8)) one changes

@@ -1,4 +1,4 @@
--- An object became frozen, and a cell comes to name it.
+-- An object became frozen, and a cell comes to point to it.
 use Rattle.std.proofs.Common.{◌≡◌, ◌≢◌, ℕ, suc, ◌+◌, ◌-◌, ◌^◌, ◌<◌, ◌≤◌, inl, inr, ⊎_elim, List, [], ◌∷◌, ◌++◌, length, Some, None, sym, ap, ◌∙◌, subst, arith}
 use Rattle.std.specs.List.{AllByRecursion}
 use Rattle.std.proofs.lemmas.Bool.{cases_eq}
@@ -98,7 +98,7 @@ module _ (allocator : ℕ) (old mid : List ℕ) (table : Table) (cell : Place) (
   home_mid = still_home allocator old table cell v blocks s mid m.heap m.front_kept (λ h some. kept_mid h (omega (arith, some))) (each_live_at (IsOwnable mid table) (live mid) ownable_at)
       (λ h. omega (arith, counts h, live_mid h))
 
-  -- the others stand elsewhere
+  -- the others are elsewhere
   apart : AllByRecursion (λ (g : Frozen). g.at ≢ p) now
   apart = not_there old table theirs p now (omega (arith, m.was_free, counts (block_of p))) b.holds
 

@@ -1,4 +1,4 @@
--- The buffer of the flat index, as it grows where it stands, and as it moves.
+-- The buffer of the flat index, as it grows in place, and as it moves.
 use Rattle.std.proofs.Common.{◌≡◌, ◌≢◌, ℕ, ◌+◌, ◌-◌, ◌*◌, ◌%◌, ◌^◌, ◌<◌, ◌≤◌, ◌⊎◌, inl, inr, List, [], ◌∷◌, length, Option, Some, None, unwrap_or, option_to_list, option_map, refl, sym, ap, ◌∙◌, subst, arith, add-zero}
 use Rattle.std.specs.Prelude.{Contains}
 use Rattle.std.proofs.lemmas.Bool.{cases_eq}
@@ -47,7 +47,7 @@ names_kept old new same kept room = record { counted = cell-count old new index_
         let start_new : start new index_cell ≡ p = ap (λ o. unwrap_or o 0) (cell-target old new index_cell same ∙ e) in
         rw (start_old, start_new) (same_entry old new (p + i * 8) (IsSame-part old new p (count_at old index_cell * 8) (p + i * 8) 8 (omega arith) (omega arith) all))
 
--- ---- the buffer grows where it stands
+-- ---- the buffer grows in place
 
 module _ (allocator : ℕ) (old : List ℕ) (table : Table) (s : FindsNames allocator old table) (new : List ℕ) (heap : IsHeap allocator new) (keeps : Keeps old new)
     (at x n : ℕ) (it : Contains (live old) (span at x)) (more : x ≤ n) (live_is : live new ≡ resized at n (live old)) where
@@ -292,7 +292,7 @@ module _ (allocator : ℕ) (before taken : List ℕ) (table : Table) (s : FindsN
     pub pointed_length : length pointed_index ≡ length before
     pointed_length = points.length_kept ∙ changes.length_kept ∙ new_length allocator u g tag before taken tagged_index s.heap t (g + 16) 0 low high none
 
-    -- ---- and the old buffer is given back, if there is one
+    -- ---- and the old buffer is freed, if there is one
 
     module _ (entries : (i : ℕ) → i < count_at before index_cell → IsSameEntry before moved (name_entry before i) (g + 16 + i * 8)) (enough : count_at before index_cell * 8 + 16 ≤ 16 * u) where
       entry_pointed : (i : ℕ) → i < count_at before index_cell → IsSameEntry before pointed_index (name_entry before i) (g + 16 + i * 8)

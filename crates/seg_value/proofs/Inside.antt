@@ -1,4 +1,5 @@
--- A write inside a live block, of which nothing else is known: the heap stays, and all beside it. And calls on a place, one after the other.
+-- A write inside an allocated block, of which nothing else is known: the heap stays, and all beside
+-- it. And calls on a place, one after the other.
 use Rattle.std.proofs.Common.{◌≡◌, ◌≢◌, ℕ, ◌+◌, ◌-◌, ◌≤◌, ◌⊎◌, inl, inr, List, [], ◌∷◌, refl, sym, ◌∙◌, subst, length, arith, ap}
 use Rattle.std.specs.List.{AllByRecursion}
 use Rattle.seg_bytes.specs.Bytes.{word, ChangesOnly}
@@ -104,7 +105,7 @@ changes_twice allocator a b c table place v w xs ys gone spans more same heap x 
   kept = λ h some none. around_twice a b c place.at (size table place.type) h (x.kept h some none) (y.kept h (omega (arith, x.live_are h)) (omega (arith, x.live_are h, live-once b allocator heap h)));
 }
 
--- ---- a block is given back
+-- ---- a block is freed
 
 module _ (allocator : ℕ) (old new : List ℕ) (table : Table) (g : ℕ) (heap : IsHeap allocator old) (gives : Gives allocator old new g) (g_live : 1 ≤ times g (positions (live old))) where
   pub given_counts : (h : ℕ) → times h (g ∷ positions (live new)) ≡ times h (positions (live old))

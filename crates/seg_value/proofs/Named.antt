@@ -59,7 +59,7 @@ module _ (allocator : ℕ) (old : List ℕ) (table : Table) (s : FindsNames allo
   pub name_even : p % 16 ≡ 0
   name_even = let b = lies (block_of p) name_live in let o = own_block in omega (arith, b.aligned)
 
-  -- k entries that stand elsewhere now, and c that the cell counts
+  -- k entries that were moved, and c that the cell counts
   pub record Shifted (new : List ℕ) (k from to c : ℕ) : Type 0 where
     pub length_kept : length new ≡ length old
     pub front_kept : KeepsFront old new

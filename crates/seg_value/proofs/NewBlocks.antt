@@ -15,7 +15,7 @@ use Rattle.seg_value.specs.Contents.{GivesBlock}
 
 module _ (allocator u h tag : ℕ) (old taken new : List ℕ) (heap : IsHeap allocator old) (t : Takes allocator old taken u (Some h)) (at n : ℕ) (low : h + 16 ≤ at) (high : at + n ≤ h + 16 * u)
     (changes : ChangesOnly (set_word taken (h + 8) tag) new at n) where
-  -- the new block is live
+  -- the new block is allocated
   pub now_live : times h (positions (live new)) ≡ 1
   now_live = let got = took allocator old taken u h t in
       ap (λ bs. times h (positions bs)) (new_live allocator u h tag old taken new heap t at n low high changes ∙ got.live_are) ∙ times-with_block h (record { at = h; units = got.units }) (live old)

@@ -1,4 +1,4 @@
--- Cells that name nothing own nothing, and what a cell's form says of what it names.
+-- Cells that point to nothing own nothing, and what a cell's form says of what it points to.
 use Rattle.std.proofs.Common.{◌≡◌, ◌≢◌, ℕ, ◌+◌, ◌*◌, ◌≤◌, inl, inr, true, false, List, [], ◌∷◌, ◌++◌, length, map, Option, Some, None, option_to_list, option_map, refl, sym, ap, ◌∙◌, subst, arith}
 use Rattle.seg_spec.specs.Pointer.{target}
 use Rattle.seg_spec.specs.Types.{Form, Table, form_at, IsTable, size, fields_of, fields_by}
@@ -29,7 +29,7 @@ module _ (bytes : List ℕ) (table : Table) where
   unfolding named_in named_each
   nothing_each vs owned holds_none = (refl, refl)
 
-  -- a value with no places inside, in a cell that names no block and shares no object
+  -- a value with no places inside, in a cell that points to no block and shares no object
   opened_nothing : (opened : Opened) (places : List Place) (v : Value) (inside : Values) (owned xs ns : List ℕ) → ((T q : ℕ) → opened.label ≢ Label.shared T q) → opened.blocks ≡ [] → opened.parts ≡ places → places ≡ [] →
       HoldsEach bytes table opened.parts inside owned → v ≡ node opened.label inside → xs ≡ opened.blocks ++ owned → ns ≡ named_in v → Nothing xs ns
   opened_nothing opened places v inside owned xs ns other b p none hs v_is is names =
@@ -51,7 +51,7 @@ module _ (bytes : List ℕ) (table : Table) where
   no_items : (at U n : ℕ) → n ≡ 0 → items table at U n ≡ []
   no_items at U n e = rw e refl
 
-  -- a value whose cell names nothing owns nothing and shares nothing
+  -- a value whose cell points to nothing owns nothing and shares nothing
   null_by : (place : Place) (form : Form) (opened : Opened) (v : Value) (inside : Values) (owned xs ns : List ℕ) → target bytes place.at ≡ None → ((Us : List ℕ) → form ≡ Form.struct Us → ⊥) →
       Opens bytes table place form opened → HoldsEach bytes table opened.parts inside owned → v ≡ node opened.label inside → xs ≡ opened.blocks ++ owned → ns ≡ named_in v → Nothing xs ns
   null_by place Form.i64 opened v inside owned xs ns e flat o = opened_nothing opened [] v inside owned xs ns (λ T q l. let k = label_of o in cc) (blocks_of o) (parts_of o) refl
@@ -128,7 +128,7 @@ module _ (bytes : List ℕ) (table : Table) where
       let others = no_cells_parts U ps rest ws h more in
       record { no_blocks = ap (λ bs. bs ++ rest) one.no_blocks ∙ others.no_blocks; no_names = ap (λ bs. bs ++ ws) one.no_names ∙ others.no_names }
 
-  -- a value whose cells name nothing names nothing in its first cell
+  -- a value whose cells point to nothing points to nothing in its first cell
   at_first : (place : Place) (form : Form) (valid : IsTable table) → form_at table place.type ≡ Some form → IsOne table valid form → EachCell table place.type (λ d k. NamesNothing bytes (place.at + d) k) → target bytes place.at ≡ None
   at_first place form valid f one a =
       let a' = rw (one_cell table valid place.type form f one) at a in
@@ -183,7 +183,7 @@ module _ (bytes : List ℕ) (table : Table) where
   shared_there place content p xs ns valid few some e none h part =
       shared_by place (form_at table place.type) p xs ns valid few some e refl (subst (λ k. ContentOf table place.type (form_at table place.type) k) none h) part
 
-  -- a cell of a type with content that names something holds a value
+  -- a cell of a type with content that names something contains a value
   held_by : (place : Place) (o : Option Form) (content : Content) (p : ℕ) (valid : IsTable table) → form_at table place.type ≡ o → ContentOf table place.type o (Some content) → target bytes place.at ≡ Some p →
       EachCell table place.type (λ d k. NamesNothing bytes (place.at + d) k) → ⊥
   held_by place None content p valid f h e n = h
@@ -204,7 +204,7 @@ module _ (bytes : List ℕ) (table : Table) where
 
   -- ---- blocks of buffers
 
-  -- the buffer that a cell names is a block with room for the items, and the value owns it
+  -- the buffer that a cell points to is a block with room for the items, and the value owns it
   pub record NamedBuffer (T p n : ℕ) (xs : List ℕ) : Type 0 where
     pub block : IsBlock bytes p (tag_of Kind.buffer T) n
     pub mine : 1 ≤ times (block_of p) xs

@@ -1,4 +1,4 @@
--- A block that no longer waits: what goes with it joins what waits.
+-- A block that no longer waits: what is freed with it joins what waits.
 use Rattle.std.proofs.Common.{◌≡◌, ℕ, ◌+◌, ◌-◌, ◌*◌, ◌/◌, ◌<◌, ◌≤◌, ◌⊎◌, inl, inr, ⊎_elim, List, [], ◌∷◌, ◌++◌, length, Option, Some, None, refl, sym, ap, ◌∙◌, subst, arith}
 use Rattle.std.proofs.lemmas.Bool.{cases_lt}
 use Rattle.std.proofs.Math.Nat.{div-mul-le_self}
@@ -234,7 +234,7 @@ module _ (bytes : List ℕ) (table : Table) (valid : IsTable table) (p : ℕ) wh
     shows_by block.Kind.index_node T o tag of = absurd o
     shows_by block.Kind.frozen T o tag of = frozen_shows T o tag of
 
-  -- what goes with a block, by its content
+  -- what is freed with a block, by its content
   pub record Parted (content : Content) (xs ns : List ℕ) : Type 0 where
     pub us : List ℕ
     pub bs : List ℕ

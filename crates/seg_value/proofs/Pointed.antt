@@ -1,4 +1,5 @@
--- Cells that share an object with others: what they hold, and what they come to name once they are empty.
+-- Cells that share an object with others: what they contain, and what they come to name once they
+-- are empty.
 use Rattle.std.proofs.Common.{◌≡◌, ℕ, ◌+◌, ◌^◌, ◌<◌, ◌≤◌, List, [], ◌∷◌, ◌++◌, length, Option, Some, None, option_to_list, option_map, refl, sym, ap, ◌∙◌, subst, arith}
 use Rattle.seg_bytes.specs.Bytes.{set_word, ChangesOnly}
 use Rattle.seg_spec.specs.Pointer.{target, distance, set_pointer}
@@ -24,9 +25,9 @@ use Rattle.seg_spec.proofs.CellOwed.{same_form}
 use Rattle.seg_spec.proofs.FrozenBlocks.{hold_kept, frozen_twice, frozen_kept}
 use Rattle.seg_spec.specs.Sharing.{cell_count}
 
--- ---- what such a cell holds
+-- ---- what such a cell points to
 
--- what a cell names, as a list of names
+-- what a cell points to, as a list of names
 abbrev pub names_by : ℕ → Option ℕ → List Place
 names_by T None = []
 names_by T (Some p) = record { at = p; type = T } ∷ []
@@ -73,7 +74,7 @@ module _ (bytes : List ℕ) (table : Table) (place : Place) (T : ℕ) (f : form_
         opened_is = ap (λ t. record { label = shared_label T t; blocks = []; parts = [] }) (sym e);
       }) holds_none refl refl
 
--- ---- an empty one comes to name an object
+-- ---- an empty one comes to point to an object
 
 module _ (allocator : ℕ) (old : List ℕ) (table : Table) (cell : Place) (T : ℕ) (f : form_at table cell.type ≡ Some (Form.shared T)) (v : Value) (blocks : List ℕ) (s : Stands allocator old table cell v blocks) (theirs : ℕ → List ℕ)
     (now final : List Frozen) (fits : AreLive old ((s.home ∷ blocks) ++ blocks_by theirs now)) (few : (h : ℕ) → times h (blocks_by theirs final) ≤ times h (blocks_by theirs now))

@@ -1,4 +1,4 @@
--- The entries of a buffer after the used ones hold defaults.
+-- The entries of a buffer after the used ones contain defaults.
 use Rattle.std.proofs.Common.{◌≡◌, ℕ, ◌+◌, ◌-◌, ◌*◌, ◌/◌, ◌%◌, ◌^◌, ◌<◌, ◌≤◌, false, List, [], ◌∷◌, length, map, Option, Some, None, refl, ap, ◌∙◌, subst, arith}
 use Rattle.std.specs.List.{AllByRecursion}
 use Rattle.std.proofs.Math.Nat.{div-mul-le_self}
@@ -18,7 +18,7 @@ use Rattle.seg_spec.proofs.CellSteps.{each_none, each_i64, each_cell_weaker, Cha
 use Rattle.seg_block.specs.Blocks.{IsSized}
 use Rattle.seg_layout.specs.Forms.{has_cells}
 
--- a cell that holds its default names nothing
+-- a cell that contains its default points to nothing
 defaulted_nothing : (old new : List ℕ) (at : ℕ) (form : Option Form) → IsDefaulted old new at form → NamesNothing new at form
 defaulted_nothing old new at (Some Form.i64) h = tt
 defaulted_nothing old new at None h = h.0
@@ -44,7 +44,7 @@ module _ (table : Table) (valid : IsTable table) (U : ℕ) where
   nothing_by bytes q (Some (Form.own V)) f h = absurd (cc)
   nothing_by bytes q (Some (Form.shared V)) f h = absurd (cc)
 
-  -- values of a type without pointers name nothing
+  -- values of a type without pointers point to nothing
   pub no_rest : (bytes : List ℕ) (p before used : ℕ) → has_cells (form_at table U) ≡ false → DefaultsRest bytes bytes table p before U used
   no_rest bytes p before used h = record {
     changes = ChangesOnly-none bytes (p + used * (before + size table U)) (payload_size bytes (block_of p) - used * (before + size table U));

@@ -77,7 +77,7 @@ ascending_without (a ∷ b ∷ ks) more k h = (h.0, ascending_without (b ∷ ks)
 
 -- ---- runs
 
--- n entries from a position on have these keys, and hold these values, which own these blocks
+-- n entries from a position on have these keys, and contain these values, which own these blocks
 pub record Run (bytes : List ℕ) (table : Table) (U at n : ℕ) (keys : List ℤ) (vs : Values) (owned : List ℕ) : Type 0 where
   pub keys_are : keys ≡ keys_at bytes (spaced at (8 + size table U) n)
   pub values : HoldsEach bytes table (places_of U (map (λ p. p + 8) (spaced at (8 + size table U) n))) vs owned
@@ -217,7 +217,7 @@ module _ (old new : List ℕ) (table : Table) (valid : IsTable table) (U : ℕ) 
         values = HoldsEach-kept old new table valid r.values (inner-same old new table valid U 8 (8 + size table U) entries (omega arith) all) kept;
       }
 
-  -- each path from a value of it leads where it led
+  -- each path from a value of it still reaches the same place
   pub run_paths : (at n : ℕ) (keys : List ℤ) (vs : Values) (owned : List ℕ) → IsSame old new at (n * (8 + size table U)) → AllByRecursion (KeepsBlock old new) owned
       → Run old table U at n keys vs owned → (i : ℕ) → i < n → KeepsPathsInside old new table (record { at = at + i * (8 + size table U) + 8; type = U })
   run_paths at n keys vs owned same kept r i below path inner way =

@@ -1,4 +1,4 @@
--- An own comes to hold an object, from what the steps leave.
+-- An own gets an object, from what the steps leave.
 use Rattle.std.proofs.Common.{◌≡◌, ◌≢◌, ℕ, zero, suc, ◌+◌, ◌*◌, ◌^◌, ◌<◌, ◌≤◌, ◌⊎◌, inl, inr, ⊎_elim, List, [], ◌∷◌, ◌++◌, length, Option, Some, None, option_to_list, option_map, refl, sym, ap, ◌∙◌, subst, arith, append-nil}
 use Rattle.std.specs.List.{AllByRecursion}
 use Rattle.seg_bytes.specs.Bytes.{set_word, ChangesOnly}
@@ -30,7 +30,7 @@ use Rattle.seg_spec.proofs.Destruction.{inside_same, released}
 use Rattle.seg_spec.proofs.FrozenBlocks.{hold_kept, frozen_twice, frozen_kept, left_fewer}
 use Rattle.seg_value.specs.Places.{TakesOwn, SetsOwn}
 
--- ---- an own is empty, or holds one value
+-- ---- an own is empty, or contains one value
 
 module _ (bytes : List ℕ) (table : Table) where
   abbrev IsOwn : Value → Type 0
@@ -76,7 +76,7 @@ module _ (bytes : List ℕ) (table : Table) where
       let o' : Opens bytes table place (Form.own U) opened = subst (λ h. Opens bytes table place h opened) same o in
       empty_by place U opened inside owned blocks e o' hs is
 
-  -- an own that names an object
+  -- an own that points to an object
   pub full_holds : (place : Place) (U object : ℕ) (w : Value) (inside : List ℕ) → form_at table place.type ≡ Some (Form.own U) → target bytes place.at ≡ Some object → count_at bytes place.at ≡ 1 →
       IsBlock bytes object (tag_of Kind.object U) (size table U) → Holds bytes table (record { at = object; type = U }) w inside → Holds bytes table place (Full w) (block_of object ∷ inside)
   full_holds place U object w inside f names one block h =
@@ -120,7 +120,7 @@ module _ (allocator : ℕ) (old : List ℕ) (table : Table) (own : Place) (U : �
   home_apart : (times s.home blocks ≡ 0) × (times s.home shares ≡ 0)
   home_apart = let c = counts s.home in let t = times-same s.home [] in let o = once s.home in (omega arith, omega arith)
 
-  -- what is left of the frozen objects owns no other blocks
+  -- the frozen objects that stay own no other blocks
   few : (h : ℕ) → times h those ≤ times h shares
   few h = subst (λ fs. times h (blocks_by theirs fs) ≤ times h shares) b.releasing.leaves (left_fewer theirs b.releasing.pending now h)
 
@@ -255,7 +255,7 @@ module _ (allocator : ℕ) (old : List ℕ) (table : Table) (own : Place) (U : �
       (U : ℕ) (v : Value) (inside : List ℕ) → IsTable here → IsHeap allocator mid → IsLoose mid here (record { at = held; type = U }) v inside →
       BesideShared mid here (block_of held ∷ inside) (named_in v) (λ theirs now. Destroys allocator mid after here ((block_of held ∷ inside) ++ blocks_by theirs now) theirs)
 
-  -- the object that it held was taken out, and destroyed
+  -- the object that it contained was taken out, and destroyed
   pub taken_emptied : (mid after : List ℕ) (here : Table) → here ≡ table → (u : Value) → v ≡ Full u → (result : Option ℕ) (held : ℕ) → result ≡ Some held → TakesOwn old mid table own U u blocks result →
       IsDestroyed mid after here held → IsEmptied after
   taken_emptied mid after here same u v_is result held result_is t destroys =
@@ -265,7 +265,7 @@ module _ (allocator : ℕ) (old : List ℕ) (table : Table) (own : Place) (U : �
       let d = destroys' U u t.inside s.is_table (heap_mid mid u v_is result t) t.loose theirs cells now final (beside_mid mid u v_is result t) in
       emptied_now mid u v_is result t after (subst (λ bs. Destroys allocator mid after table (bs ++ shares) theirs final) (sym t.blocks_are) d)
 
-  -- ---- and then names the object
+  -- ---- and then points to the object
 
   module _ (after : List ℕ) (e : IsEmptied after) (w : Value) (loose : IsLoose old table (record { at = object; type = U }) w inside) where
     live_after : (h : ℕ) → times h (positions (live after)) + times h blocks + times h shares ≡ times h (positions (live old)) + times h those

@@ -48,7 +48,7 @@ module _ (allocator : ℕ) (old : List ℕ) (table : Table) (cell : Place) (T ne
     releasing = record { pending = names_in v; pending_are = λ h. ap (times h) (named_positions v); next = next; counted = b.counted; falling = b.falling; leaves = refl };
   }
 
-  -- the cell is cleared, and names an object then
+  -- the cell is cleared, and points to an object then
   pub cell_changed : (mid : List ℕ) (object : Option ℕ) → ((p : ℕ) → object ≡ Some p → IsPayload p × (p < 2 ^ 32)) → ClearsCell allocator old mid table cell
       → ClearsPlace old (set_word (set_pointer mid cell.at object) (cell.at + 4) (cell_count object)) table cell (node (shared_label T object) nil) blocks [] theirs now (left (names_in v) now)
   cell_changed mid object payload clears =
@@ -56,7 +56,7 @@ module _ (allocator : ℕ) (old : List ℕ) (table : Table) (cell : Place) (T ne
       let c = subst (λ u. ClearsPlace old mid table cell u blocks [] theirs now (left (names_in v) now)) empty (clears v blocks s theirs kept now (left (names_in v) now) beside_cell) in
       pointed allocator old table cell T f v blocks s theirs now (left (names_in v) now) b.owned (λ h. left_fewer theirs (names_in v) now h) mid c object payload
 
--- ---- one cell more names an object, and then the cell is changed
+-- ---- one cell more points to an object, and then the cell is changed
 
 module _ (allocator : ℕ) (old : List ℕ) (table : Table) (cell : Place) (T next : ℕ) (f : form_at table cell.type ≡ Some (Form.shared T)) (v : Value) (blocks : List ℕ) (s : Stands allocator old table cell v blocks)
     (theirs : ℕ → List ℕ) (kept : List Place) (now : List Frozen) (b : FrozenBeside old table (s.home ∷ blocks) (names_in v ++ kept) next theirs now) (q : Place) (below : IsBelow next now q)
@@ -168,7 +168,7 @@ module _ (allocator : ℕ) (old last : List ℕ) (table : Table) (to from : Plac
   abbrev pub IsShared : List ℕ → Value → List Place → Type 0
   IsShared new u names = ClearsPlace old new table to u blocks [] theirs now (left (names_in v) (raised_by names now))
 
-  -- what the cell names stays what it was while the count is raised and the other cell cleared
+  -- what the cell points to stays what it was while the count is raised and the other cell cleared
   by_object : (more : List ℕ) (object : Option ℕ) → object ≡ target old from.at → AllByRecursion (IsBelow next now) (names_by T object) → (object ≡ None → more ≡ old) →
       ((p : ℕ) → object ≡ Some p → suc (word old p) < 2 ^ 32 → more ≡ set_word old p (suc (word old p))) → ClearsCell allocator more last table to →
       IsShared (set_word (set_pointer last to.at object) (to.at + 4) (cell_count object)) (node (shared_label T object) nil) (names_by T object)

@@ -1,4 +1,4 @@
--- One turn of destruction, and what it needs of an object that nothing holds.
+-- One turn of destruction, and what it needs of an object without an owner.
 use Rattle.std.proofs.Common.{◌≡◌, ◌≢◌, ℕ, ◌+◌, ◌≤◌, inl, List, [], ◌∷◌, ◌++◌, length, Option, None, refl, sym, ap, ◌∙◌, subst, arith}
 use Rattle.seg_spec.specs.Header.{free_word, back_start, back_size, KeepsFront, KeepsBack}
 use Rattle.seg_spec.specs.Types.{Table, IsTable}
@@ -54,7 +54,7 @@ turned allocator old now opened new table here same valid first next after p blo
     let g = gives o.adds.awaits.beside.pends.heap (is_live opened (block_of p) (omega arith)) in
     freed_more allocator old now table valid first blocks kept theirs final turns owned f p next pop opened new after o.rest o.xs_are o.adds g
 
--- an object that nothing holds, with what goes with it
+-- an object without an owner, with what is freed with it
 pub loose_goes : (bytes : List ℕ) (table : Table) (object U : ℕ) (v : Value) (inside : List ℕ) → IsLoose bytes table (record { at = object; type = U }) v inside →
     GoesWith bytes table object (block_of object ∷ inside) (named_in v)
 loose_goes bytes table object U v inside l = record {
