@@ -1,4 +1,5 @@
--- A gap at the heap's end leaves the tree. Of a heap that is one gap two units come back.
+-- The gap at the heap's end is removed from the tree. If it is the whole heap, two units of it
+-- stay.
 use Rattle.std.proofs.Common.{◌≡◌, ℕ, ◌+◌, ◌-◌, ◌*◌, ◌/◌, ◌^◌, ◌<◌, ◌≤◌, Bool, true, false, List, [], ◌∷◌, ◌++◌, length, None, refl, sym, ap, ◌∙◌, subst, arith, inl, inr, ◌⊎◌}
 use Rattle.std.specs.Prelude.{Contains}
 use Rattle.std.proofs.lemmas.List.{append-nil}

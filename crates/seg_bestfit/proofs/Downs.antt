@@ -1,4 +1,5 @@
--- Tiles that the tree doesn't contain become one gap with the free tile after them. If that is the last in the order, the whole takes its place in the tree.
+-- Tiles outside the tree become one gap with the free tile after them. If that is the last in the
+-- order, the whole gap takes its place in the tree.
 use Rattle.std.proofs.Common.{◌≡◌, ◌≢◌, ℕ, ◌+◌, ◌*◌, ◌≤◌, ◌⊎◌, inl, inr, false, List, [], ◌∷◌, ◌++◌, length, refl, sym, subst, arith}
 use Rattle.std.proofs.lemmas.List.{append_assoc}
 use Rattle.seg_bytes.specs.Bytes.{IsSame}
@@ -71,7 +72,7 @@ module _ (old : List ℕ) (xs ms ys : List Tile) (t : Tile) (at u r : ℕ) (was 
   was_free : AreFreeBlocks old 704 (free_of xs ++ gap ∷ free_of ys)
   was_free = blocks_beside old xs (t ∷ ms) (next ∷ ys) was
 
-  -- the gap leaves the tree, and the whole comes to it
+  -- the gap is removed from the tree, and the whole is added
   pub moved-retiles : (mid new : List ℕ) (path : Path) → LeadsToGap old path (end + 16) → TakesOutAt old mid path → MakesGap mid new at n → Retiles 1 old new xs one ys
   moved-retiles mid new path way takes makes =
       let out = left_here old (free_of xs) gap (free_of ys) path was.small was_free holds way mid takes in
@@ -121,7 +122,7 @@ module _ (old : List ℕ) (xs ms ys : List Tile) (t : Tile) (at u r : ℕ) (was 
     pub down-retiles : Retiles 1 old new xs one ys
     down-retiles = released-retiles old xs all ys t at n covered fill new joined
 
--- ---- where the gap may be none
+-- ---- there may be no gap
 
 pub makes_alone : (old new : List ℕ) (at u more : ℕ) → more ≡ 0 → MakesGap old new at u → MakesGapWith old new at u more
 makes_alone old new at u more zero makes xs ms ls ys t is was holds fill =

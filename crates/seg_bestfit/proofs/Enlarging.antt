@@ -1,4 +1,4 @@
--- A free tile at the heap's end leaves the tree, gets more units, and comes to the tree again.
+-- The free tile at the heap's end is removed from the tree, enlarged, and added again.
 use Rattle.std.proofs.Common.{◌≡◌, ℕ, ◌+◌, ◌*◌, ◌^◌, ◌≤◌, Bool, false, List, [], ◌∷◌, ◌++◌, length, None, refl, sym, ◌∙◌, subst, arith, inl, inr}
 use Rattle.std.proofs.lemmas.List.{append-nil}
 use Rattle.seg_bytes.specs.Bytes.{set_word}

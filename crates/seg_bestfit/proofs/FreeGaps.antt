@@ -1,4 +1,5 @@
--- What free blocks in ascending position are to the tree: their nodes have room and lie apart.
+-- Free blocks by ascending position, as the tree needs them: their nodes have room and don't
+-- overlap.
 use Rattle.std.proofs.Common.{◌≡◌, ◌≢◌, ℕ, suc, ◌+◌, ◌*◌, ◌^◌, ◌<◌, ◌≤◌, ◌⊎◌, inl, inr, ⊎_elim, true, false, List, [], ◌∷◌, ◌++◌, length, map, cond, refl, ap, ◌∙◌, subst, arith}
 use Rattle.std.specs.List.{AllByRecursion}
 use Rattle.std.proofs.lemmas.List.{length-map}
@@ -210,7 +211,7 @@ module _ (bytes : List ℕ) (xs : List Span) (g : Span) (ys : List Span) (low : 
     );
   }
 
--- a link lies beside the nodes of all gaps
+-- no link overlaps the nodes of the gaps
 pub links_beside : (gs : List Span) → GapsApart gs → AllByRecursion (λ h. AllByRecursion (λ g. Separate (h.at + 12) 4 (g.at + 16) 16) gs) gs
 links_beside [] a = tt
 links_beside (g ∷ gs) a = (

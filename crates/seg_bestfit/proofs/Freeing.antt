@@ -1,4 +1,4 @@
--- An allocated tile becomes one gap with those beside it, from what the steps ensure.
+-- An allocated tile is merged with the free tiles next to it, from what the steps ensure.
 use Rattle.std.proofs.Common.{◌≡◌, ℕ, ◌+◌, ◌*◌, true, false, List, [], ◌∷◌, ◌++◌, length, refl, subst, arith}
 use Rattle.seg_spec.specs.Heap.{Span, Tile, free_of, heap_start, IsFreeTree}
 use Rattle.seg_spec.proofs.TileLaws.{free_of-append}

@@ -1,4 +1,4 @@
--- A gap leaves the tree, or comes to it, from what changing a tree ensures.
+-- A gap is removed from the tree, or added, from what changing a tree ensures.
 use Rattle.std.proofs.Common.{◌≡◌, ◌≢◌, ℕ, ◌+◌, ◌-◌, ◌^◌, ◌<◌, ◌≤◌, inr, List, [], ◌∷◌, ◌++◌, length, map, None, sym, ap, ◌∙◌, subst, arith}
 use Rattle.std.specs.List.{AllByRecursion}
 use Rattle.std.specs.Option.{option_map}
@@ -38,7 +38,7 @@ module _ (bytes : List ℕ) (gs : List Span) (low : 704 ≤ length bytes) (small
   pub tree_stands : StandApart (length bytes) 24 (nodes_of holds.tree)
   tree_stands = rw holds.nodes_are (nodes_stand bytes gs low small free)
 
-  -- the first node of enough units is that of the smallest gap
+  -- the first node with enough units belongs to the smallest gap
   pub best_node : (u : ℕ) → first_where (λ x. reaches Equal (nat_cmp (units_at bytes (x - 16)) u)) (nodes_of holds.tree) ≡ option_map node_of (best_fit gs u)
   best_node u =
       ap (first_where (λ x. reaches Equal (nat_cmp (units_at bytes (x - 16)) u))) holds.nodes_are ∙ first_node bytes (by_size gs) u sizes
@@ -74,7 +74,7 @@ module _ (old new : List ℕ) (xs : List Span) (g : Span) (ys : List Span) (low 
   other_sizes : AllByRecursion (HasSize old) (by_size (xs ++ ys))
   other_sizes = each_by_size (HasSize old) (xs ++ ys) (each_weaker (Stands old) (HasSize old) (λ h s. s.sized) (xs ++ ys) (others_stand old xs g ys low small free))
 
-  -- ---- a gap leaves
+  -- ---- a gap is removed
 
   pub leaves : (holds : IsFreeTree old all) → tree.Leaves old new 24 (nodes_of holds.tree) (without_node (node_of g) (nodes_of holds.tree)) → LeavesTree old new xs g ys
   leaves holds r =
@@ -92,7 +92,7 @@ module _ (old new : List ℕ) (xs : List Span) (g : Span) (ys : List Span) (low 
         kept = kept;
       }
 
-  -- ---- a gap comes
+  -- ---- a gap is added
 
   others_free : AreFreeBlocks old 704 (xs ++ ys)
   others_free = free_drop old 704 xs g ys free

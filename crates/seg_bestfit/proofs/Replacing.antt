@@ -1,4 +1,5 @@
--- The gap that a path leads to leaves the tree, or its node gives its place to that of another gap, whose header was written meanwhile.
+-- The gap at the end of a path is removed from the tree, or its node is replaced by the node of
+-- another gap, whose header was written in between.
 use Rattle.std.proofs.Common.{◌≡◌, ◌≢◌, ℕ, ◌+◌, ◌^◌, ◌≤◌, List, [], ◌∷◌, ◌++◌, length, map, true, false, cond, Some, None, refl, sym, ap, ◌∙◌, subst, arith}
 use Rattle.std.specs.List.{AllByRecursion}
 use Rattle.seg_bytes.specs.Bytes.{IsSame}

@@ -110,7 +110,7 @@ module _ (bytes : List ℕ) where
   node_equal : (g h : Span) → HasSize g → HasSize h → g.units ≡ h.units → g.at ≡ h.at → by_units bytes (node_of g) (node_of h) ≡ Equal
   node_equal g h e f u a = by_sizes g h e f ∙ ap (λ r. ordering_then r (nat_cmp (node_of g) (node_of h))) (cmp_equal g.units h.units u) ∙ cmp_equal (node_of g) (node_of h) (omega (arith, a))
 
-  -- one node is below another where its gap is smaller, or equally large and lower
+  -- one node is below another if its gap is smaller, or of equal size and lower
   pub below_is : (g h : Span) → HasSize g → HasSize h → is_lt (by_units bytes (node_of g) (node_of h)) ≡ is_smaller g h
   below_is g h e f = go (is_smaller g h) refl
     where
@@ -162,7 +162,7 @@ module _ (bytes : List ℕ) where
 
   -- ---- a search
 
-  -- the first node of enough units is that of the first gap that fits
+  -- the first node with enough units belongs to the first gap that fits
   pub first_node : (hs : List Span) (u : ℕ) → HaveSizes hs → first_where (λ x. reaches Equal (nat_cmp (units_at bytes (x - 16)) u)) (map node_of hs) ≡ option_map node_of (first_fit hs u)
   first_node [] u s = refl
   first_node (h ∷ hs) u s =
@@ -183,7 +183,7 @@ without_gap g (h ∷ hs) ne =
           ∙ ap (λ l. node_of h ∷ l) rest
     ]
 
--- with the node of another gap in the place of a gap's, where it compares with the others as the gap does
+-- a gap's node is replaced by that of another gap, which compares with the others as the gap does
 pub renamed_gap : (g r : Span) (hs : List Span) → AllByRecursion (λ (h : Span). h.at ≢ g.at) hs → KeepsPlace hs g r → renamed (node_of g) (node_of r) (map node_of (insert_by_size g hs)) ≡ map node_of (insert_by_size r hs)
 renamed_gap g r [] ne k = ap (λ b. cond b (node_of r ∷ []) (node_of g ∷ [])) (test_same (node_of g) (node_of g) refl)
 renamed_gap g r (h ∷ hs) ne k =

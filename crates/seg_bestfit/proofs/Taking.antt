@@ -1,4 +1,4 @@
--- A free tile leaves the tree and is allocated.
+-- A free tile is removed from the tree and allocated.
 use Rattle.std.proofs.Common.{◌≡◌, ℕ, ◌+◌, ◌*◌, true, false, List, [], ◌∷◌, ◌++◌, length, None, refl, sym, ◌∙◌, subst, arith, inl, inr}
 use Rattle.seg_bytes.specs.Bytes.{set_word}
 use Rattle.seg_spec.specs.Heap.{Tile, link_at, free_of, IsFreeTree}
@@ -19,7 +19,7 @@ use Rattle.seg_bestfit.proofs.TreeFrame.{tiled_kept, link_kept, gaps_beside, ret
 pub gaps_around : (xs ys : List Tile) (at u : ℕ) → free_of (xs ++ tile at u false ∷ ys) ≡ free_of xs ++ record { at = at; units = u } ∷ free_of ys
 gaps_around xs ys at u = free_of-append xs (tile at u false ∷ ys)
 
--- the free blocks, beside tiles that the tree doesn't contain
+-- the free blocks outside tiles that aren't in the tree
 pub blocks_beside : (bytes : List ℕ) (xs ms ys : List Tile) → IsTiled bytes (xs ++ (ms ++ ys)) → AreFreeBlocks bytes 704 (free_of xs ++ free_of ys)
 blocks_beside bytes xs ms ys was =
     free_drops bytes 704 (free_of xs) (free_of ms) (free_of ys) (subst (λ gs. AreFreeBlocks bytes 704 gs) (gaps_beside xs ms ys) (free_blocks bytes (xs ++ (ms ++ ys)) was))

@@ -21,7 +21,7 @@ pub each_append : (P : Span → Type 0) (xs ys : List Span) → AllByRecursion P
 each_append P [] ys a b = b
 each_append P (x ∷ xs) ys a b = (a.0, each_append P xs ys a.1 b)
 
--- ---- bytes beside the nodes of free tiles
+-- ---- bytes outside the nodes of free tiles
 
 pub beside_low : (ts : List Tile) (from to p n : ℕ) → Fill from ts to → p + n ≤ from + 16 → Beside p n (free_of ts)
 beside_low [] from to p n f low = tt
@@ -122,7 +122,7 @@ module _ (old new : List ℕ) where
 pub gaps_beside : (xs ms ys : List Tile) → free_of (xs ++ (ms ++ ys)) ≡ free_of xs ++ (free_of ms ++ free_of ys)
 gaps_beside xs ms ys = free_of-append xs (ms ++ ys) ∙ ap (λ gs. free_of xs ++ gs) (free_of-append ms ys)
 
--- what is kept beside the nodes of fewer gaps
+-- what is kept outside the nodes of fewer gaps
 pub kept_among : (old new : List ℕ) (xs ms ys : List Tile) → KeepsBesideNodes old new (free_of xs ++ free_of ys) → KeepsBesideNodes old new (free_of (xs ++ (ms ++ ys)))
 kept_among old new xs ms ys k = subst (λ gs. KeepsBesideNodes old new gs) (sym (gaps_beside xs ms ys)) (record {
   length_kept = k.length_kept;

@@ -179,6 +179,6 @@ module _ {allocator : ℕ} (old : List ℕ) (len : ℕ) (large : 736 ≤ length 
         let e = the_end in
         subst (λ b. Cuts allocator old b 0) (sym (new_is ∙ ap (λ m. set_word old 12 (m / 16)) len_is)) (cut_live old large h e.front at u e.live e.parts (sym flag ∙ live))
 
-    -- a gap that is the whole heap can be cut, where it has more than two units
+    -- a gap that is the whole heap can be cut if it has more than two units
     pub cuts_some : at ≤ 704 → 736 < length old → u - 2 ≡ 0 → ⊥
     cuts_some below above none = let p = last_place old large h the_end.front at u the_end.live the_end.parts in omega arith

@@ -44,7 +44,7 @@ module _ {allocator : ℕ} (Place : List Tile → Type 0) (old mid new : List �
       (room_cases old at u h held))
       sizes
 
--- ---- at the block that was named
+-- ---- at the block that the call is given
 
 module _ {allocator : ℕ} (old : List ℕ) (named x at u : ℕ) (h : IsHeap allocator old) (held : Contains (live old) (record { at = named; units = x })) (read : (g : Span) → named ≡ g.at → IsSized old g → (at ≡ g.at) × (u ≡ g.units))
     (room : ℕ) (room_is : (allocator : ℕ) → IsHeap allocator old → Contains (live old) (record { at = at; units = u }) → room ≡ room_at (gaps old) (at + 16 * u)) where

@@ -1,4 +1,4 @@
--- A heap that takes in the units after it, for any allocator.
+-- A heap to which the units after it are added, for any allocator.
 use Rattle.std.proofs.Common.{◌≡◌, ◌≢◌, ℕ, ◌+◌, ◌-◌, ◌*◌, ◌/◌, ◌^◌, ◌<◌, ◌≤◌, Bool, true, false, List, [], ◌∷◌, ◌++◌, length, min, cond, eqb, ◌&&◌, refl, sym, ap, ◌∙◌, subst, arith, inl, inr, ◌⊎◌, zero-add}
 use Rattle.std.specs.Prelude.{Contains}
 use Rattle.std.proofs.lemmas.Bool.Decides.{nat_tests}
@@ -102,7 +102,7 @@ module _ {allocator : ℕ} (old : List ℕ) (n : ℕ) (small : length old ≤ 2 
   sized_same : (p m : ℕ) → 16 ≤ p → p + m ≤ end → IsSame front sized p m
   sized_same p m low high = IsSame-agrees old sized p (p + m) p m (agrees_sized p (p + m) (inr low)) (omega arith) (omega arith) (omega arith) ∙ sym (front_same old end p m (omega arith) high)
 
-  -- the free structure, where a step keeps what lies in front of the new units
+  -- the free structure, if a step keeps the bytes before the new units
   kept_free : (new : List ℕ) → ((p m : ℕ) → 16 ≤ p → p + m ≤ end → IsSame sized new p m) → HoldsGaps allocator new (free_of (tiles front))
   kept_free new same =
       let all = λ (p m : ℕ) (low : 16 ≤ p) (high : p + m ≤ end). IsSame-trans front sized new p m (sized_same p m low high) (same p m low high) in

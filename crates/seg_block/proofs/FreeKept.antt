@@ -1,4 +1,4 @@
--- The free structure stays where the words of the gaps are kept, for any allocator.
+-- The free structure stays if the words of the gaps are kept, for any allocator.
 use Rattle.std.proofs.Common.{◌≡◌, ℕ, zero, suc, ◌+◌, ◌*◌, ◌≤◌, true, false, List, [], ◌∷◌, ◌++◌, length, map, cond, Option, None, sym, ◌∙◌, subst, arith, inl, inr, ◌⊎◌}
 use Rattle.std.specs.List.{AllByRecursion}
 use Rattle.seg_bytes.specs.Bytes.{Agrees, IsSame}

@@ -1,4 +1,4 @@
--- An allocated block becomes one gap with those beside it, for any allocator.
+-- An allocated block is freed and merged with the gaps next to it, for any allocator.
 use Rattle.std.proofs.Common.{◌≡◌, ◌≢◌, ℕ, ◌+◌, ◌*◌, Bool, true, false, List, [], ◌∷◌, ◌++◌, Some, None, refl, sym, ap, ◌∙◌, subst, arith, ⊎_elim}
 use Rattle.std.specs.Prelude.{Contains}
 use Rattle.seg_spec.specs.Heap.{Tile, AreApart, IsHeap, Gives, live_of, live, gaps, room_at}

@@ -1,4 +1,4 @@
--- A heap as its tiles, its allocated blocks and its gaps, for any allocator.
+-- A heap given by its tiles, its allocated blocks and its gaps, for any allocator.
 use Rattle.std.proofs.Common.{◌≡◌, ℕ, ◌+◌, ◌*◌, ◌<◌, ◌≤◌, Bool, true, false, List, [], ◌∷◌, ◌++◌, length, min, cond, ltb, refl, sym, ap, ◌∙◌, subst, arith, ⊎_elim}
 use Rattle.std.specs.Prelude.{Contains}
 use Rattle.std.proofs.lemmas.Bool.Decides.{nat_tests}
@@ -30,7 +30,7 @@ tiling_of_heap {n} bytes h = record {
   free = subst (λ gs. HoldsGaps n bytes gs) (gaps_of_heap bytes h) h.free;
 }
 
--- what is known of bytes that these tiles fill, where no two free ones are neighbours
+-- what is known of bytes filled by these tiles, if no two free ones are adjacent
 pub record IsTiledHeap (n : ℕ) (bytes : List ℕ) (ts : List Tile) : Type 0 where
   pub heap : IsHeap n bytes
   pub live_is : live bytes ≡ live_of ts
@@ -106,7 +106,7 @@ Spares-same a b ts us e s = record {
   tiles_kept = λ x h. s.tiles_kept x (subst (λ l. Contains l x) e h);
 }
 
--- tiles in the middle left out
+-- some tiles in the middle are left out
 pub Spares-without : (a b : List ℕ) (xs ms ys : List Tile) → Spares a b (xs ++ (ms ++ ys)) → Spares a b (xs ++ ys)
 Spares-without a b xs ms ys s = record {
   front_kept = s.front_kept;

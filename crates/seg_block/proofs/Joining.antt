@@ -1,4 +1,4 @@
--- A tile takes in the tile right after it.
+-- A tile is joined with the tile right after it.
 use Rattle.std.proofs.Common.{◌≡◌, ℕ, ◌+◌, ◌*◌, ◌≤◌, Bool, List, [], ◌∷◌, ◌++◌, length, refl, ap, ◌∙◌, arith, inl, inr, ◌⊎◌}
 use Rattle.seg_bytes.specs.Bytes.{word, set_word, Agrees}
 use Rattle.seg_spec.specs.Heap.{Tile, Fill, AreHeaders, heap_start}

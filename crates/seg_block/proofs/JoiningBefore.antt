@@ -1,5 +1,5 @@
--- An allocated tile becomes free, with the free tile before it, if there is one, and some tiles
--- after it.
+-- An allocated tile is freed, and joined with the free tile before it, if there is one, and some
+-- tiles after it.
 use Rattle.std.proofs.Common.{◌≡◌, ℕ, ◌+◌, ◌*◌, Bool, true, false, List, [], ◌∷◌, ◌++◌, Some, None, refl, sym, ap, ◌∙◌, subst, ⊎_elim}
 use Rattle.std.proofs.lemmas.List.{append_assoc, append-nil}
 use Rattle.seg_spec.specs.Heap.{Tile, AreApart, live_of}

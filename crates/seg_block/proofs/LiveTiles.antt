@@ -12,7 +12,7 @@ cons_cases x b xs (suc n, k, e) = inr (n, omega arith, e)
 end_in : (from to : ℕ) (t : Tile) (b : Span) → t.at ≡ from → from + 16 * t.units ≤ to → span_of t ≡ b → (from ≤ b.at) × (end_of b ≤ to)
 end_in from to t b at_is le e = subst (λ (s : Span). (from ≤ s.at) × (end_of s ≤ to)) e (omega arith, omega arith)
 
--- an allocated tile lies where the tiles lie
+-- an allocated tile lies inside the range of the tiles
 pub live_within : (ts : List Tile) (from to : ℕ) (b : Span) → Fill from ts to → Contains (live_of ts) b → (from ≤ b.at) × (end_of b ≤ to)
 live_within [] from to b f (n, k, e) = absurd (omega arith)
 live_within (t ∷ ts) from to b f c =

@@ -1,4 +1,4 @@
--- The blocks that headers state, and those beside them.
+-- Blocks according to their headers, and their neighbours.
 use Rattle.std.proofs.Common.{◌≡◌, ℕ, ◌+◌, ◌*◌, ◌≤◌, Bool, true, false, List, [], ◌∷◌, ◌++◌, length, Option, Some, None, refl, sym, ap, ◌∙◌, subst, arith}
 use Rattle.std.specs.Prelude.{IfSome}
 use Rattle.std.proofs.lemmas.List.{append_assoc}
@@ -26,7 +26,7 @@ next_block bytes xs ys at u live t was =
     let parts = around xs (t ∷ ys) heap_start (length bytes) at u live was.filled in
     (sym parts.2.0, IsSized-tile bytes (xs ++ tile at u live ∷ []) ys t.at t.units t.live (subst (λ l. IsTiled bytes l) (sym (append_assoc xs (tile at u live ∷ []) (t ∷ ys))) was))
 
--- the last tile ends where the bytes end
+-- the last tile ends at the end of the bytes
 pub last_end : (bytes : List ℕ) (xs : List Tile) (at u : ℕ) (live : Bool) → IsTiled bytes (xs ++ tile at u live ∷ []) → at + 16 * u ≡ length bytes
 last_end bytes xs at u live was = (around xs [] heap_start (length bytes) at u live was.filled).2
 
@@ -48,7 +48,7 @@ previous_block bytes xs ys at u before live t is was =
       block = IsSized-tile bytes xs (tile at u live ∷ ys) t.at t.units t.live was;
     }
 
--- a block read at the end of the bytes is none
+-- no block is read at the end of the bytes
 pub none_at_end : (bytes : List ℕ) (result : Option Block) (at : ℕ) → at ≡ length bytes → IfSome result (λ f. (f.at ≡ at) × LiesIn bytes f) → result ≡ None
 none_at_end bytes None at e bounds = refl
 none_at_end bytes (Some f) at e bounds = absurd (omega (arith, bounds))

@@ -1,4 +1,4 @@
--- What a neighbour that was read says of the tiles.
+-- What a neighbour that was read implies for the tiles.
 use Rattle.std.proofs.Common.{◌≡◌, Bool, true, false, List, [], ◌∷◌, ◌++◌, Some, None, refl, ap, inl, inr, ◌⊎◌, ⊎_elim}
 use Rattle.seg_spec.specs.Heap.{Tile}
 use Rattle.seg_spec.proofs.TileLaws.{live_after}

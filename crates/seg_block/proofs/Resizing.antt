@@ -1,5 +1,5 @@
--- An allocated tile takes in the gap after it, or gives its end back. `Place` is what an allocator
--- has to know of the tiles in front.
+-- An allocated tile is enlarged by the gap after it, or its end is freed. `Place` is what an
+-- allocator must know of the tiles before it.
 use Rattle.std.proofs.Common.{◌≡◌, ℕ, ◌+◌, ◌*◌, ◌≤◌, true, false, List, [], ◌∷◌, ◌++◌, length, refl, sym, ap, ◌∙◌, subst, arith}
 use Rattle.std.specs.Prelude.{Contains}
 use Rattle.std.proofs.lemmas.List.{append_assoc}

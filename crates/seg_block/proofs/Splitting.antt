@@ -1,4 +1,4 @@
--- A tile is cut in two.
+-- A tile is split in two.
 use Rattle.std.proofs.Common.{◌≡◌, ℕ, ◌+◌, ◌*◌, ◌≤◌, Bool, List, [], ◌∷◌, ◌++◌, length, refl, ◌∙◌, subst, arith, inl, inr, ◌⊎◌, ⊎_elim}
 use Rattle.seg_bytes.specs.Bytes.{word, set_word, Agrees}
 use Rattle.seg_spec.specs.Heap.{Tile, units_before, IsHeader, Fill, AreHeaders, heap_start}

@@ -1,4 +1,4 @@
--- A gap becomes an allocated block, whose rest is a gap again.
+-- A gap is allocated, and its rest is a gap again.
 use Rattle.std.proofs.Common.{◌≡◌, ℕ, ◌+◌, ◌-◌, ◌*◌, ◌<◌, ◌≤◌, true, false, List, [], ◌∷◌, ◌++◌, length, min, Option, Some, None, refl, sym, ap, ◌∙◌, subst, arith, ⊎_elim}
 use Rattle.std.specs.Prelude.{Contains}
 use Rattle.std.proofs.lemmas.Bool.{cases_lt}
@@ -80,7 +80,7 @@ module _ {allocator : ℕ} (old new : List ℕ) (u at units : ℕ) (xs ys : List
       no : true ≡ false → ⊥
       no e = cc
 
-  -- it was taken whole, and its rest freed
+  -- it was taken whole, and its rest was freed
   takes_part : (mid : List ℕ) → 2 ≤ u → u + 2 ≤ units → Retiles allocator old mid xs (tile at units true ∷ []) ys → link_at mid at ≡ None
       → Retiles allocator mid new xs (tile at u true ∷ rest_tile ∷ []) ys × Agrees mid new (at + 8) (at + 16 * u) → Takes allocator old new u (Some at)
   takes_part mid large room r link_none s =

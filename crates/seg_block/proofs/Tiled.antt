@@ -15,7 +15,8 @@ abbrev pub EachHeader : (ℕ → ℕ → Type 0) → List Tile → Type 0
 EachHeader misses [] = ⊤
 EachHeader misses (t ∷ ts) = misses t.at (t.at + 12) × EachHeader misses ts
 
--- The places that an allocator keeps for its free structure may change, and so may the bytes from lo up to hi and the word 4 after hi. `misses` says of a range that it has none of those places.
+-- The places that an allocator uses for its free structure may change, and so may the bytes from lo
+-- up to hi and the word 4 after hi. `misses` says that a range has none of those places.
 module _ (old new : List ℕ) (misses : ℕ → ℕ → Type 0) (part_misses : (from to low high : ℕ) → misses from to → from ≤ low → high ≤ to → misses low high) (lo hi : ℕ) (le : lo ≤ hi)
     (kept : (from to : ℕ) → misses from to → (to ≤ lo) ⊎ (hi ≤ from) → (to ≤ hi + 4) ⊎ (hi + 8 ≤ from) → Agrees old new from to) where
   headers_front : (xs : List Tile) (from before : ℕ) → EachHeader misses xs → Fill from xs lo → AreHeaders old before xs → AreHeaders new before xs
@@ -59,7 +60,7 @@ module _ (old new : List ℕ) (misses : ℕ → ℕ → Type 0) (part_misses : (
               (AreHeaders-append new ns ys (units_after 0 xs) ns_is (headers_next ys (length old) (units_after (units_after 0 xs) ms) (units_after (units_after 0 xs) ns) following back next_is rest));
         }
 
-    -- the tag, link and payload of each allocated tile beside the middle
+    -- the tag, link and payload of each allocated tile outside the middle
     pub spared_tiles : ((b : Span) → Contains (live_of (xs ++ ys)) b → misses (b.at + 8) (end_of b)) → (b : Span) → Contains (live_of (xs ++ ys)) b → Agrees old new (b.at + 8) (end_of b)
     spared_tiles clear b c =
         ⊎_elim
@@ -67,7 +68,7 @@ module _ (old new : List ℕ) (misses : ℕ → ℕ → Type 0) (part_misses : (
         (λ y. let w = live_within ys hi (length old) b back y in kept (b.at + 8) (end_of b) (clear b c) (inr (omega (arith, w.0))) (inr (omega (arith, w.0))))
         (Contains-append_cases (live_of xs) (live_of ys) b (subst (λ l. Contains l b) (live_of-append xs ys) c))
 
--- ---- where a tile lies
+-- ---- the position of a tile
 
 pub around : (xs ys : List Tile) (from to at u : ℕ) (live : Bool) → Fill from (xs ++ tile at u live ∷ ys) to → (Fill from xs at) × (2 ≤ u) × Fill (at + 16 * u) ys to
 around xs ys from to at u live f =
@@ -79,7 +80,7 @@ end_is : (ts : List Tile) (from to : ℕ) → Fill from ts to → end_after from
 end_is [] from to f = f
 end_is (t ∷ ts) from to f = end_is ts (from + 16 * t.units) to f.2
 
--- the tiles beside some that fill a place
+-- the tiles outside some that fill a range
 pub beside : (xs ms ys : List Tile) (t : Tile) (from to lo hi : ℕ) → Fill from (xs ++ ((t ∷ ms) ++ ys)) to → Fill lo (t ∷ ms) hi → Fill from xs lo × Fill hi ys to
 beside xs ms ys t from to lo hi all middle =
     let back = Fill-back xs ((t ∷ ms) ++ ys) from to all in

@@ -1,4 +1,4 @@
--- Going over the cells of a value: types without pointers, with one cell, and with fields.
+-- Iterating over the cells of a value: types without pointers, with one cell, and with fields.
 use Rattle.std.proofs.Common.{◌≡◌, ℕ, ◌+◌, ◌^◌, ◌<◌, ◌≤◌, inr, List, length, Option, Some, None, true, false, refl, sym, ap, ◌∙◌, arith, add-zero}
 use Rattle.std.proofs.lemmas.Bool.Decides.{nat_tests}
 use Rattle.seg_bytes.specs.Bytes.{word, set_word, set_long, slice, number, number_of, set_number, spelling, ChangesOnly}
@@ -37,7 +37,7 @@ the_eight : (a : List ℕ) (at : ℕ) → at + 8 ≤ length a → slice (set_lon
 unfolding set_number
 the_eight a at fits = slice-put_same a at (spelling 8 1) 8 (sym eight_long) fits
 
--- a pointer that points to nothing, and the count 0
+-- a null pointer and the count 0
 pub empty_words : (a : List ℕ) (at : ℕ) → at + 8 ≤ length a → (word (set_long a at 1) at ≡ 1) × (count_at (set_long a at 1) at ≡ 0)
 empty_words a at fits =
     (rw (add-zero at) at (number_in (set_long a at 1) at 0 (part 0 (omega arith)) ∙ first_word), number_in (set_long a at 1) at 4 (part 4 (omega arith)) ∙ second_word)
@@ -45,7 +45,7 @@ empty_words a at fits =
     part : (d : ℕ) → d + 4 ≤ 8 → slice (set_long a at 1) (at + d) 4 ≡ slice (spelling 8 1) d 4
     part d l = sym (slice-slice (set_long a at 1) at 8 d 4 l) ∙ ap (λ xs. slice xs d 4) (the_eight a at fits)
 
--- the distance 1 points to nothing
+-- a pointer with the distance 1 is null
 null-word : (bytes : List ℕ) (at : ℕ) → word bytes at ≡ 1 → target bytes at ≡ None
 unfolding target
 null-word bytes at e = rw e refl

@@ -1,4 +1,4 @@
--- The typed move of entries, from what its steps leave.
+-- Moving entries with a value, from what the steps leave.
 use Rattle.std.proofs.Common.{◌≡◌, ℕ, ◌+◌, ◌*◌, ◌%◌, ◌^◌, ◌≤◌, List, [], ◌∷◌, map, refl, length, sym, ap, ◌∙◌, subst, arith}
 use Rattle.seg_bytes.specs.Bytes.{slice, put, ChangesOnly}
 use Rattle.seg_spec.specs.Types.{Table, IsTable, size}
@@ -49,7 +49,7 @@ no_before : (ps : List ℕ) → map (λ p. p + 0) ps ≡ ps
 no_before [] = refl
 no_before (p ∷ ps) = let e : p + 0 ≡ p = omega arith in rw (e, no_before ps) refl
 
--- for values without anything before them
+-- for values without bytes before them
 pub moved_items : (old new : List ℕ) (table : Table) → IsTable table → (T from to n : ℕ) → Shifts old new table 0 T (size table T) from to n → IsWithin old from (n * size table T)
     → (allocator home : ℕ) (vs : Values) (blocks : List ℕ) → IsHeap allocator old → StandsBeside old home to (n * size table T) blocks → to % 8 ≡ 0
     → HoldsEach old table (items table from T n) vs blocks → HoldsEach new table (items table to T n) vs blocks
@@ -60,7 +60,7 @@ moved_items old new table valid T from to n s from_in allocator home vs blocks h
     let h' = subst (λ ps. HoldsEach old table (places_of T ps) vs blocks) (sym here) h in
     subst (λ ps. HoldsEach new table (places_of T ps) vs blocks) there (moved_values old new table valid 0 T (size table T) from to n s from_in allocator home vs blocks heap stands (omega arith) even e8 refl h')
 
--- where the bytes are that lie in an allocated block
+-- bytes of an allocated block lie in the segment
 pub stands_within : (bytes : List ℕ) (allocator home at n : ℕ) (blocks : List ℕ) → IsHeap allocator bytes → StandsBeside bytes home at n blocks → IsWithin bytes at n
 stands_within bytes allocator home at n blocks heap s =
     let l = there (LiesIn bytes heap_start (length bytes)) home (positions (live bytes)) (live-lie bytes allocator heap) s.home_live in

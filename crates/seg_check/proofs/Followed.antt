@@ -1,4 +1,4 @@
--- How far a walk has come through the tree at a pointer.
+-- How far a walk through the tree at a pointer is.
 use Rattle.std.proofs.Common.{◌≡◌, ℕ, ◌+◌, ◌*◌, ◌/◌, ◌^◌, ◌<◌, ◌≤◌, ◌⊎◌, inl, inr, ◌↔◌, List, [], ◌∷◌, ◌++◌, length, length-append, Option, Some, None, Result, Ok, OnOk, refl, sym, ap, ◌∙◌, subst, arith}
 use Rattle.std.specs.Prelude.{IfOk, IfSome}
 use Rattle.std.proofs.lemmas.Bool.{cases_lt}
@@ -31,7 +31,7 @@ module _ (bytes : List ℕ) (root wanted : ℕ) where
   pub hangs_once : (height : ℕ) (nodes entering : List ℕ) → Hangs bytes root wanted height nodes entering → SameBlocks entering nodes
   hangs_once height nodes entering w h = ap (times h) (sym w.entering_are) ∙ entered_once w.tree h ∙ ap (times h) w.nodes_are
 
-  -- what is left of a tree's nodes
+  -- the remaining nodes of a tree
   pub record Remains (stage : Stage) (passed entered : List ℕ) (height : ℕ) (nodes all : List ℕ) : Type 0 where
     pub rest : List ℕ
     pub entering : List ℕ
@@ -39,8 +39,8 @@ module _ (bytes : List ℕ) (root wanted : ℕ) where
     pub all_are : all ≡ entered ++ entering
     pub completes : Completes bytes height stage rest entering
 
-  -- these nodes were passed and those were entered, and a tree hangs at the pointer exactly if one
-  -- continues from the stage
+  -- these nodes were passed and those were entered; a tree is at the pointer exactly if one remains
+  -- from the stage on
   pub record Followed (stage : Stage) (turns : ℕ) (passed entered : List ℕ) : Type 0 where
     pub steady : IsSteady bytes stage turns
     pub spent : turns + (length passed + length entered) ≡ length bytes / 16
@@ -96,7 +96,7 @@ module _ (bytes : List ℕ) (root wanted : ℕ) where
             (f.back height (node ∷ rest) entering ((step height rest entering).0.1 k)));
       }
 
-    -- at the end a tree of these nodes hangs there, and no other
+    -- at the end a tree of these nodes is there, and no other
     pub follow_end : (new : Stage) → Proceeds bytes old new None → Hangs bytes root wanted old.above.blacks passed entered
     follow_end new step =
         subst (λ xs. Hangs bytes root wanted old.above.blacks passed xs) (append-nil entered)
@@ -108,7 +108,7 @@ module _ (bytes : List ℕ) (root wanted : ℕ) where
         let none = step.1 height r.rest r.entering r.completes in
         r.nodes_are ∙ ap (λ xs. passed ++ xs) none.0 ∙ append-nil passed
 
-    -- where the walk can't continue there is none
+    -- if the walk can't continue, there is no tree
     pub follow_refused : ((height : ℕ) (rest entering : List ℕ) → Completes bytes height old rest entering → height < 30 → length rest + length entering < turns → ⊥)
         → (height : ℕ) (nodes all : List ℕ) → Hangs bytes root wanted height nodes all → 16 + 32 * length nodes ≤ length bytes → ⊥
     follow_refused never height nodes all w few =
@@ -128,7 +128,7 @@ module _ (bytes : List ℕ) (root wanted : ℕ) where
             let small = f.steady.small in
             absurd (omega arith)
 
--- what a walk over the same bytes says of a step to a visit
+-- what a walk over the same bytes implies for a step to a visit
 pub steps_on : {E : Type 0} (bytes : List ℕ) (was now same : Placement) (old new : Stage) (turns less : ℕ) (r : Result (Option Visit) E) (visit : Visit) → r ≡ Ok (Some visit) → same.bytes ≡ bytes → now ≡ was → was ≡ same
     → IsSteady bytes old turns → OnOk r (less + 1 ≡ turns)
     → (IsSteady was.bytes old turns → IfOk r (λ v. IfSome v (λ _. IsSteady now.bytes new less)))

@@ -24,7 +24,7 @@ not_named word k T e low high =
     let first : (word % 256 == 1) ≡ false = (let r : word % 256 ≡ k = omega arith in grind (arith, nat_tests)) in
     rw first refl
 
--- a word that spells no tag is none of a named object
+-- a word that encodes no tag isn't the tag of a named object
 pub no_tag : (word : ℕ) (r : Option Tag) → ((t : Tag) → t.type_id < 256 → word ≡ word_of t → r ≡ Some t) → r ≡ None → named_type word ≡ None
 unfolding named_type
 no_tag word r every none = go (word % 256 == 1) (nat_lt (word / 256) 256) refl refl

@@ -88,7 +88,7 @@ differs_by_test xs ys n = go (same_name xs ys) refl
     go true e = absurd (n (same_by_test xs ys e))
     go false e = e
 
--- a name that comes before another is not the same, whichever is asked for
+-- a name that comes before another differs from it
 pub precedes_differs : (xs ys : List ℕ) → Precedes xs ys → xs ≢ ys
 precedes_differs xs ys h e = let both : Less ≡ Equal = sym (less_of_precedes xs ys h) ∙ equal_of_same xs ys e in cc
 

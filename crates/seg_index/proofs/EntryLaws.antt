@@ -1,4 +1,4 @@
--- Entries of the index as the code reads and writes them, against what the definitions say of them.
+-- Entries of the index as the code reads and writes them, compared to the definitions.
 use Rattle.std.proofs.Common.{◌≡◌, ◌≢◌, ℕ, ◌+◌, ◌-◌, ◌/◌, ◌%◌, ◌^◌, ◌<◌, ◌≤◌, inl, List, length, Some, refl, sym, ap, ◌∙◌, subst, arith, []}
 use Rattle.seg_bytes.specs.Bytes.{half, byte, slice, number, number_of, set_number, set_word, spelling, ChangesOnly}
 use Rattle.seg_spec.specs.Index.{Root, IsName, IsEntry}
@@ -43,12 +43,12 @@ fourth_byte : (n : ℕ) → number 1 (spelling 4 n) 3 ≡ n / 2 ^ 24 % 2 ^ 8
 unfolding number number_of slice
 fourth_byte n = omega arith
 
--- ---- what an entry says
+-- ---- the fields of an entry
 
 pub entry_reads : (bytes : List ℕ) (entry : ℕ) (root : Root) → IsEntry bytes entry root → entry_read bytes entry ≡ entry_of root
 entry_reads bytes entry root o = λ i. record { object = o.points i; count = o.counted i; name_len = o.measured i; zero = o.zero_is i }
 
--- an entry that was moved is that of the same root
+-- an entry that was moved belongs to the same root
 pub entry_moved : (old new : List ℕ) (from to : ℕ) (root : Root) → IsSameEntry old new from to → IsEntry old from root → IsEntry new to root
 entry_moved old new from to root s o =
     let part = λ (i w : ℕ) (inside : i + w ≤ 4). number-slice w old new (to + 4 + i) (from + 4 + i)

@@ -1,4 +1,4 @@
--- A flat index as a root comes or goes.
+-- Adding a root to a flat index, and removing one.
 use Rattle.std.proofs.Common.{◌≡◌, ◌≢◌, ℕ, zero, suc, ◌+◌, ◌-◌, ◌*◌, ◌<◌, ◌≤◌, inl, inr, true, false, List, [], ◌∷◌, ◌++◌, length, Option, Some, None, option_to_list, option_map, refl, sym, ap, ◌∙◌, subst, arith, length-append}
 use Rattle.std.specs.Prelude.{◌==◌, slice_get}
 use Rattle.std.proofs.lemmas.Bool.{cases_lt, cases_eq}
@@ -80,7 +80,7 @@ module _ (old : List ℕ) (flat : word old index_kind_word ≡ 0) (new : List �
     blocks_are = refl;
   }
 
--- what changed of the flat index, as that of an index
+-- a change of the flat index as a change of the index
 pub index_names : (old new : List ℕ) (table : Table) (spans : List Span) (blocks : List ℕ) (names : List Root) → blocks ≡ named old index_cell → ChangesIndex old new table spans → ListsNames new names (named new index_cell)
     → ChangesNames old new table spans blocks names (named new index_cell)
 index_names old new table spans blocks names is c lists = record {
@@ -96,7 +96,7 @@ index_names old new table spans blocks names is c lists = record {
   lists = lists;
 }
 
--- ---- a root comes
+-- ---- a root is added
 
 module _ (allocator : ℕ) (old : List ℕ) (table : Table) (names : List Root) (blocks : List ℕ) (f : FindsNamesOf allocator old table names blocks) (flat : word old index_kind_word ≡ 0)
     (root : Root) where
@@ -153,7 +153,7 @@ module _ (allocator : ℕ) (old : List ℕ) (table : Table) (names : List Root) 
             (order_with s.before root s.after (subst InOrder s.names_are (flat_order allocator old table names blocks f flat)) s.low s.high));
       }
 
-  -- ---- a root goes
+  -- ---- a root is removed
 
   module _ (index : ℕ) (s : PartedNames names root.name index (root ∷ [])) (mid : List ℕ) (closes : ClosesName old mid table index) where
     abbrev c : ChangesIndex old mid table (live old)
@@ -188,7 +188,7 @@ module _ (allocator : ℕ) (old : List ℕ) (table : Table) (names : List Root) 
     left_order : InOrder (s.before ++ s.after)
     left_order = order_without s.before root s.after (subst InOrder s.names_are (flat_order allocator old table names blocks f flat))
 
-    -- where others are left
+    -- if others remain
     pub name_left : count_at mid index_cell ≢ 0 → LeavesName old mid table names blocks root
     name_left some = record {
       before = s.before;
@@ -203,7 +203,7 @@ module _ (allocator : ℕ) (old : List ℕ) (table : Table) (names : List Root) 
           (lists_then old flat mid c.front_kept (s.before ++ s.after) c.room (λ e. absurd (some e)) left_long left_indexed left_order);
     }
 
-    -- ---- the last one goes, and the buffer with it
+    -- ---- the last root is removed, and the buffer with it
 
     -- the cell still points to the buffer
     same_buffer : named mid index_cell ≡ named old index_cell
@@ -222,7 +222,7 @@ module _ (allocator : ℕ) (old : List ℕ) (table : Table) (names : List Root) 
           | inr ne ↦ absurd (omega (arith, f (block_of p), times-same (block_of p) [], times-other (block_of p) (block_of q) [] ne))
         ]
 
-    -- what the call that gives up the buffer finds
+    -- what the call that frees the buffer finds
     pub left_finds : count_at mid index_cell ≡ 0 → FindsNames allocator mid table
     left_finds none =
         let allocator_is = word-same old mid 16 (IsSame-part old mid 0 24 16 4 (omega arith) (omega arith) c.front_kept) in

@@ -117,7 +117,7 @@ module _ (allocator : ℕ) (bytes : List ℕ) (table : Table) (names : List Root
         subst (λ p. p % 8 ≡ 0) same (object_lies it.0 (flat_named i it.0 it.1)).0;
   }
 
-  -- the buffer, where there are entries
+  -- the buffer, if there are entries
   flat_start : 1 ≤ n → (p : ℕ) × (target bytes index_cell ≡ Some p)
   flat_start some = go (target bytes index_cell) refl
     where
@@ -140,7 +140,7 @@ module _ (allocator : ℕ) (bytes : List ℕ) (table : Table) (names : List Root
   below : (i : ℕ) (r : Root) → slice_get names i ≡ Some r → i < n
   below i r e = subst (λ k. i < k) flat_length (get_below names i r e)
 
-  -- an entry is read where the code computes its position
+  -- an entry is read at the position that the code computes
   pub flat_reads : (i : ℕ) (r : Root) → slice_get names i ≡ Some r → entry_read bytes ((start bytes index_cell + i * 8) % 2 ^ 32) ≡ entry_of r
   flat_reads i r e =
       let h = below i r e in
@@ -183,7 +183,7 @@ module _ (allocator : ℕ) (bytes : List ℕ) (table : Table) (names : List Root
   pub entry_missing : (i len : ℕ) → len ≡ count_at bytes index_cell → len ≤ i → None ≡ option_map entry_of (slice_get names i)
   entry_missing i len len_is h = sym (ap (option_map entry_of) (flat_none i (omega arith)))
 
-  -- the first entry after a name, by what a search for that one says
+  -- the first entry after a name, from the result of a search
   pub next_index : (name : List ℕ) (r : Result ℕ ℕ) (i j : ℕ) → Searched names name r → r ≡ Ok i → j ≡ min (i + 1) 4294967295 → slice_get names j ≡ root_after names name
   next_index name r i j h e j_is =
       let it = next_found names name r i h e in

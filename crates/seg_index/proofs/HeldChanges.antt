@@ -1,6 +1,6 @@
--- What an image contains after its index came to list a new object, or lists one no more.
+-- What an image contains after an object was added to its index, or removed.
 --     laid_out_named      an image whose index lists other names is laid out for these
---     held_entered        an object beside the image, entered in the index, is one of the image's
+--     held_entered        an object apart from the image that is added to the index becomes one of the image's
 use Rattle.std.proofs.Common.{◌≡◌, ℕ, ◌+◌, ◌≤◌, List, [], ◌∷◌, ◌++◌, length, refl, sym, ap, ◌∙◌, subst, append_assoc, arith}
 use Rattle.std.specs.List.{AllByRecursion}
 use Rattle.seg_bytes.specs.Bytes.{word}
@@ -58,7 +58,7 @@ laid_out_named old new picture blocks spans names others l c =
 no_blocks : (bytes : List ℕ) (table : Table) (blocks : List ℕ) → HoldsRoots bytes table [] blocks → blocks ≡ []
 no_blocks bytes table _ holds_no_root = refl
 
--- ---- an object comes
+-- ---- an object is added
 
 module _ (allocator : ℕ) (old mid new : List ℕ) (picture : Picture) (held : IsHeld old picture) (allocator_is : word old allocator_word ≡ allocator) (root : Root) (its : List ℕ)
     (length_kept : length mid ≡ length old) (front : KeepsFront old mid) (back : KeepsBack old mid)

@@ -76,7 +76,7 @@ finds_held bytes picture held =
 -- ---- after a call
 
 module _ (allocator : ℕ) (old : List ℕ) (table : Table) (names : List Root) (blocks : List ℕ) (f : FindsNamesOf allocator old table names blocks) (new : List ℕ) where
-  -- the objects of these roots are beside the index
+  -- the objects of these roots are apart from the index
   abbrev Beside : List Root → Type 0
   Beside roots = AllByRecursion (λ r. IsNamed old table r × (times (block_of r.at) blocks ≡ 0)) roots
 
@@ -114,7 +114,7 @@ module _ (allocator : ℕ) (old : List ℕ) (table : Table) (names : List Root) 
       named = each_weaker _ _ still_named roots beside;
     }
 
-  -- where a root came, and where one went
+  -- after a root was added, and after one was removed
   pub finds_entered : (root : Root) → MayEnter old table blocks root → (e : EntersName allocator old new table names blocks root) → FindsNamesOf allocator new table (e.before ++ root ∷ e.after) e.others
   finds_entered root enters e =
       let all : Beside (e.before ++ e.after) = subst Beside e.names_are f.named in

@@ -1,7 +1,8 @@
--- The index where something else changed: it lists the same names, and a spot where a search ended is good still.
+-- The index after a change elsewhere: it lists the same names, and the result of a search stays
+-- valid.
 --     finds_kept      calls find the same names
 --     leads_kept      a path still reaches the same place
---     vacant_kept     the spot of a new name is what it was
+--     vacant_kept     the spot for a new name is the same
 use Rattle.std.proofs.Common.{◌≡◌, ℕ, ◌+◌, ◌*◌, ◌≤◌, List, [], ◌∷◌, length, sym, ap, ◌∙◌, subst, arith}
 use Rattle.std.specs.List.{AllByRecursion}
 use Rattle.std.specs.Ordering.{nat_cmp, ordering_reverse}

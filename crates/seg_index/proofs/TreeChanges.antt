@@ -86,7 +86,7 @@ module _ (bytes : List ℕ) (table : Table) where
   entries_kept new (x ∷ xs) [] h k = absurd h
   entries_kept new (x ∷ xs) (r ∷ rs) h k = (IsEntry-kept bytes new (x + 16) r k.0 h.0.entry, entries_kept new xs rs h.1 k.1)
 
--- what is before a root has names before its name
+-- the roots before a root have names before its name
 pub order_before : (xs : List Root) (r : Root) (ys : List Root) → InOrder (xs ++ r ∷ ys) → AllBefore r.name xs
 order_before [] r ys a = tt
 order_before (x ∷ xs) r ys a = ((each_right _ xs (r ∷ ys) (order_head x (xs ++ r ∷ ys) a)).0, order_before xs r ys (order_tail x (xs ++ r ∷ ys) a))
@@ -97,7 +97,7 @@ pub blocks_joined : (xs ys : List ℕ) → map block_of (xs ++ ys) ≡ map block
 blocks_joined [] ys = refl
 blocks_joined (x ∷ xs) ys = ap (λ zs. block_of x ∷ zs) (blocks_joined xs ys)
 
--- one more, wherever it is
+-- one more, at any place
 pub times_with : (h : ℕ) (front : List ℕ) (node : ℕ) (back : List ℕ) → times h (map block_of (front ++ node ∷ back)) ≡ times h (block_of node ∷ map block_of (front ++ back))
 times_with h front node back =
     let a : times h (map block_of (front ++ node ∷ back)) ≡ times h (map block_of front ++ map block_of (node ∷ back)) = ap (times h) (blocks_joined front (node ∷ back)) in

@@ -46,7 +46,8 @@ use Rattle.seg_index.proofs.TreeChanges.{join_listed, entries_kept, lists_by, ti
 use Rattle.seg_index.proofs.Relinked.{IsTouched, Remade, remade, count_before, stand_apart}
 use Rattle.seg_index.proofs.Kept.{named_kept, finds_kept, leads_kept}
 
--- what adding a node at the end of a path does, in any total order that leads there
+-- what adding a node at the end of a path does, in any total order for which the path is the node's
+-- place
 abbrev pub AddsFrom : List ℕ → List ℕ → ℕ → Path → ℕ → Type 0
 AddsFrom old new root path node = (order : ℕ → ℕ → Ordering) (shape : Tree) → IsTotalOrder order → IsSearchTree old root shape → Ascend order (nodes_of shape) → LeadsTo (order node) shape path → IsNew order node (nodes_of shape)
     → StandApart (length old) root (node ∷ nodes_of shape) → length (nodes_of shape) + 1 < 2 ^ 32 → Leaves old new root (node ∷ nodes_of shape) (with_node order node (nodes_of shape))
@@ -133,7 +134,7 @@ module _ (bytes : List ℕ) (table : Table) (node : ℕ) (name : List ℕ) (name
             high = more.high;
           }
 
-  -- how the name compares with nodes, as the path was gone and as its node is
+  -- how the name compares with nodes, from the path and from its node
   pub turns : (xs : List ℕ) → AllByRecursion (λ x. ordering_reverse (slice_cmp nat_cmp (name_at table bytes (x + 16)) name) ≡ order bytes table node x) xs
   turns [] = tt
   turns (x ∷ xs) = (sym (nat_list_cmp_total.antisymm name (name_at table bytes (x + 16))) ∙ ap (λ n. slice_cmp nat_cmp n (name_at table bytes (x + 16))) (sym name_is), turns xs)

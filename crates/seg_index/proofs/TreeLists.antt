@@ -52,7 +52,7 @@ above_test xs ys = go (slice_cmp nat_cmp xs ys) refl
 
 -- ---- nodes and roots, in turn
 
--- the entry of a node is that of a root
+-- the entry of a node belongs to a root
 pub record IsListed (bytes : List ℕ) (table : Table) (x : ℕ) (r : Root) : Type 0 where
   pub entry : IsEntry bytes (x + 16) r
   pub read_is : entry_read bytes (x + 16) ≡ entry_of r
@@ -200,7 +200,7 @@ module _ (allocator : ℕ) (bytes : List ℕ) (table : Table) (names : List Root
         ∙ ap (λ t. first_where (λ x. reaches Greater (slice_cmp nat_cmp (name_at t bytes (x + 16)) name)) nodes) table_is in
         ap (option_map (entry_in bytes table)) found_there ∙ next_listed bytes table name nodes names listed
 
-    -- what the way down to a name found
+    -- what the path to a name found
     pub path_is : (name : List ℕ) (o : Option ℕ) → ((tree : Tree) → IsSearchTree now root tree → Ascend (order now here) (nodes_of tree)
         → FindsEqual (λ x. slice_cmp nat_cmp (name_at here now (x + 16)) name) (nodes_of tree) o) → option_map (entry_in bytes table) o ≡ option_map entry_of (root_named names name)
     path_is name o e = found_is name o (λ tree t a. finds_first (λ x. slice_cmp nat_cmp (name_at here now (x + 16)) name) (order now here)

@@ -1,4 +1,5 @@
--- A node leaves the tree of the index, and its block is freed: the index lists one name less.
+-- A node is removed from the tree of the index, and its block is freed: the index lists one name
+-- less.
 use Rattle.std.proofs.Common.{◌≡◌, ◌≢◌, ℕ, ◌+◌, ◌-◌, ◌^◌, ◌<◌, ◌≤◌, inl, inr, List, [], ◌∷◌, ◌++◌, length, map, Option, Some, None, option_map, refl, sym, ap, ◌∙◌, subst, arith}
 use Rattle.std.specs.Prelude.{Contains}
 use Rattle.std.proofs.lemmas.List.{length-append}
@@ -282,7 +283,7 @@ module _ (allocator : ℕ) (old : List ℕ) (table : Table) (names : List Root) 
       changes = changes;
     }
 
--- the path to a name that is there ends at a node
+-- the path to a name in the index ends at a node
 pub never_missing : (allocator : ℕ) (old : List ℕ) (table : Table) (names : List Root) (blocks : List ℕ) (s : FindsNamesOf allocator old table names blocks) (kind : word old index_kind_word ≡ 1)
     (root : Root) (there_is : root_named names root.name ≡ Some root) (path : Path) (way : LeadsToName old table root.name path) → node_at old path ≡ None → ⊥
 never_missing allocator old table names blocks s kind root there_is path way none =

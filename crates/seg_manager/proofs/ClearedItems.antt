@@ -1,4 +1,5 @@
--- The values of an object are cleared one after the other beside frozen objects, then its block is freed.
+-- The values of an object are cleared one after the other, apart from frozen objects; then its
+-- block is freed.
 use Rattle.std.proofs.Common.{◌≡◌, ◌≢◌, ℕ, suc, ◌+◌, ◌-◌, ◌*◌, ◌%◌, ◌^◌, ◌<◌, ◌≤◌, inl, inr, List, [], ◌∷◌, ◌++◌, length, refl, sym, ap, ◌∙◌, subst, arith}
 use Rattle.std.specs.List.{AllByRecursion}
 use Rattle.seg_bytes.specs.Bytes.{word, IsSame}
@@ -58,8 +59,9 @@ first (holds_more {v = v} {vs = vs} {blocks = its} {owned = more} h hs) = record
 none_left : {bytes : List ℕ} {table : Table} {vs : Values} {blocks : List ℕ} → HoldsEach bytes table [] vs blocks → (vs ≡ nil) × (blocks ≡ [])
 none_left holds_none = (refl, refl)
 
--- Of the n values of an object the first k were cleared: the blocks of these were freed, with those
--- of the frozen objects that went with them; those of the other values and objects are allocated.
+-- Of the n values of an object the first k were cleared. Their blocks were freed, with those of the
+-- frozen objects that lost their last cell. The blocks of the other values and objects are
+-- allocated.
 pub record Cleared (allocator : ℕ) (old now : List ℕ) (table : Table) (at T n : ℕ) (inside : List ℕ) (theirs : ℕ → List ℕ) (frozen final : List Frozen) (k : ℕ) : Type 0 where
   pub length_kept : length now ≡ length old
   pub front_kept : KeepsFront old now
@@ -235,7 +237,7 @@ module _ (allocator : ℕ) (old now : List ℕ) (table : Table) (valid : IsTable
     others_held : HoldsEach next table (items table (at + k * each + each) T left) f.vs f.more
     others_held = HoldsEach-kept now next table valid f.others (places-same now next table valid T (spaced (at + k * each + each) each left) (spaced-same now next (at + k * each + each) each left others_same)) more_kept
 
-    -- what was freed, and what is left of the objects' blocks
+    -- what was freed, and the rest of the objects' blocks
     gives_are : (h : ℕ) → times h f.its + times h theirs_now ≡ times h clears.gives + times h (blocks_by theirs turn.mid)
     gives_are h = omega (arith, clears.all_are h, times-append h f.its theirs_now, times-append h clears.gives ([] ++ blocks_by theirs turn.mid))
 

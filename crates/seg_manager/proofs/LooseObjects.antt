@@ -1,4 +1,4 @@
--- An object joins the loose ones of a segment, or leaves them.
+-- An object becomes one of the loose ones of a segment, or is destroyed.
 use Rattle.std.proofs.Common.{◌≡◌, ◌≢◌, ℕ, zero, suc, ◌+◌, ◌*◌, ◌<◌, ◌≤◌, ◌⊎◌, inl, inr, List, [], ◌∷◌, ◌++◌, length, Some, None, refl, sym, ap, ◌∙◌, subst, append_assoc, arith, append-nil}
 use Rattle.std.proofs.lemmas.Bool.{cases_eq}
 use Rattle.std.specs.List.{AllByRecursion}
@@ -57,7 +57,7 @@ one_root bytes table T at v inside block held =
       blocks_are = refl;
     })
 
--- ---- it comes
+-- ---- an object is added
 
 module _ (allocator : ℕ) (old new : Stored) (picture : Picture) (is : IsSegment allocator old picture) (T at : ℕ) (below : T < length old.types) (same : new.types ≡ old.types)
     (given : GivesBlock allocator old.window.bytes new.window.bytes old.types (tag_of Kind.object T) 0 T at) where
@@ -150,7 +150,7 @@ module _ (allocator : ℕ) (old new : Stored) (picture : Picture) (is : IsSegmen
     joins = joined;
   }
 
--- ---- it goes
+-- ---- an object is destroyed
 
 module _ (allocator : ℕ) (old new : Stored) (picture : Picture) (is : IsSegment allocator old picture) (before : List Root) (root : Root) (after : List Root)
     (split : picture.loose ≡ before ++ root ∷ after) (same : new.types ≡ old.types) where
@@ -221,7 +221,7 @@ module _ (allocator : ℕ) (old new : Stored) (picture : Picture) (is : IsSegmen
     owned = λ h. let l : times h blocks ≤ times h (positions (live a')) = omega (arith, its.counts h) in rw one.blocks_are at l;
   }
 
-  -- what its destruction leaves beside the frozen objects
+  -- what its destruction leaves of the frozen objects
   abbrev Leaves : Table → Type 0
   Leaves table = (U : ℕ) (v : Value) (inside : List ℕ) → IsTable table → IsHeap allocator a' → IsLoose a' table (record { at = root.at; type = U }) v inside
       → BesideShared a' table (block_of root.at ∷ inside) (named_in v) (λ theirs now. Destroys allocator a' b' table ((block_of root.at ∷ inside) ++ blocks_by theirs now) theirs)

@@ -1,4 +1,4 @@
--- A new object beside the image, which its index comes to list.
+-- A new object apart from the image is added to its index.
 use Rattle.std.proofs.Common.{◌≡◌, ◌≢◌, ℕ, ◌+◌, ◌*◌, ◌<◌, ◌≤◌, ◌⊎◌, inl, inr, List, [], ◌∷◌, ◌++◌, length, Some, None, refl, sym, ap, ◌∙◌, subst, append_assoc, arith}
 use Rattle.std.proofs.lemmas.Bool.{cases_eq}
 use Rattle.std.specs.List.{AllByRecursion}
@@ -76,12 +76,12 @@ module _ (allocator : ℕ) (old mid : List ℕ) (picture : Picture) (held : IsHe
           let was : 1 ≤ times h (positions (live old)) = (let c = counts h in let o = times-other h (block_of object) (positions (live old)) ne in omega arith) in
           ownable_linked old mid picture.table h (g.kept h was) (live_at (IsOwnable old picture.table) (live old) h held.laid_out.blocks was)
 
-  -- calls on the index find the same names beside the new object
+  -- calls on the index find the same names, apart from the new object
   pub finds_mid : FindsNamesOf allocator mid picture.table picture.names held.index_blocks
   finds_mid = finds_kept allocator old mid picture.table picture.names held.index_blocks finds_old g.front_kept g.back_kept kept g.heap ownable
       (λ h. let c = counts h in let d = times_cons h (block_of object) (positions (live old)) in omega arith)
 
-  -- and the spot of its name is what it was
+  -- and the spot to insert its name at is the same
   pub vacant_mid : (vacant : Vacant) → IsVacant old picture.table picture.names name vacant → IsVacant mid picture.table picture.names name vacant
   vacant_mid vacant v = vacant_kept allocator old mid picture.table picture.names held.index_blocks finds_old g.front_kept g.back_kept kept finds_mid name vacant v
 
@@ -108,7 +108,7 @@ module _ (allocator : ℕ) (old mid : List ℕ) (picture : Picture) (held : IsHe
   abbrev its_asks : List ℕ → List Ask
   its_asks bytes = entry_asks (word bytes index_kind_word) bytes
 
-  -- the entry's request is the same beside the object
+  -- the entry's request is the same with the object
   asks_kept : its_asks mid ≡ its_asks old
   asks_kept =
       entry_asks_kept old mid picture.names held.index_blocks finds_old.lists (word-same old mid index_kind_word (IsSame-part old mid 0 24 index_kind_word 4 (omega arith) (omega arith) g.front_kept))

@@ -1,4 +1,4 @@
--- A named object goes: its entry leaves the index, then its blocks are freed.
+-- A named object is destroyed: its entry is removed from the index, then its blocks are freed.
 use Rattle.std.proofs.Common.{◌≡◌, ◌≢◌, ℕ, ◌+◌, ◌≤◌, ◌⊎◌, inl, inr, true, false, List, [], ◌∷◌, ◌++◌, map, Option, Some, None, Ok, Err, is_ok, eqb, refl, sym, ap, ◌∙◌, subst, append_assoc, arith}
 use Rattle.std.proofs.lemmas.Bool.Decides.{nat_tests}
 use Rattle.std.proofs.lemmas.Bool.{cases_eq}
@@ -39,7 +39,7 @@ use Rattle.seg_manager.proofs.LooseObjects.{allocator_same}
 use Rattle.seg_manager.proofs.ClearedItems.{gives_append}
 use Rattle.seg_spec.proofs.CountedKept.{next_same, counted_still}
 
--- what a search that found an object says
+-- what a search that found an object implies
 pub record IsFound (T : ℕ) (root : Root) (found : Found) : Type 0 where
   pub found_is : found ≡ found_of root
   pub type_is : root.type ≡ T
@@ -103,7 +103,7 @@ module _ (allocator : ℕ) (old mid : Stored) (picture : Picture) (is : IsSegmen
   pub first : OwnerBeside a picture is.held e.before root behind
   first = owner_beside (word a next_word) a picture is.held e.before root behind owners is.counted
 
-  -- the object's blocks, and those of the frozen objects
+  -- the blocks of the object and of the frozen objects
   abbrev pub its : List ℕ
   its = first.apart.firsts
 
@@ -132,7 +132,7 @@ module _ (allocator : ℕ) (old mid : Stored) (picture : Picture) (is : IsSegmen
   kept_mid : (h : ℕ) → 1 ≤ times h first.apart.around + times h its + times h theirs → KeepsBlock a b h
   kept_mid h some = e.changes.kept h (omega (arith, first.counts h)) (omega (arith, first.counts h, old_once h))
 
-  -- the object is beside the index then
+  -- the object is then apart from the index
   pub unlisted : IsUnlisted allocator b table root its
   unlisted = record {
     heap = heap_mid;
@@ -144,7 +144,7 @@ module _ (allocator : ℕ) (old mid : Stored) (picture : Picture) (is : IsSegmen
     owned = λ h. omega (arith, first.counts h, mid_are h);
   }
 
-  -- and beside the frozen objects
+  -- and apart from the frozen objects
   pub beside : SharedBeside b table its (named_each root.values) first.theirs (cells_in (e.before ++ behind)) picture.frozen (left cells picture.frozen)
   beside = record {
     holds = hold_kept a b table is.held.laid_out.is_table first.theirs picture.frozen (λ h some. kept_mid h (omega arith)) first.beside.holds;

@@ -35,7 +35,7 @@ each_next : (P : Root → Type 0) (names : List Root) (name : List ℕ) (root : 
 each_next P [] name root all e = cc
 each_next P (r ∷ names) name root all e = choose P (comes_before name r.name) r root (root_after names name) all.0 (each_next P names name root all.1) e
 
--- what an entry that was read says
+-- the fields of an entry that was read
 pub told : (o : Option Root) (read : Option NameEntry) (entry : NameEntry) → read ≡ option_map entry_of o → read ≡ Some entry → (root : Root) × (o ≡ Some root) × (entry ≡ entry_of root)
 told None read entry is some = absurd (let both : None ≡ Some entry = sym is ∙ some in cc)
 told (Some root) read entry is some = (root, refl, (let both : Some entry ≡ Some (entry_of root) = sym some ∙ is in cc))
@@ -44,7 +44,7 @@ pub told_none : (o : Option Root) (read : Option NameEntry) → read ≡ option_
 told_none None read is none = refl
 told_none (Some root) read is none = absurd (let both : Some (entry_of root) ≡ None = sym is ∙ none in cc)
 
--- what is said of a root
+-- P is true of the result and the root
 pub said : {X : Type 0} (P : X → Root → Type 0) (result : Option X) (o : Option Root) (root : Root) → o ≡ Some root → IsSomeAnd result (λ it. P it root) → MatchOption result (o ≡ None) (λ it. IsSomeAnd o (P it))
 said P None o root e h = absurd h
 said P (Some x) o root e h = subst (λ p. IsSomeAnd p (P x)) (sym e) h
@@ -53,7 +53,7 @@ pub unsaid : {X : Type 0} (P : X → Root → Type 0) (result : Option X) (o : O
 unsaid P None o e none = none
 unsaid P (Some x) o e none = absurd (let both : Some x ≡ None = e in cc)
 
--- ---- what an entry leads to
+-- ---- the object of an entry
 
 module _ (bytes : List ℕ) (table : Table) (root : Root) (entry : NameEntry) (named : IsNamed bytes table root) (small : root.type < 32) (is : entry ≡ entry_of root) where
   pub entry_type : type_of bytes entry.object ≡ Some root.type

@@ -22,7 +22,7 @@ use Rattle.seg_manager.specs.NewNamed.{HasValuesRoom, GivesNamed}
 use Rattle.seg_manager.specs.Segments.{new_root}
 use Rattle.seg_spec.proofs.PlainRoots.{root_of_plain}
 
--- the place of a value among those of an object
+-- the place of a value in an object
 abbrev pub value_at : Table → ℕ → ℕ → ℕ → Place
 value_at table at T i = record { at = at + i * size table T; type = T }
 

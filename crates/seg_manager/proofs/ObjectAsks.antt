@@ -1,8 +1,8 @@
--- What a new object and its entry ask of the heap, one request after the other.
---     entry_asks_kept     an index that keeps its buffer's room has the same request for an entry
+-- The requests for a new object and for its entry, one after the other.
+--     entry_asks_kept     an index whose buffer keeps its room has the same request for an entry
 --     spent_after, asks_after, no_room_first
 --                         requests after one for a new block
---     returned_one        a new block that is freed leaves the allocated blocks as they were
+--     returned_one        a new block that is freed leaves the allocated blocks as before
 use Rattle.std.proofs.Common.{◌≡◌, ◌≢◌, ℕ, zero, suc, ◌+◌, ◌-◌, ◌*◌, ◌≤◌, ◌⊎◌, inl, inr, true, false, List, [], ◌∷◌, cond, eqb, leb, Option, Some, None, option_map, option_to_list, refl, sym, ap, ◌∙◌, arith}
 use Rattle.std.specs.Prelude.{nat_lt}
 use Rattle.std.proofs.lemmas.Bool.Decides.{nat_tests}

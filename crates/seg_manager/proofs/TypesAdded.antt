@@ -1,4 +1,4 @@
--- The table of a segment's types becomes a longer one.
+-- The type table of a segment is replaced by a longer one.
 use Rattle.std.proofs.Common.{◌≡◌, ℕ, ◌+◌, ◌-◌, ◌<◌, ◌≤◌, ◌⊎◌, inl, inr, ⊎_elim, true, false, leb, cond, List, [], ◌++◌, length, take, drop, refl, sym, ap, ◌∙◌, subst, arith, append-nil}
 use Rattle.std.proofs.lemmas.Bool.{cases_lt}
 use Rattle.std.proofs.lemmas.Bool.Decides.{nat_tests}
@@ -15,7 +15,7 @@ use Rattle.seg_manager.specs.Segments.{IsSegment, AddsTypes}
 use Rattle.seg_spec.proofs.AddTypes.{types_added, heap_same}
 use Rattle.seg_spec.proofs.CountedKept.{counted_still}
 
--- the longer one continues where the other ends
+-- the longer one begins with the other
 record GoesOn (old new : Table) : Type 0 where
   rest : Table
   is : longer old new ≡ old ++ rest

@@ -1,4 +1,4 @@
--- The unique objects that the words of the types count.
+-- The number of unique objects, counted by their pointers.
 use Rattle.std.proofs.Common.{◌≡◌, ◌≢◌, ℕ, suc, ◌+◌, ◌<◌, ◌≤◌, ◌⊎◌, inl, inr, true, false, cond, List, [], ◌∷◌, length, Some, refl, sym, ◌∙◌, subst, arith}
 use Rattle.std.specs.Prelude.{nat_lt}
 use Rattle.std.specs.Option.{is_some}
@@ -53,7 +53,7 @@ below_more T U (r ∷ rs) rising = go (cases_eq r.type T) (cases_lt r.type T) (b
 pub none_counted : (rs : List Root) → AreRising 0 rs → 0 ≡ below 0 rs
 none_counted rs rising = sym (below_none 0 0 rs rising (omega arith))
 
--- the word of one more type was read
+-- the pointer of one more type was read
 pub one_counted : (bytes : List ℕ) (rs : List Root) (T n : ℕ) → ListsUniques bytes rs → T < 32 → n ≡ below T rs → n + cond (is_some (target bytes (unique_word T))) 1 0 ≡ below (T + 1) rs
 one_counted bytes rs T n l less e =
     let more = below_more T 0 rs l.rising in

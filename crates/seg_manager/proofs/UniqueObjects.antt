@@ -1,4 +1,4 @@
--- A unique object of a segment is made or found, or it goes.
+-- A unique object of a segment is made, found or destroyed.
 use Rattle.std.proofs.Common.{◌≡◌, ◌≢◌, ℕ, ◌+◌, ◌*◌, ◌<◌, ◌≤◌, ◌^◌, List, [], ◌∷◌, ◌++◌, length, Option, Some, None, option_map, refl, sym, ap, ◌∙◌, subst, append_assoc, arith}
 use Rattle.std.specs.List.{AllByRecursion}
 use Rattle.seg_bytes.specs.Bytes.{word, ChangesOnly}
@@ -36,7 +36,7 @@ use Rattle.seg_spec.proofs.Frame.{each_right}
 use Rattle.seg_spec.proofs.CountedParts.{defaults_none}
 use Rattle.seg_spec.proofs.CountedKept.{counted_still, counted_with}
 
--- what the word of a type names
+-- the target of a type's pointer
 pub names_unique : (allocator : ℕ) (s : Stored) (picture : Picture) (T : ℕ) → IsSegment allocator s picture → T < 32 → target s.window.bytes (unique_word T) ≡ unique_at picture T
 names_unique allocator s picture T is less = is.held.laid_out.uniques.words T less ∙ position_root picture.uniques T
 
@@ -48,7 +48,7 @@ above : (allocator : ℕ) (s : Stored) (picture : Picture) → IsSegment allocat
 above allocator s picture is h some = (there (LiesIn s.window.bytes heap_start (length s.window.bytes)) h (positions (live s.window.bytes))
     (live-lie s.window.bytes (word s.window.bytes allocator_word) is.held.laid_out.heap) some).low
 
--- ---- one comes
+-- ---- one is made
 
 -- the first loose object is in the heap
 first_high : (bytes : List ℕ) (picture : Picture) (held : IsHeld bytes picture) (root : Root) (rest : List Root) → picture.loose ≡ root ∷ rest → (heap_start ≤ root.at) × (root.at < 2 ^ 32)
@@ -125,7 +125,7 @@ module _ (allocator : ℕ) (old mid new : Stored) (picture : Picture) (is : IsSe
         };
       }
 
--- ---- it goes
+-- ---- it is destroyed
 
 back : (old new : List ℕ) (at n : ℕ) → ChangesOnly old new at n → ChangesOnly new old at n
 back old new at n c = record { length_kept = sym c.length_kept; others = λ p m o. sym (c.others p m o) }

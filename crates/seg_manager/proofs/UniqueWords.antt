@@ -1,4 +1,5 @@
--- The word of a type's unique object changes: a loose object becomes the unique one, or the unique one is loose.
+-- The pointer of a type's unique object changes: a loose object becomes the unique one, or the
+-- other way round.
 use Rattle.std.proofs.Common.{◌≡◌, ◌≢◌, ℕ, ◌+◌, ◌<◌, ◌≤◌, ◌^◌, ◌⊎◌, inl, inr, List, [], ◌∷◌, ◌++◌, length, Option, Some, None, refl, sym, ap, ◌∙◌, subst, arith}
 use Rattle.std.proofs.lemmas.Bool.{cases_lt}
 use Rattle.std.proofs.lemmas.List.{append_assoc}
@@ -54,7 +55,7 @@ module _ (old new : List ℕ) (picture : Picture) (held : IsHeld old picture) (T
   pub word_kept : (h : ℕ) → 1 ≤ times h (positions (live old)) → KeepsBlock old new h
   word_kept h some = header_kept allocator old new (unique_word T) 4 heap changes fits after_root h some
 
-  -- whatever is in the heap
+  -- everything in the heap is kept
   pub above_kept : (h : ℕ) → heap_start ≤ h → KeepsBlock old new h
   above_kept h low =
       let first = word-same old new h (changes.others h 4 (inr (omega arith))) in

@@ -1,4 +1,4 @@
--- A new node gets its place in the tree of a map: the map has one more key.
+-- A new node is added to the tree of a map: the map has one more key.
 use Rattle.std.proofs.Common.{◌≡◌, ◌≢◌, ℕ, ◌+◌, ◌%◌, ◌^◌, ◌<◌, ◌≤◌, ℤ, List, [], ◌∷◌, ◌++◌, length, map, Some, refl, sym, ap, ◌∙◌, subst, arith}
 use Rattle.std.proofs.lemmas.List.{length-append}
 use Rattle.std.specs.Prelude.{insert, slice_get}
@@ -42,7 +42,8 @@ use Rattle.seg_map.proofs.Relinking.{IsTouched, Remade, remade, count_before, st
 use Rattle.seg_map.proofs.Rebuilding.{value_places, places_joined, places_long, inserted_nth, Parts, parts, joined, map_of, map_leads, passes, paths_by}
 use Rattle.seg_map.proofs.Entering.{Entered}
 
--- what adding a node at the end of a path does, in any total order that leads there
+-- what adding a node at the end of a path does, in any total order for which the path is the node's
+-- place
 abbrev pub AddsFrom : List ℕ → List ℕ → ℕ → Path → ℕ → Type 0
 AddsFrom old new root path node = (order : ℕ → ℕ → Ordering) (shape : Tree) → IsTotalOrder order → IsSearchTree old root shape → Ascend order (nodes_of shape) → LeadsTo (order node) shape path → IsNew order node (nodes_of shape)
     → StandApart (length old) root (node ∷ nodes_of shape) → length (nodes_of shape) + 1 < 2 ^ 32 → Leaves old new root (node ∷ nodes_of shape) (with_node order node (nodes_of shape))
@@ -395,7 +396,7 @@ module _ (allocator : ℕ) (old mid : List ℕ) (table : Table) (place : Place) 
         stands_at = map_leads new table place U made.tree f made.is_tree made.red_black long_now blocks_now (subst IsAscending more more_ascend) key (length front) node place_now.0 place_now.1 Rattle.seg_spec.specs.Reads.here;
       }
 
-      -- each path that led somewhere leads there
+      -- each path still reaches the same place
       path_kept : (t : Selector) (path : List Selector) (inner : Place) → Leads old table place (t ∷ path) inner → Leads new table place (t ∷ path) inner
       path_kept t path inner way =
           let p = passes old new table s.is_table place U keys vs blocks f m values_same owned_kept way in

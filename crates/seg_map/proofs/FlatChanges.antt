@@ -1,4 +1,4 @@
--- A flat map that gets a key, or loses one, from what the steps of the calls leave.
+-- Adding a key to a flat map, and removing one, from what the steps of the calls leave.
 use Rattle.std.proofs.Common.{◌≡◌, ◌≢◌, ℕ, zero, suc, ◌+◌, ◌*◌, ◌%◌, ◌^◌, ◌<◌, ◌≤◌, inl, inr, ⊎_elim, ℤ, Bool, true, false, List, [], ◌∷◌, ◌++◌, length, map, Some, None, Result, Ok, refl, sym, ap, ◌∙◌, subst, arith}
 use Rattle.std.specs.Prelude.{insert, remove, int_lt, unwrap_or, slice_get}
 use Rattle.std.proofs.Math.Nat.{zero-mul, mul-le-mul_right}
@@ -41,7 +41,7 @@ use Rattle.seg_map.proofs.KeyLaws.{stands_before, still_there, parted_missing, i
 use Rattle.seg_map.proofs.FlatMaps.{goes_on, goes_through, HasBuffer, has_buffer, entry_small, its, holds_each, length_is, value_leads, ascending, key_leads, held_leads, held_opened, held_opens, held_part}
 use Rattle.seg_spec.proofs.PartCleared as part
 
--- ---- a key comes
+-- ---- a key is added
 
 changes_twice : (a b c : List ℕ) (at n : ℕ) → ChangesOnly a b at n → ChangesOnly b c at n → ChangesOnly a c at n
 changes_twice a b c at n x y = record { length_kept = y.length_kept ∙ x.length_kept; others = λ p m apart. y.others p m apart ∙ x.others p m apart }
@@ -134,9 +134,9 @@ module _ (allocator : ℕ) (old opened stored new : List ℕ) (table here : Tabl
       known : (x y : code.Place) → Some x ≡ Some y → x ≡ y
       known x y e = cc
 
--- ---- a key goes
+-- ---- a key is removed
 
--- what is in the front of places
+-- the places before an index
 in_front : (xs ys : List Place) (j : ℕ) (p : Place) → j < length xs → slice_get (xs ++ ys) j ≡ Some p → slice_get xs j ≡ Some p
 in_front [] ys j p l e = absurd (omega arith)
 in_front (x ∷ xs) ys zero p l e = e
@@ -168,7 +168,7 @@ module _ (allocator : ℕ) (old : List ℕ) (table : Table) (place : Place) (U :
   pub led : Leads old table place (Selector.key key ∷ []) inner
   led = key_leads allocator old table place U keys vs blocks f s key i there
 
-  -- the value, its blocks, and those that are left
+  -- the value, its blocks, and the others
   abbrev pub c : ComesApart old table place (Selector.key key ∷ []) inner (Map keys vs) blocks
   c = part.c allocator old table place (Map keys vs) blocks s inner (Selector.key key ∷ []) led
 
@@ -198,7 +198,7 @@ module _ (allocator : ℕ) (old : List ℕ) (table : Table) (place : Place) (U :
       multiple zero m e = omega arith
       multiple (suc i) m e = let rest = multiple i m e in let more : suc i * m ≡ m + i * m = grind arith in omega arith
 
-  -- the buffer is none of the blocks of the value
+  -- the buffer isn't one of the value's blocks
   mine : 1 ≤ times (block_of b.p) rest
   mine =
       let h = block_of b.p in
@@ -236,7 +236,7 @@ module _ (allocator : ℕ) (old : List ℕ) (table : Table) (place : Place) (U :
     own : Middle old table m.before j sooner m.left m.xs
     own = middle old table m.lefts j sooner among
 
-    -- its blocks are none of the other value's, nor the buffer
+    -- its blocks belong neither to the other value nor to the buffer
     others : (h : ℕ) → 1 ≤ times h own.zs → (1 ≤ times h rest) × (h ≢ block_of b.p)
     others h some =
         let first = ap (times h) own.blocks_are in
@@ -268,7 +268,7 @@ module _ (allocator : ℕ) (old : List ℕ) (table : Table) (place : Place) (U :
   pub inner_stands : Stands allocator old table inner c.value c.its
   inner_stands = part.inner_stands allocator old table place (Map keys vs) blocks s inner (Selector.key key ∷ []) led (block_of b.p) inside mine aligned
 
-  -- what calls find there that destroy the value, which is at the key's place among the values
+  -- what the calls find that destroy the value at the key's index
   pub inner_beside : (v : Value) → nth vs i ≡ Some v → (theirs : ℕ → List ℕ) (kept : List Place) (now final : List Frozen) → SharedBeside old table (s.home ∷ blocks) (named_in v) theirs kept now final
       → SharedBeside old table (inner_stands.home ∷ c.its) (named_in c.value) theirs kept now final
   unfolding inner_stands

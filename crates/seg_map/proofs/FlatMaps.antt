@@ -40,7 +40,7 @@ pub err_then : {X E : Type 0} {P Q : E → Type 0} (r : Result X E) → IfErr r 
 err_then (Ok x) h f = tt
 err_then (Err e) h f = f e h
 
--- what an error says, whatever its code
+-- P is true of each error
 pub only_err : {X E : Type 0} (r : Result X E) (P : X → Type 0) (Q : Type 0) → IsErr r → Q → MatchResult r P (λ code. Q)
 only_err (Ok x) P Q e q = absurd (false≢true e)
 only_err (Err y) P Q e q = q
@@ -126,7 +126,7 @@ module _ (bytes : List ℕ) (table : Table) (place : Place) (U : ℕ) (keys : Li
       let one : part ≡ held_value i = (let k : Some part ≡ Some (held_value i) = sym its_part ∙ also in cc) in
       record { i = i; place_is = at; goes = subst (λ q. Leads bytes table q path inner) one rest }
 
--- ---- where calls find it
+-- ---- what calls find
 
 module _ (allocator : ℕ) (bytes : List ℕ) (table : Table) (place : Place) (U : ℕ) (keys : List ℤ) (vs : Values) (blocks : List ℕ) (f : form_at table place.type ≡ Some (Form.flat_map U))
     (s : Stands allocator bytes table place (Map keys vs) blocks) where
@@ -154,7 +154,7 @@ module _ (allocator : ℕ) (bytes : List ℕ) (table : Table) (place : Place) (U
   pub length_is : length keys ≡ n
   length_is = held_length bytes table place U keys vs blocks f s.holds_it
 
-  -- the buffer, where there is an entry
+  -- the buffer, if there is an entry
   pub record HasBuffer : Type 0 where
     pub p : ℕ
     pub names : target bytes place.at ≡ Some p
@@ -192,7 +192,7 @@ module _ (allocator : ℕ) (bytes : List ℕ) (table : Table) (place : Place) (U
   pub no_key : (i : ℕ) → n ≤ i → slice_get keys i ≡ None
   no_key i h = slice_get_past keys i (omega (arith, length_is))
 
-  -- the entry is read where the code computes its position
+  -- the entry is read at the position that the code computes
   pub key_read : (i : ℕ) → i < n → slice_get keys i ≡ Some (signed_long bytes ((start bytes place.at + i * each) % 2 ^ 32))
   key_read i h = let e : (start bytes place.at + i * each) % 2 ^ 32 ≡ start bytes place.at + i * each = omega (arith, entry_small i h) in rw e (key_is i h)
 
@@ -261,7 +261,7 @@ module _ (allocator : ℕ) (bytes : List ℕ) (table : Table) (place : Place) (U
       let same : p ≡ start bytes place.at + i * each + 8 = p_is ∙ rw (from_is, e.size_is, e.before_is) here_is in
       rw same (key_leads key i at)
 
-  -- what a search says, of the key as the code passes it
+  -- the result of a search, for the key as the code passes it
   abbrev pub Searched : ℤ → Result ℕ ℕ → Type 0
   Searched key r = MatchResult r (λ i. key_place keys key ≡ Some i) (λ i. (key_place keys key ≡ None) × (i ≡ keys_below keys key))
 
@@ -289,7 +289,7 @@ module _ (allocator : ℕ) (bytes : List ℕ) (table : Table) (place : Place) (U
   pub read_none : (i count : ℕ) → count ≡ n → count ≤ i → None ≡ slice_get keys i
   read_none i count count_is h = sym (no_key i (omega arith))
 
-  -- the first key above another, by what a search for that one says
+  -- the first key above another, from the result of a search
   pub next_read : (key passed : ℤ) (i j : ℕ) (r : Result ℕ ℕ) (read : Option ℤ) → passed ≡ key → Searched passed r → r ≡ Ok i → j ≡ min (i + 1) 4294967295 → read ≡ slice_get keys j → read ≡ first_of (keys_above keys key)
   next_read key passed i j r read same h is j_is read_is =
       let at = found_at key i r (subst (λ k. Searched k r) same h) (ap result_ok is) in

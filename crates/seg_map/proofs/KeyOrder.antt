@@ -1,4 +1,4 @@
--- Nodes in ascending order of numbers: what a search finds among them, and one more or one less of them.
+-- Nodes in ascending order of numbers: what a search finds among them, and adding or removing one.
 use Rattle.std.proofs.Common.{◌≡◌, ◌≢◌, ℕ, zero, suc, ◌+◌, Bool, true, false, cond, ltb, not, ◌&&◌, ℤ, ◌<ℤ◌, List, [], ◌∷◌, ◌++◌, ◌⊎◌, inl, inr, length, map, take, drop}
 use Rattle.std.proofs.Common.{Option, Some, None, MatchOption, option_map, refl, sym, ap, ◌∙◌, subst, arith, zero-add}
 use Rattle.std.specs.Prelude.{int_lt, slice_get, insert, remove, position, eqb}
@@ -92,7 +92,7 @@ module _ (f : ℕ → ℤ) where
   ascending_of (x ∷ []) h = tt
   ascending_of (x ∷ y ∷ ys) h = (below_of_less (f x) (f y) h.0.0, ascending_of (y ∷ ys) h.1)
 
-  -- ---- where a number would be
+  -- ---- the place of a number
 
   -- all before a number, then all above it
   pub record Apart (k : ℤ) (nodes : List ℕ) : Type 0 where
@@ -230,7 +230,7 @@ module _ (f : ℕ → ℤ) where
       go true e h = ap (λ b. first_of (cond b (f x ∷ keys_above (map f xs) k) (keys_above (map f xs) k))) (sym e ∙ above_test k x)
       go false e h = h ∙ ap (λ b. first_of (cond b (f x ∷ keys_above (map f xs) k) (keys_above (map f xs) k))) (sym e ∙ above_test k x)
 
-  -- ---- one more, and one less
+  -- ---- adding and removing one
 
   -- how many numbers are below one
   below_one : (k : ℤ) (x : ℤ) (xs : List ℤ) → keys_below (x ∷ xs) k ≡ cond (int_lt x k) 1 0 + keys_below xs k
@@ -278,7 +278,7 @@ module _ (f : ℕ → ℤ) where
   pub place_of_more : (k : ℤ) (front back : List ℕ) → Before k front → After k back → keys_below (map f (front ++ back)) k ≡ length front
   place_of_more k front back low high = below_front k front back low (after_tests k back high)
 
-  -- where a node comes among the others
+  -- the place of a node among the others
   comes_here : (node : ℕ) (back : List ℕ) → After (f node) back → with_node by node back ≡ node ∷ back
   comes_here node [] h = refl
   comes_here node (x ∷ xs) h = let e : is_lt (int_cmp (f node) (f x)) ≡ true = ap is_lt (less_of_greater (f x) (f node) h.0) in rw e refl

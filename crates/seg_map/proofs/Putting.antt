@@ -47,7 +47,7 @@ module _ (allocator : ℕ) (old : List ℕ) (table : Table) (place : Place) (U :
 
   -- ---- what the path found
 
-  -- one of the nodes that compare as equal, where one does, in a search tree at a pointer word
+  -- one of the nodes that compare as equal, if there is one, in a search tree at a pointer word
   abbrev pub Finds : List ℕ → ℕ → Option ℕ → Type 0
   Finds now root o = (tree : Tree) → IsSearchTree now root tree → Ascend (λ x y. int_cmp (key_at now x) (key_at now y)) (nodes_of tree) → FindsEqual (λ x. int_cmp (key_at now x) key) (nodes_of tree) o
 
@@ -104,7 +104,7 @@ module _ (allocator : ℕ) (old : List ℕ) (table : Table) (place : Place) (U :
     pub puts_refused : {E : Type 0} (new : List ℕ) (asks : List Ask) (code : E) → Refuses allocator old new asks → PutsKey allocator old new table place U keys vs key blocks asks (key_place keys key) (Err code)
     puts_refused new asks code r = rw (no_key absent) r
 
-    -- a new node is where positions don't wrap
+    -- the positions of a new node don't wrap
     new_low : (mid : List ℕ) (node : ℕ) → GivesBlock allocator old mid table (tag_of Kind.node place.type) 24 U node → node + 8192 < 2 ^ 32
     new_low mid node g =
         let lies = there (LiesIn mid heap_start (length mid)) (block_of node) (positions (live mid)) (live-lie mid allocator g.heap) (let one = g.now_live in omega arith) in

@@ -1,4 +1,4 @@
--- The values of a map with one more or one less, and the map that a tree makes of them.
+-- The values of a map with one more or one less, and the map in a tree of them.
 use Rattle.std.proofs.Common.{◌≡◌, ℕ, zero, suc, ◌+◌, ℤ, List, [], ◌∷◌, ◌++◌, length, map, Some, refl, sym, ap, ◌∙◌, subst, append_assoc}
 use Rattle.std.specs.List.{AllByRecursion}
 use Rattle.seg_spec.specs.Pointer.{target}
@@ -115,7 +115,7 @@ key_by keys Selector.content i e = cc
 
 module _ (old new : List ℕ) (table : Table) (valid : IsTable table) (place : Place) (U : ℕ) (keys : List ℤ) (vs : Values) (blocks : List ℕ) (f : form_at table place.type ≡ Some (Form.map U)) (m : IsTreeMap old table place U keys vs blocks)
     (same : AllByRecursion (SamePlace old new table) (value_places U (nodes_of m.opens.tree))) (kept : AllByRecursion (KeepsBlock old new) m.owned) where
-  -- a path from the map goes through a key, and on from the value in its node
+  -- a path from the map has a key first, and continues from the value in its node
   pub record Passes (s : Selector) (path : List Selector) (inner : Place) : Type 0 where
     pub key : ℤ
     pub selector_is : s ≡ Selector.key key

@@ -1,4 +1,5 @@
--- A tree whose words and whose cell's count were written: what hangs there then, and what is kept.
+-- A tree after its words and its cell's count were written: the tree that is then there, and what
+-- is kept.
 use Rattle.std.proofs.Common.{◌≡◌, ◌≢◌, ℕ, ◌+◌, ◌-◌, ◌*◌, ◌^◌, ◌<◌, ◌≤◌, ◌⊎◌, inl, inr, List, [], ◌∷◌, length, map, sym, ap, ◌∙◌, subst, arith}
 use Rattle.std.specs.List.{AllByRecursion}
 use Rattle.seg_bytes.specs.Bytes.{set_word, IsSame, ChangesOnly}

@@ -1,4 +1,5 @@
--- A node leaves the tree of a map, and is freed with what its value owns: the map has one key less.
+-- A node is removed from the tree of a map and freed, with what its value owns: the map has one key
+-- less.
 use Rattle.std.proofs.Common.{◌≡◌, ◌≢◌, ℕ, ◌+◌, ◌-◌, ◌^◌, ◌<◌, ◌≤◌, inl, inr, ℤ, List, [], ◌∷◌, ◌++◌, length, map, Some, refl, sym, ap, ◌∙◌, subst, arith}
 use Rattle.std.proofs.lemmas.List.{length-append}
 use Rattle.std.specs.Prelude.{remove, slice_get, Contains}
@@ -310,7 +311,7 @@ module _ (allocator : ℕ) (old : List ℕ) (table : Table) (place : Place) (U :
     holds_less : Holds mid table place (without_entry (keys, vs) i) others
     holds_less = map_of mid table place U made.tree (remove keys i) (remove_nth vs i) (k.xs ++ k.ys) f made.is_tree made.red_black long_now blocks_now (keys_less ∙ sym keys_mid) still_ascend values_less
 
-    -- a path through another key leads there still
+    -- a path through another key still reaches the same place
     path_mid : (other : ℤ) (path : List Selector) (inner : Place) → other ≢ key → Leads old table place (Selector.key other ∷ path) inner → Leads mid table place (Selector.key other ∷ path) inner
     path_mid other path inner ne way =
         let p = passes old mid table s.is_table place U keys vs blocks f m (values_same ns each_node) all_kept way in
@@ -333,7 +334,7 @@ module _ (allocator : ℕ) (old : List ℕ) (table : Table) (place : Place) (U :
     inside_mid : IsInside mid s.home place.at (size table place.type)
     inside_mid = let h = (made.header s.home home_old).0.room in let high = s.inside.high in let two = (lies s.home home_old).size in record { low = s.inside.low; high = omega arith }
 
-    -- where calls find the map without the node, and the node's value
+    -- what calls find of the map without the node, and of the node's value
     pub map_stands : Stands allocator mid table place (without_entry (keys, vs) i) others
     map_stands = record {
       heap = made.heap;
@@ -371,7 +372,7 @@ module _ (allocator : ℕ) (old : List ℕ) (table : Table) (place : Place) (U :
     unfolding value_stands
     value_home = refl
 
-    -- ---- frozen objects beside the map
+    -- ---- frozen objects apart from the map
 
     module _ (theirs : ℕ → List ℕ) (kept : List Place) (now final : List Frozen) (beside : SharedBeside old table (s.home ∷ blocks) (named_in k.value) theirs kept now final) where
       abbrev shared : List ℕ
@@ -500,7 +501,7 @@ module _ (allocator : ℕ) (old : List ℕ) (table : Table) (place : Place) (U :
         map_left : Stands allocator new table place (without_entry (keys, vs) i) others
         map_left = left_stands allocator cleared table place (without_entry (keys, vs) i) others map_cleared new (block_of node) g node_cleared node_off
 
-        -- a block that is there still when the node goes
+        -- a block that still exists when the node is freed
         last_kept : (h : ℕ) → 1 ≤ times h (positions (live cleared)) → h ≢ block_of node → KeepsBlock cleared new h
         last_kept h some ne = (left_kept allocator cleared table place (without_entry (keys, vs) i) others map_cleared new (block_of node) g node_cleared node_off h some (λ e. ne (sym e))).whole.kept
 

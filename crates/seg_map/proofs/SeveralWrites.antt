@@ -1,4 +1,4 @@
--- What writes inside the payloads of several allocated blocks keep, where nothing else was written.
+-- What writes inside the payloads of several allocated blocks keep, if nothing else was written.
 use Rattle.std.proofs.Common.{◌≡◌, ◌≢◌, ℕ, ◌+◌, ◌*◌, ◌≤◌, inl, List, length, arith}
 use Rattle.std.specs.List.{AllByRecursion}
 use Rattle.seg_bytes.specs.Bytes.{IsSame}

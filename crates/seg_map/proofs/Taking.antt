@@ -45,8 +45,8 @@ module _ (allocator : ℕ) (old : List ℕ) (table : Table) (place : Place) (U :
   removes_none absent = rw (no_key allocator old table place U keys vs blocks f s key absent) (refl, refl)
 
   module _ (node : ℕ) (a : Around (key_at old) key the_nodes node) where
-    -- one that is: it goes for any frozen objects, and each path through another key still reaches
-    -- the same place
+    -- one that is in the map: it is removed for any frozen objects, and paths through other keys
+    -- still reach the same places
     abbrev pub Takes : List ℕ → Type 0
     Takes new = (v : Value) → nth vs (length a.front) ≡ Some v
         → BesideShared old table (s.home ∷ blocks) (named_in v) (TakesKey old new table place keys vs blocks (KeepsOtherKeys old new table place key) (length a.front))

@@ -28,7 +28,7 @@ use Rattle.seg_map.proofs.KeyOrder.{ascend_of, found, AtPlace, first_found, next
 abbrev pub key_at : List ℕ → ℕ → ℤ
 key_at bytes node = signed_long bytes ((node + 16) % 2 ^ 32)
 
--- nodes are where positions don't wrap
+-- the positions of nodes don't wrap
 abbrev pub AreLow : List ℕ → Type 0
 AreLow nodes = AllByRecursion (λ p. p + 8192 < 2 ^ 32) nodes
 
@@ -84,7 +84,7 @@ tree_map bytes table place U keys vs blocks f (holds form opened inside owned g 
     let o' : Opens bytes table place (Form.map U) opened = subst (λ h. Opens bytes table place h opened) same o in
     map_by bytes table place U keys vs blocks opened inside owned o' hs v_is blocks_is
 
--- ---- where calls find a map
+-- ---- what calls find of a map
 
 pub mapped_at : {X Y : Type 0} (g : X → Y) (xs : List X) (i : ℕ) (x : X) → slice_get xs i ≡ Some x → slice_get (map g xs) i ≡ Some (g x)
 mapped_at g [] i x e = cc

@@ -1,4 +1,4 @@
--- What was written into bytes that a window lent.
+-- What was written into borrowed bytes of a window.
 use Rattle.std.proofs.Common.{◌≡◌, ℕ, ◌+◌, ◌≤◌, List, ◌++◌, length, take, drop, refl, sym, ap, ◌∙◌, arith}
 use Rattle.std.proofs.lemmas.List.{append_assoc, length-append, length-take-le, drop-drop, take_at, drop_at}
 use Rattle.std.specs.List.{length_refill}

@@ -4,7 +4,7 @@ use Rattle.std.proofs.lemmas.Bool.{cases_lt}
 use Rattle.seg_bytes.specs.Bytes.{slice, number_of, number, byte, half, word, long}
 use Rattle.seg_bytes.proofs.BytesLaws.{length-slice, number_past}
 
--- the n bytes from a position on, and none where they aren't all there
+-- the n bytes from a position on, or none if they aren't all there
 pub record IsPart (bytes : List ℕ) (at n : ℕ) (part : List ℕ) : Type 0 where
   pub inside : at + n ≤ length bytes → part ≡ slice bytes at n
   pub past : length bytes < at + n → part ≡ []

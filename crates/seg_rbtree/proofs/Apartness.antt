@@ -1,4 +1,4 @@
--- Nodes that share no byte.
+-- Nodes that don't overlap.
 use Rattle.std.proofs.Common.{ℕ, ◌+◌, ◌≤◌, inl, inr, List, [], ◌∷◌, ◌++◌, arith}
 use Rattle.std.specs.List.{AllByRecursion}
 use Rattle.seg_spec.specs.Apart.{Separate}

@@ -1,4 +1,4 @@
--- The rules of colour, from the whole to a place and back.
+-- The rules of colours, from the whole tree to a place and back.
 use Rattle.std.proofs.Common.{◌≡◌, ℕ, suc, ◌⊎◌, inl, inr, List, [], ◌∷◌, refl, subst}
 use Rattle.seg_spec.specs.Shapes.{Colour, black, red, Tree, IsBlack, IsBalanced, IsRedBlack}
 use Rattle.seg_rbtree.specs.declared.node.Side.{Side}
@@ -48,7 +48,7 @@ red-parts Right at near far h b = record { near_black = b.1; far_black = b.0; ne
 
 -- ---- a place
 
--- what is at a place is balanced, the rest wants its height, and no red node is below a red one
+-- the subtree at a place is balanced and has the right height, and no red node is below a red one
 pub record IsBalancedAt (tree : Tree) (layers : List Layer) : Type 0 where
   pub height : ℕ
   pub balanced : IsBalanced tree height

@@ -1,4 +1,4 @@
--- The parts of a tree, seen from a side.
+-- The subtrees of a tree, seen from a side.
 use Rattle.std.proofs.Common.{◌≡◌, ℕ, ◌+◌, List, [], ◌∷◌, ◌++◌, Option, Some, None, refl, sym, ap, subst, append_assoc}
 use Rattle.seg_spec.specs.Pointer.{target}
 use Rattle.seg_spec.specs.Shapes.{Colour, Tree, leaf, fork, nodes_of, HasColour, IsTree}
@@ -34,7 +34,7 @@ pub branch-whole : (bytes : List ℕ) (side : Side) (at : ℕ) (colour : Colour)
 branch-whole bytes Left at colour near far c n f = (refl, c, n, f)
 branch-whole bytes Right at colour near far c n f = (refl, c, f, n)
 
--- a tree that hangs at a node, seen from a side
+-- a tree with a node as its root, seen from a side
 pub record IsFork (side : Side) (at : ℕ) (tree : Tree) : Type 0 where
   pub colour : Colour
   pub near : Tree
@@ -58,12 +58,12 @@ pub opposite-twice : (side : Side) → opposite (opposite side) ≡ side
 opposite-twice Left = refl
 opposite-twice Right = refl
 
--- what comes up and what goes down keep their order
+-- the node that moves up and the one that moves down keep their order
 pub nodes-rotated : (side : Side) (node up : ℕ) (cn cu dn du : Colour) (x m d : Tree) → nodes_of (branch side up du (branch side node dn x m) d) ≡ nodes_of (branch side node cn x (branch side up cu m d))
 nodes-rotated Left node up cn cu dn du x m d = append_assoc (nodes_of x) (node ∷ nodes_of m) (up ∷ nodes_of d)
 nodes-rotated Right node up cn cu dn du x m d = sym (append_assoc (nodes_of d) (up ∷ nodes_of m) (node ∷ nodes_of x))
 
--- what is at a place hangs at its pointer word
+-- the subtree at a place is at its pointer word
 pub tree-down : (bytes : List ℕ) (root : ℕ) (tree : Tree) (layers : List Layer) → IsTree bytes (target bytes root) (plug tree layers) → IsTree bytes (target bytes (place root layers)) tree
 tree-down bytes root tree [] h = h
 tree-down bytes root tree (layer ∷ layers) h =

@@ -1,4 +1,4 @@
--- From a place of a tree to the next node in order.
+-- From a place in a tree to the next node in order.
 use Rattle.std.proofs.Common.{◌≡◌, ◌≢◌, ℕ, ◌+◌, ◌≤◌, Bool, true, false, List, [], ◌∷◌, ◌++◌, Option, Some, None, MatchOption, refl, sym, ap, ◌∙◌, subst, append_assoc, arith}
 use Rattle.std.specs.Prelude.{slice_get}
 use Rattle.std.specs.Option.{option_or}
@@ -29,7 +29,7 @@ use Rattle.seg_rbtree.proofs.Unlinking.{nodes_plug}
 
 -- ---- back up
 
--- so many layers are left behind, whose places were on their right sides
+-- some layers were left, whose places were on their right sides
 pub record IsClimbing (layers : List Layer) (items : List Step) : Type 0 where
   pub lower : List Layer
   pub upper : List Layer
@@ -118,7 +118,7 @@ first_below only next tint lower back l =
 -- ---- the node at the end
 
 module _ (bytes : List ℕ) (path new : Path) (layers : List Layer) (part : Tree) (same : new.root ≡ path.root) (s : IsPartAt bytes path layers part) where
-  -- what is at the place below other layers
+  -- the subtree at the place below other layers
   pub stands_below : (above : List Layer) (rest : Tree) → plug rest above ≡ plug part layers → new.steps.items ≡ steps_of above → IsTree bytes (node_at bytes new) rest
   stands_below above rest is e =
       let word : last_word new.root new.steps.items ≡ place path.root above = ap (last_word new.root) e ∙ last_word-steps new.root above ∙ ap (λ root. place root above) same in
@@ -154,7 +154,7 @@ module _ (bytes : List ℕ) (path new : Path) (layers : List Layer) (part : Tree
       record { next_is = sym first; way = record { layers = []; rest = plug part layers; shape_is = refl; steps_are = k.1 }; stands = k.1 }
   goes_up (Some node) none k = climbs_to node none k
 
--- nothing is after the root where no node is on its right, or where no root is
+-- no node is after the root if it has no right child, or if there is no root
 pub no_root : (bytes : List ℕ) (to : Option ℕ) (part : Tree) → IsTree bytes to part → to ≡ None → after_root part ≡ []
 no_root bytes to leaf h e = refl
 no_root bytes None (fork l at c r) h e = absurd h
@@ -183,11 +183,11 @@ fork_there bytes None node part h e = cc
 fork_there bytes (Some p) node leaf h e = absurd h
 fork_there bytes (Some p) node (fork l at c r) h e = record { left = l; colour = c; right = r; part_is = ap (λ q. fork l q c r) (h.0 ∙ (let same : p ≡ node = cc in same)) }
 
--- what is where a path leads to
+-- the subtree at the end of a path
 pub part_there : (bytes : List ℕ) (path : Path) (shape : Tree) (layers : List Layer) (rest : Tree) → plug rest layers ≡ shape → path.steps.items ≡ steps_of layers → IsSearchTree bytes path.root shape → IsPartAt bytes path layers rest
 part_there bytes path shape layers rest is steps t = record { steps_are = steps; whole = subst (λ x. IsSearchTree bytes path.root x) (sym is) t }
 
--- ---- the way to a node
+-- ---- the path to a node
 
 -- a node in the middle of three lists, apart
 apart_nodes : (xs ls : List ℕ) (at : ℕ) (rs ys : List ℕ) → xs ++ ((ls ++ at ∷ rs) ++ ys) ≡ (xs ++ ls) ++ at ∷ (rs ++ ys)
@@ -195,7 +195,7 @@ apart_nodes xs ls at rs ys = ap (λ zs. xs ++ zs) (append_assoc ls (at ∷ rs) y
 
 -- what is sought is before all that is after a node, after all that is before it, and equals it
 module _ (order : ℕ → ℕ → Ordering) (turn : ℕ → Ordering) (node : ℕ) (above : (y : ℕ) → order node y ≡ Less → turn y ≡ Less) (below : (x : ℕ) → order x node ≡ Less → turn x ≡ Greater) (equal : turn node ≡ Equal) where
-  -- from the layers above the node the way continues to the sides where what is sought is
+  -- at the layers above the node the path goes to the side of what is looked for
   lead_by : (layers : List Layer) → AllByRecursion (λ x. order x node ≡ Less) (before layers) → AllByRecursion (λ y. order node y ≡ Less) (following layers) → LeadBy turn layers
   unfolding before following nodes_before nodes_after
   lead_by [] lows highs = tt
@@ -208,7 +208,7 @@ module _ (order : ℕ → ℕ → Ordering) (turn : ℕ → Ordering) (node : �
           let last = (each_right _ (nodes_of layer.other) (layer.at ∷ []) (each_right _ (before layers) (nodes_of layer.other ++ layer.at ∷ []) low)).0 in
           (below layer.at last, each_left _ (before layers) (nodes_of layer.other ++ layer.at ∷ []) low, high)
 
-  -- a way to the node is one to what is sought
+  -- a path to the node is one to what is looked for
   pub leads_by : (bytes : List ℕ) (path : Path) (shape : Tree) → IsSearchTree bytes path.root shape → Ascend order (nodes_of shape) → IsWayIn shape path → node_at bytes path ≡ Some node → LeadsTo turn shape path
   leads_by bytes path shape t a way named =
       let s = part_there bytes path shape way.layers way.rest way.shape_is way.steps_are t in
@@ -229,14 +229,14 @@ module _ (order : ℕ → ℕ → Ordering) (turn : ℕ → Ordering) (node : �
 
 -- ---- the first node of which something is true
 
--- It is true of a node to whose left a way continues, and not of one to whose right it does.
+-- It is true of a node from which a path goes left, and not of one from which it goes right.
 module _ (order : ℕ → ℕ → Ordering) (p : ℕ → Bool) (turn : ℕ → Ordering) (up : (x y : ℕ) → order x y ≡ Less → p x ≡ true → p y ≡ true) (lefts : (x : ℕ) → turn x ≡ Less → p x ≡ true) (rights : (x : ℕ) → turn x ≡ Greater → p x ≡ false) where
   -- nothing before a node of which it isn't true comes first
   none_below : (xs : List ℕ) (at : ℕ) (ys : List ℕ) → Ascend order (xs ++ at ∷ ys) → p at ≡ false → first_where p (xs ++ at ∷ ys) ≡ first_where p ys
   none_below xs at ys a e =
       first_append p xs (at ∷ ys) ∙ ap (λ o. option_or o (first_where p (at ∷ ys))) (none_before p xs at ys (upward_of order p up (xs ++ at ∷ ys) a) e) ∙ first_later p at ys e
 
-  -- the first node is in the part where such a way ends, or else the first after it
+  -- the first node is in the subtree at the end of such a path, or else the first after it
   along : (layers : List Layer) (rest : Tree) → Ascend order (nodes_of (plug rest layers)) → LeadBy turn layers
       → first_where p (nodes_of (plug rest layers)) ≡ option_or (first_where p (nodes_of rest)) (slice_get (following layers) 0)
   unfolding following nodes_after
@@ -252,8 +252,7 @@ module _ (order : ℕ → ℕ → Ordering) (p : ℕ → Bool) (turn : ℕ → O
           ∙ or_some (first_where p (nodes_of rest)) layer.at (slice_get (following layers) 0)
       go Right e h = ap (λ o. option_or o (slice_get (following layers) 0)) (none_below (nodes_of layer.other) layer.at (nodes_of rest) h (rights layer.at e))
 
-  -- where a path continues from the end of such a way, it comes to the first node of which it is
-  -- true
+  -- the next node from the end of such a path is the first of which it is true
   pub goes_past : (bytes : List ℕ) (new : Path) (shape : Tree) (layers : List Layer) (rest : Tree) (result : Option ℕ) → Ascend order (nodes_of shape) → plug rest layers ≡ shape → LeadBy turn layers
       → (Ascend order (nodes_of rest) → option_or (first_where p (nodes_of rest)) (slice_get (following layers) 0) ≡ slice_get (after_root rest ++ following layers) 0)
       → GoesOn bytes layers rest new result → result ≡ first_where p (nodes_of shape)
@@ -281,7 +280,7 @@ module _ (compare : ℕ → Ordering) (order : ℕ → ℕ → Ordering) (keyed 
   below x at Equal e f l = let o = one x at e f in cc
   below x at Greater e f l = let k : 2 ≤ 1 = subst (λ q. 2 ≤ rank_of q) f (subst (λ q. rank_of q ≤ rank_of (compare at)) e (keyed x at l)) in absurd (omega (arith, k))
 
-  -- so a way to a node that equals the key is one to the key
+  -- so a path to a node that equals the key is one to the key
   pub leads_there : (bytes : List ℕ) (path : Path) (shape : Tree) (node : ℕ) → IsSearchTree bytes path.root shape → Ascend order (nodes_of shape) → IsWayIn shape path → node_at bytes path ≡ Some node
       → compare node ≡ Equal → LeadsTo turn shape path
   leads_there bytes path shape node t a way named f =
@@ -299,7 +298,7 @@ module _ (compare : ℕ → Ordering) (order : ℕ → ℕ → Ordering) (keyed 
   up : (x y : ℕ) → order x y ≡ Less → past x ≡ true → past y ≡ true
   up x y l e = reaches_up Greater (compare x) (compare y) (keyed x y l) e
 
-  -- a node to whose left the way continues is above the key
+  -- a node from which the path goes left is above the key
   lefts : (x : ℕ) → turn x ≡ Less → past x ≡ true
   lefts x e = ap (reaches Greater) (back (compare x) Less e)
 
@@ -307,12 +306,12 @@ module _ (compare : ℕ → Ordering) (order : ℕ → ℕ → Ordering) (keyed 
   rights : (x : ℕ) → turn x ≡ Greater → past x ≡ false
   rights x e = ap (reaches Greater) (back (compare x) Greater e)
 
-  -- where all are above the key, the first of them
+  -- the first of them, if all are above the key
   first_all : (xs ys : List ℕ) → AllByRecursion (λ x. past x ≡ true) xs → option_or (first_where past xs) (slice_get ys 0) ≡ slice_get (xs ++ ys) 0
   first_all [] ys h = refl
   first_all (x ∷ xs) ys h = ap (λ o. option_or o (slice_get ys 0)) (first_here past x xs h.0)
 
-  -- where the way ends, all after the node there are above the key, and nothing before it is
+  -- at the end of the path, all nodes after it are above the key, and none before it is
   at_end : (rest : Tree) (ys : List ℕ) → EndsAt turn rest → Ascend order (nodes_of rest) → option_or (first_where past (nodes_of rest)) (slice_get ys 0) ≡ slice_get (after_root rest ++ ys) 0
   at_end leaf ys e a = refl
   at_end (fork l at c r) ys e a =
@@ -321,7 +320,7 @@ module _ (compare : ℕ → Ordering) (order : ℕ → ℕ → Ordering) (keyed 
       ap (λ o. option_or o (slice_get ys 0)) (none_below order past turn up lefts rights (nodes_of l) at (nodes_of r) a (ap (reaches Greater) equal))
       ∙ first_all (nodes_of r) ys (each_weaker _ _ (λ y m. ap (reaches Greater) (above at y (compare y) refl equal m)) (nodes_of r) parts.following)
 
-  -- where a path to a key continues, it comes to the first node above it
+  -- the next node from the end of a path to a key is the first node above it
   pub goes_above : (bytes : List ℕ) (path new : Path) (shape : Tree) (result : Option ℕ) → IsSearchTree bytes path.root shape → Ascend order (nodes_of shape) → (way : LeadsTo turn shape path)
       → (IsPartAt bytes path way.layers way.rest → GoesOn bytes way.layers way.rest new result) → result ≡ first_where past (nodes_of shape)
   goes_above bytes path new shape result t a way on =

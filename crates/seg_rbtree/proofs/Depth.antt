@@ -38,7 +38,7 @@ taller : (side : Side) (at : ℕ) (colour : Colour) (near far : Tree) → suc (t
 taller Left at colour near far = omega arith
 taller Right at colour near far = omega arith
 
--- the layers and what is below them are a way down
+-- the layers and a path in the subtree below them are a path
 pub layers-deep : (tree : Tree) (layers : List Layer) → length layers + tall tree ≤ tall (plug tree layers)
 layers-deep tree [] = omega arith
 layers-deep tree (layer ∷ layers) =

@@ -1,4 +1,4 @@
--- A path to the first node that is at or above a key: back up from the empty place before it.
+-- A path to the first node at or above a key: up from the empty place before it.
 use Rattle.std.proofs.Common.{◌≡◌, ℕ, ◌≤◌, Bool, true, false, List, [], ◌++◌, Option, Some, None, MatchOption, refl, sym, ap, ◌∙◌, subst}
 use Rattle.std.specs.Prelude.{IfSome, slice_get}
 use Rattle.std.specs.Cmp.{IsTotalOrder}
@@ -43,29 +43,29 @@ module _ (compare : ℕ → Ordering) where
   abbrev turn : ℕ → Ordering
   turn x = before_first (compare x)
 
-  -- the way ends where nothing is
+  -- the path ends at an empty place
   ends_empty : (rest : Tree) → EndsAt turn rest → after_root rest ≡ []
   ends_empty leaf e = refl
   ends_empty (fork l at c r) e = absurd (never_equal (compare at) e)
 
-  -- and has nothing but what comes after it
+  -- and after it are only the nodes that follow
   at_end : (rest : Tree) (ys : List ℕ) → EndsAt turn rest → option_or (first_where reached (nodes_of rest)) (slice_get ys 0) ≡ slice_get (after_root rest ++ ys) 0
   at_end leaf ys e = refl
   at_end (fork l at c r) ys e = absurd (never_equal (compare at) e)
 
--- a path leads to the first node that is at or above a key, which is the result, and is there
+-- a path ends at the first node at or above a key, which is the result
 pub record IsLedToFirst (compare : ℕ → Ordering) (order : ℕ → ℕ → Ordering) (bytes : List ℕ) (shape : Tree) (path : Path) (result : Option ℕ) : Type 0 where
   pub node_is : result ≡ first_where (reached compare) (nodes_of shape)
   pub leads : IfSome result (λ node. LeadsTo (order node) shape path × (node_at bytes path ≡ Some node))
 
--- a path that continues to a node leads to it
+-- a path that continues to a node ends there
 leads_on : (order : ℕ → ℕ → Ordering) → IsTotalOrder order → (bytes : List ℕ) (path : Path) (layers : List Layer) (rest : Tree) (result : Option ℕ) → IsSearchTree bytes path.root (plug rest layers)
     → Ascend order (nodes_of (plug rest layers)) → GoesOn bytes layers rest path result → IfSome result (λ node. LeadsTo (order node) (plug rest layers) path × (node_at bytes path ≡ Some node))
 leads_on order total bytes path layers rest None t a on = tt
 leads_on order total bytes path layers rest (Some node) t a on =
     (leads_by order (order node) node (λ y l. l) (λ x l. total.antisymm node x ∙ ap ordering_reverse l) (itself order total node) bytes path (plug rest layers) t a on.way on.stands, on.stands)
 
--- where it goes back up from the empty place before that node, it is led there
+-- if it goes up from the empty place before that node, it ends there
 pub led_to_first : (compare : ℕ → Ordering) (order : ℕ → ℕ → Ordering) → ((x y : ℕ) → order x y ≡ Less → rank_of (compare x) ≤ rank_of (compare y)) → IsTotalOrder order → (bytes : List ℕ) (path new : Path) (shape : Tree) (result : Option ℕ)
     → new.root ≡ path.root → IsSearchTree bytes path.root shape → Ascend order (nodes_of shape) → LeadsTo (turn compare) shape path
     → ((layers : List Layer) → path.steps.items ≡ steps_of layers → MatchOption result (AreRight layers × (new.steps.items ≡ [])) (Climbs layers new)) → IsLedToFirst compare order bytes shape new result

@@ -36,12 +36,12 @@ each-down P tree (layer ∷ layers) h = go layer.side (each-down P (grow layer t
     go Left k = each_left P (nodes_of tree) (layer.at ∷ nodes_of layer.other) k
     go Right k = (each_right P (nodes_of layer.other) (layer.at ∷ nodes_of tree) k).1
 
--- after so many turns it is settled, or a red node rises
+-- after some steps the tree is right, or a red node may have a red parent
 pub record IsGrowing (old new : List ℕ) (root : ℕ) (nodes : List ℕ) (steps : List Step) (rises : Option ℕ) (turns : ℕ) : Type 0 where
   pub kept : KeepsBeside old new root nodes
   pub state : MatchOption rises (IsSettled new root nodes) (λ node. IsRising new root steps nodes node × (length steps + 2 * turns ≤ 64))
 
--- one more turn
+-- one more step
 pub grown : (old now new : List ℕ) (root : ℕ) (nodes : List ℕ) (steps rest : List Step) (rises result : Option ℕ) (node turns : ℕ) → rises ≡ Some node → IsGrowing old now root nodes steps rises turns
     → (IsRising now root steps nodes node → Settles now new root steps rest nodes result) → IsGrowing old new root nodes rest result (turns + 1)
 grown old now new root nodes steps rest rises result node turns e g settle =

@@ -98,7 +98,7 @@ root_of bytes (Some p) (fork l a c r) P h all t e =
     middle [] all = all.0
     middle (x ∷ xs) all = middle xs all.1
 
--- a tree that hung at a pointer hangs at the word that this pointer is written to
+-- the tree to which a pointer points stays if the pointer is written elsewhere
 pub tree-hung : (bytes : List ℕ) (at : ℕ) (to : Option ℕ) (tree : Tree) → StandApart (length bytes) at (nodes_of tree) → IsTree bytes to tree → IsTree (set_pointer bytes at to) (target (set_pointer bytes at to) at) tree
 tree-hung bytes at to tree apart h =
     let names : target (set_pointer bytes at to) at ≡ to = target-set_same bytes at to apart.word_fits (omega (arith, apart.small, apart.word_fits)) (λ t e.

@@ -30,7 +30,7 @@ not_empty : (xs : List ℕ) (y : ℕ) (ys : List ℕ) → xs ++ y ∷ ys ≡ [] 
 not_empty [] y ys e = cc
 not_empty (x ∷ xs) y ys e = cc
 
--- where two lists join to none, each is none
+-- if two lists together are empty, each is empty
 both_empty : (xs ys : List ℕ) → xs ++ ys ≡ [] → (xs ≡ []) × (ys ≡ [])
 both_empty [] ys e = (refl, e)
 both_empty (x ∷ xs) ys e = absurd cc
@@ -51,12 +51,12 @@ none_behind order total xs node (y ∷ ys) a last =
 
 -- ---- steps to the right
 
--- steps that are all to the right lead through layers whose places are on their right sides
+-- steps that all go right are those of layers whose places are on their right sides
 right_steps : (layers : List Layer) → AllByRecursion (λ (s : Step). s.side ≡ Right) (steps_of layers) → AreRight layers
 right_steps [] a = tt
 right_steps (l ∷ ls) a = ((each_right _ (steps_of ls) (step_of l ∷ []) a).0, right_steps ls (each_left _ (steps_of ls) (step_of l ∷ []) a))
 
--- where no nodes are behind a place, every step to it is to the right
+-- if no nodes are after a place, every step to it goes right
 steps_right : (layers : List Layer) → following layers ≡ [] → AllByRecursion (λ (s : Step). s.side ≡ Right) (steps_of layers)
 unfolding following nodes_after
 steps_right [] e = tt
@@ -68,15 +68,15 @@ steps_right (l ∷ ls) e = go l.side refl (steps_right ls)
 
 -- ---- the node at a path's end
 
--- a tree with no nodes hangs at no pointer
+-- a tree without nodes is at a null pointer
 none_hangs : (bytes : List ℕ) (to : Option ℕ) (tree : Tree) → IsTree bytes to tree → nodes_of tree ≡ [] → to ≡ None
 none_hangs bytes None tree h e = refl
 none_hangs bytes (Some p) leaf h e = absurd h
 none_hangs bytes (Some p) (fork l at c r) h e = absurd (not_empty (nodes_of l) at (nodes_of r) e)
 
--- a path that leads to a node of the tree
+-- a path that ends at a node of the tree
 module _ (bytes : List ℕ) (path : Path) (turn : ℕ → Ordering) (node : ℕ) (shape : Tree) (t : IsSearchTree bytes path.root shape) (way : LeadsTo turn shape path) (named : node_at bytes path ≡ Some node) where
-  -- the part of the tree at the path's end, of which the node is the root
+  -- the subtree at the path's end, with the node as its root
   hangs : IsTree bytes (node_at bytes path) way.rest
   hangs = rest_hangs bytes path.root path turn node shape refl way t.is_tree
 
@@ -98,7 +98,7 @@ module _ (bytes : List ℕ) (path : Path) (turn : ℕ → Ordering) (node : ℕ)
   unfolding ahead behind
   nodes_are = ap nodes_of (sym way.shape_is) ∙ nodes_plug way.layers way.rest ∙ ap (λ x. before way.layers ++ (nodes_of x ++ following way.layers)) part.tree_is ∙ simp append_assoc
 
-  -- with no right child, and to the right all the way down, it is the last
+  -- if it has no right child, and the path only goes right, it is the last
   pub last_there : target bytes (node + 4) ≡ None → AllByRecursion (λ (s : Step). s.side ≡ Right) path.steps.items → IsLast node (nodes_of shape)
   unfolding behind
   last_there none rightmost =
@@ -106,7 +106,7 @@ module _ (bytes : List ℕ) (path : Path) (turn : ℕ → Ordering) (node : ℕ)
       let no_more : following way.layers ≡ [] = following_none way.layers (right_steps way.layers (subst (AllByRecursion (λ (s : Step). s.side ≡ Right)) way.steps_are rightmost)) in
       record { front = ahead; nodes_are = nodes_are ∙ ap (λ x. ahead ++ node ∷ (nodes_of x ++ following way.layers)) no_child ∙ ap (λ ns. ahead ++ node ∷ ns) no_more }
 
-  -- as the last in order it has no right child, and is to the right all the way down
+  -- the last node in order has no right child, and the path to it only goes right
   pub way_to_last : (order : ℕ → ℕ → Ordering) → IsTotalOrder order → Ascend order (nodes_of shape) → IsLast node (nodes_of shape)
       → (target bytes (node + 4) ≡ None) × AllByRecursion (λ (s : Step). s.side ≡ Right) path.steps.items
   unfolding behind

@@ -1,4 +1,4 @@
--- What the steps that make a short part longer do to the bytes.
+-- What the steps that repair a short subtree do to the bytes.
 use Rattle.std.proofs.Common.{◌≡◌, ℕ, suc, ◌+◌, ◌^◌, ◌<◌, ◌↔◌, Bool, IsTrue, true, false, List, [], ◌∷◌, ◌++◌, length, Option, Some, None, refl, sym, ap, ◌∙◌, subst, arith}
 use Rattle.std.proofs.lemmas.List.{length-append}
 use Rattle.seg_spec.specs.Pointer.{target}
@@ -72,12 +72,12 @@ pub no_tree : (bytes : List ℕ) (tree : Tree) → IsTree bytes None tree → tr
 no_tree bytes leaf h = refl
 no_tree bytes (fork l a c r) h = absurd h
 
--- ---- a tree that turned is as the one before
+-- ---- a rotated tree takes the place of the one before
 
 pub apart_again : (old new : List ℕ) (root : ℕ) (before after : Tree) → length new ≡ length old → nodes_of after ≡ nodes_of before → StandApart (length old) root (nodes_of before) → StandApart (length new) root (nodes_of after)
 apart_again old new root before after l n a = subst (λ m. StandApart m root (nodes_of after)) (sym l) (subst (λ ns. StandApart (length old) root ns) (sym n) a)
 
--- ---- the child on the other side comes up, and both are painted
+-- ---- the child on the other side moves up, and both are painted
 
 module _ (bytes : List ℕ) (at : ℕ) (side : Side) (node up : ℕ) (colour other : Colour) (x m d : Tree) (upper lower : Paint) where
   abbrev b1 : List ℕ
@@ -115,7 +115,7 @@ module _ (bytes : List ℕ) (at : ℕ) (side : Side) (node up : ℕ) (colour oth
       let three : Turns b2 b3 at t2 t3 = turns-up b2 b3 at side up (shade upper) (branch side node colour x m) d (branch side node colour x m) (branch side node (shade lower) x m) two.hangs apart2 below in
       turns-then bytes b2 b3 at t0 t2 t3 (turns-then bytes b1 b2 at t0 t1 t2 one (turns-room b1 b2 at t1 t0 t2 n1 two)) (turns-room b2 b3 at t2 t0 t3 (n2 ∙ n1) three)
 
--- ---- at the place that a path leads to
+-- ---- at the end of a path
 
 pub path_word : (bytes : List ℕ) (path : Path) (layers : List Layer) (tree : Tree) → StandsAt bytes path layers tree → last_word path.root path.steps.items ≡ place path.root layers
 path_word bytes path layers tree s = ap (last_word path.root) s.steps_are ∙ last_word-steps path.root layers
@@ -160,7 +160,7 @@ module _ (bytes one two new : List ℕ) (path : Path) (side : Side) (node up : �
       (subst (λ b. Turns bytes b at (branch side node colour x (branch side up other m d)) (branch side up (shade upper) (branch side node (shade lower) x m) d)) (sym is)
       (turned_painted bytes at side node up colour other x m d upper lower h a))
 
--- the node beside comes up in the colour of the one above both
+-- the sibling moves up in the colour of the node above both
 pub came_up : (bytes one two new : List ℕ) (path : Path) (side : Side) (node read : ℕ) (top : Paint) → top ≡ colour_at bytes (Some node) → target bytes (side_word node (opposite side)) ≡ Some read
     → one ≡ rotated bytes (last_word path.root path.steps.items) node side → two ≡ with_colour one read top → new ≡ with_colour two node Black
     → (layers : List Layer) (x m d : Tree) (up : ℕ) (colour other : Colour) → StandsAt bytes path layers (branch side node colour x (branch side up other m d)) → ComesUp bytes new path.root side node up colour other layers x m d
@@ -220,7 +220,7 @@ pub turns_up_far : (old new : List ℕ) (at : ℕ) (side : Side) (node : ℕ) (c
 turns_up_far old new at Left node colour near far y h a t = turns-up old new at Right node colour far near far y h a t
 turns_up_far old new at Right node colour near far y h a t = turns-up old new at Left node colour far near far y h a t
 
--- the near child comes up over its parent
+-- the near child moves up above its parent
 rotated_back : (bytes : List ℕ) (at : ℕ) (side : Side) (node up : ℕ) (colour upper : Colour) (near between far : Tree) → IsTree bytes (target bytes at) (branch side node colour (branch side up upper near between) far)
     → StandApart (length bytes) at (nodes_of (branch side node colour (branch side up upper near between) far))
     → Turns bytes (rotated bytes at node (opposite side)) at (branch side node colour (branch side up upper near between) far) (branch side up upper near (branch side node colour between far))
@@ -462,7 +462,7 @@ black_part bytes path to e n layers x s =
     black_root bytes (target bytes (place path.root layers)) x (here bytes path layers x s)
     (ap (λ w. colour_at bytes (target bytes w)) (sym (path_word bytes path layers x s)) ∙ ap (colour_at bytes) (sym e) ∙ not_red_paint bytes to n)
 
--- the path leads to the root
+-- the path ends at the root
 pub short_whole : (bytes : List ℕ) (path last : Path) → path.steps.items ≡ [] → last.root ≡ path.root → (layers : List Layer) (x : Tree) → StandsAt bytes path layers x → IsShort layers x → IsBlack x
     → Lengthens bytes bytes last layers x false
 short_whole bytes path last e r [] x s short b = record {
@@ -476,7 +476,7 @@ short_whole bytes path last e r (layer ∷ layers) x s short b =
     let long : length (steps_of (layer ∷ layers)) ≡ 0 = sym (ap length s.steps_are) ∙ ap length e in
     absurd (omega (arith, length-steps (layer ∷ layers)))
 
--- the last step of a path is that of the innermost layer
+-- the last step of a path belongs to the innermost layer
 pub step_up : (bytes : List ℕ) (path last : Path) (step : Step) (P : List Layer → Tree → Type 0) → path.steps.items ≡ last.steps.items ++ step ∷ [] → last.root ≡ path.root
     → ((layers : List Layer) (x other : Tree) (colour : Colour) → StandsAt bytes last layers (branch step.side step.node colour x other) → P (layer_at step.side step.node colour other ∷ layers) x)
     → (layers : List Layer) (x : Tree) → StandsAt bytes path layers x → P layers x

@@ -14,7 +14,7 @@ names_itself : (bytes : List ℕ) (at : ℕ) → length bytes < at + 4 → at < 
 unfolding target
 names_itself bytes at past small = rw (number_past 4 bytes at past) (ap Some (omega arith))
 
--- no tree hangs at a pointer that points to itself: it would have no end
+-- no tree is at a pointer that points to itself: it would have no end
 no_tree_past : (bytes : List ℕ) (at : ℕ) → target bytes at ≡ Some at → (tree : Tree) → IsTree bytes (Some at) tree → ⊥
 no_tree_past bytes at self leaf h = h
 no_tree_past bytes at self (fork left node colour right) h = no_tree_past bytes at self left (subst (λ o. IsTree bytes o left) self h.2)

@@ -1,4 +1,4 @@
--- A node with two children gives its place to the next one in order.
+-- A node with two children is replaced by the next one in order.
 use Rattle.std.proofs.Common.{◌≡◌, ℕ, ◌+◌, ◌^◌, ◌<◌, ◌≤◌, List, [], ◌∷◌, ◌++◌, length, take, get_or, set, slice_index_or, slice_set, Option, Some, None, sym, ap, ◌∙◌, subst, arith, append_assoc}
 use Rattle.std.proofs.Math.Seq.{set-append_seam, take-append_seam, get_or-append_seam}
 use Rattle.std.proofs.lemmas.List.{length-append}

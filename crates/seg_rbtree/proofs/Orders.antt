@@ -1,4 +1,4 @@
--- The nodes of a tree with one more, in their order.
+-- The nodes of a tree with one more, in order.
 use Rattle.std.proofs.Common.{◌≡◌, ℕ, suc, ◌+◌, ◌≤◌, Bool, true, false, List, [], ◌∷◌, ◌++◌, length, refl, sym, ap, ◌∙◌, subst, cond, eqb}
 use Rattle.std.specs.Cmp.{IsTotalOrder}
 use Rattle.std.specs.Ordering.{is_lt, ordering_reverse}
@@ -88,7 +88,7 @@ module _ (order : ℕ → ℕ → Ordering) (node : ℕ) where
       go true e k = subst NodesApart (sym (here x ns e)) h
       go false e k = subst NodesApart (sym (later x ns e)) (each_with (λ y. Separate x 16 y 16) ns (separate-swap node 16 x 16 h.0.0) h.1.0, k)
 
-  -- the nodes with the new one are apart in whatever order
+  -- the nodes with the new one don't overlap, in any order
   pub apart-with_node : (len root : ℕ) (ns : List ℕ) → StandApart len root (node ∷ ns) → StandApart len root (with_node order node ns)
   apart-with_node len root ns h = record {
     small = h.small;
@@ -129,7 +129,8 @@ module _ (order : ℕ → ℕ → Ordering) (node : ℕ) where
         let parts = ascend-parts order (nodes_of layer.other) layer.at (nodes_of t) a in
         ap (λ ns. nodes_of layer.other ++ layer.at ∷ ns) h ∙ sym (with_node-right (nodes_of layer.other) layer.at (nodes_of t) (below_all layer.at (nodes_of layer.other) e parts.before) e)
 
-    -- with one more at the place that the order leads to, the whole has one more in its place
+    -- with one more node at the place to which the order leads, the whole tree has one more in its
+    -- place
     pub nodes-added : (x t : Tree) (layers : List Layer) → LeadBy (order node) layers → Ascend order (nodes_of (plug t layers)) → nodes_of x ≡ with_node order node (nodes_of t)
         → nodes_of (plug x layers) ≡ with_node order node (nodes_of (plug t layers))
     nodes-added x t [] l a h = h

@@ -1,4 +1,4 @@
--- Two reds in a row below a black node: its red children become black, or it goes down.
+-- Two red nodes in a row below a black one: its red children become black, or it moves down.
 use Rattle.std.proofs.Common.{◌≡◌, ℕ, suc, ◌+◌, ◌≤◌, inl, List, [], ◌∷◌, ◌++◌, length, Option, Some, None, refl, sym, ap, ◌∙◌, subst, length-append, arith}
 use Rattle.seg_spec.specs.Pointer.{target}
 use Rattle.seg_spec.specs.Shapes
@@ -172,7 +172,7 @@ module _ (bytes : List ℕ) (root : ℕ) (nodes : List ℕ) (node : ℕ) (parent
       let t = red_tree bytes f.uncle u (subst (λ o. IsTree bytes o f.uncle) is (uncle_hangs to at)) c in
       parted u t.left t.right t.tree_is (shorter e d)
 
-  -- the uncle is black: the middle one of the three comes up
+  -- the uncle is black: the middle one of the three moves up
   pub settled_straight : (to : Option ℕ) (word : ℕ) → to ≡ target bytes (side_word g (opposite way)) → (colour_at bytes to ≡ Red → ⊥) → word ≡ last_word root more
       → Settles bytes (straightened bytes word g way p parent.side) root steps more nodes None
   settled_straight to word at c e =

@@ -1,8 +1,8 @@
--- What a path to a key leads to.
+-- The end of a path to a key.
 --     finds_equal      the node at its end is one that equals the key, if there is one
---     leads_same       it still reaches the same place while the nodes compare as they did
---     finds_new        a node with that key is new where none equals it
---     finds_first      where no two nodes equal the key, what is found is the first that does
+--     leads_same       it still reaches the same place as long as the nodes compare the same
+--     finds_new        a node with that key is new if none equals it
+--     finds_first      if no two nodes equal the key, the node that is found is the first
 use Rattle.std.proofs.Common.{◌≡◌, ◌≢◌, ℕ, ◌≤◌, false, List, [], ◌∷◌, ◌++◌, Option, Some, None, refl, sym, ap, ◌∙◌, subst, append_assoc, arith}
 use Rattle.std.specs.List.{AllByRecursion}
 use Rattle.std.specs.Ordering.{is_eq, ordering_reverse}
@@ -108,18 +108,19 @@ ends_same : (turn other : ℕ → Ordering) (rest : Tree) → AllByRecursion (λ
 ends_same turn other leaf same e = tt
 ends_same turn other (fork left at colour right) same e = sym (each_right _ (nodes_of left) (at ∷ nodes_of right) same).0 ∙ e
 
--- a path still reaches the same place while what is sought compares with each node as it did
+-- a path still reaches the same place as long as what is looked for compares with each node as
+-- before
 pub leads_same : (turn other : ℕ → Ordering) (shape : Tree) (path : Path) → AllByRecursion (λ x. turn x ≡ other x) (nodes_of shape) → LeadsTo turn shape path → LeadsTo other shape path
 leads_same turn other shape path same way =
     let both = leads_by_same turn other way.layers way.rest (subst (λ s. AllByRecursion (λ x. turn x ≡ other x) (nodes_of s)) (sym way.shape_is) same) way.leads in
     record { layers = way.layers; rest = way.rest; shape_is = way.shape_is; steps_are = way.steps_are; leads = both.0; ends = ends_same turn other way.rest both.1 way.ends }
 
--- a node that compares with the others as the key does is new where none equals the key
+-- a node that compares with the others like the key is new if none equals the key
 pub finds_new : (compare : ℕ → Ordering) (order : ℕ → ℕ → Ordering) (node : ℕ) (nodes : List ℕ) → AllByRecursion (λ x. ordering_reverse (compare x) ≡ order node x) nodes → FindsEqual compare nodes None → IsNew order node nodes
 finds_new compare order node [] same d = tt
 finds_new compare order node (x ∷ nodes) same d = ((λ e. d.0 (reversed (compare x) Equal (same.0 ∙ e))), finds_new compare order node nodes same.1 d.1)
 
--- ---- where no two nodes equal the key
+-- ---- no two nodes equal the key
 
 first_none : (compare : ℕ → Ordering) (nodes : List ℕ) → AllByRecursion (λ x. compare x ≢ Equal) nodes → first_where (λ x. is_eq (compare x)) nodes ≡ None
 first_none compare [] d = refl

@@ -1,4 +1,4 @@
--- Two reds in a row below a black node are straightened.
+-- Two red nodes in a row below a black one are repaired.
 use Rattle.std.proofs.Common.{◌≡◌, ℕ, suc, List, length, refl, sym, ap, ◌∙◌, subst}
 use Rattle.seg_spec.specs.Pointer.{target}
 use Rattle.seg_spec.specs.Shapes.{Colour, black, red, Tree, fork, nodes_of, IsTree, IsBlack, IsBalanced}
@@ -47,14 +47,15 @@ module _ (bytes : List ℕ) (at : ℕ) (side : Side) (node up : ℕ) (colour upp
       (turns-room first second at (branch side up upper low d) before (branch side up black low d) same two)
       (turns-room second (with_colour second node Red) at (branch side up black low d) before after (blacker ∙ same) three))
 
-  -- the node goes down to a side, red, and its child on the other side comes up, black
+  -- the node moves down to a side and becomes red, and its child on the other side moves up and
+  -- becomes black
   pub turns-raised : IsTree bytes (target bytes at) before → StandApart (length bytes) at (nodes_of before) → Turns bytes (raised bytes at node side) at before after
   turns-raised h apart =
       let low = branch-parts bytes (target bytes at) side node colour x (branch side up upper m d) h in
       let high = branch-parts bytes (target bytes (side_word node (opposite side))) side up upper m d low.far_hangs in
       subst (λ o. Turns bytes (raised_up first node o) at before after) (sym high.named) (painted h apart)
 
--- a black tree of the same nodes hangs there then, balanced
+-- then a balanced black tree of the same nodes is there
 pub record Straightens (old new : List ℕ) (at : ℕ) (before : Tree) (height : ℕ) : Type 0 where
   pub after : Tree
   pub turns : Turns old new at before after
@@ -81,7 +82,7 @@ straight_on bytes at way g p lower sibling uncle h t apart bl ks bs ku bu =
       balanced = balanced-black side p (branch side g red uncle sibling) lower h (balanced-red side g uncle sibling h ku ks bu bs) bl;
     }
 
--- it turns below the parent, so that the lower one comes up first
+-- it turns below the parent, so the lower one moves up first
 turned_back : (bytes : List ℕ) (at : ℕ) (way : Side) (g p n : ℕ) (m d sibling uncle : Tree) (h : ℕ) → IsTree bytes (target bytes at) (branch way g black (branch (opposite way) p red (branch way n red m d) sibling) uncle)
     → StandApart (length bytes) at (nodes_of (branch way g black (branch (opposite way) p red (branch way n red m d) sibling) uncle)) → IsBalanced (branch way n red m d) h → IsBlack sibling → IsBalanced sibling h → IsBlack uncle
     → IsBalanced uncle h

@@ -61,7 +61,7 @@ module _ (order : ℕ → ℕ → Ordering) (total : IsTotalOrder order) (node :
   abbrev Misses : List ℕ → Type 0
   Misses ns = AllByRecursion (λ x. node ≢ x) ns
 
-  -- what the way leaves aside doesn't have the node
+  -- the subtrees beside the path don't have the node
   pub not_aside : (layers : List Layer) (rest : Tree) → Ascend order (nodes_of (plug rest layers)) → LeadBy (order node) layers → Misses (nodes_of rest) → Misses (nodes_of (plug rest layers))
   not_aside [] rest a l m = m
   not_aside (layer ∷ layers) rest a l m = not_aside layers (grow layer rest) a l.1 (go layer.side l.0 (ascend-down order (grow layer rest) layers a))
@@ -94,7 +94,7 @@ root_among : (bytes : List ℕ) (node : ℕ) (rest : Tree) → IsTree bytes (Som
 root_among bytes node leaf h m = h
 root_among bytes node (fork l at c r) h m = middle (λ x. node ≢ x) (nodes_of l) at (nodes_of r) m (sym h.0)
 
--- ---- from the way on
+-- ---- after the path
 
 module _ (bytes : List ℕ) (root : ℕ) (path : Path) (turn : ℕ → Ordering) (node : ℕ) (shape : Tree) (r : path.root ≡ root) (way : LeadsTo turn shape path) where
   pub rest_hangs : IsTree bytes (target bytes root) shape → IsTree bytes (node_at bytes path) way.rest
@@ -141,7 +141,7 @@ fewer node old new l few =
 
 module _ (bytes one : List ℕ) (root : ℕ) (path last : Path) (turn : ℕ → Ordering) (node : ℕ) (shape : Tree) (r : path.root ≡ root) (way : LeadsTo turn shape path) (q : last.root ≡ path.root) (t : IsSearchTree bytes root shape)
     (a : StandApart (length bytes) root (nodes_of shape)) where
-  -- a red node was taken out: the rules of colours are satisfied
+  -- a red node was removed: the rules of colours are satisfied
   pub red_left : Unlinks bytes one last way.layers way.rest node Red → Leaves bytes one root (nodes_of shape) (without_node node (nodes_of shape))
   red_left u =
       let lost : Loses node (nodes_of shape) (nodes_of (plug u.part u.above)) = subst (λ s. Loses node (nodes_of s) (nodes_of (plug u.part u.above))) way.shape_is u.lost in

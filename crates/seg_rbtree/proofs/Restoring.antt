@@ -1,4 +1,4 @@
--- A short part is made longer turn by turn.
+-- A short subtree is repaired step by step.
 use Rattle.std.proofs.Common.{◌≡◌, ℕ, ◌+◌, ◌≤◌, true, false, List, refl, ◌∙◌, subst, arith}
 use Rattle.seg_spec.specs.Shapes.{Tree, nodes_of}
 use Rattle.seg_rbtree.specs.declared.path.Path.{Path}
@@ -9,7 +9,7 @@ use Rattle.seg_rbtree.proofs.Turning.{turns-none, turns-then, turns-room}
 use Rattle.seg_rbtree.proofs.ShortSide.{turns_few}
 use Rattle.seg_rbtree.proofs.Lengthening.{stands_again}
 
--- after so many turns a part is short still, and few turns are left
+-- after some steps a subtree is still short, and few steps remain
 pub record IsRestoring (old now : List ℕ) (first path : Path) (layers : List Layer) (tree : Tree) (count : ℕ) : Type 0 where
   pub above : List Layer
   pub part : Tree
@@ -30,7 +30,7 @@ restoring_start bytes path layers tree s short = record {
   left = omega (arith, (turns_few layers tree short).1);
 }
 
--- it is where the path leads to
+-- it is at the end of the path
 pub restoring_stands : (old now : List ℕ) (first path : Path) (layers : List Layer) (tree : Tree) (count : ℕ) → path.root ≡ first.root → StandsAt old first layers tree → (i : IsRestoring old now first path layers tree count)
     → StandsAt now path i.above i.part
 restoring_stands old now first path layers tree count r s i = stands_again old now first path layers i.above tree i.part s r i.steps_are i.turned i.nodes_are

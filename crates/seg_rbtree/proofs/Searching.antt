@@ -1,4 +1,4 @@
--- A search down a tree for the first node of which something is true.
+-- A search in a tree for the first node of which something is true.
 use Rattle.std.proofs.Common.{◌≡◌, ℕ, suc, ◌+◌, ◌≤◌, Bool, true, false, leb, List, [], ◌∷◌, ◌++◌, Option, Some, None, refl, sym, ap, ◌∙◌, subst, arith}
 use Rattle.std.proofs.lemmas.Bool.Decides.{nat_tests}
 use Rattle.std.specs.Option.{option_or}
@@ -10,7 +10,8 @@ use Rattle.seg_spec.specs.Shapes.{Tree, leaf, fork, nodes_of, IsTree}
 use Rattle.seg_spec.specs.Search.{rank_of, reaches, Ascend, first_where, IsUpward, looks}
 use Rattle.seg_spec.proofs.Frame.{each_weaker}
 
--- what hangs at `place` is still to be searched; a later found was found, if `found` is one; so many nodes were read
+-- the subtree at `place` is still to be searched; if `found` is a node, it is the first so far;
+-- `count` nodes were read
 pub record IsSearching (bytes : List ℕ) (is_past : ℕ → Bool) (shape : Tree) (place found : Option ℕ) (count : ℕ) : Type 0 where
   pub rest : Tree
   pub hangs : IsTree bytes place rest

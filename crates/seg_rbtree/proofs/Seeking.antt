@@ -1,4 +1,4 @@
--- A walk down a tree to the node that equals a key, where each key has one place.
+-- A search in a tree for the node that equals a key, if each key has one place.
 use Rattle.std.proofs.Common.{◌≡◌, ℕ, ◌+◌, ◌≤◌, List, [], ◌∷◌, length, Option, Some, None, refl, sym, ap, ◌∙◌, subst, arith}
 use Rattle.std.specs.Ordering.{is_eq, ordering_reverse}
 use Rattle.std.specs.declared.cmp.Ordering.{Ordering}
@@ -14,7 +14,7 @@ use Rattle.seg_rbtree.specs.Paths.{FindsEqual}
 use Rattle.seg_rbtree.proofs.Depth.{tall, deep-64, layers-deep}
 use Rattle.seg_rbtree.proofs.Paths.{at_end, finds_first}
 
--- so many steps have led to a place, where what hangs there is still to be searched
+-- some steps were taken to a place, whose subtree is still to be searched
 pub record IsSeeking (bytes : List ℕ) (turn : ℕ → Ordering) (shape : Tree) (place : Option ℕ) (count : ℕ) : Type 0 where
   pub layers : List Layer
   pub rest : Tree
@@ -52,7 +52,7 @@ module _ (bytes : List ℕ) (turn : ℕ → Ordering) (shape : Tree) where
   sought_on place next at count side e n o s =
       subst (λ p. IsSeeking bytes turn shape p (count + 1)) (sym n) (step_on s.layers s.rest at count side s.shape_is (subst (λ p. IsTree bytes p s.rest) e s.hangs) s.leads s.count_is o)
 
-  -- ---- where a walk ends
+  -- ---- the end of a search
 
   ends_empty : (rest : Tree) → IsTree bytes None rest → EndsAt turn rest
   ends_empty leaf t = tt
@@ -67,7 +67,7 @@ module _ (bytes : List ℕ) (turn : ℕ → Ordering) (shape : Tree) where
   nothing_there leaf (Some at) t e = absurd t
   nothing_there (fork left a colour right) place t e = absurd (omega arith)
 
-  -- after 64 steps nothing is left to be searched
+  -- after 64 steps nothing remains to be searched
   pub sought_all : (root : ℕ) (place : Option ℕ) (count : ℕ) → 64 ≤ count → IsSearchTree bytes root shape → IsSeeking bytes turn shape place count → place ≡ None
   sought_all root place count full t s =
       let deep : length s.layers + tall s.rest ≤ tall shape = subst (λ x. length s.layers + tall s.rest ≤ tall x) s.shape_is (layers-deep s.rest s.layers) in

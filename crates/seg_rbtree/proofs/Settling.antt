@@ -1,4 +1,4 @@
--- One turn of a red node that goes up a tree.
+-- One step of the repair of a red node below a red node.
 use Rattle.std.proofs.Common.{◌≡◌, ℕ, suc, ◌+◌, inr, cond, eqb, List, [], ◌∷◌, ◌++◌, length, Some, None, refl, sym, ap, ◌∙◌, subst, length-append, arith}
 use Rattle.seg_bytes.specs.Bytes.{word}
 use Rattle.seg_spec.specs.Pointer.{target}
@@ -138,7 +138,7 @@ module _ (bytes : List ℕ) (root : ℕ) (nodes : List ℕ) (node : ℕ) where
     pub uncle_balanced : IsBalanced uncle height
     pub wants : Wants layers (suc height)
 
-  -- the layer of a red node that is named, and what it wants
+  -- the layer of a red node, and the height that it needs
   is_red_layer : (left right : Tree) (layer : Layer) (layers : List Layer) (parent : Step) → step_of layer ≡ parent → colour_at bytes (Some parent.node) ≡ Red
       → IsTree bytes (target bytes root) (plug (fork left node red right) (layer ∷ layers)) → layer.colour ≡ red
   is_red_layer left right layer layers parent same c h =

@@ -1,4 +1,4 @@
--- A part with one black node too few on each path, and each way to give it one.
+-- A short subtree (one black node too few on each path), and each way to repair it.
 use Rattle.std.proofs.Common.{◌≡◌, ℕ, suc, ◌+◌, ◌*◌, ◌^◌, ◌<◌, ◌≤◌, ◌⊎◌, inl, inr, List, [], ◌∷◌, length, refl, sym, ap, ◌∙◌, subst, arith}
 use Rattle.std.proofs.lemmas.Bool.{cases_lt}
 use Rattle.std.proofs.Math.Pow.{pow_mono}
@@ -11,7 +11,7 @@ use Rattle.seg_rbtree.specs.Balance.{IsBelowBlack, height_above, SideFits, Wants
 use Rattle.seg_rbtree.specs.Removing.{blacks, IsNearly, IsShort, turns_over, turns_above, turns}
 use Rattle.seg_rbtree.proofs.Balancing.{black-branch, red-branch, balanced-black, balanced-red, black-parts, red-parts, IsBalancedAt, balanced-up}
 
--- ---- the tree beside a place
+-- ---- the subtree beside a place
 
 pub record SideParts (colour : Colour) (other : Tree) (layers : List Layer) (h : ℕ) : Type 0 where
   pub balanced : IsBalanced other h
@@ -73,7 +73,7 @@ nearly_branch Left near far at red h n f = (n, f)
 nearly_branch Right near far at black h n f = (h, refl, f, n)
 nearly_branch Right near far at red h n f = (f, n)
 
--- beside a short part is a node
+-- a short subtree has a sibling
 pub sibling_stands : (side : Side) (at : ℕ) (colour : Colour) (layers : List Layer) (tree : Tree) → IsShort (record { side = side; at = at; colour = colour; other = leaf } ∷ layers) tree → ⊥
 sibling_stands side at colour layers tree s = let e = (side_parts colour leaf layers (suc s.height) s.wanted.0).balanced in absurd (omega arith)
 
@@ -81,11 +81,11 @@ module _ (side : Side) (at sibling : ℕ) (colour : Colour) (inner outer : Tree)
   abbrev beside : Colour → List Layer
   beside c = record { side = side; at = at; colour = colour; other = branch side sibling c inner outer } ∷ layers
 
-  -- above a red sibling is a black node
+  -- the parent of a red sibling is black
   pub above_red : IsShort (beside red) tree → colour ≡ black
   above_red s = not_red colour (λ e. red-branch side sibling inner outer ((side_parts colour (branch side sibling red inner outer) layers (suc s.height) s.wanted.0).below_red e).0)
 
-  -- a red sibling comes up
+  -- a red sibling moves up
   pub lowered : IsShort (beside red) tree → IsShort (record { side = side; at = at; colour = red; other = inner } ∷ record { side = side; at = sibling; colour = black; other = outer } ∷ layers) tree
   lowered s =
       let p = side_parts colour (branch side sibling red inner outer) layers (suc s.height) s.wanted.0 in
@@ -112,7 +112,7 @@ module _ (side : Side) (at sibling : ℕ) (colour : Colour) (inner outer : Tree)
         low = over_both colour (blacks layers) s.height s.low;
       }
 
--- the nearer child of a black sibling is red: it comes up between the two
+-- the nearer child of a black sibling is red: it moves up between the two
 pub inner_came_up : (side : Side) (at sibling inner : ℕ) (colour : Colour) (near far outer : Tree) (layers : List Layer) (tree : Tree) → IsBlack tree
     → IsShort (record { side = side; at = at; colour = colour; other = branch side sibling black (branch side inner red near far) outer } ∷ layers) tree
     → IsRedBlack (plug (branch side inner colour (branch side at black tree near) (branch side sibling black far outer)) layers)
@@ -126,7 +126,7 @@ inner_came_up side at sibling inner colour near far outer layers tree bt s =
     (balanced-black side sibling far outer f.below g.far_balanced f.far_balanced)
     (black-branch side at tree near) (black-branch side sibling far outer) (λ e. (p.below_red e).1) (subst (λ h. Wants layers (height_above colour (suc h))) same s.wanted.1)
 
--- the child on the other side is red: the sibling comes up, and this child is painted black
+-- the child on the other side is red: the sibling moves up, and this child becomes black
 pub outer_came_up : (side : Side) (at sibling outer : ℕ) (colour : Colour) (inner left right : Tree) (layers : List Layer) (tree : Tree) → IsBlack tree
     → IsShort (record { side = side; at = at; colour = colour; other = branch side sibling black inner (fork left outer red right) } ∷ layers) tree
     → IsRedBlack (plug (branch side sibling colour (branch side at black tree inner) (fork left outer black right)) layers)

@@ -1,4 +1,4 @@
--- What taking a node out of a tree does to the bytes.
+-- What removing a node from a tree does to the bytes.
 use Rattle.std.proofs.Common.{◌≡◌, ◌≢◌, ℕ, ◌+◌, ◌^◌, ◌<◌, ◌≤◌, Bool, not, true, false, List, [], ◌∷◌, ◌++◌, length, Option, Some, None, refl, sym, ap, ◌∙◌, subst, arith, append_assoc}
 use Rattle.std.proofs.lemmas.List.{length-append, append-nil}
 use Rattle.std.specs.List.{AllByRecursion}
@@ -27,7 +27,7 @@ use Rattle.seg_rbtree.proofs.Walking.{length-steps}
 use Rattle.seg_rbtree.proofs.Steps.{last_word-steps}
 use Rattle.seg_rbtree.proofs.Lengthening.{path_word, turned_at, here, here_apart, no_tree, painted_fork}
 
--- ---- ways one after the other
+-- ---- paths one after the other
 
 pub plug_on : (tree : Tree) (lower upper : List Layer) → plug tree (lower ++ upper) ≡ plug (plug tree lower) upper
 plug_on tree [] upper = refl
@@ -121,9 +121,9 @@ lone_unlinked bytes new path node empty gone eg en e3 layers tree s r few named 
     } in done in
     (subst (λ o. StandsAt bytes path layers o → IsRedBlack (plug o layers) → length (nodes_of (plug o layers)) < 2 ^ 32 → Unlinks bytes new path layers o node gone) (sym f.tree_is) law) s r few
 
--- ---- the way to the first node below a place
+-- ---- the path to the first node below a place
 
--- a part in a search tree, from one that is apart from others
+-- a subtree in a search tree, from one whose nodes don't overlap others
 pub as_part : (bytes now : List ℕ) (path : Path) (layers : List Layer) (tree : Tree) → now ≡ bytes → StandsAt bytes path layers tree → IsRedBlack (plug tree layers) → length (nodes_of (plug tree layers)) < 2 ^ 32
     → IsPartAt now path layers tree
 as_part bytes now path layers tree e s r few =
@@ -135,7 +135,7 @@ part_word bytes path layers tree s = ap (last_word path.root) s.steps_are ∙ la
 pub part_here : (bytes : List ℕ) (path : Path) (layers : List Layer) (tree : Tree) → IsPartAt bytes path layers tree → IsTree bytes (target bytes (place path.root layers)) tree
 part_here bytes path layers tree s = tree-down bytes path.root tree layers s.whole.is_tree
 
--- so many steps on, all to the left
+-- some steps further, all to the left
 pub record IsDescending (bytes : List ℕ) (path : Path) (layers : List Layer) (tree : Tree) (first count : ℕ) : Type 0 where
   pub lower : List Layer
   pub left : Tree
@@ -188,7 +188,7 @@ descended bytes path layers tree first count to e n d =
       steps_are = d.steps_are;
     }
 
--- the node that the way continues from is low
+-- the position of the path's last node is low
 pub descending_low : (bytes : List ℕ) (path now : Path) (layers : List Layer) (tree : Tree) (first count : ℕ) → length bytes ≤ 2 ^ 30 → IsPartAt bytes path layers tree → IsDescending bytes now layers tree first count → first < 2 ^ 31
 descending_low bytes path now layers tree first count small s d =
     let at = place path.root layers in

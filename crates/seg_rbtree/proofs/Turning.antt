@@ -1,4 +1,4 @@
--- Changes at a place, and what they make of the whole tree.
+-- Changes at a place, and what they mean for the whole tree.
 use Rattle.std.proofs.Common.{◌≡◌, ℕ, ◌+◌, ◌≤◌, ◌<◌, ◌^◌, List, [], ◌∷◌, ◌++◌, length, Option, Some, None, refl, sym, ◌∙◌, subst, inl, inr, arith}
 use Rattle.seg_bytes.specs.Bytes.{word, set_word}
 use Rattle.seg_spec.specs.Pointer.{target, distance, set_pointer}
@@ -26,7 +26,7 @@ turns-none bytes at room tree h = record { hangs = h; kept = keeps-none bytes at
 pub turns-then : (a b c : List ℕ) (at : ℕ) (room x y : Tree) → Turns a b at room x → Turns b c at room y → Turns a c at room y
 turns-then a b c at room x y h k = record { hangs = k.hangs; kept = keeps-trans a b c at (nodes_of room) h.kept k.kept }
 
--- the room may be that of any tree of the same nodes
+-- the room may be that of any tree with the same nodes
 pub turns-room : (a b : List ℕ) (at : ℕ) (room other x : Tree) → nodes_of room ≡ nodes_of other → Turns a b at room x → Turns a b at other x
 turns-room a b at room other x e h = record { hangs = h.hangs; kept = subst (KeepsBeside a b at) e h.kept }
 
@@ -36,7 +36,8 @@ in_list : (p n at : ℕ) (xs ys : List ℕ) → Clear p n (xs ++ at ∷ ys) → 
 in_list p n at [] ys h = (tt, h.0, h.1)
 in_list p n at (x ∷ xs) ys h = let r = in_list p n at xs ys h.1 in ((h.0, r.0), r.1, r.2)
 
--- what lies apart from the nodes of a branch lies apart from the node and from those of both parts
+-- a range that doesn't overlap the nodes of a branch overlaps neither the node nor those of its
+-- subtrees
 pub record ClearParts (p n at : ℕ) (near far : Tree) : Type 0 where
   pub near_clear : Clear p n (nodes_of near)
   pub node_apart : Separate p n at 16
@@ -220,7 +221,8 @@ module _ (bytes : List ℕ) (at : ℕ) (side : Side) (node up : ℕ) (colour upp
             (in_far side node up colour upper x m d side)) last.kept);
       }
 
-  -- the child on the other side comes up, the node goes down to a side, and what was between them stays between them
+  -- the child on the other side moves up, the node moves down to a side, and the subtree between
+  -- them stays between them
   pub turns-rotated : IsTree bytes (target bytes at) before → StandApart (length bytes) at (nodes_of before) → Turns bytes (rotated bytes at node side) at before after
   turns-rotated h apart =
       let low = branch-parts bytes (target bytes at) side node colour x (branch side up upper m d) h in

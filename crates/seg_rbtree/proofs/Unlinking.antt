@@ -1,4 +1,4 @@
--- A node with one child at most is taken out; one with two gives its place to the next in order.
+-- A node with at most one child is unlinked; one with two is replaced by the next in order.
 use Rattle.std.proofs.Common.{◌≡◌, ℕ, suc, ◌+◌, ◌^◌, ◌<◌, ◌⊎◌, inl, inr, List, [], ◌∷◌, ◌++◌, length, refl, sym, ap, ◌∙◌, subst, arith, append_assoc}
 use Rattle.std.proofs.lemmas.List.{append-nil}
 use Rattle.seg_spec.specs.Shapes.{Colour, black, red, Tree, leaf, fork, nodes_of, IsBlack, IsRedBlack}
@@ -56,7 +56,7 @@ red_unlinked layers side only node r =
     let f = red-parts side node leaf only w.height w.balanced in
     balanced-up only layers (record { height = w.height; balanced = f.far_balanced; wants = w.wants; top = inl f.far_black })
 
--- black: what is left is short
+-- black: the rest is short
 pub black_unlinked : (layers : List Layer) (side : Side) (only : Tree) (node : ℕ) → IsRedBlack (plug (branch side node black leaf only) layers) → length (nodes_of (plug (branch side node black leaf only) layers)) < 2 ^ 32
     → IsShort layers only
 black_unlinked layers side only node r few =
@@ -113,7 +113,7 @@ module _ (colour : Colour) (other : Tree) (layers : List Layer) where
   after_next [] x y = refl
   after_next (l ∷ ls) x y = ap (λ ns. nodes_after l.side l.other l.at ++ ns) (after_next ls x y)
 
-  -- the next node is in the place of the one that it follows
+  -- the next node takes the place of the one before it
   pub next_lost : (lower : List Layer) (node next : ℕ) (tint : Colour) (only : Tree) → AreLeft lower
       → Loses node (nodes_of (plug (fork leaf next tint only) (lower ++ right_of node))) (nodes_of (plug only (lower ++ right_of next)))
   next_lost lower node next tint only a =

@@ -1,4 +1,4 @@
--- A walk down a tree to a node's place.
+-- The path to a node's place.
 use Rattle.std.proofs.Common.{◌≡◌, ℕ, ◌+◌, ◌^◌, ◌<◌, ◌≤◌, List, [], ◌∷◌, ◌++◌, length, Some, None, refl, sym, ap, ◌∙◌, subst, length-append, arith}
 use Rattle.std.specs.declared.cmp.Ordering.{Ordering}
 use Rattle.std.specs.declared.cmp.Ordering.TheVariants.{Equal}
@@ -18,7 +18,7 @@ pub length-steps : (layers : List Layer) → length (steps_of layers) ≡ length
 length-steps [] = refl
 length-steps (layer ∷ layers) = omega (arith, length-append (steps_of layers) (step_of layer ∷ []), length-steps layers)
 
--- so many steps have led to a place with this pointer word, where what hangs there is still to be searched
+-- some steps were taken to a place with this pointer word, whose subtree is still to be searched
 pub record IsWalking (root : ℕ) (turn : ℕ → Ordering) (shape : Tree) (steps : List Step) (word count : ℕ) : Type 0 where
   pub layers : List Layer
   pub rest : Tree
@@ -32,12 +32,12 @@ module _ (bytes : List ℕ) (root : ℕ) (turn : ℕ → Ordering) (shape : Tree
   pub walking_start : (steps : List Step) (word : ℕ) → steps ≡ [] → word ≡ last_word root steps → IsWalking root turn shape steps word 0
   walking_start steps word e w = record { layers = []; rest = shape; shape_is = refl; steps_are = e; leads = tt; count_is = refl; word_is = w ∙ ap (last_word root) e }
 
-  -- what hangs at the path's pointer word
+  -- the subtree at the path's pointer word
   pub walking_hangs : (steps : List Step) (word count : ℕ) (s : IsWalking root turn shape steps word count) → IsTree bytes (target bytes root) shape → IsTree bytes (target bytes word) s.rest
   walking_hangs steps word count s t =
       subst (λ q. IsTree bytes (target bytes q) s.rest) (sym s.word_is) (tree-down bytes root s.rest s.layers (subst (IsTree bytes (target bytes root)) (sym s.shape_is) t))
 
-  -- the walk goes down to a side of the node at the word
+  -- the path goes down to a side of the node at the word
   pub walked : (steps next : List Step) (word below count other : ℕ) (side : Side) → length bytes ≤ 2 ^ 30 → target bytes word ≡ Some other → turn other ≡ turn_of side
       → (other < 2 ^ 31 → next ≡ steps ++ record { node = other; side = side } ∷ []) → below ≡ side_word other side
       → IsTree bytes (target bytes root) shape → IsWalking root turn shape steps word count → IsWalking root turn shape next below (count + 1)

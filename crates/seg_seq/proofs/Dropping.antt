@@ -1,4 +1,4 @@
--- A list without one of its nodes, with the frozen objects that lost their last cell.
+-- A node is removed from a list, with the frozen objects that lost their last cell.
 use Rattle.std.proofs.Common.{◌≡◌, ◌≢◌, ℕ, suc, ◌+◌, ◌%◌, ◌≤◌, ◌⊎◌, inl, inr, List, [], ◌∷◌, ◌++◌, length, map, Some, refl, sym, ap, ◌∙◌, subst, arith, append_assoc}
 use Rattle.std.specs.Prelude.{slice_get}
 use Rattle.std.specs.List.{AllByRecursion}
@@ -228,7 +228,7 @@ module _ (allocator : ℕ) (old : List ℕ) (table : Table) (list : Place) (U no
         let two = (there (LiesIn one heap_start (length one)) b (positions (live one)) (live-lie one allocator one_heap) (let c = one_count b in let l = b_live in omega arith)).size in
         record { low = omega arith; high = omega arith }
 
-    -- where the item is meanwhile
+    -- the place of the item in between
     pub item_stands : Stands allocator one table (value_in U node) p.value p.its
     item_stands = record {
       heap = one_heap;
@@ -247,7 +247,7 @@ module _ (allocator : ℕ) (old : List ℕ) (table : Table) (list : Place) (U no
           omega arith;
     }
 
-    -- ---- beside frozen objects, whose blocks are none of the list's
+    -- ---- apart from frozen objects, whose blocks aren't the list's
 
     module _ (theirs : ℕ → List ℕ) (now final : List Frozen) (beside : AreLive old ((s.home ∷ blocks) ++ blocks_by theirs now)) where
       abbrev shares : List ℕ
@@ -297,7 +297,7 @@ module _ (allocator : ℕ) (old : List ℕ) (table : Table) (list : Place) (U no
         abbrev left : List ℕ
         left = blocks_by theirs final
 
-        -- what the item owned, and what frozen objects own, goes or is left
+        -- what the item and the frozen objects owned is freed or stays
         goes : (h : ℕ) → times h p.its + times h shares ≡ times h c.gives + times h left
         goes h = let a = c.all_are h in let m = times-append h p.its shares in let n = times-append h c.gives left in omega arith
 

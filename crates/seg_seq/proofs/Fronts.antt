@@ -90,7 +90,7 @@ module _ (allocator : ℕ) (bytes : List ℕ) (table : Table) (list : Place) (U 
       go (x ∷ xs) zero p e a = let same : x ≡ p = cc in let b = a.0.1 in omega arith
       go (x ∷ xs) (suc i) p e a = go xs i p e a.1
 
-  -- where item i is, once its node is known by the index
+  -- the place of item i, if its node is known by the index
   pub stands_at : (i node at : ℕ) → i < count vs → node ≡ get_or its_list.nodes i 0 → at ≡ (node + 8) % 2 ^ 32 → Leads bytes table list (Selector.item i ∷ []) (record { at = at; type = U })
   stands_at i node at h e at_is =
       let c = its_count in

@@ -49,7 +49,7 @@ module _ (allocator : ℕ) (bytes : List ℕ) (heap : IsHeap allocator bytes) (c
       go (inr (inl l)) = absurd (omega (arith, i.low, j.high))
       go (inr (inr l)) = absurd (omega (arith, i.high, j.low))
 
-  -- the cell is none of the nodes
+  -- the cell is different from all nodes
   cell_other : (p : ℕ) → 1 ≤ times p nodes → p ≢ cell
   cell_other p some e =
       node_other p some (one_home (block_of p) home p (node_live p some) home_live (node_inside p some) (subst (λ q. IsInside bytes home q 8) (sym e) inside))
@@ -82,7 +82,7 @@ module _ (allocator : ℕ) (bytes : List ℕ) (heap : IsHeap allocator bytes) (c
     each_there (HasHome bytes) nodes (λ p some. record { home = block_of p; inside = node_inside p some; home_live = node_live p some }),
   )
 
-  -- ---- what is kept where only the cell and the links of the nodes change
+  -- ---- what is kept if only the cell and the links of the nodes change
 
   module _ (new : List ℕ) (changes : ChangesAt bytes new (cell ∷ nodes)) where
     -- another block

@@ -64,7 +64,7 @@ changes_joined old mid x y places a b c =
 
 -- ---- the count of a ring
 
--- the places of nodes are kept where only the cell is written
+-- the places of nodes are kept if only the cell is written
 pub nodes_kept : (mid : List ℕ) (cell at d : ℕ) (others : List ℕ) → AreSpread mid (cell ∷ others) → cell ≤ at → at ≤ cell + 4 → AllByRecursion (λ p. IsSame mid (set_word mid at d) p 8) others
 nodes_kept mid cell at d others s low high = each_there (λ p. IsSame mid (set_word mid at d) p 8) others (λ h some.
     let f = there (λ p. (p % 8 ≡ 0) × (p + 8 ≤ length mid)) h others s.fit.1 some in

@@ -52,7 +52,7 @@ module _ (allocator : ℕ) (bytes : List ℕ) (table : Table) (place : Place) (U
       go None e = let none = Rattle.seg_seq.proofs.Rooms.none_counted allocator bytes table place (Form.vec U) (Seq vs) blocks f refl s e in rw none (omega arith)
       go (Some p) e = let fits = Rattle.seg_seq.proofs.Rooms.entries_fit allocator bytes table place (Form.vec U) (Seq vs) blocks f refl s p e in let n = s.heap.small in omega arith
 
-  -- so one more is asked for in a word
+  -- so the request for one more fits in a word
   pub next_small : (count_at bytes place.at + 1) * size table U < 2 ^ 32
   next_small =
       let few = few_items in

@@ -129,7 +129,7 @@ none_is_full allocator old cell T U vs blocks h (inr short) =
     let large = size_large old.types h.stands.is_table T in
     absurd (omega arith)
 
--- ---- the last item goes
+-- ---- the last item is destroyed
 
 module _ (allocator : ℕ) (old : Stored) (cell T U : ℕ) (vs : Values) (blocks : List ℕ) (h : HasItems allocator old (object_at cell T) U vs blocks) where
   pub items_counted : count vs ≡ count_at old.window.bytes cell

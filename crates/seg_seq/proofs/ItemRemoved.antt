@@ -1,5 +1,5 @@
--- A vector that loses its last item, with the frozen objects that lost their last cell, from what
--- the steps leave.
+-- The last item of a vector is destroyed, with the frozen objects that lost their last cell, from
+-- what the steps leave.
 use Rattle.std.proofs.Common.{◌≡◌, ◌≢◌, ℕ, ◌+◌, ◌*◌, ◌/◌, ◌%◌, ◌^◌, ◌<◌, ◌≤◌, ◌⊎◌, inl, inr, List, [], ◌∷◌, ◌++◌, length, Option, Some, None, refl, sym, ap, ◌∙◌, subst, arith}
 use Rattle.std.specs.Prelude.{option_map, option_to_list}
 use Rattle.std.specs.List.{AllByRecursion}
@@ -129,7 +129,7 @@ module _ (allocator : ℕ) (old : List ℕ) (table : Table) (place : Place) (U :
       gives_are = refl;
     }
 
-    -- the item that goes is the last one
+    -- the item to destroy is the last one
     pub value_is : (v : Value) → nth vs n ≡ Some v → v ≡ last.value
     value_is v e =
         let at : count last.left ≡ n = sym (count_is old table last.lefts) ∙ how_many table U p n in
@@ -137,7 +137,7 @@ module _ (allocator : ℕ) (old : List ℕ) (table : Table) (place : Place) (U :
         let both : Some v ≡ Some last.value = sym e ∙ it in
         cc
 
-    -- ---- the item is cleared, beside frozen objects, whose blocks are none of the vector's
+    -- ---- the item is cleared, apart from frozen objects, whose blocks aren't the vector's
 
     module _ (theirs : ℕ → List ℕ) (now final : List Frozen) (beside : AreLive old ((s.home ∷ blocks) ++ blocks_by theirs now)) (mid : List ℕ)
         (c : ClearsPlace old mid table item (default_of table U) last.zs [] theirs now final) where
@@ -150,7 +150,7 @@ module _ (allocator : ℕ) (old : List ℕ) (table : Table) (place : Place) (U :
       all_fit : (h : ℕ) → times h (s.home ∷ blocks) + times h shares ≤ times h (positions (live old))
       all_fit h = omega (arith, beside h, times-append h (s.home ∷ blocks) shares)
 
-      -- what the item owned, and what frozen objects own, goes or is left
+      -- what the item and the frozen objects owned is freed or stays
       goes : (h : ℕ) → times h last.zs + times h shares ≡ times h c.gives + times h left
       goes h = omega (arith, c.all_are h, times-append h last.zs shares, times-append h c.gives left)
 

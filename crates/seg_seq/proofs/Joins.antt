@@ -1,4 +1,4 @@
--- Nodes that are coupled, and the rings that come of it.
+-- Nodes that are linked to each other, and the rings that result.
 use Rattle.std.proofs.Common.{◌≡◌, ◌≢◌, ℕ, ◌+◌, ◌%◌, ◌^◌, ◌<◌, ◌≤◌, ◌⊎◌, inl, inr, ⊎_elim, List, [], ◌∷◌, ◌++◌, length, Some, refl, sym, ◌∙◌, subst, arith}
 use Rattle.std.specs.List.{AllByRecursion}
 use Rattle.std.proofs.lemmas.Bool.{cases_lt}
@@ -87,7 +87,7 @@ pub last_among : (x : ℕ) (ys : List ℕ) → 1 ≤ times (last_of x ys) (x ∷
 last_among x [] = omega (arith, times-same x [])
 last_among x (y ∷ ys) = let rest = last_among y ys in let more = times-more (last_of y ys) x (y ∷ ys) in omega arith
 
--- the node after a chain is pointed to by the last one, and points to it
+-- the last node of a chain and the node after it point to each other
 pub chain_end : (bytes : List ℕ) (z x : ℕ) (ys : List ℕ) → IsLinked bytes z x ys → AreLinked bytes (last_of x ys) z
 chain_end bytes z x [] l = l
 chain_end bytes z x (y ∷ ys) l = chain_end bytes z y ys l.1
@@ -102,7 +102,7 @@ module _ (bytes : List ℕ) (a b : ℕ) (ha : a % 8 ≡ 0) (hb : b % 8 ≡ 0) wh
   kept : (u v : ℕ) → u % 8 ≡ 0 → v % 8 ≡ 0 → u ≢ a → v ≢ b → AreLinked bytes u v → AreLinked (coupled bytes a b) u v
   kept u v hu hv n m l = record { next = joined_next bytes a b ha hb u hu n ∙ l.next; previous = joined_previous bytes a b ha hb v hv m ∙ l.previous }
 
-  -- a chain beside the two nodes that are coupled
+  -- a chain apart from the two nodes that are linked
   pub linked_beside : (z x : ℕ) (ys : List ℕ) → z % 8 ≡ 0 → AreAligned (x ∷ ys) → times a (x ∷ ys) ≡ 0 → times b ys ≡ 0 → z ≢ b → IsLinked bytes z x ys → IsLinked (coupled bytes a b) z x ys
   linked_beside z x [] hz hs na nb ne l = kept x z hs.0 hz (absent_other a x [] na) ne l
   linked_beside z x (y ∷ ys) hz hs na nb ne l = (

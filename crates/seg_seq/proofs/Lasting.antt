@@ -1,5 +1,4 @@
--- A place while a call on it is under way: all that its steps keep, whatever the place contains
--- meanwhile.
+-- A place during a call on it: what all steps keep, for any value of the place in between.
 use Rattle.std.proofs.Common.{◌≡◌, ◌≢◌, ℕ, ◌+◌, ◌≤◌, ◌⊎◌, inl, inr, List, ◌∷◌, refl, sym, ap, ◌∙◌, subst, arith}
 use Rattle.std.specs.List.{AllByRecursion}
 use Rattle.seg_spec.specs.Header.{free_word, back_start, back_size}
@@ -20,8 +19,8 @@ use Rattle.seg_spec.proofs.WriteInside.{tiles_kept, low_kept, KeptBut, live_kept
 use Rattle.seg_spec.proofs.Composing.{around_kept}
 use Rattle.seg_spec.proofs.Standing.{Frames, frames_twice, stands_after}
 
--- the heap is well-formed with these allocated blocks, of which the place, with the frozen objects
--- that go with it, owns others than before, and all around is kept
+-- The heap is well-formed with these allocated blocks. The place and the frozen objects that it
+-- releases own other blocks than before, and everything around them is kept.
 pub record Leaves (allocator : ℕ) (old mid : List ℕ) (table : Table) (place : Place) (blocks others : List ℕ) (spans : List Span) : Type 0 where
   pub allocator_is : word old 16 ≡ allocator
   pub heap : IsHeap allocator mid

@@ -22,7 +22,7 @@ pub ring_first : (bytes : List ℕ) (o : Option ℕ) (x : ℕ) (xs : List ℕ) �
 ring_first bytes None x xs r = absurd r
 ring_first bytes (Some p) x xs r = (ap Some (sym r.0), subst (λ q. IsLinked bytes q x xs) (sym r.0) r.1)
 
--- the neighbours of a node, and what comes of joining them
+-- the neighbours of a node, and the ring after they are linked
 pub record Unlinked (bytes : List ℕ) (cell node : ℕ) (before after : List ℕ) : Type 0 where
   pub next : ℕ
   pub previous : ℕ
@@ -106,7 +106,7 @@ module _ (bytes : List ℕ) (cell node x : ℕ) (xs after : List ℕ) (s : AreSp
   front_once : (h : ℕ) → times h (x ∷ xs) ≤ 1
   front_once h = let c = counts h in let o = all_once h in omega arith
 
-  -- the cell points to the first one still, which is another one
+  -- the cell still points to the first node, which is another one
   names_other : target bytes cell ≢ Some node
   names_other e =
       let both : Some x ≡ Some node = sym first.0 ∙ e in

@@ -1,4 +1,4 @@
--- The buffer that a place points to: where it lies, and how many entries it has.
+-- The buffer to which a place points: its position, and how many entries it has.
 use Rattle.std.proofs.Common.{◌≡◌, ◌≢◌, ℕ, ◌+◌, ◌*◌, ◌≤◌, true, List, [], ◌++◌, length, Some, None, refl, ap, ◌∙◌, arith}
 use Rattle.std.proofs.Math.Nat.{mul-one}
 use Rattle.seg_bytes.specs.Bytes.{slice, IsSame}
@@ -19,7 +19,7 @@ use Rattle.seg_spec.proofs.LiveLaws.{times-same, there, LiesIn, live-lie}
 use Rattle.seg_spec.proofs.PlaceSteps.{owned_live, owned_other, place_within}
 use Rattle.seg_spec.proofs.Buffered.{Buffered, buffered}
 
--- a block is there with its header, and has room for so many bytes
+-- a block is still there with its header, and has room for m bytes
 pub block_again : (old new : List ℕ) (p tag n m : ℕ) → IsSame old new (block_of p) 16 → m ≤ payload_size old (block_of p) → IsBlock old p tag n → IsBlock new p tag m
 block_again old new p tag n m header fits b =
     let h = block_of p in

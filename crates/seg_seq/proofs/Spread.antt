@@ -1,5 +1,5 @@
--- What is kept where 8 bytes change at each of several places in the payloads of allocated blocks:
--- the heap, and all else.
+-- What is kept if 8 bytes change at each of several places in the payloads of allocated blocks: the
+-- heap, and everything else.
 use Rattle.std.proofs.Common.{◌≡◌, ℕ, ◌+◌, ◌*◌, ◌%◌, ◌^◌, ◌≤◌, ◌⊎◌, inl, inr, true, false, List, [], ◌∷◌, length, sym, ap, ◌∙◌, subst, arith}
 use Rattle.std.proofs.lemmas.Bool.{false≢true}
 use Rattle.std.specs.List.{AllByRecursion}

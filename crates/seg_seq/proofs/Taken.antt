@@ -1,4 +1,4 @@
--- A list before its new node is linked: the block is allocated beside those before.
+-- A list before its new node is linked: the block is allocated, and differs from those before.
 use Rattle.std.proofs.Common.{◌≡◌, ◌≢◌, ℕ, ◌+◌, ◌≤◌, ◌⊎◌, inl, inr, List, [], ◌∷◌, length, Option, Some, None, refl, sym, ap, ◌∙◌, subst, arith}
 use Rattle.std.proofs.lemmas.Bool.{cases_eq}
 use Rattle.seg_spec.specs.Types.{Form, Table, form_at, size}

@@ -27,7 +27,7 @@ use Rattle.seg_seq.proofs.Rooms.{reaches, entries_fit, text_counts}
 use Rattle.seg_seq.proofs.TooMuch.{too_much}
 use Rattle.seg_seq.proofs.TextSteps.{names, room_made, text_written, byte_removed}
 
--- no buffer has so much room
+-- no buffer has that much room
 no_such_room : (allocator : ℕ) (mid : List ℕ) (table : Table) (place : Place) (xs blocks : List ℕ) (n : ℕ)
     → form_at table place.type ≡ Some Form.str → Stands allocator mid table place (Text xs) blocks → HasRoomFor mid place.at n → n ≤ 2 ^ 30
 no_such_room allocator mid table place xs blocks n f s room = go (target mid place.at) refl
@@ -126,7 +126,7 @@ one_byte bytes at x small = let same : x % 256 ≡ x = omega arith in ap (λ y. 
 pub text_entry : (table : Table) (T : ℕ) (content : Content) → form_at table T ≡ Some Form.str → NamesBuffer table T content → content.entry.held ≡ Bytes
 text_entry table T content f n = let c = rw f at n.0 in c.held_is
 
--- the last byte goes
+-- the last byte is dropped
 pub byte_popped : (allocator : ℕ) (old new : Stored) (place : Place) (xs blocks : List ℕ) → HasText allocator old place xs blocks → (n : ℕ) → length xs ≡ n + 1 → new.window.bytes ≡ set_word old.window.bytes (place.at + 4) n
     → ComesToHold allocator old new place (Text (take n xs)) [] [] blocks
 byte_popped allocator old new place xs blocks t n more new_is = record {

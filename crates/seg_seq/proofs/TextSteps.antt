@@ -199,7 +199,7 @@ module _ (allocator : ℕ) (old mid : List ℕ) (table : Table) (place : Place) 
           let known = text_counts allocator mid table place ys others f u in
           absurd (omega arith)
 
--- ---- the last byte goes
+-- ---- the last byte is dropped
 
 module _ (allocator : ℕ) (old : List ℕ) (table : Table) (place : Place) (xs blocks : List ℕ) (f : form_at table place.type ≡ Some Form.str) (s : Stands allocator old table place (Text xs) blocks)
     (n : ℕ) (more : length xs ≡ n + 1) (new : List ℕ) (new_is : new ≡ set_word old (place.at + 4) n) where

@@ -1,4 +1,4 @@
--- Where the tiles lie that become one gap, and where the list continues after them.
+-- The range of the tiles that become one gap, and the rest of the list after them.
 use Rattle.std.proofs.Common.{◌≡◌, ◌≢◌, ℕ, ◌+◌, ◌*◌, ◌≤◌, true, false, List, [], ◌∷◌, ◌++◌, length, zero, suc, refl, sym, ap, ◌∙◌, subst, arith}
 use Rattle.std.specs.Prelude.{Contains}
 use Rattle.seg_spec.specs.Heap.{Tile, Fill, IsHeap, heap_start, live, gaps, room_at}

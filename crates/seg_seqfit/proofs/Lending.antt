@@ -1,4 +1,4 @@
--- What functions on lent bytes leave in the window that lent them.
+-- What functions on borrowed bytes leave in the window.
 use Rattle.std.proofs.Common.{◌≡◌, ℕ, ◌+◌, ◌*◌, false, List, [], ◌∷◌, ◌++◌, length, Option, None, sym, ap, ◌∙◌}
 use Rattle.seg_spec.specs.Pointer.{target}
 use Rattle.seg_spec.specs.Window.{Placement, with_bytes, KeepsHost}
@@ -16,7 +16,7 @@ lent_keeps old lent xs same is =
     let written = lent_same old xs (same ∙ ap length is) in
     written ∙ ap (λ (p : Placement). with_bytes old p.bytes) (sym written)
 
--- a gap is taken: these tiles are in its place
+-- a gap is allocated: these tiles are in its place
 abbrev pub TakesGap : List ℕ → List ℕ → ℕ → ℕ → ℕ → Option ℕ → List Tile → Type 0
 TakesGap old new link at u next ns = (xs ys : List Tile) → link ≡ link_past 24 xs → next ≡ link_at old at → IsTiling 0 old (xs ++ tile at u false ∷ ys)
     → Retiles 0 old new xs ns ys × (link_at new at ≡ None)

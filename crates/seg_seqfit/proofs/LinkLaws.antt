@@ -10,7 +10,7 @@ use Rattle.seg_seqfit.specs.Retiling.{link_past}
 use Rattle.seg_block.proofs.LiveTiles.{cons_cases}
 use Rattle.seg_block.proofs.Heaps.{target-agrees}
 
--- ---- where the pointer word after some tiles lies
+-- ---- the position of the pointer word after some tiles
 
 pub link_past-low : (ts : List Tile) (p from to : ℕ) → p + 4 ≤ from → Fill from ts to → link_past p ts + 4 ≤ to
 link_past-low [] p from to low f = omega (arith, f)
@@ -104,14 +104,14 @@ names_tile bytes (s ∷ ts) p from to t aligned f l e =
     same : Some t ≡ Some (s.at + 16) → t ≡ s.at + 16
     same h = cc
 
--- ---- an allocated tile lies beside the pointer word after the tiles
+-- ---- an allocated tile doesn't overlap the pointer word after the tiles
 
 beside_own : (ts : List Tile) (p from to : ℕ) (t : Tile) (b : Span) → p + 4 ≤ from → t.at ≡ from → Fill (from + 16 * t.units) ts to → span_of t ≡ b → (end_of b ≤ link_past p ts) ⊎ (link_past p ts + 4 ≤ b.at)
 beside_own ts p from to t b low at_is f e =
     subst (λ (s : Span). (end_of s ≤ link_past p ts) ⊎ (link_past p ts + 4 ≤ s.at)) e
     (⊎_elim (λ is. inr (omega arith)) (λ above. inl (omega arith)) (link_past-cases ts p (from + 16 * t.units) to f))
 
--- an allocated tile lies beside the pointer word after the tiles
+-- an allocated tile doesn't overlap the pointer word after the tiles
 pub live_beside_link : (ts : List Tile) (p from to : ℕ) (b : Span) → p + 4 ≤ from → Fill from ts to → Contains (live_of ts) b → (end_of b ≤ link_past p ts) ⊎ (link_past p ts + 4 ≤ b.at)
 live_beside_link [] p from to b low f (n, k, e) = absurd (omega arith)
 live_beside_link (t ∷ ts) p from to b low f c =

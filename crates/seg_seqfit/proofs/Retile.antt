@@ -1,4 +1,5 @@
--- A few tiles in the middle of the heap are replaced by others, and the free list is led through them.
+-- Some tiles in the middle of the heap are replaced by others, and the free list is linked through
+-- them.
 use Rattle.std.proofs.Common.{◌≡◌, ◌≢◌, ℕ, ◌+◌, ◌*◌, ◌%◌, ◌≤◌, Bool, true, false, List, [], ◌∷◌, ◌++◌, length, cond, Option, None, refl, ◌∙◌, subst, arith, inl, inr, ◌⊎◌, ⊎_elim}
 use Rattle.std.specs.Prelude.{Contains}
 use Rattle.std.proofs.lemmas.List.Elements.{Contains-append_cases}
@@ -21,7 +22,7 @@ pub record IsLocal (old new : List ℕ) (link lo hi : ℕ) : Type 0 where
   pub length_kept : length new ≡ length old
   pub kept : (from to : ℕ) → (to ≤ link) ⊎ (link + 4 ≤ from) → (to ≤ lo) ⊎ (hi ≤ from) → (to ≤ hi + 4) ⊎ (hi + 8 ≤ from) → Agrees old new from to
 
--- ---- the pointer word lies beside headers
+-- ---- the pointer word doesn't overlap headers
 
 -- a range without the pointer word
 abbrev pub Misses : ℕ → ℕ → ℕ → Type 0
@@ -116,7 +117,7 @@ module _ (old new : List ℕ) (xs ms ns ys : List Tile) (lo hi : ℕ) (was : IsT
         tiles_kept = spared_tiles old new (Misses (link_past 24 xs)) (part_misses (link_past 24 xs)) lo hi le local.kept xs ms ns ys was.tiled local.length_kept front middle back live_misses;
       }
 
--- ---- where a tile lies
+-- ---- the position of a tile
 
 -- a place in a part that may change
 pub out_of : (from to lo hi p : ℕ) → (to ≤ lo) ⊎ (hi ≤ from) → lo ≤ p → p + 4 ≤ hi → (to ≤ p) ⊎ (p + 4 ≤ from)

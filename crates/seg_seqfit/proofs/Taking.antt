@@ -1,4 +1,4 @@
--- A free tile is taken from the free list.
+-- A free tile is removed from the free list.
 use Rattle.std.proofs.Common.{◌≡◌, ℕ, ◌+◌, ◌*◌, ◌%◌, ◌≤◌, true, false, List, [], ◌∷◌, ◌++◌, length, Some, None, refl, ◌∙◌, arith, inl, inr, ⊎_elim}
 use Rattle.seg_bytes.specs.Bytes.{word, set_word}
 use Rattle.seg_spec.specs.Pointer.{target, distance, set_pointer}

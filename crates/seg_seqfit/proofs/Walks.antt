@@ -45,7 +45,7 @@ Reads bytes link low at =
 abbrev pub ReadsNone : List ℕ → ℕ → ℕ → Type 0
 ReadsNone bytes link low = (g : Span) → target bytes link ≡ Some (g.at + 16) → IsSized bytes g → low ≤ g.at → ⊥
 
--- ---- the block that a distance leads to
+-- ---- the block at a distance
 
 none_is : (b : Bool) (n : ℕ) → cond b None (Some n) ≡ None → b ≡ true
 none_is true n e = refl
@@ -58,8 +58,7 @@ some_is false n p e = cc
 one_is : (n : ℕ) → (n == 1) ≡ true → n ≡ 1
 one_is n e = grind (arith, nat_tests)
 
--- the block that is pointed to by the link of a block at a position, where the link contains this
--- distance
+-- the block to which the link of the block at a position points, if the link has this distance
 abbrev pub led : ℕ → ℕ → ℕ
 led at distance = ((at + distance) % 2 ^ 32 + (2 ^ 32 - 4)) % 2 ^ 32
 
@@ -77,7 +76,7 @@ led_to bytes at distance p is named =
     let same = some_is (d == 1) ((at + 12 + d) % 2 ^ 32) (p + 16) named in
     omega (arith, is, same)
 
--- what a pointer word leads to: the position of what it points to from low on
+-- the target of a pointer word, if it is at `low` or above
 pub record Follows (bytes : List ℕ) (link low : ℕ) (next : Option ℕ) : Type 0 where
   pub none : target bytes link ≡ None → next ≡ None
   pub named : (p : ℕ) → target bytes link ≡ Some (p + 16) → low ≤ p → next ≡ Some p
@@ -101,12 +100,12 @@ reads bytes link low at next f is = (λ e. never (sym is ∙ f.none e), λ g e s
 pub reads_none : (bytes : List ℕ) (link low : ℕ) (next : Option ℕ) → Follows bytes link low next → ((p : ℕ) → next ≡ Some p → ⊥) → ReadsNone bytes link low
 reads_none bytes link low next f is = λ g e sized le. is g.at (f.named g.at e le)
 
--- the positions that are left to a walk
+-- the positions that a walk hasn't reached
 abbrev pub left : Option ℕ → ℕ
 left None = 0
 left (Some at) = 4294967296 - at
 
--- what is left lies past the list's first word, in 32 bits
+-- the rest is after the list's first word, in 32 bits
 abbrev pub IsAhead : ℕ → Option ℕ → Type 0
 IsAhead at next = IfSome next (λ p. (at < p) × (p < 4294967296))
 
@@ -205,7 +204,8 @@ abbrev pub AreAbove : ℕ → List Span → Type 0
 AreAbove at [] = ⊤
 AreAbove at (g ∷ gs) = (at ≤ g.at) × AreAbove at gs
 
--- the free blocks before a pointer word are passed, those of `todo` lie below the block, and the rest above
+-- the free blocks before a pointer word are passed; those of `todo` are below the block, and the
+-- rest above
 pub record IsPassed (bytes : List ℕ) (seen rest : List Span) (block link low : ℕ) : Type 0 where
   pub done : List Span
   pub todo : List Span

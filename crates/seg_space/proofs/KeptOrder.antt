@@ -1,4 +1,4 @@
--- A heap is in order still where its headers stay, and the words of its free structure.
+-- A heap stays well-formed if its headers and the words of its free structure are kept.
 use Rattle.std.proofs.Common.{◌≡◌, ℕ, zero, suc, ◌+◌, ◌≤◌, List, [], ◌∷◌, length, Option, None, refl, sym, ap, ◌∙◌, subst, arith}
 use Rattle.std.specs.List.{AllByRecursion}
 use Rattle.seg_bytes.specs.Bytes.{IsSame}

@@ -1,4 +1,4 @@
--- Zeros in the units that a heap took in, after what may be the header of a gap.
+-- Zeros in the units that were added to a heap, after what may be the header of a gap.
 use Rattle.std.proofs.Common.{◌≡◌, ℕ, ◌+◌, ◌-◌, ◌*◌, ◌/◌, ◌%◌, ◌≢◌, ◌<◌, ◌≤◌, ◌⊎◌, inl, inr, true, false, eqb, List, [], ◌∷◌, length, replicate, cond, refl, sym, ap, ◌∙◌, subst, arith}
 use Rattle.std.specs.Prelude.{nat_lt}
 use Rattle.std.specs.List.{AllByRecursion}
@@ -28,7 +28,7 @@ each_tile P (t ∷ ts) l f =
       | false ↦ (λ l f. (f.0, rest l f.1))
     ]) l f
 
--- ---- where the gaps begin
+-- ---- the positions of the gaps
 
 -- a run that may have units begins there
 run_at : (P : ℕ → Type 0) (from to : ℕ) → P from → AllByRecursion (λ g. P g.at) (run from to)
@@ -45,8 +45,8 @@ several_extended (b ∷ bs) end n two =
     let off : eqb n 1 ≡ false = grind (arith, nat_tests) in
     rw off (ap (λ cs. b ∷ cs) (several_extended bs end n two))
 
--- where the units after a block begin, and where they do once the heap ends a unit later: a block
--- that ended at the end has that unit
+-- the position of the units after a block, and the same after the heap got one more unit: a block
+-- that ended at the end got that unit
 abbrev Moved : ℕ → ℕ → ℕ → Type 0
 Moved end from later = ((later ≡ from) × (from < end)) ⊎ (later ≡ end + 16)
 
@@ -54,7 +54,7 @@ Moved end from later = ((later ≡ from) × (from < end)) ⊎ (later ≡ end + 1
 abbrev Early : ℕ → List Span → Type 0
 Early end gs = AllByRecursion (λ g. g.at + 32 ≤ end) gs
 
--- so where all gaps were early, they all still are
+-- so if all gaps were early, they still are
 gaps_moved : (bs : List Span) (end from later : ℕ) → Moved end from later → AllByRecursion (λ b. (2 ≤ b.units) × (end_of b ≤ end)) bs → Early end (gaps_between from bs end)
     → Early end (gaps_between later (after_extend bs end 1) (end + 16))
 gaps_moved [] end from later (inl e) a g =

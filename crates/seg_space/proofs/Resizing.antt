@@ -438,7 +438,7 @@ module _ (allocator : ℕ) (old new : Stored) (picture : Picture) (is : IsSegmen
     after_is = rw (← cuts.cut) (sym (after_same new.window mid (sym same_region) (sym base) (16 * n) (let same = cuts.length_kept in omega arith)) ∙ ap (λ (r : Placement). r.after) host);
   }
 
--- a segment ends where its region does, or before
+-- a segment ends at or before the end of its region
 pub region_long : (p : Placement) → length p.before + length p.bytes ≤ length (region_of p)
 region_long p =
     let n = length-append (p.before ++ p.bytes) p.after in

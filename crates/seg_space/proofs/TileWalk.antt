@@ -52,7 +52,7 @@ reads_tile bytes at units (t ∷ ts) r two fits is =
       rest = subst (λ u. Rest bytes (at + 16 * u) ts) same (next_rest bytes at t ts r);
     }
 
--- where nothing is read there is no tile any more
+-- if nothing is read, there is no tile left
 pub reads_none : (bytes : List ℕ) (at : ℕ) (ts : List Tile) (o : Option Block) → Rest bytes at ts → o ≡ None → ((g : Span) → at ≡ g.at → IsSized bytes g → IsSomeAnd o (λ f. Covers f g)) → ts ≡ []
 reads_none bytes at [] o r e read = refl
 reads_none bytes at (t ∷ ts) o r e read = absurd (let no : IsSomeAnd {T = Block} None (λ f. Covers f (span at t.units)) = rw e at (read (span at t.units) refl (first_sized bytes at t ts r)) in no)
@@ -64,7 +64,7 @@ rest_none bytes at (t ∷ ts) r le = absurd (let more = Fill-le ts (at + 16 * t.
 
 -- ---- counting
 
--- what was counted on the way to a position, and what is free from there on
+-- what was counted up to a position, and what is free from there on
 pub record Counted (bytes : List ℕ) (at total largest : ℕ) : Type 0 where
   pub others : List Tile
   pub rest : Rest bytes at others
@@ -165,7 +165,7 @@ same_test l n e = grind (arith, nat_tests)
 test_same : (l n : ℕ) → l ≡ n → eqb l n ≡ true
 test_same l n e = grind (arith, nat_tests)
 
--- the largest gap is the whole heap where nothing is allocated
+-- the largest gap is the whole heap if nothing is allocated
 pub one_gap : (allocator : ℕ) (bytes : List ℕ) (largest size : ℕ) → IsHeap allocator bytes → largest ≡ largest_of (gaps bytes) → size ≡ length bytes - heap_start → (eqb largest size ≡ true) ↔ (live bytes ≡ [])
 unfolding live
 one_gap allocator bytes largest size heap largest_is size_is =

@@ -1,4 +1,4 @@
--- Zeros in the gaps of a heap, after what the allocator keeps there.
+-- Zeros in the gaps of a heap, after what the allocator stores there.
 use Rattle.std.proofs.Common.{◌≡◌, ℕ, ◌+◌, ◌*◌, ◌≤◌, ◌⊎◌, inl, inr, true, false, List, [], ◌∷◌, ◌++◌, length, replicate, cond, refl, sym, ap, ◌∙◌, subst, arith, append-nil}
 use Rattle.std.proofs.lemmas.Bool.{false≢true}
 use Rattle.std.proofs.lemmas.List.{append_assoc, length-replicate}
@@ -177,7 +177,7 @@ all_beside (t ∷ ts) from to f =
       | false ↦ (λ e. ((inl (e, refl), mine), both))
     ] refl
 
--- what is true of each tile, said of the allocated ones
+-- what is true of each tile is true of the allocated ones
 each_live_tile : (P : Tile → Type 0) (Q : Span → Type 0) → ((t : Tile) → t.live ≡ true → P t → Q (span_of t)) → (ts : List Tile) → AllByRecursion P ts → AllByRecursion Q (live_of ts)
 each_live_tile P Q f [] a = tt
 each_live_tile P Q f (t ∷ ts) a =

@@ -39,7 +39,7 @@ less_room bytes at n m l h = go (target bytes at) h
     go None e = omega arith
     go (Some p) e = omega arith
 
--- no bytes move where there was no buffer, else the entries do
+-- the entries move, or no bytes if there was no buffer
 abbrev pub MovesFrom : Option ℕ → List ℕ → List ℕ → Table → Form → ℕ → ℕ → Type 0
 MovesFrom None old new table form to n = new ≡ old
 MovesFrom (Some from) old new table form to n = MovesEntries old new table form from to n
@@ -77,7 +77,7 @@ module _ (allocator : ℕ) (old taken : List ℕ) (table : Table) (place : Place
   g_lies : LiesIn tagged heap_start (length tagged) g
   g_lies = there (LiesIn tagged heap_start (length tagged)) g (positions (live tagged)) (live-lie tagged allocator tagged_stands.heap) g_live
 
-  -- the cell is as it was
+  -- the cell is unchanged
   pub old_target : target tagged place.at ≡ target old place.at
   old_target =
       let large = size_large table s.is_table place.type in
@@ -109,7 +109,7 @@ module _ (allocator : ℕ) (old taken : List ℕ) (table : Table) (place : Place
   owned_too : (h : ℕ) → 1 ≤ times h its.owned → 1 ≤ times h blocks
   owned_too h some = rw its.blocks_are (omega (arith, times-append h (named tagged place.at) its.owned))
 
-  -- the entries lie in the segment, where they are and where they go
+  -- the entries lie in the segment, at their old and new positions
   pub from_within : (p : ℕ) → target tagged place.at ≡ Some p → IsWithin tagged p (n * each)
   from_within p e =
       let room : IsBlock tagged p (tag_of Kind.buffer place.type) (n * each) = rw e at its.room in

@@ -1,4 +1,4 @@
--- What a place contains whose type has a buffer, apart from where the buffer is.
+-- The content of a place whose type has a buffer, for any position of the buffer.
 use Rattle.std.proofs.Common.{◌≡◌, ℕ, zero, suc, ◌+◌, ◌*◌, ◌%◌, ◌≤◌, ◌⊎◌, inl, inr, true, List, [], ◌∷◌, ◌++◌, length, map, Some, refl, sym, ap, ◌∙◌, subst, arith}
 use Rattle.std.proofs.Math.Nat.{mul-one, mul-le-mul_right}
 use Rattle.std.specs.List.{AllByRecursion}
@@ -19,7 +19,7 @@ use Rattle.seg_spec.proofs.Shifting.{shift_changes, shifted}
 
 -- ---- the entries
 
--- the n entries from a position on are those of the value, and the values in them own these blocks
+-- the n entries from a position on belong to the value, and the values in them own these blocks
 abbrev pub HoldsEntries : List ℕ → Table → Form → ℕ → ℕ → Value → List ℕ → Type 0
 HoldsEntries bytes table Form.str at n v owned = (v ≡ Text (slice bytes at n)) × (owned ≡ [])
 HoldsEntries bytes table (Form.vec U) at n v owned = (vs : Values) × (v ≡ Seq vs) × HoldsEach bytes table (items table at U n) vs owned
@@ -129,7 +129,7 @@ all_after : (q s each m k : ℕ) → q ≤ s → AllByRecursion (λ p. (q + 8 �
 all_after q s each m zero l = tt
 all_after q s each m (suc k) l = (inl (omega arith), all_after q (s + each) each m k (omega arith))
 
--- a key lies beside each value
+-- a key is right before each value
 key_beside : (q s each m i k : ℕ) → 8 + m ≡ each → q ≡ s + i * each → AllByRecursion (λ p. (q + 8 ≤ p) ⊎ (p + m ≤ q)) (map (λ p. p + 8) (spaced s each k))
 key_beside q s each m i zero e at = tt
 key_beside q s each m zero (suc k) e at = all_after q s each m (suc k) (omega arith)
@@ -175,7 +175,7 @@ module _ (old new : List ℕ) (table : Table) (valid : IsTable table) (from to n
           ∙ sym (slice-slice (put old to (slice old from (n * each))) to (n * each) (j * each) 8 fits) ∙ ap (λ xs. slice xs (j * each) 8) copied ∙ slice-slice old from (n * each) (j * each) 8 fits
 
   module _ (allocator home : ℕ) (heap : IsHeap allocator old) (even : to % 8 ≡ 0) where
-    -- moved entries are those of the same value
+    -- moved entries belong to the same value
     pub entries_moved : (form : Form) (v : Value) (owned : List ℕ) → IsWithin old from (n * item_size table form) → to + n * item_size table form ≤ length old → StandsBeside old home to (n * item_size table form) owned
         → MovesEntries old new table form from to n → HoldsEntries old table form from n v owned → HoldsEntries new table form to n v owned
     entries_moved Form.i64 v owned from_in to_in beside m e = absurd m
@@ -220,7 +220,7 @@ module _ (old new : List ℕ) (table : Table) (valid : IsTable table) (from to n
     entries_changes (Form.vec U) from_in m = shift_changes old (put old to (slice old from (n * size table U))) new table valid m.distance 0 (size table U) U n from to refl from_in m.changed
     entries_changes (Form.flat_map U) from_in m = shift_changes old (put old to (slice old from (n * (8 + size table U)))) new table valid m.distance 8 (8 + size table U) U n from to refl from_in m.changed
 
--- entries stay where their bytes and what their values own are kept
+-- entries stay if their bytes and what their values own are kept
 pub entries_kept : (old new : List ℕ) (table : Table) → IsTable table → (form : Form) (at n : ℕ) (v : Value) (owned : List ℕ) → IsSame old new at (n * item_size table form) → AllByRecursion (KeepsBlock old new) owned
     → HoldsEntries old table form at n v owned → HoldsEntries new table form at n v owned
 entries_kept old new table valid Form.i64 at n v owned same kept e = absurd e

@@ -1,5 +1,5 @@
--- What a cell points to shows what is freed with it, once the rest of a buffer points to nothing
--- and a ring is open.
+-- The block to which a cell points shows what is freed with it, after unused entries of a buffer
+-- got null pointers and a ring was opened.
 use Rattle.std.proofs.Common.{◌≡◌, ◌≢◌, ℕ, zero, suc, ◌+◌, ◌-◌, ◌*◌, ◌/◌, ◌%◌, ◌^◌, ◌<◌, ◌≤◌, ◌⊎◌, inl, inr, ⊎_elim, true, List, [], ◌∷◌, ◌++◌, length, map, Option, Some, None, MatchOption, option_to_list, option_map, unwrap_or, refl, sym, ap, ◌∙◌, subst, arith}
 use Rattle.std.specs.Prelude.{nat_le}
 use Rattle.std.specs.List.{AllByRecursion}
@@ -27,7 +27,7 @@ use Rattle.seg_spec.proofs.Destruction.{others_more, no_common, heap_written, pa
 use Rattle.seg_spec.proofs.PartsOwed.{each_parts, parts_append, named_inside}
 use Rattle.seg_spec.specs.Shared.{named_in, named_each}
 
--- ---- the headers of allocated blocks, where one payload is written
+-- ---- the headers of allocated blocks, if one payload is written
 
 module _ (allocator : ℕ) (old new : List ℕ) (at m h : ℕ) (heap : IsHeap allocator old) (inside : IsInside old h at m) (owned : 1 ≤ times h (positions (live old))) (changes : ChangesOnly old new at m) where
   pub units_then : (x : ℕ) → 1 ≤ times x (positions (live old)) → units_at new x ≡ units_at old x
@@ -73,7 +73,7 @@ module _ (bytes : List ℕ) (table : Table) (place : Place) (p : ℕ) (e : targe
         owed_are = λ h. let n = times-append h owned [] in let f : times h xs ≡ times h (block_of p ∷ owned) = ap (times h) (is ∙ ap (λ bs. bs ++ owned) blocks) in omega arith;
       }
 
-  -- what a value points to, where its label is known
+  -- what a value points to, if its label is known
   inside_names : (v : Value) (opened : Opened) (inside : Values) (label : Label) → v ≡ node opened.label inside → opened.label ≡ label → ((T q : ℕ) → label ≢ Label.shared T q) → named_each inside ≡ named_in v
   inside_names v opened inside label v_is e other = sym (ap named_in v_is ∙ ap (λ l. named_in (node l inside)) e ∙ named_inside label inside other)
 
@@ -135,7 +135,7 @@ module _ (bytes : List ℕ) (table : Table) (place : Place) (p : ℕ) (e : targe
       let o' : Opens bytes table place Form.str opened = subst (λ h. Opens bytes table place h opened) same o in
       subst (GoesWith bytes table p xs) (inside_names v opened inside _ v_is (ap (λ (r : Opened). r.label) o'.opened_is) (λ T q e. cc)) (text_by f opened _ inside owned xs o' refl refl hs is)
 
--- ---- a buffer of values, the rest of which points to nothing
+-- ---- a buffer of values, whose unused entries have null pointers
 
 spaced_append : (at step n k : ℕ) → spaced at step (n + k) ≡ spaced at step n ++ spaced (at + n * step) step k
 spaced_append at step zero k = let z : 0 + k ≡ k = omega arith in let a : at + 0 * step ≡ at = omega arith in rw (z, a) refl
@@ -167,7 +167,7 @@ nothing_parts : (bytes : List ℕ) (table : Table) (U : ℕ) (qs : List ℕ) →
 nothing_parts bytes table U [] a = no_parts
 nothing_parts bytes table U (q ∷ qs) a = more_parts {blocks = []} {names = []} (inr (a.0, refl, refl)) (nothing_parts bytes table U qs a.1)
 
--- as many as fit are no more than there is room for
+-- the entries that fit need no more than the room
 fits_in : (n each room : ℕ) → 1 ≤ each → n * each ≤ room → n ≤ room / each
 fits_in n each room some l = le-div n room each (omega arith) l
 

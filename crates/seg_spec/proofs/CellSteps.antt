@@ -19,7 +19,7 @@ use Rattle.seg_spec.proofs.Frame.{word-same, target-same, each_left, each_right,
 use Rattle.seg_spec.proofs.CellLaws.{cells-form, IsOne}
 use Rattle.seg_spec.proofs.Moving.{EachField, fields_struct}
 
--- ---- where cells are
+-- ---- the positions of cells
 
 form_past : (forms : Table) (T : ℕ) → slice_get forms T ≡ None → length forms ≤ T
 form_past [] T e = omega arith
@@ -306,7 +306,7 @@ further_local n a b c d at (Some (Form.struct Us)) s t r = further_cell n a b c 
 
 -- ---- the fields of a type, by their index
 
--- the types of its fields: none where it is no struct
+-- the types of a type's fields; none if it is no struct
 abbrev pub field_types : Table → ℕ → List ℕ
 field_types table T = map (λ (c : Cell). c.type) (fields_of table T)
 

@@ -1,4 +1,5 @@
--- No frozen object is named more often than a segment has bytes: each shared cell is in bytes of its own.
+-- A frozen object has at most as many cells as a segment has bytes, since each shared cell has
+-- bytes of its own.
 use Rattle.std.proofs.Common.{◌≡◌, ℕ, suc, ◌+◌, ◌*◌, ◌≤◌, true, false, List, [], ◌∷◌, ◌++◌, length, map, Option, Some, None, option_to_list, option_map, MatchOption, sum_by, cond, eqb, refl, sym, ap, ◌∙◌, subst, arith}
 use Rattle.std.specs.List.{AllByRecursion}
 use Rattle.std.proofs.Math.Nat.{mul-le-mul_left}

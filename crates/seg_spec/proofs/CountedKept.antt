@@ -1,7 +1,7 @@
--- The frozen objects of an image are counted where its next number stays.
---     next_same         the number stays where what follows the pointer to the free structure does
+-- The frozen objects of an image stay counted if its next number stays.
+--     next_same         the number stays if the bytes after the pointer to the free structure do
 --     counted_still     the same picture is counted
---     counted_with      and one where an object came that points to none of them
+--     counted_with      so is one with one more object that points to none of them
 use Rattle.std.proofs.Common.{◌≡◌, ℕ, List, [], ◌∷◌, ◌++◌, sym, ap, ◌∙◌, subst, arith}
 use Rattle.seg_bytes.specs.Bytes.{word}
 use Rattle.seg_spec.specs.Header.{next_word, back_start, back_size, KeepsBack}

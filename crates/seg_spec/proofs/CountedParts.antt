@@ -1,4 +1,5 @@
--- The frozen objects of a picture, counted where a part of a root changes: what is beside the part, and what is left of them.
+-- The counts of the frozen objects of a picture if a part of a root changes: what is apart from the
+-- part, and the objects that stay.
 use Rattle.std.proofs.Common.{◌≡◌, ℕ, zero, suc, ◌+◌, ◌<◌, ◌≤◌, ℤ, List, [], ◌∷◌, ◌++◌, length, map, get_or, Option, Some, None, option_and_then, refl, sym, ap, ◌∙◌, subst, append_assoc, arith, pos}
 use Rattle.std.specs.List.{AllByRecursion}
 use Rattle.std.proofs.lemmas.List.{append-nil}
@@ -75,7 +76,7 @@ names_swapped xs ys = record {
   below = λ n fs all. each_joined (IsBelow n fs) ys xs (each_right (IsBelow n fs) xs ys all) (each_left (IsBelow n fs) xs ys all);
 }
 
--- some come first
+-- some of them first
 pub names_first : (xs ys zs : List Place) → SameNames (xs ++ (ys ++ zs)) (ys ++ (xs ++ zs))
 names_first xs ys zs = names_then (names_same (sym (append_assoc xs ys zs))) (names_then (names_joined (names_swapped xs ys) (names_same {xs = zs} refl)) (names_same (append_assoc ys xs zs)))
 
@@ -138,7 +139,7 @@ pub names_cons : (v : Value) (vs : Values) → names_each (cons v vs) ≡ names_
 unfolding names_each
 names_cons v vs = refl
 
--- what value i names, and what the others do, also where it becomes another
+-- what value i points to, and what the others do, also if it becomes another value
 pub record NthNames (vs : Values) (i : ℕ) (u : Value) : Type 0 where
   pub others : List Place
   pub now : SameNames (names_each vs) (names_in u ++ others)
@@ -248,7 +249,7 @@ module _ (root : Root) (j : ℕ) (item : Value) (item_is : nth root.values j ≡
         (names_then (names_joined (root_names_then w) (names_same (cells_append before after)))
         (names_then (names_first (names_each later.values) (cells_in before) (cells_in after)) (names_same (sym (ap cells_in owners ∙ cells_append before (later ∷ after))))))
 
-    -- where the part gives up cells with these names, and is another value then
+    -- the part releases cells with these targets, and becomes another value
     pub counted_then : (gone : List Place) (w : Value) → SameNames (names_in v) (gone ++ names_in w) → (other : Picture) → owners_in other ≡ before ++ with_item root j (with_value_at path w) ∷ after
         → other.frozen ≡ left gone picture.frozen → AreCounted next other
     unfolding kept_cells
@@ -262,8 +263,8 @@ module _ (root : Root) (j : ℕ) (item : Value) (item_is : nth root.values j ≡
           falling = subst IsFalling (sym frozen) (falling_left gone picture.frozen c.falling);
         }
 
-    -- where the part is another value, whose cells point to objects that are there: they were
-    -- counted, and what it named was released
+    -- The part becomes another value, whose cells point to existing objects. They were counted, and
+    -- its old targets released.
     pub counted_shared : (w : Value) → AllByRecursion (IsBelow next picture.frozen) (names_in w) → (other : Picture) → owners_in other ≡ before ++ with_item root j (with_value_at path w) ∷ after
         → other.frozen ≡ left (names_in v) (raised_by (names_in w) picture.frozen) → AreCounted next other
     counted_shared w below other owners frozen =
@@ -274,11 +275,11 @@ module _ (root : Root) (j : ℕ) (item : Value) (item_is : nth root.values j ≡
           falling = subst IsFalling (sym frozen) r.0;
         }
 
-    -- where it points to what it named
+    -- it points to the same objects
     pub counted_still : (w : Value) → SameNames (names_in v) (names_in w) → (other : Picture) → owners_in other ≡ before ++ with_item root j (with_value_at path w) ∷ after → other.frozen ≡ picture.frozen → AreCounted next other
     counted_still w same other owners frozen = counted_then [] w same other owners (frozen ∙ sym (none_gone picture.frozen c.counted.some))
 
-    -- what is beside blocks of the root, where the part gives up cells with these names
+    -- what is apart from blocks of the root, if the part releases cells with these targets
     module _ (bytes : List ℕ) (held : IsHeld bytes picture) where
       abbrev beside_root : OwnerBeside bytes picture held before root after
       beside_root = owner_beside next bytes picture held before root after split c
@@ -301,7 +302,8 @@ module _ (root : Root) (j : ℕ) (item : Value) (item_is : nth root.values j ≡
             };
           }
 
--- ---- a call on a place that gives up cells, or names other objects, with the frozen objects that stay
+-- ---- a call on a place that releases cells, or points to other objects, with the frozen objects
+-- that stay
 
 module _ (bytes new : List ℕ) (picture : Picture) (held : IsHeld bytes picture) (which : Listed) (before : List Root) (root : Root) (after : List Root) (among : roots_in picture which ≡ before ++ root ∷ after)
     (j : ℕ) (within : j < count root.values) (path : List Selector) (q : Place) (leads : Leads bytes picture.table (item_of picture.table root j) path q)
@@ -378,7 +380,7 @@ module _ (bytes new : List ℕ) (picture : Picture) (held : IsHeld bytes picture
             omega (arith, all, right, frozen_too, own_too, apart.blocks_are h, times-append h o.left (o.its ++ o.right), times-append h o.its o.right, times-append h s.left s.right);
       }
 
-  -- paths beside the place still reach the same places
+  -- paths apart from the place still reach the same places
   pub cleared_paths : KeepsPathsBeside bytes new picture.table root j path × AllByRecursion (KeepsPaths bytes new picture.table) (front ++ back)
   cleared_paths =
       let o = others_kept in

@@ -1,4 +1,5 @@
--- The frozen objects of a picture, counted: what they own beside a root, and what is left of them where the root goes.
+-- The counts of the frozen objects of a picture: what they own apart from a root, and the objects
+-- that stay if the root is destroyed.
 use Rattle.std.proofs.Common.{◌≡◌, ◌≢◌, ℕ, zero, suc, ◌+◌, ◌-◌, ◌≤◌, true, false, List, [], ◌∷◌, ◌++◌, length, map, cond, eqb, refl, sym, ap, ◌∙◌, subst, arith}
 use Rattle.std.specs.List.{AllByRecursion}
 use Rattle.std.proofs.lemmas.Bool.Decides.{nat_tests}
@@ -26,9 +27,9 @@ use Rattle.seg_spec.proofs.SharedLaws.{named-append, names_later, left_each, cou
 use Rattle.seg_spec.proofs.Releasing.{everywhere, left_same, names_apart, turn_same, counted_next, falling_lowered, none_gone}
 use Rattle.seg_spec.proofs.Lowering.{positions_of, each_positions, picked}
 
--- ---- what goes and what is left
+-- ---- the objects that are freed and those that stay
 
--- each block of the objects is one of those that are left, or goes
+-- each block of the objects belongs to one that stays, or to one that is freed
 pub left_and_freed : (theirs : ℕ → List ℕ) (gone : List Place) (fs : List Frozen) (h : ℕ) → times h (blocks_by theirs fs) ≡ times h (blocks_by theirs (left gone fs)) + times h (blocks_by theirs (freed gone fs))
 left_and_freed theirs gone [] h = refl
 left_and_freed theirs gone (f ∷ fs) h = go (f.count - times_named f.at gone) (left_and_freed theirs (gone ++ names_in f.value) fs h) (left_and_freed theirs gone fs h)
@@ -65,7 +66,7 @@ counted_by next fs xs ys same named c = record {
       (λ f e. e ∙ (let a = named-append f.at xs (names_of fs) in let b = named-append f.at ys (names_of fs) in let s = same f.at in omega arith)) fs c.counts;
 }
 
--- some of them come first
+-- some of them first
 pub counted_first : (next : ℕ) (fs : List Frozen) (xs ys zs : List Place) → IsCounted next fs (xs ++ (ys ++ zs)) → IsCounted next fs (ys ++ (xs ++ zs))
 counted_first next fs xs ys zs c =
     let P = IsBelow next fs in
@@ -81,7 +82,7 @@ counted_first next fs xs ys zs c =
 
 -- ---- cells that go one list after the other
 
--- what is left where cells go at once is left where some go first
+-- the same objects stay if cells are released at once or some of them first
 pub left_in_turn : (most next : ℕ) (xs ys kept : List Place) (fs : List Frozen) → length xs + length (names_of fs) ≤ most → IsFalling fs → IsCounted next fs ((xs ++ ys) ++ kept) → left (xs ++ ys) fs ≡ left ys (left xs fs)
 left_in_turn most next [] ys kept fs few falling c = ap (left ys) (sym (none_gone fs c.some))
 left_in_turn zero next (q ∷ rest) ys kept fs few falling c = absurd (omega arith)
@@ -109,7 +110,7 @@ left_in_turn (suc most) next (q ∷ rest) ys kept fs few falling c =
     turn_same q (rest ++ ys) fs c.distinct later ∙ left_same ((rest ++ ys) ++ more) ((rest ++ more) ++ ys) fewer (everywhere _ _ fewer same)
     ∙ left_in_turn most next (rest ++ more) ys kept fewer (omega arith) (falling_lowered q.at fs falling) then ∙ ap (left ys) (sym (turn_same q rest fs c.distinct later))
 
--- names at these positions among others
+-- targets at these positions among others
 record Chosen (P : Place → Type 0) (xs ys : List ℕ) (qs : List Place) : Type 0 where
   first : List Place
   rest : List Place
@@ -143,7 +144,7 @@ chosen P (x ∷ xs) ys qs same a =
       each = (behind.0, r.each);
     }
 
--- names are released before others
+-- some targets are released before others
 pub record InTurn (kept : List Place) (final : List Frozen) (xs ys : List ℕ) (now : List Frozen) : Type 0 where
   pub others : List Place
   pub mid : List Frozen
@@ -173,7 +174,7 @@ in_turn kept final xs ys now r =
       };
     }
 
--- where no name is left to be released, all is done
+-- if no target remains to be released, all is done
 pub all_released : (kept : List Place) (final : List Frozen) (now : List Frozen) → IsReleasing kept final [] now → now ≡ final
 all_released kept final now r = go r.pending r.pending_are r.counted.some r.leaves
   where
@@ -223,7 +224,7 @@ module _ (bytes : List ℕ) (table : Table) where
         blocks_are = ap (λ bs. bs ++ ys) own ∙ ap (λ bs. with_first f.at xs r.theirs f.at ++ bs) (r.blocks_are ∙ blocks_others f.at xs r.theirs fs d.0);
       }
 
--- ---- what several values name
+-- ---- what several values point to
 
 pub named_more : (v : Value) (vs : Values) → named_each (cons v vs) ≡ named_in v ++ named_each vs
 unfolding named_each
@@ -236,7 +237,7 @@ named_nothing = refl
 pub named_one : (v : Value) → named_each (cons v nil) ≡ named_in v
 named_one v = named_more v nil ∙ ap (λ ns. named_in v ++ ns) named_nothing ∙ append-nil (named_in v)
 
--- ---- a root that goes
+-- ---- a root that is destroyed
 
 pub cells_append : (xs ys : List Root) → cells_in (xs ++ ys) ≡ cells_in xs ++ cells_in ys
 cells_append [] ys = refl
@@ -261,7 +262,7 @@ counted_without next picture other before root after split others same c =
       falling = subst (λ fs. IsFalling (left gone fs)) (sym same) (falling_left gone picture.frozen c.falling);
     }
 
--- and where the root is elsewhere
+-- and if the root is elsewhere
 pub counted_elsewhere : (next : ℕ) (picture other : Picture) (before after others_before others_after : List Root) (root : Root) → owners_in picture ≡ before ++ root ∷ after → owners_in other ≡ others_before ++ root ∷ others_after
     → before ++ after ≡ others_before ++ others_after → other.frozen ≡ picture.frozen → AreCounted next picture → AreCounted next other
 counted_elsewhere next picture other before after others_before others_after root split others same frozen c =
@@ -280,7 +281,7 @@ owners_first picture before root after split =
     let regrouped : roots_of picture ≡ owners_in picture ++ frozen_roots picture = simp append_assoc in
     regrouped ∙ ap (λ rs. rs ++ frozen_roots picture) split ∙ simp (append_assoc, append-nil)
 
--- what is beside a root where its values are destroyed
+-- what is apart from a root whose values are destroyed
 pub record OwnerBeside (bytes : List ℕ) (picture : Picture) (held : IsHeld bytes picture) (before : List Root) (root : Root) (after : List Root) : Type 0 where
   pub apart : StretchesComeApart bytes picture held before (root ∷ []) after (frozen_roots picture) []
   pub theirs : ℕ → List ℕ

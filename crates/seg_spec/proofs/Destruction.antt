@@ -1,4 +1,4 @@
--- Destruction, step by step: what waits, and what is kept beside it.
+-- Destruction, step by step: what waits, and what is kept apart from it.
 use Rattle.std.proofs.Common.{◌≡◌, ◌≢◌, ℕ, ◌+◌, ◌-◌, ◌*◌, ◌≤◌, ◌⊎◌, inl, inr, ⊎_elim, true, false, eqb, ◌<◌, List, [], ◌∷◌, ◌++◌, length, Option, Some, None, refl, sym, ap, ◌∙◌, subst, arith, map, suc}
 use Rattle.std.specs.List.{AllByRecursion}
 use Rattle.std.proofs.lemmas.Bool.Decides.{nat_tests}
@@ -90,9 +90,9 @@ module _ (allocator : ℕ) (old new : List ℕ) (at m h : ℕ) (heap : IsHeap al
             link_kept = target-same old new (k + 12) (b.outside (k + 12) 4 (omega arith) (omega arith));
           }
 
--- ---- what waits continues waiting
+-- ---- waiting blocks keep waiting
 
--- where each of these blocks is kept with its link
+-- if each of these blocks is kept with its link
 pub pends_kept : (allocator : ℕ) (a b : List ℕ) (table : Table) → IsTable table → (first : Option ℕ) (blocks names : List ℕ) → IsHeap allocator b → ((h : ℕ) → 1 ≤ times h blocks → KeepsLinked a b h)
     → Pends allocator a table first blocks names → Pends allocator b table first blocks names
 pends_kept allocator a b table valid first blocks names heap linked w = record {
@@ -184,7 +184,7 @@ pub awaits_blocks : (allocator : ℕ) (a : List ℕ) (table : Table) (first : Op
     → Awaits allocator a table first ys names kept theirs final
 awaits_blocks allocator a table first xs ys names kept theirs final same w = record { named = w.named; frozen = w.frozen; beside = beside_same allocator a table first xs ys w.named theirs w.frozen same w.beside; releasing = w.releasing }
 
--- where the blocks of all objects are kept, and live, those of the objects that stay are too
+-- if the blocks of all objects are kept and allocated, those of the objects that stay are too
 pub final_kept : (allocator : ℕ) (old new : List ℕ) (table : Table) (first : Option ℕ) (blocks names : List ℕ) (kept : List Place) (theirs : ℕ → List ℕ) (final : List Frozen)
     → (w : Awaits allocator old table first blocks names kept theirs final) → AreLive old blocks → ((h : ℕ) → 1 ≤ times h (blocks_by theirs w.frozen) → KeepsBlock old new h) → KeepFrozen old new theirs final
 final_kept allocator old new table first blocks names kept theirs final w owned whole =
@@ -305,7 +305,7 @@ pops allocator bytes table p blocks names kept theirs final all = go w.pends.owe
           omega (arith, same h, w.blocks_are h, times-append h xs ys, times-append h w.owed (blocks_by theirs all.frozen), times-append h xs (ys ++ blocks_by theirs all.frozen), times-append h ys (blocks_by theirs all.frozen));
     }
 
--- where none waits, nothing is to be released any more
+-- if no block waits, nothing remains to be released
 pub none_pends : (allocator : ℕ) (bytes : List ℕ) (table : Table) (blocks names : List ℕ) (theirs : ℕ → List ℕ) (frozen : List Frozen) (w : PendsBeside allocator bytes table None blocks names theirs frozen)
     → SameBlocks blocks (blocks_by theirs frozen) × SameBlocks names []
 none_pends allocator bytes table blocks names theirs frozen w = go w.pends.owed w.pends.named w.pends.waiting w.pends.owed_are w.pends.named_are
@@ -321,7 +321,7 @@ no_cell_gone (f ∷ fs) a =
     let again : suc (f.count - 1) ≡ f.count = omega arith in
     ap (λ n. kept_with f n (left (names_in f.value) fs) (left [] fs)) whole ∙ ap (λ n. with_count f n ∷ left [] fs) again ∙ ap (λ rs. f ∷ rs) (no_cell_gone fs a.1)
 
--- where no name is to be released any more, what is left is there
+-- if nothing remains to be released, the objects are those that stay
 pub released : (kept : List Place) (final : List Frozen) (names : List ℕ) (now : List Frozen) → IsReleasing kept final names now → SameBlocks names [] → now ≡ final
 released kept final names now r none = go r.pending r.pending_are r.leaves
   where
@@ -335,7 +335,8 @@ pub gives_more : (bs : List Span) (xs : List ℕ) (at : ℕ) → after_gives bs 
 gives_more bs [] at = refl
 gives_more bs (x ∷ xs) at = gives_more (without x bs) xs at
 
--- how far destruction has come: these were freed, and those go with what waits still or are shared
+-- the state of destruction: these blocks were freed, and those are freed with waiting blocks or
+-- belong to frozen objects
 pub record HasFreed (allocator : ℕ) (old new : List ℕ) (table : Table) (first : Option ℕ) (blocks : List ℕ) (kept_cells : List Place) (theirs : ℕ → List ℕ) (final : List Frozen) (turns : ℕ) : Type 0 where
   pub given : List ℕ
   pub left : List ℕ
@@ -388,7 +389,8 @@ module _ (allocator : ℕ) (old now : List ℕ) (table : Table) (valid : IsTable
   pub left_live : AreLive now f.left
   left_live h = omega (arith, owned h, f.live_are h, f.blocks_are h, times-append h f.given f.left)
 
-  -- one turn: the first block is taken out, what it points to joins the others, and it is freed
+  -- one step: the first block is taken out, what it points to is added to the others, and it is
+  -- freed
   module _ (p : ℕ) (next : Option ℕ) (pop : Pops allocator now table p next f.left [] kept_cells theirs final) where
     pub pop_live : AreLive now (pop.popped ++ pop.others)
     pop_live h = omega (arith, left_live h, pop.blocks_are h)
@@ -485,7 +487,7 @@ module _ (allocator : ℕ) (old now : List ℕ) (table : Table) (valid : IsTable
           front : KeepsFront opened new × KeepsBack opened new
           front = front_kept opened new g.kept large
 
-  -- where none waits any more, all were freed but what contains the objects that stay
+  -- if no block waits any more, all were freed except those of the objects that stay
   pub all_freed : first ≡ None → Destroys allocator old now table blocks theirs final
   all_freed none = go (subst (λ o. Awaits allocator now table o f.left [] kept_cells theirs final) none f.awaits)
     where

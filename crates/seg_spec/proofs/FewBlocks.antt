@@ -6,7 +6,7 @@ use Rattle.seg_spec.specs.Heap.{Tile, span_of, tiles, Fill, live_of, live, heap_
 use Rattle.seg_spec.specs.Sound.{times}
 use Rattle.seg_spec.proofs.LiveLaws.{times-append, times-same, times-other}
 
--- ---- a list has no more elements than one that has each as often
+-- ---- a list is no longer than one with each element as often
 
 -- a list around a block that is in it
 pub record SplitAt (h : ℕ) (ys : List ℕ) : Type 0 where

@@ -1,5 +1,5 @@
--- An object became frozen, and a cell points to it: what became of the cell and of the allocated
--- blocks, and what the frozen objects contain then.
+-- An object was frozen, and a cell points to it: the cell, the allocated blocks, and the values of
+-- the frozen objects.
 use Rattle.std.proofs.Common.{◌≡◌, ◌≢◌, ℕ, List, [], ◌∷◌, ◌++◌, map, ◌∙◌, ap, arith}
 use Rattle.std.specs.List.{AllByRecursion}
 use Rattle.seg_bytes.specs.Bytes.{word}

@@ -1,4 +1,5 @@
--- What names mean once some frozen objects are gone, cells more point to some of those that stay, or one more object is in front: what they meant.
+-- References keep their meaning if frozen objects are freed, if more cells point to those that
+-- stay, and if an object is added before the others.
 use Rattle.std.proofs.Common.{◌≡◌, ◌≢◌, ℕ, zero, suc, ◌+◌, ◌-◌, ◌<◌, inl, inr, Bool, true, false, List, [], ◌∷◌, ◌++◌, Some, refl, sym, ◌∙◌, ap, subst, arith}
 use Rattle.std.specs.Prelude.{◌==◌, if◌then◌else◌}
 use Rattle.std.specs.List.{AllByRecursion}
@@ -11,7 +12,7 @@ use Rattle.seg_spec.proofs.SharedLaws.{below_elsewhere, NamesLater, names_later,
 use Rattle.seg_spec.proofs.Sharing.{distinct_raised}
 use Rattle.seg_spec.proofs.Unfolding.{same_tree, found_here, found_after, deep_enough, means_among, means_the_same}
 
--- each object names only those of lower numbers
+-- each object points to lower numbers only
 abbrev NameLower : List Frozen → Type 0
 NameLower fs = AllByRecursion (λ (f : Frozen). AllByRecursion (IsBelow f.number fs) (names_in f.value)) fs
 
@@ -82,8 +83,7 @@ module _ (next : ℕ) (fs : List Frozen) {cells : List Place} (c : IsCounted nex
       let deep = deep_enough fs c.distinct c.falling in
       deep next (n + next) q (omega arith) (below_weaker n next fs q c.numbered b) ∙ sym (deep n (n + next) q (omega arith) b)
 
-  -- what points to objects of which these are left, where cells with these names came before, means
-  -- what it meant
+  -- a reference to an object that stays keeps its meaning
   pub left_means : (names gone : List Place) (gs : List Frozen) → gs ≡ left gone (raised_by names fs) → AreDistinct gs → NameLower gs → (n : ℕ) (q : Place) → IsBelow n gs q → meaning next fs q.at ≡ meaning n gs q.at
   left_means names gone gs is d l n q b = subst (λ hs. AreDistinct hs → NameLower hs → IsBelow n hs q → meaning next fs q.at ≡ meaning n hs q.at) (sym is) go d l b
     where
@@ -116,7 +116,7 @@ module _ (next : ℕ) (fs : List Frozen) {cells : List Place} (c : IsCounted nex
         left_means [] gone stay refl apart.1 lower_stay n q b
         ∙ means_among (f ∷ stay) stay apart.1 lower_stay (λ k r h. sym (found_after f stay r.at (λ e. below_elsewhere f.at k stay r apart.0 h (sym e)))) n q b
 
-    -- what points to one of the others means what it meant
+    -- a reference to one of the others keeps its meaning
     pub others_mean : (n : ℕ) (q : Place) → IsBelow n gs q → q.at ≢ f.at → meaning next fs q.at ≡ meaning n gs q.at
     others_mean n q b other = subst (λ hs. IsBelow n hs q → meaning next fs q.at ≡ meaning n hs q.at) (sym is) go b
       where
@@ -124,7 +124,7 @@ module _ (next : ℕ) (fs : List Frozen) {cells : List Place} (c : IsCounted nex
         go (inl h) = absurd (other (sym h.0))
         go (inr h) = stays n q h
 
-    -- and what names that object means its value, as it was
+    -- and a reference to that object means its value
     pub first_means : meaning (suc f.number) gs f.at ≡ Full (replaced (meaning next fs) f.value)
     unfolding meaning NamesLater
     first_means =

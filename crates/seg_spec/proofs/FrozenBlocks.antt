@@ -21,7 +21,7 @@ times_by theirs (f ∷ fs) gs h =
     let rest = times_by theirs fs gs h in
     omega (arith, times-append h (theirs f.at) (blocks_by theirs (fs ++ gs)), times-append h (theirs f.at) (blocks_by theirs fs))
 
--- where all of their blocks are kept
+-- if all of their blocks are kept
 pub hold_kept : (old new : List ℕ) (table : Table) → IsTable table → (theirs : ℕ → List ℕ) (fs : List Frozen) → ((h : ℕ) → 1 ≤ times h (blocks_by theirs fs) → KeepsBlock old new h)
     → HoldFrozen old table theirs fs → HoldFrozen new table theirs fs
 hold_kept old new table valid theirs [] kept hold = tt
@@ -40,7 +40,7 @@ frozen_twice a b c theirs (f ∷ fs) j k = (one (theirs f.at) j.0 k.0, frozen_tw
     one [] j k = tt
     one (h ∷ hs) j k = (around_twice a b c f.at 4 h j.0 k.0, one hs j.1 k.1)
 
--- where all of their blocks are kept, and live before
+-- if all of their blocks are kept, and were allocated before
 module _ (allocator : ℕ) (old new : List ℕ) (heap : IsHeap allocator old) (theirs : ℕ → List ℕ) where
   pub frozen_kept : (fs : List Frozen) → ((h : ℕ) → 1 ≤ times h (blocks_by theirs fs) → 1 ≤ times h (positions (live old))) → ((h : ℕ) → 1 ≤ times h (blocks_by theirs fs) → KeepsBlock old new h)
       → KeepFrozen old new theirs fs
@@ -53,9 +53,9 @@ module _ (allocator : ℕ) (old new : List ℕ) (heap : IsHeap allocator old) (t
     frozen_kept fs (λ h some. lives h (omega (arith, times-append h (theirs f.at) (blocks_by theirs fs)))) (λ h some. kept h (omega (arith, times-append h (theirs f.at) (blocks_by theirs fs)))),
   )
 
--- ---- what is left of them
+-- ---- those that stay
 
--- what is true of the position of each object is true of those that are left
+-- what is true of the position of each object is true of those that stay
 pub left_each : (Q : ℕ → Type 0) (gone : List Place) (fs : List Frozen) → AllByRecursion (λ f. Q f.at) fs → AllByRecursion (λ f. Q f.at) (left gone fs)
 left_each Q gone [] a = tt
 left_each Q gone (f ∷ fs) a = go (f.count - times_named f.at gone) (left_each Q (gone ++ names_in f.value) fs a.1) (left_each Q gone fs a.1)

@@ -1,4 +1,4 @@
--- What is kept, and what waits, where a block is freed.
+-- What is kept, and which blocks wait, after a block is freed.
 use Rattle.std.proofs.Common.{◌≡◌, ◌≢◌, ℕ, zero, suc, ◌+◌, ◌-◌, ◌*◌, ◌≤◌, ◌<◌, ◌⊎◌, inl, inr, true, false, List, [], ◌∷◌, length, Option, eqb, refl, sym, ap, ◌∙◌, subst, arith, min}
 use Rattle.std.specs.Prelude.{Contains, slice_index_or}
 use Rattle.std.proofs.lemmas.Bool.Decides.{nat_tests}
@@ -91,6 +91,6 @@ module _ (allocator : ℕ) (old new : List ℕ) (at : ℕ) (heap : IsHeap alloca
       } in
       subst (λ h. KeepsLinked old new h) b_at r
 
-  -- what waits continues waiting, where the block isn't among it
+  -- the waiting blocks keep waiting if the block isn't one of them
   pub waits_then : (table : Table) → IsTable table → {first : Option ℕ} (ys ms : List ℕ) → ((h : ℕ) → 1 ≤ times h ys → (1 ≤ times h (positions (live old))) × (h ≢ at)) → Waits old table first ys ms → Waits new table first ys ms
   waits_then table valid ys ms apart w = Waits-kept old new table valid (each_there (KeepsLinked old new) ys (λ h some. let a = apart h some in given_kept h a.0 a.1)) w

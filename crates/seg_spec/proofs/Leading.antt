@@ -1,5 +1,5 @@
 -- If a place and the blocks that it owns are kept, each path from it still reaches the same place.
--- Which path points to a part.
+-- Which path reaches a part.
 use Rattle.std.proofs.Common.{◌≡◌, ℕ, zero, suc, ◌<◌, ◌⊎◌, inl, inr, true, false, ℤ, pos, negsuc, List, [], ◌∷◌, ◌++◌, length, Some, refl, sym, ap, ◌∙◌, subst, ltb, arith}
 use Rattle.std.specs.Prelude.{slice_get, get_or, not, ◌&&◌, nat_lt}
 use Rattle.std.specs.List.{AllByRecursion}

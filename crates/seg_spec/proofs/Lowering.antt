@@ -1,5 +1,5 @@
--- A name is released: the object that it points to counts one cell fewer, or goes with what it
--- points to.
+-- A cell is released: its object counts one cell fewer, or is freed, and its own cells are
+-- released.
 use Rattle.std.proofs.Common.{◌≡◌, ◌≢◌, ℕ, ◌-◌, ◌≤◌, ◌⊎◌, inl, inr, true, false, List, [], ◌∷◌, ◌++◌, map, eqb, refl, sym, ap, ◌∙◌, subst, arith}
 use Rattle.std.specs.List.{AllByRecursion}
 use Rattle.std.proofs.lemmas.Bool.{cases_eq}
@@ -37,7 +37,7 @@ mutual
   each_positions nil = refl
   each_positions (cons v vs) = map-append (λ (q : Place). q.at) (names_in v) (names_each vs) ∙ ap (λ ps. ps ++ positions_of (names_each vs)) (named_positions v) ∙ ap (λ ps. named_in v ++ ps) (each_positions vs)
 
--- ---- a name among others
+-- ---- a target among others
 
 pub record Picked (p : ℕ) (qs : List Place) : Type 0 where
   pub before : List Place

@@ -1,4 +1,4 @@
--- A value that moves with its cells, which name what they named, stays the same value.
+-- A value that moves with its cells, which keep their targets, stays the same value.
 use Rattle.std.proofs.Common.{◌≡◌, ℕ, ◌+◌, ◌*◌, List, [], ◌∷◌, ◌++◌, map, Option, Some, get_or, refl, sym, ap, ◌∙◌, subst, arith, add-zero, add_assoc}
 use Rattle.std.proofs.Math.Nat.{mul-one}
 use Rattle.std.specs.List.{AllByRecursion}
@@ -50,7 +50,7 @@ module _ (table : Table) (valid : IsTable table) (P : ℕ → Option Form → Ty
 -- ---- one cell
 
 module _ (old new : List ℕ) (table : Table) (valid : IsTable table) where
-  -- a step into the moved place, where the blocks that its cell points to are kept
+  -- a step into the moved place, if the blocks to which its cell points are kept
   pub record Opens_there (place : Place) (to : ℕ) (form : Form) (opened : Opened) : Type 0 where
     pub opens : Opens new table (record { at = to; type = place.type }) form opened
     pub parts : AllByRecursion (SamePlace old new table) opened.parts

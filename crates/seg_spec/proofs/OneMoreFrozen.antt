@@ -1,4 +1,4 @@
--- The blocks that frozen objects own, where one more became frozen.
+-- The blocks of frozen objects after one more was frozen.
 use Rattle.std.proofs.Common.{◌≡◌, ◌≢◌, ℕ, ◌-◌, ◌≤◌, true, false, List, [], ◌∷◌, ◌++◌, eqb, refl, sym, ◌∙◌, ap, subst, arith}
 use Rattle.std.specs.List.{AllByRecursion}
 use Rattle.std.proofs.lemmas.Bool.Decides.{nat_tests}
@@ -51,6 +51,6 @@ not_there bytes table theirs p (f ∷ fs) free hold =
         let mine : 1 ≤ times (block_of p) (theirs f.at) = subst (λ x. 1 ≤ times (block_of x) (theirs f.at)) e (omega (arith, own, times-same (block_of f.at) it.inside)) in
         absurd (omega (arith, times-append (block_of p) (theirs f.at) (blocks_by theirs fs)))
 
--- one that none of these names names stays
+-- an object to which none of these cells points stays
 pub stays_left : (payload T number : ℕ) (w : Value) (gone : List Place) (fs : List Frozen) → times_named payload gone ≡ 0 → left gone (frozen_now payload T number w ∷ fs) ≡ frozen_now payload T number w ∷ left gone fs
 stays_left payload T number w gone fs none = ap (λ n. kept_with (frozen_now payload T number w) (1 - n) (left (gone ++ names_in w) fs) (left gone fs)) none

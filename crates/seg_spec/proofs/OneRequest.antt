@@ -35,7 +35,7 @@ module _ (allocator : ℕ) (bs after : List Span) (end u : ℕ) (e : after_asks 
   pub spent_one : spent allocator bs end (units_for u ∷ []) [] ≡ Some after
   spent_one = spent_fresh allocator bs after end grants.at (units_for u) (rw grants.taken refl)
 
-  -- where it is known which block is new
+  -- if it is known which block is new
   module _ (block : ℕ) (was_free : times block (positions bs) ≡ 0) (now_live : times block (positions after) ≡ 1) where
     pub counts_one : (h : ℕ) → times h (positions after) ≡ times h (block ∷ positions bs)
     counts_one h = grants.counts h ∙ ap (λ a. times h (a ∷ positions bs)) (go (cases_eq grants.at block))

@@ -101,7 +101,7 @@ entries_plain bytes (x ∷ entries) [] e = tt
 entries_plain bytes [] (r ∷ names) e = absurd e
 entries_plain bytes (x ∷ entries) (r ∷ names) e = (e.0.no_words, entries_plain bytes entries names e.1)
 
--- where no object is frozen, no allocated block is tagged as one
+-- if no object is frozen, no allocated block is tagged as one
 pub none_tagged : (bytes : List ℕ) (picture : Picture) → IsHeld bytes picture → picture.frozen ≡ [] → AllByRecursion (IsOther bytes) (positions (live bytes))
 none_tagged bytes picture held none =
     let l = held.laid_out in

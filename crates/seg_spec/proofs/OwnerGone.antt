@@ -54,7 +54,7 @@ module _ (allocator : ℕ) (old new : List ℕ) (table : Table) (its : List ℕ)
           ownable_linked old new table h (others_linked h was (omega (arith, times-append h its (blocks_by theirs frozen)))) (live_at (IsOwnable old table) (live old) h ownable was)
       one h some (suc n) there_is = d.ownable h (omega arith)
 
--- a picture is laid out as it was where it has other frozen objects
+-- a picture with other frozen objects is laid out in the same way
 pub laid_out_with : (bytes : List ℕ) (picture : Picture) (index_blocks : List ℕ) (frozen : List Frozen) → IsLaidOut bytes picture index_blocks → IsLaidOut bytes (record picture { frozen = frozen }) index_blocks
 laid_out_with bytes picture index_blocks frozen l = record {
   header = l.header;
@@ -68,7 +68,7 @@ laid_out_with bytes picture index_blocks frozen l = record {
   plain = l.plain;
 }
 
--- so it is where fewer of them are left
+-- so is one with fewer of them
 pub laid_out_without : (bytes : List ℕ) (picture : Picture) (index_blocks : List ℕ) (gone : List Place) → IsLaidOut bytes picture index_blocks → IsLaidOut bytes (without_cells gone picture) index_blocks
 laid_out_without bytes picture index_blocks gone l = laid_out_with bytes picture index_blocks (left gone picture.frozen) l
 
@@ -80,7 +80,7 @@ owners_left other before after gone fs split same =
     let regrouped : roots_of (without_cells gone other) ≡ owners_in other ++ rest = simp append_assoc in
     regrouped ∙ ap (λ rs. rs ++ rest) split ∙ ap (λ gs. (before ++ after) ++ map root_of_frozen (left gone gs)) same ∙ simp (append_assoc, append-nil)
 
--- a root of an image goes
+-- a root of an image is destroyed
 module _ (old new : List ℕ) (picture : Picture) (held : IsHeld old picture) (before : List Root) (root : Root) (after : List Root) (b : OwnerBeside old picture held before root after)
     (d : Destroys (word old allocator_word) old new picture.table (b.apart.firsts ++ blocks_by b.theirs picture.frozen) b.theirs (left (names_each root.values) picture.frozen)) where
   abbrev cells : List Place

@@ -1,5 +1,5 @@
--- A value inside a place that gives up what it owns, with frozen objects that lose their last cell:
--- the place contains the value changed, and all around is kept.
+-- A value inside a place is cleared, with frozen objects that lose their last cell: the place
+-- contains the changed value, and everything around it is kept.
 use Rattle.std.proofs.Common.{◌≡◌, ◌≢◌, ℕ, ◌+◌, ◌*◌, ◌%◌, ◌≤◌, inl, inr, ⊎_elim, List, [], ◌∷◌, ◌++◌, length, refl, sym, ap, ◌∙◌, subst, arith}
 use Rattle.std.proofs.lemmas.Bool.{cases_eq}
 use Rattle.std.specs.List.{AllByRecursion}
@@ -82,7 +82,7 @@ module _ (allocator : ℕ) (old : List ℕ) (table : Table) (place : Place) (v :
   rest_kept : (h : ℕ) → 1 ≤ times h rest → times h c.its ≡ 0
   rest_kept h some = omega (arith, own_home h, once h, counts h)
 
-  -- ---- where the value lies
+  -- ---- the place of the value
 
   module _ (block : ℕ) (inside : IsInside old block inner.at (size table inner.type)) (mine : 1 ≤ times block rest) (aligned : inner.at % 8 ≡ 0) where
     pub inner_stands : Stands allocator old table inner c.value c.its
@@ -128,7 +128,7 @@ module _ (allocator : ℕ) (old : List ℕ) (table : Table) (place : Place) (v :
       abbrev left : List ℕ
       left = blocks_by theirs final
 
-      -- the blocks of frozen objects are none of the place's
+      -- the blocks of frozen objects aren't the place's
       all_fit : (h : ℕ) → times h (s.home ∷ []) + times h blocks + times h shares ≤ times h (positions (live old))
       all_fit h = ⊎_elim
           (λ (e : s.home ≡ h). let l : times h (s.home ∷ blocks) ≡ 1 + times h blocks = subst (λ x. times h (x ∷ blocks) ≡ 1 + times h blocks) (sym e) (times-same h blocks) in
@@ -172,8 +172,8 @@ module _ (allocator : ℕ) (old : List ℕ) (table : Table) (place : Place) (v :
       place_same = place_around place.at (size table place.type) (omega arith) (omega arith)
           (⊎_elim (λ l. inl (omega (arith, inside.low))) (λ l. inr (omega (arith, inside.high))) (there (λ h. Separate place.at (size table place.type) h (16 * units_at old h)) block rest place_beside mine))
 
-      -- each path from a part beside the value, in the same block and with other blocks, still
-      -- reaches the same place
+      -- each path from a part apart from the value, also in the same block, still reaches the same
+      -- place
       pub beside_paths : (other : Place) (u : Value) (bs : List ℕ) → Holds old table other u bs → IsInside old block other.at (size table other.type)
           → Separate other.at (size table other.type) inner.at (size table inner.type) → ((h : ℕ) → 1 ≤ times h bs → (1 ≤ times h rest) × (h ≢ block)) → KeepsPathsInside old mid table other
       beside_paths other u bs holds_it in_block apart ours path goal way =
@@ -264,7 +264,7 @@ module _ (allocator : ℕ) (old : List ℕ) (table : Table) (place : Place) (v :
         λ e. let z : times s.home left ≡ times h left = ap (λ x. times x left) (sym e) in absurd (omega (arith, home_stays, stays s.home)),
       )
 
-      -- then the place gets another value, with the blocks that are left
+      -- then the place gets another value, with the other blocks
       module _ (new : List ℕ) (u : Value) (last : ChangesPlace mid new table place u rest (live mid) rest rest) where
         left_kept : (h : ℕ) → 1 ≤ times h left → KeepsBlock mid new h
         left_kept h some =

@@ -144,7 +144,8 @@ entries_inside bytes table home start before U (suc n) i =
 
 -- ---- parts that are added one after the other
 
--- how far that has come: xs are what the parts own, of which some joined ys that went with what waited before or were shared
+-- the state so far: xs are what the parts own; ys were freed with waiting blocks before, or belong
+-- to frozen objects
 pub record Joined (allocator : ℕ) (old new : List ℕ) (table : Table) (first : Option ℕ) (home : ℕ) (places : List Place) (xs ys more : List ℕ) (kept : List Place) (theirs : ℕ → List ℕ) (final : List Frozen) : Type 0 where
   pub done : List ℕ
   pub rest : List ℕ

@@ -25,7 +25,7 @@ same_part bytes table form other_form opened other place s i k part other_part e
     let b : Some other_part ≡ Some part = sym is' ∙ ap (λ (x : Opened). slice_get x.parts k) (sym same) ∙ ap (slice_get opened.parts) (sym at) ∙ is in
     cc
 
--- what continues after a path continues from where it leads
+-- a path that continues another one continues from its end
 pub Leads-after : (bytes : List ℕ) (table : Table) {place inner target : Place} {path more : List Selector} → Leads bytes table place path inner → Leads bytes table place (path ++ more) target → Leads bytes table inner more target
 Leads-after bytes table here l = l
 Leads-after bytes table {place = place} {target = target} {more = more} (into {s = s} {path = path} form opened i part f o index part_is rest) (into other_form other k other_part g p index' other_is l) =

@@ -1,5 +1,4 @@
--- A write to a place where calls find it: all around is kept, and the place may come to contain
--- another value.
+-- A write to a place of a call: everything around it is kept, and the place may get another value.
 use Rattle.std.proofs.Common.{◌≡◌, ◌≢◌, ℕ, ◌+◌, ◌≤◌, ⊎_elim, List, ◌∷◌, length, refl, sym, ap, subst, arith}
 use Rattle.std.proofs.lemmas.Bool.{cases_eq}
 use Rattle.std.specs.List.{AllByRecursion}

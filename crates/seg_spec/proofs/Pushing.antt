@@ -38,7 +38,7 @@ module _ (bytes : List ℕ) (table : Table) where
   pub owes_begins : (p : ℕ) (blocks names : List ℕ) → Owes bytes table p blocks names → Begins p blocks
   owes_begins p blocks names (owes kind T values links xs ys ns ms o parts more is names_are) = record { rest = xs ++ ys; blocks_are = is; after_header = shown_low p kind T (form_at table T) values links o }
 
-  -- a first one that waits is after the header of a block that goes with it
+  -- the first waiting block is freed itself, so its payload is after a header
   pub waits_begins : (q : ℕ) (first : Option ℕ) (blocks names : List ℕ) → first ≡ Some q → Waits bytes table first blocks names → (16 ≤ q) × (1 ≤ times (block_of q) blocks)
   waits_begins q first blocks names e none_waits = absurd (cc)
   waits_begins q first blocks names e (waits {p = p} {xs = xs} {ys = ys} {ns = ns} next o link more) =

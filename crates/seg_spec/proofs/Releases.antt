@@ -1,5 +1,5 @@
--- A cell that points to a frozen object goes: the object's count is lowered in the bytes, and at 0
--- it waits to be destroyed.
+-- A cell that points to a frozen object is released: the object's count in the bytes is lowered,
+-- and at 0 it waits to be destroyed.
 use Rattle.std.proofs.Common.{◌≡◌, ◌≢◌, ℕ, suc, ◌+◌, ◌-◌, ◌*◌, ◌^◌, ◌<◌, ◌≤◌, inl, inr, ⊎_elim, List, [], ◌∷◌, ◌++◌, length, Option, refl, sym, ap, ◌∙◌, subst, arith}
 use Rattle.std.specs.Prelude.{nat_le}
 use Rattle.std.specs.List.{AllByRecursion}
@@ -155,7 +155,7 @@ module _ (allocator : ℕ) (old new : List ℕ) (table : Table) (valid : IsTable
     named_are = λ h. omega (arith, times-append h (named_in f.value ++ []) [], times-append h (named_in f.value) []);
   }
 
--- ---- a cell that points to an object goes
+-- ---- a cell that points to an object is released
 
 module _ (allocator : ℕ) (old : List ℕ) (table : Table) (valid : IsTable table) (p : ℕ) (first : Option ℕ) (ys more : List ℕ) (kept : List Place) (theirs : ℕ → List ℕ) (final : List Frozen)
     (waiting : Awaits allocator old table first ys (p ∷ more) kept theirs final) (owned : AreLive old ys) where

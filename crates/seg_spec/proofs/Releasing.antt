@@ -1,4 +1,4 @@
--- Names that are released one after another: in whichever order, the same is left.
+-- Cells that are released one after another: the same objects stay, in any order.
 use Rattle.std.proofs.Common.{◌≡◌, ◌≢◌, ℕ, zero, suc, ◌+◌, ◌-◌, ◌<◌, ◌≤◌, inl, inr, Bool, true, false, List, [], ◌∷◌, ◌++◌, length, map, cond, eqb, refl, sym, ap, ◌∙◌, subst, arith}
 use Rattle.std.specs.List.{AllByRecursion}
 use Rattle.std.proofs.lemmas.Bool.Decides.{nat_tests}
@@ -22,7 +22,7 @@ named_same p q qs e = subst (λ x. times_named x (q ∷ qs) ≡ 1 + times_named 
 named_other : (p : ℕ) (q : Place) (qs : List Place) → q.at ≢ p → times_named p (q ∷ qs) ≡ times_named p qs
 named_other p q qs e = times-other p q.at (map (λ (r : Place). r.at) qs) e
 
--- ---- how often each object is named decides what is left
+-- ---- how many cells point to each object decides which stay
 
 abbrev NamedEqually : List Place → List Place → List Frozen → Type 0
 NamedEqually xs ys fs = AllByRecursion (λ (f : Frozen). times_named f.at xs ≡ times_named f.at ys) fs
@@ -50,7 +50,7 @@ left_same xs ys (f ∷ fs) a =
 
 -- ---- the names in the objects after a turn
 
--- of whatever adds up over names
+-- a sum over the targets
 pub names_apart : (size : List Place → ℕ) → size [] ≡ 0 → ((xs ys : List Place) → size (xs ++ ys) ≡ size xs + size ys) → (p : ℕ) (fs : List Frozen)
     → size (let_go p fs) + size (names_of (lowered p fs)) ≡ size (names_of fs)
 names_apart size none joined p [] = omega arith
@@ -68,7 +68,7 @@ names_apart size none joined p (f ∷ fs) = go (eqb f.at p) (names_apart size no
 named_apart : (r p : ℕ) (fs : List Frozen) → times_named r (let_go p fs) + times_named r (names_of (lowered p fs)) ≡ times_named r (names_of fs)
 named_apart r p fs = names_apart (times_named r) refl (named-append r) p fs
 
--- ---- a turn changes nothing of what will be left
+-- ---- a step doesn't change which objects stay
 
 pub turn_same : (q : Place) (rest : List Place) (fs : List Frozen) → AreDistinct fs → NamesLater fs → left (q ∷ rest) fs ≡ left (rest ++ let_go q.at fs) (lowered q.at fs)
 unfolding NamesLater
@@ -162,11 +162,11 @@ falling_lowered p (f ∷ fs) d = go (eqb f.at p) (falling_lowered p fs d.1)
 some_lowered : (p : ℕ) (fs : List Frozen) → AllByRecursion (λ (f : Frozen). 1 ≤ f.count) fs → AllByRecursion (λ (f : Frozen). 1 ≤ f.count) (lowered p fs)
 some_lowered p fs a = lowered_each (λ (f : Frozen). 1 ≤ f.count) (λ f n h. omega arith) p fs a
 
--- an object counts the name that goes, and each of these
+-- an object counts the released cell, and each of these
 abbrev CountsBeside : ℕ → List Place → List Frozen → Type 0
 CountsBeside p names fs = AllByRecursion (λ (f : Frozen). f.at ≡ p → 1 + times_named p names ≤ f.count) fs
 
--- where another cell points to an object it stays
+-- an object with another cell stays
 below_lowered : (n p : ℕ) (fs : List Frozen) (q : Place) → AllByRecursion (λ (f : Frozen). f.at ≡ p → q.at ≡ p → 2 ≤ f.count) fs → IsBelow n fs q → IsBelow n (lowered p fs) q
 below_lowered n p [] q a h = h
 below_lowered n p (f ∷ fs) q a h = go (eqb f.at p) refl h (λ k. below_lowered n p fs q a.1 k)

@@ -69,7 +69,7 @@ module _ (allocator : ℕ) (bs : List Span) (end least : ℕ) where
   GrantedAs at x (same after) = GrewTo bs after at x least
   GrantedAs at x (fresh g after) = TookFor allocator bs end g after least
 
-  -- the same, where there was no block
+  -- the same, without an old block
   abbrev pub GrantedNew : Granted → Type 0
   GrantedNew (same after) = ⊥
   GrantedNew (fresh g after) = TookFor allocator bs end g after least

@@ -1,4 +1,4 @@
--- Paths from the roots of an image, where a root is kept, and where a place changes.
+-- Paths from the roots of an image, if a root is kept, and if a place changes.
 use Rattle.std.proofs.Common.{◌≡◌, ℕ, ◌+◌, ◌*◌, ◌<◌, ◌≤◌, List, [], ◌∷◌, ◌++◌, sym, subst, length, arith}
 use Rattle.std.specs.List.{AllByRecursion}
 use Rattle.seg_spec.specs.Types.{Table, IsTable, size}

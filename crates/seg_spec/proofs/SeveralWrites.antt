@@ -1,6 +1,6 @@
--- What writes inside the payloads of several allocated blocks keep: the heap, and all of it beside
--- the bytes written. Nothing is said of the bytes before the heap but that the word of the free
--- structure is kept.
+-- What writes inside the payloads of several allocated blocks keep: the heap, and all of it apart
+-- from the written bytes. Of the bytes before the heap only the word of the free structure is known
+-- to be kept.
 use Rattle.std.proofs.Common.{◌≡◌, ◌≢◌, ℕ, ◌+◌, ◌*◌, ◌≤◌, ◌⊎◌, inl, inr, true, false, List, [], ◌∷◌, length, refl, sym, ◌∙◌, subst, arith}
 use Rattle.std.proofs.lemmas.Bool.{false≢true}
 use Rattle.std.specs.Prelude.{⊤}
@@ -112,7 +112,7 @@ module _ (old new : List ℕ) (allocator : ℕ) (heap : IsHeap allocator old) (r
     pub header_same : IsSame old new x 16
     header_same = beside x 16 lies.low (each_weaker _ _ (λ r w. header_off r w) ranges writable)
 
-    -- a part of it that lies beside the ranges in it
+    -- a part of it that doesn't overlap the written ranges
     pub part_same : (p m : ℕ) → x ≤ p → p + m ≤ x + 16 * units_at old x → AllByRecursion (λ r. (r.block ≡ x) → Separate p m r.at r.n) ranges → IsSame old new p m
     part_same p m low high apart = beside p m (let at = lies.low in omega arith) (each_both _ _ _ (λ r w a. go r w a (one_or_apart r w)) ranges writable apart)
       where

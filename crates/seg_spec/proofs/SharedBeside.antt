@@ -1,4 +1,4 @@
--- What is found where a value is destroyed beside frozen objects.
+-- What is found when a value is destroyed apart from frozen objects.
 use Rattle.std.proofs.Common.{◌≡◌, ℕ, ◌≤◌, List, [], ◌++◌, Option, None, refl, sym, subst, arith}
 use Rattle.seg_spec.specs.Types.{Table}
 use Rattle.seg_spec.specs.Heap.{IsHeap}
@@ -27,7 +27,7 @@ awaits_shared allocator bytes table first besides names theirs kept now final no
   releasing = releasing_same kept final names ((names ++ []) ++ []) now (λ h. omega (arith, times-append h (names ++ []) [], times-append h names [])) s.releasing;
 }
 
--- fewer blocks beside the same frozen objects
+-- fewer blocks, with the same frozen objects
 pub shared_fewer : (bytes : List ℕ) (table : Table) (more fewer names : List ℕ) (theirs : ℕ → List ℕ) (kept : List Place) (now final : List Frozen) → ((h : ℕ) → times h fewer ≤ times h more)
     → SharedBeside bytes table more names theirs kept now final → SharedBeside bytes table fewer names theirs kept now final
 shared_fewer bytes table more fewer names theirs kept now final less s = record {

@@ -1,4 +1,4 @@
--- What frozen objects count once a cell came to share one of them, or one more became frozen.
+-- The counts of frozen objects after a cell was made to share one of them, or one more was frozen.
 use Rattle.std.proofs.Common.{◌≡◌, ℕ, suc, ◌<◌, ◌≤◌, List, [], ◌∷◌, ◌++◌, subst, arith}
 use Rattle.std.specs.List.{AllByRecursion}
 use Rattle.seg_spec.specs.Types.{Table}
@@ -22,7 +22,7 @@ below_all : (next : ℕ) (names : List Place) (fs : List Frozen) (q : Place) →
 below_all next [] fs q b = b
 below_all next (n ∷ names) fs q b = below_raised next n.at (raised_by names fs) q (below_all next names fs q b)
 
--- more cells, beside these
+-- more cells, besides these
 raised_all : (next : ℕ) (names xs kept : List Place) (fs : List Frozen) → IsFalling fs → IsCounted next fs (xs ++ kept) → AllByRecursion (IsBelow next fs) names
     → IsFalling (raised_by names fs) × IsCounted next (raised_by names fs) (xs ++ (names ++ kept))
 raised_all next [] xs kept fs falling counted below = (falling, counted)

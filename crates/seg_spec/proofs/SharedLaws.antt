@@ -1,4 +1,4 @@
--- Objects that values share: what is left where cells that point to some are gone.
+-- Frozen objects: which of them stay after cells were released.
 use Rattle.std.proofs.Common.{◌≡◌, ◌≢◌, ℕ, zero, suc, ◌+◌, ◌-◌, ◌<◌, ◌≤◌, inl, inr, List, [], ◌∷◌, ◌++◌, map, refl, sym, ap, ◌∙◌, subst, arith}
 use Rattle.std.specs.List.{AllByRecursion}
 use Rattle.std.proofs.lemmas.List.{map-append}
@@ -9,13 +9,13 @@ use Rattle.seg_spec.specs.Shared.{names_in, names_of, times_named, IsBelow, AreD
 use Rattle.seg_spec.proofs.LiveLaws.{times-append, times-same, times-other}
 use Rattle.seg_spec.proofs.Frame.{each_weaker, each_left, each_right}
 
--- a name below n is one below m
+-- a target with a number below n has one below m
 pub wider : (n m : ℕ) (fs : List Frozen) (q : Place) → n ≤ m → IsBelow n fs q → IsBelow m fs q
 wider n m [] q l h = h
 wider n m (f ∷ fs) q l (inl h) = inl (h.0, h.1, (let less = h.2 in omega arith))
 wider n m (f ∷ fs) q l (inr h) = inr (wider n m fs q l h)
 
--- ---- how often an object is named
+-- ---- how many cells point to an object
 
 pub named-append : (p : ℕ) (xs ys : List Place) → times_named p (xs ++ ys) ≡ times_named p xs + times_named p ys
 named-append p xs ys = ap (times p) (map-append (λ (q : Place). q.at) xs ys) ∙ times-append p (map (λ (q : Place). q.at) xs) (map (λ (q : Place). q.at) ys)
@@ -23,7 +23,7 @@ named-append p xs ys = ap (times p) (map-append (λ (q : Place). q.at) xs ys) �
 named_here : (p : ℕ) (q : Place) (qs : List Place) → q.at ≡ p → 1 ≤ times_named p (q ∷ qs)
 named_here p q qs e = subst (λ x. 1 ≤ times p (x ∷ map (λ (r : Place). r.at) qs)) (sym e) (let n = times-same p (map (λ (r : Place). r.at) qs) in omega arith)
 
--- a name that is among others isn't named 0 times
+-- a target among others has at least one cell
 not_none : (p : ℕ) (qs : List Place) → times_named p qs ≡ 0 → AllByRecursion (λ (q : Place). q.at ≢ p) qs
 not_none p [] e = tt
 not_none p (q ∷ qs) e =
@@ -34,13 +34,13 @@ unnamed : (p : ℕ) (qs : List Place) → AllByRecursion (λ (q : Place). q.at �
 unnamed p [] a = refl
 unnamed p (q ∷ qs) a = times-other p q.at (map (λ (r : Place). r.at) qs) a.0 ∙ unnamed p qs a.1
 
--- ---- each names only objects after it
+-- ---- each points only to objects after it
 
 unfoldable pub NamesLater : List Frozen → Type 0
 NamesLater [] = Unit {0}
 NamesLater (f ∷ fs) = AllByRecursion (IsBelow f.number fs) (names_in f.value) × NamesLater fs
 
--- a name of an object with a number below n isn't that of one whose number is n or more
+-- a target with a number below n isn't an object with a number of n or more
 below_later : (n : ℕ) (f : Frozen) (fs : List Frozen) (q : Place) → n ≤ f.number → IsBelow n (f ∷ fs) q → IsBelow n fs q
 below_later n f fs q l (inl h) = absurd (let less = h.2 in omega arith)
 below_later n f fs q l (inr h) = h
@@ -59,7 +59,7 @@ unfolding NamesLater
 names_later [] l a = tt
 names_later (f ∷ fs) l a = (later_each f.number f fs (names_in f.value) (omega arith) a.0, names_later fs l.1 (later_all f fs fs l.0 a.1))
 
--- the names in objects that are elsewhere are elsewhere
+-- objects that are elsewhere point elsewhere
 pub below_elsewhere : (p n : ℕ) (fs : List Frozen) (q : Place) → AllByRecursion (λ (g : Frozen). g.at ≢ p) fs → IsBelow n fs q → q.at ≢ p
 below_elsewhere p n [] q a h = absurd h
 below_elsewhere p n (f ∷ fs) q a (inl h) = λ e. a.0 (h.0 ∙ e)
@@ -76,14 +76,14 @@ later_elsewhere p (f ∷ fs) a l =
     named-append p (names_in f.value) (names_of fs)
     ∙ (let first = elsewhere p f.number fs (names_in f.value) a.1 l.0 in let rest = later_elsewhere p fs a.1 l.1 in omega arith)
 
--- the first object is named neither by itself nor by those after it
+-- neither the first object nor those after it point to it
 pub first_unnamed : (f : Frozen) (fs : List Frozen) → AllByRecursion (λ (g : Frozen). g.at ≢ f.at) fs → NamesLater (f ∷ fs) → times_named f.at (names_of (f ∷ fs)) ≡ 0
 unfolding NamesLater
 first_unnamed f fs a l =
     named-append f.at (names_in f.value) (names_of fs)
     ∙ (let own = elsewhere f.at f.number fs (names_in f.value) a l.0 in let rest = later_elsewhere f.at fs a l.1 in omega arith)
 
--- ---- what stays is as it was, but for its count
+-- ---- objects that stay are the same, except for their counts
 
 module _ (P : Frozen → Type 0) (whatever : (f : Frozen) (n : ℕ) → P f → P (with_count f n)) where
   pub left_each : (gone : List Place) (fs : List Frozen) → AllByRecursion P fs → AllByRecursion P (left gone fs)
@@ -94,7 +94,7 @@ module _ (P : Frozen → Type 0) (whatever : (f : Frozen) (n : ℕ) → P f → 
       go zero without with_it = without
       go (suc n) without with_it = (whatever f (suc n) a.0, with_it)
 
--- ---- what is left
+-- ---- the objects that stay
 
 -- each object counts these cells: those that go, those that stay, and those in the objects themselves
 pub CountsAll : List Place → List Place → List Frozen → Type 0
@@ -143,7 +143,7 @@ stays_with n k f fs rs (q ∷ qs) a = (step, stays_with n k f fs rs qs a.1)
     step (inl h) = inl h
     step (inr h) = inr (a.0 h)
 
--- the names that stay, where each of them was one of the objects
+-- the targets that stay, if each of them was one of the objects
 all_stay : (n : ℕ) (fs rs : List Frozen) (qs : List Place) → AllByRecursion (λ (q : Place). IsBelow n fs q → IsBelow n rs q) qs → AllByRecursion (IsBelow n fs) qs → AllByRecursion (IsBelow n rs) qs
 all_stay n fs rs [] a b = tt
 all_stay n fs rs (q ∷ qs) a b = (a.0 b.0, all_stay n fs rs qs a.1 b.1)
@@ -177,7 +177,7 @@ what_is_left gone stay (f ∷ fs) d l c =
           stays = λ k. stays_with k (suc n) f fs (left gone fs) stay (each_left _ stay (names_in f.value) (r.stays k));
         }
 
--- ---- cells are gone
+-- ---- cells are released
 
 later_whole : (f : Frozen) (fs gs : List Frozen) → AllByRecursion (λ (g : Frozen). AllByRecursion (IsBelow g.number fs) (names_in g.value)) gs
     → AllByRecursion (λ (g : Frozen). AllByRecursion (IsBelow g.number (f ∷ fs)) (names_in g.value)) gs
@@ -205,7 +205,7 @@ module _ (next : ℕ) (gone kept : List Place) (fs : List Frozen) (falling : IsF
   unfolding CountsAll
   rest = what_is_left gone kept fs counted.distinct (names_later fs falling counted.falling) (counts_apart gone kept fs fs counted.counts)
 
-  -- what is left is counted by the cells that are left
+  -- the remaining cells are counted by the objects that stay
   pub counted_again : IsCounted next (left gone fs) kept
   counted_again = record {
     distinct = rest.distinct;
@@ -216,7 +216,7 @@ module _ (next : ℕ) (gone kept : List Place) (fs : List Frozen) (falling : IsF
     counts = counts_together kept (left gone fs) (left gone fs) rest.counts;
   }
 
--- ---- what goes
+-- ---- the objects that are freed
 
 unnamed_over : (stay more : List Place) (rs gs : List Frozen) → AllByRecursion (λ (g : Frozen). times_named g.at (stay ++ more) + times_named g.at (names_of rs) ≡ 0) gs
     → AllByRecursion (λ (g : Frozen). times_named g.at stay + times_named g.at (more ++ names_of rs) ≡ 0) gs
@@ -224,7 +224,7 @@ unnamed_over stay more rs [] a = tt
 unnamed_over stay more rs (g ∷ gs) a =
     ((let x = named-append g.at stay more in let y = named-append g.at more (names_of rs) in let now = a.0 in omega arith), unnamed_over stay more rs gs a.1)
 
--- no cell that stays points to what goes
+-- no cell that stays points to an object that is freed
 pub what_goes : (gone stay : List Place) (fs : List Frozen) → AreDistinct fs → NamesLater fs → CountsAll gone stay fs
     → AllByRecursion (λ (f : Frozen). times_named f.at stay + times_named f.at (names_of (left gone fs)) ≡ 0) (freed gone fs)
 unfolding NamesLater CountsAll
@@ -254,7 +254,7 @@ module _ (next : ℕ) (gone kept : List Place) (fs : List Frozen) (falling : IsF
   unfolding CountsAll
   unnamed_freed = what_goes gone kept fs counted.distinct (names_later fs falling counted.falling) (counts_apart gone kept fs fs counted.counts)
 
--- each object is left or goes, and none does both
+-- each object either stays or is freed
 pub left_or_freed : (p : ℕ) (gone : List Place) (fs : List Frozen)
     → times p (map (λ (f : Frozen). f.at) (left gone fs)) + times p (map (λ (f : Frozen). f.at) (freed gone fs)) ≡ times p (map (λ (f : Frozen). f.at) fs)
 left_or_freed p gone [] = refl

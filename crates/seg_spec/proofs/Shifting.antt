@@ -1,4 +1,4 @@
--- What the cells of a value name, and values that move with their cells.
+-- What the cells of a value point to, and values that move with their cells.
 use Rattle.std.proofs.Common.{◌≡◌, ◌≢◌, ℕ, zero, suc, ◌+◌, ◌-◌, ◌*◌, ◌%◌, ◌^◌, ◌<◌, ◌≤◌, ◌⊎◌, inl, inr, List, [], ◌∷◌, ◌++◌, length, map, Option, Some, None, MatchOption, option_to_list, option_map, cond, eqb, false, refl, sym, ap, ◌∙◌, subst, arith, add-zero, add_assoc}
 use Rattle.std.specs.List.{AllByRecursion}
 use Rattle.std.proofs.lemmas.Bool.Decides.{nat_tests}
@@ -28,7 +28,8 @@ use Rattle.seg_spec.proofs.WriteInside.{KeptBut, live_kept_but}
 -- ---- what cells name
 
 module _ (bytes : List ℕ) (table : Table) (valid : IsTable table) where
-  -- where the word names something, it is the payload of one of the blocks, or one that other values share
+  -- if the word points to something, it is the payload of one of the blocks, or of one that other
+  -- values share
   abbrev pub NamesIn : List ℕ → ℕ → Type 0
   NamesIn blocks at = (t : ℕ) → target bytes at ≡ Some t → (16 ≤ t) × ((1 ≤ times (block_of t) blocks) ⊎ (t % 16 ≡ 0))
 

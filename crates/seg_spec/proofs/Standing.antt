@@ -1,4 +1,5 @@
--- A place where calls find it, through the steps of a call: it doesn't move, and all around is kept.
+-- A place of a call, through the steps of the call: it doesn't move, and everything around it is
+-- kept.
 use Rattle.std.proofs.Common.{◌≡◌, ◌≢◌, ℕ, ◌+◌, ◌-◌, ◌*◌, ◌^◌, ◌<◌, ◌≤◌, ◌⊎◌, inl, inr, true, List, [], ◌∷◌, length, Some, refl, sym, ap, ◌∙◌, subst, arith}
 use Rattle.std.proofs.lemmas.Bool.{cases_eq}
 use Rattle.std.specs.List.{AllByRecursion}
@@ -73,7 +74,7 @@ module _ (allocator : ℕ) (old : List ℕ) (table : Table) (place : Place) (v :
       let two = solid s.home (home_live allocator old table place v blocks s) in
       IsSame-part old new (s.home + 16) (payload_size old s.home) place.at (size table place.type) s.inside.low (omega (arith, s.inside.high)) k.payload
 
-  -- ---- where every allocated block is kept, with others beside them
+  -- ---- every allocated block is kept, and others exist besides
 
   module _ (new : List ℕ) (heap : IsHeap allocator new) (front : KeepsFront old new) (kept : (h : ℕ) → 1 ≤ times h (s.home ∷ blocks) → KeepsBlock old new h)
       (ownable : AllByRecursion (λ b. IsOwnable new table b.at) (live new)) (stay : (h : ℕ) → times h (s.home ∷ blocks) ≤ times h (positions (live new))) where
@@ -352,7 +353,7 @@ changes_of allocator old new table place w others gone spans allocator_is s f li
   kept = f.kept;
 }
 
--- where calls find the place afterwards
+-- what calls find of the place afterwards
 pub stands_after : (allocator : ℕ) (old new : List ℕ) (table : Table) (place : Place) (v w : Value) (blocks others : List ℕ) (spans : List Span) (s : Stands allocator old table place v blocks)
     → ChangesPlace old new table place w others spans blocks others → Stands allocator new table place w others
 stands_after allocator old new table place v w blocks others spans s c =

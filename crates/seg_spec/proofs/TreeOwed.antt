@@ -45,7 +45,7 @@ module _ (bytes : List ℕ) (table : Table) where
     abbrev pub values_in : List ℕ → List Place
     values_in nodes = places_of U (map (λ p. p + map_words) nodes)
 
-    -- what is freed with the tree that hangs at a pointer: its nodes and what their values own
+    -- what is freed with the tree at a pointer: its nodes and what their values own
     pub record TreeOwes (o : Option ℕ) (nodes owned named : List ℕ) : Type 0 where
       pub blocks : List ℕ
       pub names : List ℕ

@@ -17,7 +17,7 @@ Agree f g names = AllByRecursion (λ (q : Place). f q.at ≡ g q.at) names
 mutual
   unfolding names_in replaced
 
-  -- where what is named means the same, so does the value
+  -- a value means the same if what it points to does
   pub same_tree : (f g : ℕ → Value) (v : Value) → Agree f g (names_in v) → replaced f v ≡ replaced g v
   same_tree f g (node (Label.shared T p) vs) a = a.0
   same_tree f g (node (Label.int k) vs) a = ap (node (Label.int k)) (same_trees f g vs a)
@@ -34,7 +34,7 @@ mutual
       let rest = same_trees f g vs (each_right _ (names_in v) (names_each vs) a) in
       ap (λ u. cons u (replaced_each f vs)) first ∙ ap (cons (replaced g v)) rest
 
--- ---- what a name finds
+-- ---- what a reference finds
 
 pub record Found (n : ℕ) (fs : List Frozen) (q : Place) : Type 0 where
   pub object : Frozen
@@ -92,7 +92,7 @@ module _ (fs gs : List Frozen) (distinct : AreDistinct gs) (falling : AllByRecur
       let there : value_at_position fs q.at ≡ Some g.object.value = sym (same_value (suc n) q h) ∙ g.value_is in
       ap (owner_by (λ v. replaced (meaning n gs) v)) g.value_is ∙ ap Full trees ∙ sym (ap (owner_by (λ v. replaced (meaning n fs) v)) there)
 
--- ---- what is left reads as before
+-- ---- objects that stay read as before
 
 left_value : (n : ℕ) (gone : List Place) (fs : List Frozen) (q : Place) → AreDistinct fs → IsBelow n (left gone fs) q → value_at_position (left gone fs) q.at ≡ value_at_position fs q.at
 left_value n gone [] q d h = absurd h

@@ -1,5 +1,4 @@
--- An image is of the version whose images may have frozen objects, and else as it was: it contains
--- what it contained.
+-- An image whose version is set to the one that may have frozen objects has the same content.
 use Rattle.std.proofs.Common.{◌≡◌, ℕ, ◌+◌, ◌-◌, ◌≤◌, inl, inr, List, ◌++◌, length, sym, ap, ◌∙◌, subst, arith}
 use Rattle.seg_bytes.specs.Bytes.{word, ChangesOnly, IsSame}
 use Rattle.seg_spec.specs.Header.{version_word, units_word, allocator_word, index_kind_word, free_word, next_word, index_cell, reserved, reserved_size, types_start, types_size, uniques_start, uniques_size, heap_start, sharing_version}
@@ -91,7 +90,7 @@ module _ (old : List ℕ) where
   pub upgraded_counted : (picture : Picture) → AreCounted (word old next_word) picture → AreCounted (word new next_word) picture
   upgraded_counted picture c = subst (λ n. AreCounted n picture) (sym (same_word next_word (omega arith))) c
 
-  -- the allocated blocks are where they were
+  -- the allocated blocks are the same
   pub upgraded_live : (picture : Picture) → IsHeld old picture → live new ≡ live old
   upgraded_live picture held =
       let high : IsSame old new heap_start (length old - heap_start) = after heap_start (length old - heap_start) (omega arith) in

@@ -1,4 +1,4 @@
--- Entries of a flat map between others: as they move, and as one comes or goes.
+-- Entries of a flat map: moving them, and inserting and removing one.
 use Rattle.std.proofs.Common.{◌≡◌, ◌≢◌, ℕ, zero, suc, ◌+◌, ◌-◌, ◌*◌, ◌%◌, ◌^◌, ◌<◌, ◌≤◌, inl, inr, ℤ, List, [], ◌∷◌, ◌++◌, length, map, Option, Some, None, unwrap_or, min, MatchOption, refl, sym, ap, ◌∙◌, subst, arith}
 use Rattle.std.specs.Prelude.{insert, remove}
 use Rattle.std.proofs.Math.Nat.{mul-le-mul_left}
@@ -235,7 +235,7 @@ module _ (allocator : ℕ) (old : List ℕ) (table : Table) (place : Place) (U :
         frames_twice old moved new place.at (size table place.type) (block_of p ∷ []) [] (frames_beside allocator old moved table (block_of p) to (k * each) s.heap moves inside g_live place.at (size table place.type))
         (frames_around allocator moved new table s.home (place.at + 4) 4 moved_heap counts cell_inside (still_live s.home home_there) place.at (size table place.type) (omega arith) (omega arith)) (λ h some none. refl)
 
-    -- the buffer, as it was moved
+    -- the buffer after the move
     payload_moved : payload_size old (block_of p) ≤ payload_size moved (block_of p)
     payload_moved =
         let whole : IsBlock old p tag (payload_size old (block_of p)) = record { after_header = the_block.after_header; live = the_block.live; has_tag = the_block.has_tag; room = omega arith } in
@@ -295,7 +295,7 @@ module _ (allocator : ℕ) (old : List ℕ) (table : Table) (place : Place) (U :
           (each_there (KeepsBlock old moved) o1 (λ h some. let j = inner h (ours_first h some) in moved_other h j.is_live j.not_buffer)) first i below path goal way);
     }
 
-  -- ---- where an entry begins
+  -- ---- the position of an entry
 
   pub even_entry : (index : ℕ) → (p + index * each) % 8 ≡ 0
   even_entry index =
@@ -308,7 +308,7 @@ module _ (allocator : ℕ) (old : List ℕ) (table : Table) (place : Place) (U :
   pub small_count : (n : ℕ) → n * each ≤ 2 ^ 30 → n < 2 ^ 32
   small_count n l = let e8 : 1 ≤ each = omega arith in let m = mul-le-mul_left n e8 in omega arith
 
-  -- ---- one goes
+  -- ---- one is removed
 
   module _ (index k : ℕ) (counted : count_at old place.at ≡ index + (1 + k)) (moved new : List ℕ)
       (shifts : Shifts old moved table 8 U (8 + size table U) (p + index * (8 + size table U) + (8 + size table U)) (p + index * (8 + size table U)) k)
@@ -351,7 +351,7 @@ module _ (allocator : ℕ) (old : List ℕ) (table : Table) (place : Place) (U :
           paths = λ i below. subst (λ x. KeepsPathsInside old new table (record { at = x + i * (8 + size table U) + 8; type = U })) (sym start_is) (m.paths i below);
         }
 
-  -- ---- one comes
+  -- ---- one is inserted
 
   module _ (index k : ℕ) (counted : count_at old place.at ≡ index + k) (room : (index + (1 + k)) * (8 + size table U) ≤ payload_size old (block_of p)) (moved new : List ℕ)
       (shifts : Shifts old moved table 8 U (8 + size table U) (p + index * (8 + size table U)) (p + index * (8 + size table U) + (8 + size table U)) k) (new_is : new ≡ set_word moved (place.at + 4) (index + (1 + k))) where

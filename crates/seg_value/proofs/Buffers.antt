@@ -171,7 +171,7 @@ module _ (allocator : ℕ) (old : List ℕ) (table : Table) (cell T : ℕ) (v : 
       go (Form.shared U) = omega arith
       go (Form.struct Us) = omega arith
 
-  -- the entries are no more bytes than the segment has
+  -- the entries have no more bytes than the segment
   count_bytes : count_at old cell * item_size table of.form ≤ 2 ^ 30
   count_bytes = go (target old cell) refl
     where
@@ -242,7 +242,7 @@ module _ (allocator : ℕ) (before taken marked : List ℕ) (table : Table) (cel
       let e : count_at tagged cell * item_size table of.form ≡ count_at before cell * content.entry.size = ap (λ k. k * item_size table of.form) count_is ∙ ap (λ k. count_at before cell * k) (sym of.size_is) in
       omega arith
 
-  -- a cell that named nothing
+  -- a cell with a null pointer
   pub first_buffer : (after : List ℕ) → target marked cell ≡ None → after ≡ set_pointer marked cell (Some payload) → MovesBuffer allocator before taken after table (object_at cell T) v blocks u
   first_buffer after none pointed_is =
       let e : target tagged cell ≡ None = rw marked_is at none in

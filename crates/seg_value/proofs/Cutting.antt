@@ -1,4 +1,4 @@
--- Buffers that are cut or given up, from what the steps of the calls leave.
+-- Buffers that are cut or freed, from what the steps of the calls leave.
 use Rattle.std.proofs.Common.{◌≡◌, ◌≢◌, ℕ, zero, suc, ◌+◌, ◌-◌, ◌*◌, ◌^◌, ◌<◌, ◌≤◌, ◌⊎◌, inl, inr, true, List, [], ◌∷◌, ◌++◌, length, min, Some, None, option_map, option_to_list, refl, sym, ap, ◌∙◌, subst, arith, zero-add}
 use Rattle.std.specs.Prelude.{Contains, slice_get}
 use Rattle.std.specs.List.{AllByRecursion}
@@ -41,7 +41,7 @@ use Rattle.seg_cells.specs.declared.content.Content.{Content}
 use Rattle.seg_cells.specs.Contents.{ContentOf}
 use Rattle.seg_spec.proofs.Buffered.{HoldsEntries, Buffered, buffered, holds_buffered, entries_kept, entries_none}
 
--- ---- entries that stay where they are
+-- ---- entries that don't move
 
 module _ (old new : List ℕ) (table : Table) (valid : IsTable table) (place : Place) (cell : IsSame old new place.at 8) where
   pub record StaysOpen (form : Form) (opened : Opened) : Type 0 where
@@ -92,7 +92,7 @@ names_buffer old table place Form.str opened b o = ap (λ (r : Opened). r.blocks
 names_buffer old table place (Form.vec U) opened b o = ap (λ (r : Opened). r.blocks) o.opened_is
 names_buffer old table place (Form.flat_map U) opened b o = ap (λ (r : Opened). r.blocks) o.opened_is
 
--- without entries it leads nowhere
+-- without entries there are no places inside
 no_parts_inside : (old : List ℕ) (table : Table) (place : Place) (form : Form) (opened : Opened) → has_buffer (Some form) ≡ true → count_at old place.at ≡ 0 → Opens old table place form opened → opened.parts ≡ []
 no_parts_inside old table place Form.i64 opened b none o = absurd (cc)
 no_parts_inside old table place (Form.list U) opened b none o = absurd (cc)
@@ -129,7 +129,7 @@ entry_bytes table T form content f b c = go form b (subst (λ o. ContentOf table
 
 module _ (allocator : ℕ) (old : List ℕ) (table : Table) (place : Place) (form : Form) (v : Value) (blocks : List ℕ) (f : form_at table place.type ≡ Some form) (b : has_buffer (Some form) ≡ true)
     (s : Stands allocator old table place v blocks) where
-  -- how the place is left
+  -- the state of the place afterwards
   abbrev pub Left : List ℕ → Type 0
   Left new = (others : List ℕ) × ShrinksPlace old new table place form v blocks others
 

@@ -1,4 +1,4 @@
--- An object became frozen, and a cell comes to point to it.
+-- An object was frozen, and a cell is made to point to it.
 use Rattle.std.proofs.Common.{◌≡◌, ◌≢◌, ℕ, suc, ◌+◌, ◌-◌, ◌^◌, ◌<◌, ◌≤◌, inl, inr, ⊎_elim, List, [], ◌∷◌, ◌++◌, length, Some, None, sym, ap, ◌∙◌, subst, arith}
 use Rattle.std.specs.List.{AllByRecursion}
 use Rattle.std.proofs.lemmas.Bool.{cases_eq}
@@ -62,7 +62,7 @@ module _ (allocator : ℕ) (old mid : List ℕ) (table : Table) (cell : Place) (
   gone_once : times gone (gone ∷ []) ≡ 1
   gone_once = times-same (block_of object) []
 
-  -- a block that is owned elsewhere is none of the object's
+  -- a block that is owned elsewhere isn't the object's
   not_gone : (h : ℕ) → 1 ≤ times h (s.home ∷ []) + times h blocks + times h inside + times h shares → h ≢ gone
   not_gone h some e =
       let z : times h (gone ∷ []) ≡ 1 = subst (λ x. times x (gone ∷ []) ≡ 1) (sym e) gone_once in

@@ -1,4 +1,4 @@
--- The buffer of the flat index as it comes to have room, from what the steps of the calls leave.
+-- The buffer of the flat index gets room, from what the steps of the calls leave.
 use Rattle.std.proofs.Common.{◌≡◌, ℕ, ◌+◌, ◌-◌, ◌*◌, ◌^◌, ◌<◌, ◌≤◌, max, min, List, [], ◌∷◌, length, Option, Some, None, MatchOption, option_map, refl, sym, ap, ◌∙◌, subst, arith}
 use Rattle.std.specs.Prelude.{Contains}
 use Rattle.seg_spec.specs.Pointer.{target}

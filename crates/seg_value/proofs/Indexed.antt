@@ -1,4 +1,4 @@
--- The buffer of the flat index, as it grows in place, and as it moves.
+-- The buffer of the flat index, when it grows in place, and when it moves.
 use Rattle.std.proofs.Common.{◌≡◌, ◌≢◌, ℕ, ◌+◌, ◌-◌, ◌*◌, ◌%◌, ◌^◌, ◌<◌, ◌≤◌, ◌⊎◌, inl, inr, List, [], ◌∷◌, length, Option, Some, None, unwrap_or, option_to_list, option_map, refl, sym, ap, ◌∙◌, subst, arith, add-zero}
 use Rattle.std.specs.Prelude.{Contains}
 use Rattle.std.proofs.lemmas.Bool.{cases_eq}
@@ -33,7 +33,7 @@ use Rattle.seg_value.proofs.Inside.{given_counts, given_linked, given_ownable, g
 use Rattle.seg_value.proofs.Header.{header_fits, header_heap, header_live, header_ownable, header_kept}
 use Rattle.seg_value.proofs.Named.{same_entry, name_block, name_room}
 
--- entries stay where the cell and the buffer are kept
+-- entries stay if the cell and the buffer are kept
 pub names_kept : (old new : List ℕ) → IsSame old new index_cell 8 → ((h : ℕ) → 1 ≤ times h (named old index_cell) → KeepsBlock old new h) → NamesRoom old index_cell (tag_of Kind.index_buffer 0) 8 → KeepsNames old new
 names_kept old new same kept room = record { counted = cell-count old new index_cell same; entries = go (target old index_cell) refl }
   where
@@ -279,7 +279,7 @@ module _ (allocator : ℕ) (before taken : List ℕ) (table : Table) (s : FindsN
         number-set_other 4 4 moved index_cell (distance index_cell (Some (g + 16))) (index_cell + 4) (inr (omega arith))
         ∙ cell-count tagged_index moved index_cell (moved_low index_cell 8 (omega arith)) ∙ tagged_count
 
-    -- the bytes before the heap, beside the cell
+    -- the bytes before the heap, except the cell
     pub pointed_low : (q n : ℕ) → (q + n ≤ 24) ⊎ (28 ≤ q) → q + n ≤ heap_start → (q + n ≤ index_cell) ⊎ (index_cell + 4 ≤ q) → IsSame before pointed_index q n
     pointed_low q n (inl root) high beside = IsSame-trans before tagged_index pointed_index q n (IsSame-part before tagged_index 0 24 q n (omega arith) (omega arith) marked_front)
         (IsSame-trans tagged_index moved pointed_index q n (moved_low q n high) (points.others q n beside))

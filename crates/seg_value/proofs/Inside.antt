@@ -1,5 +1,5 @@
--- A write inside an allocated block, of which nothing else is known: the heap stays, and all beside
--- it. And calls on a place, one after the other.
+-- A write inside an allocated block of which nothing else is known: the heap stays, and everything
+-- else. And calls on a place, one after the other.
 use Rattle.std.proofs.Common.{◌≡◌, ◌≢◌, ℕ, ◌+◌, ◌-◌, ◌≤◌, ◌⊎◌, inl, inr, List, [], ◌∷◌, refl, sym, ◌∙◌, subst, length, arith, ap}
 use Rattle.std.specs.List.{AllByRecursion}
 use Rattle.seg_bytes.specs.Bytes.{word, ChangesOnly}
@@ -90,7 +90,7 @@ module _ (allocator : ℕ) (old new : List ℕ) (table : Table) (g at m : ℕ) (
       out q k (inl l) = inl (omega arith)
       out q k (inr r) = inr (omega arith)
 
--- one call on a place after the other: what the first left the place with, the second gave up
+-- two calls on a place: the second gave up what the first left
 pub changes_twice : (allocator : ℕ) (a b c : List ℕ) (table : Table) (place : Place) (v w : Value) (xs ys gone : List ℕ) (spans more : List Span) → word b 16 ≡ word a 16 → IsHeap allocator b
     → ChangesPlace a b table place v xs spans gone xs → ChangesPlace b c table place w ys more xs ys → ChangesPlace a c table place w ys more gone ys
 changes_twice allocator a b c table place v w xs ys gone spans more same heap x y = record {

@@ -1,4 +1,4 @@
--- The nodes that the words of a node name, added one after the other.
+-- The nodes to which the pointer words of a node point, added one after the other.
 use Rattle.std.proofs.Common.{◌≡◌, ℕ, ◌+◌, ◌%◌, ◌^◌, ◌≤◌, List, [], ◌∷◌, ◌++◌, length, Option, Some, None, refl, sym, ap, ◌∙◌, subst, arith}
 use Rattle.seg_bytes.specs.Bytes.{IsSame}
 use Rattle.seg_spec.specs.Pointer.{target}

@@ -1,4 +1,4 @@
--- The buffer of the flat index: its entries as they move, and as one comes or goes.
+-- The buffer of the flat index: moving its entries, and inserting and removing one.
 use Rattle.std.proofs.Common.{◌≡◌, ◌≢◌, ℕ, ◌+◌, ◌-◌, ◌*◌, ◌%◌, ◌^◌, ◌<◌, ◌≤◌, ◌⊎◌, inl, inr, min, MatchOption, List, [], ◌∷◌, length, Option, Some, None, unwrap_or, option_to_list, option_map, refl, sym, ap, ◌∙◌, subst, arith, add-zero}
 use Rattle.std.specs.Prelude.{Contains}
 use Rattle.std.proofs.lemmas.Bool.{cases_eq}
@@ -184,7 +184,7 @@ module _ (allocator : ℕ) (old : List ℕ) (table : Table) (s : FindsNames allo
           omega arith))
 
 module _ (allocator : ℕ) (old : List ℕ) (table : Table) (s : FindsNames allocator old table) where
-  -- a buffer is there where entries are
+  -- a buffer exists if there are entries
   pub name_closed_by : (index each before at next last k step begin : ℕ) (moved new : List ℕ) → index < count_at old index_cell → each ≡ 8 → before ≡ 0 → begin ≡ start old index_cell → last ≡ count_at old index_cell - 1 → k ≡ last - index
       → step ≡ min (index + 1) 4294967295 → at ≡ (begin + index * each) % 2 ^ 32 → next ≡ (begin + step * each) % 2 ^ 32
       → (before + 4 ≤ each → IsWithin old next (k * each) → IsWithin old at (k * each) → MovesPointers old moved each before next at k) → new ≡ set_word moved (index_cell + 4) last → ClosesName old new table index
@@ -340,7 +340,7 @@ index_twice allocator a b c table left more s t x y = record {
   room = y.room;
 }
 
--- ---- one comes
+-- ---- one is inserted
 
 module _ (allocator : ℕ) (mid : List ℕ) (table : Table) (s : FindsNames allocator mid table) (p : ℕ) (named_is : target mid index_cell ≡ Some p) (index k : ℕ) (counted : count_at mid index_cell ≡ index + k)
     (room : (index + (1 + k)) * 8 ≤ payload_size mid (block_of p)) (moved new : List ℕ) (shifts : MovesPointers mid moved 8 0 (p + index * 8) (p + index * 8 + 8) k) (new_is : new ≡ set_word moved (index_cell + 4) (index + (1 + k))) where

@@ -1,4 +1,4 @@
--- Cells that point to nothing own nothing, and what a cell's form says of what it points to.
+-- Cells with null pointers own nothing, and what a cell's form implies for its targets.
 use Rattle.std.proofs.Common.{◌≡◌, ◌≢◌, ℕ, ◌+◌, ◌*◌, ◌≤◌, inl, inr, true, false, List, [], ◌∷◌, ◌++◌, length, map, Option, Some, None, option_to_list, option_map, refl, sym, ap, ◌∙◌, subst, arith}
 use Rattle.seg_spec.specs.Pointer.{target}
 use Rattle.seg_spec.specs.Types.{Form, Table, form_at, IsTable, size, fields_of, fields_by}
@@ -19,7 +19,7 @@ use Rattle.seg_layout.specs.Forms.{has_cells}
 use Rattle.seg_cells.specs.Contents.{ContentOf}
 use Rattle.seg_cells.specs.declared.content.Content.{Content}
 
--- these blocks and names are none
+-- there are no blocks and no targets
 pub record Nothing (xs ns : List ℕ) : Type 0 where
   pub no_blocks : xs ≡ []
   pub no_names : ns ≡ []
@@ -150,7 +150,7 @@ module _ (bytes : List ℕ) (table : Table) where
   unfolding named_in named_each
   named_shared U p vs = refl
 
-  -- a cell that has no content of its own, and names something, shares it
+  -- a cell without content of its own that isn't null shares its target
   pub record SharesIt (p : ℕ) (xs ns : List ℕ) : Type 0 where
     pub no_blocks : xs ≡ []
     pub name : ns ≡ p ∷ []

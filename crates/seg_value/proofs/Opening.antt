@@ -1,4 +1,4 @@
--- A block that no longer waits: what is freed with it joins what waits.
+-- A block is taken from the waiting ones: what is freed with it is added to them.
 use Rattle.std.proofs.Common.{◌≡◌, ℕ, ◌+◌, ◌-◌, ◌*◌, ◌/◌, ◌<◌, ◌≤◌, ◌⊎◌, inl, inr, ⊎_elim, List, [], ◌∷◌, ◌++◌, length, Option, Some, None, refl, sym, ap, ◌∙◌, subst, arith}
 use Rattle.std.proofs.lemmas.Bool.{cases_lt}
 use Rattle.std.proofs.Math.Nat.{div-mul-le_self}
@@ -317,7 +317,8 @@ module _ (bytes : List ℕ) (table : Table) (valid : IsTable table) (p : ℕ) wh
       let n = lacking at T mine names first large in
       record { no_blocks = ap (λ bs. bs ++ []) n.no_blocks; no_names = ap (λ bs. bs ++ []) n.no_names }
 
-  -- a tag that no word of the program spells is that of an object whose type the table lacks, and which owns nothing
+  -- a tag that the program can't read belongs to an object whose type the table lacks, and which
+  -- owns nothing
   unread_by : (values : List Place) (links us bs vs ws : List ℕ) (kind_is : block.Kind) (T : ℕ) (form : Option Form) → form_at table T ≡ form → OpensBlock bytes table p kind_is T form values links →
       AreParts bytes table values us vs → OwesLinks bytes table links bs ws → ((t : Tag) → t.type_id < 256 → tag_at bytes (block_of p) ≡ word_of t → ⊥) → Nothing us vs × Nothing bs ws
   unread_by values links us bs vs ws block.Kind.object T form f o parts more none =
@@ -396,7 +397,7 @@ module _ (allocator : ℕ) (old mid new : List ℕ) (table here : Table) (same :
   pub inside_links : IsInside old (block_of p) p 8
   inside_links = let l = lies.size in let low = s.low in record { low = omega arith; high = omega arith }
 
-  -- what its links name is to be released first
+  -- what its links point to is to be released first
   pub links_waiting : Awaits allocator old table f ys (ws ++ (vs ++ names)) kept_cells theirs final
   links_waiting = awaits_names allocator old table f ys (ns ++ names) (ws ++ (vs ++ names)) kept_cells theirs final
       (λ h. omega (arith, ns_are h, times-append h ns names, times-append h vs ws, times-append h ws (vs ++ names), times-append h vs names)) w

@@ -1,5 +1,4 @@
--- Cells that share an object with others: what they contain, and what they come to name once they
--- are empty.
+-- Shared cells: what they point to, and how an empty one is made to point to an object.
 use Rattle.std.proofs.Common.{◌≡◌, ℕ, ◌+◌, ◌^◌, ◌<◌, ◌≤◌, List, [], ◌∷◌, ◌++◌, length, Option, Some, None, option_to_list, option_map, refl, sym, ap, ◌∙◌, subst, arith}
 use Rattle.seg_bytes.specs.Bytes.{set_word, ChangesOnly}
 use Rattle.seg_spec.specs.Pointer.{target, distance, set_pointer}
@@ -74,7 +73,7 @@ module _ (bytes : List ℕ) (table : Table) (place : Place) (T : ℕ) (f : form_
         opened_is = ap (λ t. record { label = shared_label T t; blocks = []; parts = [] }) (sym e);
       }) holds_none refl refl
 
--- ---- an empty one comes to point to an object
+-- ---- an empty one is made to point to an object
 
 module _ (allocator : ℕ) (old : List ℕ) (table : Table) (cell : Place) (T : ℕ) (f : form_at table cell.type ≡ Some (Form.shared T)) (v : Value) (blocks : List ℕ) (s : Stands allocator old table cell v blocks) (theirs : ℕ → List ℕ)
     (now final : List Frozen) (fits : AreLive old ((s.home ∷ blocks) ++ blocks_by theirs now)) (few : (h : ℕ) → times h (blocks_by theirs final) ≤ times h (blocks_by theirs now))

@@ -1,4 +1,4 @@
--- The entries of a buffer after the used ones contain defaults.
+-- The unused entries of a buffer have default values.
 use Rattle.std.proofs.Common.{◌≡◌, ℕ, ◌+◌, ◌-◌, ◌*◌, ◌/◌, ◌%◌, ◌^◌, ◌<◌, ◌≤◌, false, List, [], ◌∷◌, length, map, Option, Some, None, refl, ap, ◌∙◌, subst, arith}
 use Rattle.std.specs.List.{AllByRecursion}
 use Rattle.std.proofs.Math.Nat.{div-mul-le_self}
@@ -18,7 +18,7 @@ use Rattle.seg_spec.proofs.CellSteps.{each_none, each_i64, each_cell_weaker, Cha
 use Rattle.seg_block.specs.Blocks.{IsSized}
 use Rattle.seg_layout.specs.Forms.{has_cells}
 
--- a cell that contains its default points to nothing
+-- a cell with its default value is null
 defaulted_nothing : (old new : List ℕ) (at : ℕ) (form : Option Form) → IsDefaulted old new at form → NamesNothing new at form
 defaulted_nothing old new at (Some Form.i64) h = tt
 defaulted_nothing old new at None h = h.0

@@ -1,4 +1,4 @@
--- Runs of entries of a flat map: how they come apart, join, stay and move.
+-- Runs of entries of a flat map: splitting, joining, keeping and moving them.
 use Rattle.std.proofs.Common.{◌≡◌, ℕ, zero, suc, ◌+◌, ◌*◌, ◌%◌, ◌<◌, ◌≤◌, Some, ℤ, List, [], ◌∷◌, ◌++◌, length, map, refl, sym, ap, ◌∙◌, subst, arith, append_assoc, rules}
 use Rattle.std.specs.Prelude.{insert, remove, slice_get, ◌<ℤ◌}
 use Rattle.std.specs.List.{AllByRecursion}
@@ -205,7 +205,7 @@ module _ (bytes : List ℕ) (table : Table) (U : ℕ) where
       record { value = o.0; keys_are = r.keys_are; values_are = o.1; holds_it = o.2 }
 
 module _ (old new : List ℕ) (table : Table) (valid : IsTable table) (U : ℕ) where
-  -- a run stays where its bytes and what its values own are kept
+  -- a run stays if its bytes and what its values own are kept
   pub run_kept : (at n : ℕ) (keys : List ℤ) (vs : Values) (owned : List ℕ) → IsSame old new at (n * (8 + size table U)) → AllByRecursion (KeepsBlock old new) owned
       → Run old table U at n keys vs owned → Run new table U at n keys vs owned
   run_kept at n keys vs owned same kept r =

@@ -124,14 +124,14 @@ module _ (allocator : ℕ) (old : List ℕ) (table : Table) (own : Place) (U : �
   few : (h : ℕ) → times h those ≤ times h shares
   few h = subst (λ fs. times h (blocks_by theirs fs) ≤ times h shares) b.releasing.leaves (left_fewer theirs b.releasing.pending now h)
 
-  -- a block of the object, or of a frozen one, is none of the others
+  -- a block of the object, or of a frozen one, belongs to no other
   other : (h : ℕ) → 1 ≤ times h taken + times h shares → (1 ≤ times h (positions (live old))) × (h ≢ s.home) × (times h blocks ≡ 0)
   other h some =
       let c = counts h in
       let o = once h in
       (omega arith, (λ same. let z : times h (s.home ∷ []) ≡ 1 + times h [] = subst (λ x. times x (s.home ∷ []) ≡ 1 + times x []) (sym same) (times-same s.home []) in absurd (omega arith)), omega arith)
 
-  -- and kept whole, where it is kept around the own
+  -- and is kept whole, if it is kept around the own
   whole_beside : (after : List ℕ) (h : ℕ) → 1 ≤ times h (positions (live old)) → h ≢ s.home → KeepsBlockAround old after own.at (size table own.type) h → KeepsBlock old after h
   whole_beside after h some ne k =
       let mine = there (λ t. AllByRecursion (OneOrApart old t) (positions (live old))) s.home (positions (live old)) (live-apart old allocator s.heap) home_live in

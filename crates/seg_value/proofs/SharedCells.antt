@@ -1,4 +1,4 @@
--- A cell comes to share what another one names, from what the steps leave.
+-- A cell is made to share the object of another cell, from what the steps leave.
 use Rattle.std.proofs.Common.{◌≡◌, ℕ, suc, ◌+◌, ◌^◌, ◌<◌, ◌≤◌, List, [], ◌∷◌, ◌++◌, length, Option, Some, None, refl, sym, ap, ◌∙◌, subst, arith}
 use Rattle.std.specs.List.{AllByRecursion}
 use Rattle.seg_bytes.specs.Bytes.{word, set_word, ChangesOnly}
@@ -39,7 +39,7 @@ ClearsCell allocator old new table cell = (v : Value) (blocks : List ℕ) (s : S
 
 module _ (allocator : ℕ) (old : List ℕ) (table : Table) (cell : Place) (T next : ℕ) (f : form_at table cell.type ≡ Some (Form.shared T)) (v : Value) (blocks : List ℕ) (s : Stands allocator old table cell v blocks)
     (theirs : ℕ → List ℕ) (kept : List Place) (now : List Frozen) (b : FrozenBeside old table (s.home ∷ blocks) (names_in v ++ kept) next theirs now) where
-  -- the objects, where the names in the cell go
+  -- the frozen objects, if the cell is released
   beside_cell : SharedBeside old table (s.home ∷ blocks) (named_in v) theirs kept now (left (names_in v) now)
   beside_cell = record {
     holds = b.holds;
@@ -168,7 +168,7 @@ module _ (allocator : ℕ) (old last : List ℕ) (table : Table) (to from : Plac
   abbrev pub IsShared : List ℕ → Value → List Place → Type 0
   IsShared new u names = ClearsPlace old new table to u blocks [] theirs now (left (names_in v) (raised_by names now))
 
-  -- what the cell points to stays what it was while the count is raised and the other cell cleared
+  -- the target of a cell stays while its count is raised and the other cell cleared
   by_object : (more : List ℕ) (object : Option ℕ) → object ≡ target old from.at → AllByRecursion (IsBelow next now) (names_by T object) → (object ≡ None → more ≡ old) →
       ((p : ℕ) → object ≡ Some p → suc (word old p) < 2 ^ 32 → more ≡ set_word old p (suc (word old p))) → ClearsCell allocator more last table to →
       IsShared (set_word (set_pointer last to.at object) (to.at + 4) (cell_count object)) (node (shared_label T object) nil) (names_by T object)

@@ -107,7 +107,7 @@ destroyed allocator old mid new table here same valid none first is_none object 
     let d = destroy' ((block_of object ∷ inside) ++ shares) kept theirs final valid a.awaits live_there in
     added_destroys allocator old mid new table first (block_of object ∷ inside) shares [] ((block_of object ∷ inside) ++ shares) kept theirs final a (λ h. refl) d
 
--- an object that is a number goes alone, and all frozen objects stay
+-- an object that is a number is freed alone, and all frozen objects stay
 pub number_destroys : (allocator : ℕ) (old new : List ℕ) (table : Table) → IsTable table → (p : ℕ) (v : Value) (inside : List ℕ) → inside ≡ [] → named_in v ≡ [] → IsHeap allocator old → (theirs : ℕ → List ℕ) (kept : List Place)
     (now final : List Frozen) → SharedBeside old table (p ∷ inside) (named_in v) theirs kept now final → Gives allocator old new p → Destroys allocator old new table ((p ∷ inside) ++ blocks_by theirs now) theirs final
 number_destroys allocator old new table valid p v inside none no_names heap theirs kept now final b g = record {

@@ -64,7 +64,7 @@ module _ (allocator : ℕ) (old : List ℕ) (table : Table) (valid : IsTable tab
       Uncouples allocator old new table p xs (named_in v)
   ring new k s opened = ring_by new (form_at table place.type) refl k s opened
 
-  -- a buffer, the rest of which contains defaults
+  -- a buffer, whose unused entries have default values
   buffer_by : (new : List ℕ) (used : ℕ) (o : Option Form) → form_at table place.type ≡ o → ContentOf table place.type o (Some content) → content.shape ≡ shape.Buffer → used ≡ count_at old place.at →
       (content.entry.held ≡ held.Bytes → new ≡ old) →
       ((before U : ℕ) → IsEntryOf table before U content.entry → 16 ≤ p → 1 ≤ times (block_of p) (positions (live old)) → used * (before + size table U) ≤ payload_size old (block_of p) → DefaultsRest old new table p before U used) →

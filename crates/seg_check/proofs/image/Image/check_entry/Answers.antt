@@ -13,7 +13,7 @@ use Rattle.seg_check.proofs.NameSteps.{named_can, name_long, entry_advance, entr
 use Rattle.seg_check.proofs.image.Image.check_entry.Goals as goal
 use Rattle.seg_check.proofs.image.Image.check_entry.Goals.{else-is_before-via-then-is_before+else-is_printable, else-is_before-via-else-is_before}
 
--- what an entry says, part by part
+-- the fields of an entry
 record Says (bytes : List ℕ) (at : ℕ) (entry : NameEntry) : Type 0 where
   object : entry.object ≡ target bytes at
   count : entry.count ≡ half bytes (at + 4)

@@ -4,7 +4,7 @@ use Rattle.seg_rbtree.proofs.Lasts.{last_there, way_to_last}
 use Rattle.seg_rbtree.proofs.TakingOut.{nothing_there, something_there}
 use Rattle.seg_rbtree.proofs.path.Path.is_last.Goals as goal
 
--- the child that was read is that of the node at the path's end
+-- the child that was read belongs to the node at the path's end
 child_there : (bytes : List ℕ) (at child : Option ℕ) (read node : ℕ) → at ≡ Some read → at ≡ Some node → child ≡ target bytes (read + 4) → target bytes (node + 4) ≡ child
 child_there bytes at child read node seen named is = let same : read ≡ node = cc in cc
 
