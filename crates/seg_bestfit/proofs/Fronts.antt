@@ -84,7 +84,7 @@ module _ (old : List ℕ) (xs ys : List Tile) (at n u r : ℕ) (was : IsTiling 1
       kept_by from to (⊎_elim (λ l. inl (omega arith)) (λ l. inr (omega arith)) out) (⊎_elim (λ l. inl (omega arith)) (λ l. inr (omega arith)) out) (⊎_elim (λ l. inl (omega arith)) (λ l. inr (omega arith)) out)
       next (⊎_elim (λ l. inl l) (λ l. inr (omega arith)) out) (⊎_elim (λ l. inl (omega arith)) (λ l. inr (omega arith)) out)
 
-  -- what lies in the front after the word of its size
+  -- the bytes of the front after its size
   front_kept : (from to : ℕ) → at + 4 ≤ from → to ≤ rest → Agrees old cut from to
   front_kept from to low high = kept_by from to (inl (omega arith)) (inl (omega arith)) (inl high) (inl (omega arith)) (inr low) (inl (omega arith))
 

@@ -65,7 +65,7 @@ before_trans f g h (inl a) (inr b) = inl (omega (arith, b.0))
 before_trans f g h (inr a) (inl b) = inl (omega (arith, a.0))
 before_trans f g h (inr a) (inr b) = inr (a.0 ∙ b.0, omega (arith, a.1, b.1))
 
--- what each gap of a list in order is before
+-- each gap of a list in order is before the later ones
 before_all : (g : Span) (hs : List Span) → AreBySize (g ∷ hs) → AllByRecursion (λ h. IsBefore g h) hs
 before_all g [] a = tt
 before_all g (h ∷ hs) a = let first = smaller_is g h a.0 in (first, each_weaker _ _ (λ k l. before_trans g h k first l) hs (before_all h hs a.1))
@@ -183,7 +183,7 @@ without_gap g (h ∷ hs) ne =
           ∙ ap (λ l. node_of h ∷ l) rest
     ]
 
--- a gap's node is replaced by that of another gap, which compares with the others as the gap does
+-- a gap's node is replaced by another gap's node, which compares with the others in the same way
 pub renamed_gap : (g r : Span) (hs : List Span) → AllByRecursion (λ (h : Span). h.at ≢ g.at) hs → KeepsPlace hs g r → renamed (node_of g) (node_of r) (map node_of (insert_by_size g hs)) ≡ map node_of (insert_by_size r hs)
 renamed_gap g r [] ne k = ap (λ b. cond b (node_of r ∷ []) (node_of g ∷ [])) (test_same (node_of g) (node_of g) refl)
 renamed_gap g r (h ∷ hs) ne k =
@@ -195,7 +195,7 @@ renamed_gap g r (h ∷ hs) ne k =
     ] in
     go ∙ ap (λ b. map node_of (cond b (r ∷ h ∷ hs) (h ∷ insert_by_size r hs))) k.0
 
--- ---- what keeps a gap's place
+-- ---- keeping a gap's place
 
 -- If the rest of the smallest gap is large enough for the request, each smaller gap is too small
 -- for it, and so below the rest.

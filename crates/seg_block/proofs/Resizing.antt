@@ -23,7 +23,7 @@ put_front xs t = xs ++ t ∷ []
 pub put_front-append : (xs ys : List Tile) (t : Tile) → put_front xs t ++ ys ≡ xs ++ t ∷ ys
 put_front-append xs ys t = append_assoc xs (t ∷ []) ys
 
--- what is spared in front includes the tile itself
+-- what is kept before the tile includes the tile itself
 pub own : (old new : List ℕ) (xs ys : List Tile) (at u : ℕ) → Spares old new (put_front xs (tile at u true) ++ ys) → Agrees old new (at + 8) (at + 16 * u)
 own old new xs ys at u s =
     s.tiles_kept (record { at = at; units = u })

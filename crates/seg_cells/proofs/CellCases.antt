@@ -50,7 +50,7 @@ null-word : (bytes : List ℕ) (at : ℕ) → word bytes at ≡ 1 → target byt
 unfolding target
 null-word bytes at e = rw e refl
 
--- ---- what the values of a form are made of
+-- ---- what the values of a form consist of
 
 pub a_number : (o : Option Form) → has_cells o ≡ false → cells_of o ≡ cells.Number
 a_number None h = refl
@@ -93,7 +93,7 @@ module _ (table : Table) (valid : IsTable table) (T : ℕ) where
   struct_by (Some (Form.own U)) e h = absurd (omega arith)
   struct_by (Some (Form.shared U)) e h = absurd (omega arith)
 
-  -- what has fields is a struct
+  -- a type with fields is a struct
   pub struct_of : 1 ≤ length (fields_of table T) → IsStruct
   struct_of h = struct_by (form_at table T) refl h
 
@@ -118,7 +118,7 @@ module _ (table : Table) (valid : IsTable table) (T : ℕ) where
   cell_by (Some (Form.own U)) e h n = record { form = Form.own U; form_is = e; one = tt }
   cell_by (Some (Form.shared U)) e h n = record { form = Form.shared U; form_is = e; one = tt }
 
-  -- what has a pointer and no fields is one cell
+  -- a type with a pointer and no fields is one cell
   pub cell_of_type : has_cells (form_at table T) ≡ true → length (fields_of table T) ≡ 0 → IsCell
   cell_of_type h n = cell_by (form_at table T) refl h n
 

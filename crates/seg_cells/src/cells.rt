@@ -1,4 +1,4 @@
-//! The cells of a value. The cells of a struct are those of its fields. Fields have lower type ids, so the recursion is
+//! The cells of a value. The cells of a struct are its fields' cells. Fields have lower type ids, so the recursion is
 //! no deeper than the type table is long.
 
 ghost use Rattle.std.specs.Prelude.{◌≡◌, ℕ, ◌+◌, ◌*◌, ◌≤◌, map, length};

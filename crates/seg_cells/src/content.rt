@@ -98,7 +98,7 @@ impl Content {
         }
     }
 
-    /// The layout of the tree index: in each node the tree words, then an entry like those of the flat index.
+    /// The layout of the tree index: in each node the tree words, then an entry like in the flat index.
     pub fn index_node() -> Content
         ensures { IsIndexNode result }
     {

@@ -76,7 +76,7 @@ impl<A: Allocator> Image<'_, A> {
         Some(content.entry)
     }
 
-    /// Checks the cells of a value, by ascending position. The cells of a struct are those of its fields, which have
+    /// Checks the cells of a value, by ascending position. The cells of a struct are its fields' cells, and fields have
     /// lower types, so the recursion is no deeper than the table is long.
     fn check_value<B: Allocator>(
         &self,

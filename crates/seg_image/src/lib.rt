@@ -1,7 +1,7 @@
 //! An open image: a segment with whichever allocator the image has. A sound image is opened, read and changed by the
 //! host's own calls, grown, and saved.
 //!
-//! Begin with [`Image`]. Its calls are those of the crates below, on an allocator that is known when the image is
+//! Begin with [`Image`]. It has the calls of the crates below, for an allocator that is only known when the image is
 //! opened.
 #![tactic(auto)]
 

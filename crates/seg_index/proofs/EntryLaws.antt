@@ -24,7 +24,7 @@ use Rattle.seg_entry.specs.declared.entry.NameEntry.{NameEntry}
 
 -- ---- the parts of a word
 
--- what a word spells that was written
+-- the value of a word that was written
 written_part : (bytes : List ℕ) (at n i w : ℕ) → at + 4 ≤ length bytes → i + w ≤ 4 → number w (set_word bytes at n) (at + i) ≡ number w (spelling 4 n) i
 unfolding set_number
 written_part bytes at n i w fits inside =
@@ -107,7 +107,7 @@ module _ (old : List ℕ) (at : ℕ) (root : Root) (within : IsWithin old at 8) 
 
 -- ---- the name of an entry
 
--- the types of named objects are few
+-- a named object's type is one of few
 pub type_small : (bytes : List ℕ) (table : Table) (root : Root) → IsTable table → AllByRecursion (λ b. IsOwnable bytes table b.at) (live bytes) → IsNamed bytes table root → root.type < 32
 type_small bytes table root valid ownable named = by o.kind o.allowed (sym named.block.has_tag ∙ o.tag_is)
   where

@@ -27,7 +27,7 @@ use Rattle.seg_index.proofs.FlatEntries.{Indexed, entries_of, flat_blocks, flat_
 
 -- ---- one root more or less, by indices
 
--- each root of a list with one more is one of the list, before or after it, or the new one
+-- each root of a list with one more is one before it, one after it, or the new one
 pub with_at : (P : ℕ → Root → Type 0) (before : List Root) (root : Root) (after : List Root)
     → ((i : ℕ) (r : Root) → i < length before → slice_get (before ++ after) i ≡ Some r → P i r) → P (length before) root
     → ((i : ℕ) (r : Root) → length before ≤ i → slice_get (before ++ after) i ≡ Some r → P (i + 1) r)

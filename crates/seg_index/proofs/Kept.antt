@@ -107,6 +107,6 @@ module _ (allocator : ℕ) (old new : List ℕ) (table : Table) (names : List Ro
     spot_kept name these (Flat index) h = (kind_same ∙ h.0, h.1)
     spot_kept name these (InTree path) h = (kind_same ∙ h.0, leads_kept h.0 name path h.1)
 
-    -- the spot of a new name is what it was
+    -- the spot for a new name is the same
     pub vacant_kept : (name : List ℕ) (vacant : Vacant) → IsVacant old table names name vacant → IsVacant new table names name vacant
     vacant_kept name vacant h = record { missing = h.missing; spot = spot_kept name [] vacant.spot h.spot }

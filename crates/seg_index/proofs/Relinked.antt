@@ -29,7 +29,7 @@ pub record IsTouched (bytes : List ℕ) (q : ℕ) : Type 0 where
   pub after_header : 16 ≤ q
   pub is_live : 1 ≤ times (block_of q) (positions (live bytes))
 
--- what was made of the tree
+-- the tree afterwards
 pub record Remade (allocator : ℕ) (mid new : List ℕ) (n : ℕ) (touched now : List ℕ) : Type 0 where
   pub length_kept : length new ≡ length mid
   pub low : (p m : ℕ) → Separate p m index_cell 8 → p + m ≤ heap_start → IsSame mid new p m

@@ -50,7 +50,7 @@ above_test xs ys = go (slice_cmp nat_cmp xs ys) refl
     go Equal e = sym (comes_false ys xs (λ h. precedes_differs ys xs h (sym (same_of_equal xs ys e))))
     go Greater e = sym (comes_true ys xs (precedes_of_greater xs ys e))
 
--- ---- nodes and roots, in turn
+-- ---- nodes and roots, one after the other
 
 -- the entry of a node belongs to a root
 pub record IsListed (bytes : List ℕ) (table : Table) (x : ℕ) (r : Root) : Type 0 where

@@ -43,7 +43,7 @@ use Rattle.seg_index.proofs.TreeLists.{entry_in, path_is, AreListed, order, node
 use Rattle.seg_index.proofs.TreeChanges.{Splits, split_listed, join_listed, entries_kept, order_before, lists_by, times_with, contains_middle}
 use Rattle.seg_index.proofs.Relinked.{IsTouched, Remade, remade, count_before, stand_apart}
 
--- what taking out the node at the end of a path does
+-- what removing the node at the end of a path does
 abbrev pub TakesFrom : List ℕ → List ℕ → ℕ → Path → Type 0
 TakesFrom old new root path = (turn : ℕ → Ordering) (node : ℕ) (shape : Tree) → IsSearchTree old root shape → LeadsTo turn shape path → node_at old path ≡ Some node → StandApart (length old) root (nodes_of shape)
     → Leaves old new root (nodes_of shape) (without_node node (nodes_of shape))

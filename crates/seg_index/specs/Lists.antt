@@ -121,8 +121,8 @@ pub record LeadsToName (bytes : List ℕ) (table : Table) (name : List ℕ) (pat
       LeadsTo (λ x. ordering_reverse (slice_cmp nat_cmp (name_at table bytes (x + 16)) name))
       tree path
 
--- these are the roots with the name, none or one, and the spot is that of its entry or the one to
--- insert it at
+-- these are the roots with the name, none or one, and the spot is where its entry is, or where to
+-- insert it
 abbrev pub IsSpot : List ℕ → Table → List Root → List ℕ → List Root → Spot → Type 0
 IsSpot bytes table names name these (spot.Flat index) =
     (word bytes index_kind_word ≡ 0) × PartedNames names name index these

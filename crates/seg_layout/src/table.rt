@@ -154,7 +154,7 @@ impl TypeTable {
         Some(Cell { from, type_id })
     }
 
-    /// The cells of a value of this type that have pointers, by ascending position: all cells but those of `i64`.
+    /// The cells of a value of this type that have pointers, by ascending position: all cells but numbers.
     pub fn pointers(&self, t: TypeId) -> ArrayVec<Cell, 512>
         ensures { map cell_of result.items ≡ pointers self.now t }
     {

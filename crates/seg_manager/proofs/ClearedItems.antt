@@ -59,8 +59,8 @@ first (holds_more {v = v} {vs = vs} {blocks = its} {owned = more} h hs) = record
 none_left : {bytes : List ℕ} {table : Table} {vs : Values} {blocks : List ℕ} → HoldsEach bytes table [] vs blocks → (vs ≡ nil) × (blocks ≡ [])
 none_left holds_none = (refl, refl)
 
--- Of the n values of an object the first k were cleared. Their blocks were freed, with those of the
--- frozen objects that lost their last cell. The blocks of the other values and objects are
+-- Of the n values of an object the first k were cleared. Their blocks were freed, and the blocks of
+-- the frozen objects that lost their last cell. The blocks of the other values and objects are
 -- allocated.
 pub record Cleared (allocator : ℕ) (old now : List ℕ) (table : Table) (at T n : ℕ) (inside : List ℕ) (theirs : ℕ → List ℕ) (frozen final : List Frozen) (k : ℕ) : Type 0 where
   pub length_kept : length now ≡ length old

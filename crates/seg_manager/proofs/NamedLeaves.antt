@@ -128,7 +128,7 @@ module _ (allocator : ℕ) (old mid : Stored) (picture : Picture) (is : IsSegmen
   mid_are : (h : ℕ) → times h (positions (live b)) + times h is.held.index_blocks ≡ times h (positions (live a)) + times h e.others
   mid_are h = e.changes.live_are h
 
-  -- what isn't the index's is kept
+  -- everything outside the index is kept
   kept_mid : (h : ℕ) → 1 ≤ times h first.apart.around + times h its + times h theirs → KeepsBlock a b h
   kept_mid h some = e.changes.kept h (omega (arith, first.counts h)) (omega (arith, first.counts h, old_once h))
 

@@ -65,7 +65,7 @@ module _ (T : ℕ) (root : Root) where
       let is = was_other c e in
       subst (RefusesToFind s s names name T) (sym is) (ap (found_as T) there ∙ sym e ∙ ap Err is, refl)
 
--- what making an object leaves, by other words for its name and count
+-- what making an object leaves, for equal names and counts
 module _ (allocator : ℕ) (old new : Stored) (picture : Picture) (index_blocks : List ℕ) (T : ℕ) (r : Result ℕ Code) (name other : List ℕ) (n m : ℕ) (e : other ≡ name) (f : m ≡ n)
     (h : MatchResult r (MakesNamed allocator old new picture index_blocks other T m) (λ _. FindsNoRoom allocator old new picture (object_asks old.window.bytes old.types T m other))) where
   pub made_as : IfOk r (MakesNamed allocator old new picture index_blocks name T n)

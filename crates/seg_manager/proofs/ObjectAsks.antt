@@ -22,7 +22,7 @@ use Rattle.seg_spec.proofs.LiveLaws.{times-same, times-other, times-with_block, 
 
 -- ---- the entry's request
 
--- whether a buffer grows is decided by the room of its block alone
+-- whether a buffer grows only depends on the room of its block
 same_room : (units more : ℕ) (old : Option ℕ) (item count wanted : ℕ) → 16 * units - 16 ≡ 16 * more - 16 → growth_if_needed units old item count wanted ≡ growth_if_needed more old item count wanted
 same_room units more old item count wanted e = ap (λ room. cond (leb (wanted * item) room) [] (growth old item count wanted ∷ [])) e
 

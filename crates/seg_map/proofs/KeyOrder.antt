@@ -342,7 +342,7 @@ module _ (f : ℕ → ℤ) where
 
   -- ---- the same node among others
 
-  -- in order, the index of a number is that of its node
+  -- in order, a number and its node have the same index
   pub place_of : (k : ℤ) (nodes : List ℕ) (x j : ℕ) → Ascend by nodes → slice_get nodes j ≡ Some x → int_cmp (f x) k ≡ Equal → key_place (map f nodes) k ≡ Some j
   place_of k [] x j a at e = cc
   place_of k (y ∷ ys) x zero a at e = let same : y ≡ x = cc in here (same_int k) (f y) (map f ys) (equals k y (ap (λ z. int_cmp (f z) k) same ∙ e))

@@ -33,7 +33,7 @@ pub record IsTouched (bytes : List ℕ) (home q : ℕ) : Type 0 where
   pub is_live : 1 ≤ times (block_of q) (positions (live bytes))
   pub other : block_of q ≢ home
 
--- what was made of the tree at a cell
+-- the tree at a cell afterwards
 pub record Remade (allocator : ℕ) (mid new : List ℕ) (cell home n : ℕ) (touched now : List ℕ) : Type 0 where
   pub length_kept : length new ≡ length mid
   pub low : (p m : ℕ) → p + m ≤ heap_start → IsSame mid new p m

@@ -163,7 +163,8 @@ module _ (allocator : ℕ) (old : List ℕ) (table : Table) (place : Place) (U :
   blocks_joined [] ys = refl
   blocks_joined (x ∷ xs) ys = ap (λ zs. block_of x ∷ zs) (blocks_joined xs ys)
 
-  -- what the map owned: its other nodes and their values', and the node with its value's
+  -- the blocks of the map: its other nodes and their values' blocks, and the node with its value's
+  -- blocks
   shares : (h : ℕ) → times h blocks ≡ times h (map block_of (a.front ++ a.back)) + times h (k.xs ++ k.ys) + times h (block_of node ∷ k.zs)
   shares h =
       let b : times h blocks ≡ times h (map block_of ns ++ m.owned) = ap (times h) m.blocks_are in

@@ -27,7 +27,7 @@ use Rattle.seg_map.proofs.TreeMaps.{key_at, its, nodes, is_search_tree}
 use Rattle.seg_map.proofs.Putting.{no_key, key_there, node_low}
 use Rattle.seg_map.proofs.Removing.{nodes_apart, k, value_is, value_stands, value_beside, takes_key}
 
--- what taking out the node at the end of a path does
+-- what removing the node at the end of a path does
 abbrev pub TakesFrom : List ℕ → List ℕ → ℕ → Path → Type 0
 TakesFrom old new root path = (turn : ℕ → Ordering) (node : ℕ) (shape : Tree) → IsSearchTree old root shape → LeadsTo turn shape path → node_at old path ≡ Some node → StandApart (length old) root (nodes_of shape)
     → Leaves old new root (nodes_of shape) (without_node node (nodes_of shape))

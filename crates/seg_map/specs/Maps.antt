@@ -33,7 +33,7 @@ keys_above keys after = filter (λ x. int_lt after x) keys
 abbrev pub value_of : ℕ → ℕ → Place
 value_of U at = record { at = at; type = U }
 
--- If the cell has a map of this form, the claim is true of its type and that of its values, its
+-- If the cell has a map of this form, the claim is true of its type, the type of its values, its
 -- keys and values, and the blocks that it owns.
 abbrev pub WhereMap : (ℕ → Form) → ℕ → List ℕ → Table → ℕ
     → (ℕ → ℕ → List ℤ → Values → List ℕ → Type 0) → Type 0

@@ -1,6 +1,5 @@
 //! Writes numbers and pointers into a segment's bytes, borrowed by [`Window::bytes_mut`](crate::Window::bytes_mut).
-// The slice's address and length stay in registers. Those of a window behind a reference don't while its bytes are
-// written.
+// The slice's address and length stay in registers. A window behind a reference is loaded again after each write.
 
 ghost use Rattle.std.specs.Prelude.{◌≡◌, ◌+◌, ◌≤◌, length};
 ghost use Rattle.seg_bytes.specs.Bytes.{set_word};

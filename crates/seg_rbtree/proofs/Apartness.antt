@@ -10,11 +10,11 @@ use Rattle.seg_rbtree.specs.Nodes.{side_word, opposite}
 use Rattle.seg_rbtree.specs.Ways.{Layer, branch, grow, plug, place}
 use Rattle.seg_rbtree.specs.Changes.{NodesApart, StandApart}
 
--- n bytes from p lie apart from each node
+-- the n bytes from p don't overlap the nodes
 abbrev pub Clear : ℕ → ℕ → List ℕ → Type 0
 Clear p n xs = AllByRecursion (λ q. Separate p n q 16) xs
 
--- each node of the one lies apart from each of the other
+-- no node of the one overlaps a node of the other
 abbrev pub Beside : List ℕ → List ℕ → Type 0
 Beside xs ys = AllByRecursion (λ x. Clear x 16 ys) xs
 
@@ -26,7 +26,7 @@ pub separate-swap : (f l g m : ℕ) → Separate f l g m → Separate g m f l
 separate-swap f l g m (inl h) = inr h
 separate-swap f l g m (inr h) = inl h
 
--- a part of what lies apart lies apart
+-- a part of a range that doesn't overlap something doesn't either
 pub separate-part : (f l g m i k : ℕ) → f ≤ i → i + k ≤ f + l → Separate f l g m → Separate i k g m
 separate-part f l g m i k low high (inl h) = inl (omega arith)
 separate-part f l g m i k low high (inr h) = inr (omega arith)
@@ -43,7 +43,7 @@ pub side_word-apart : (at p n : ℕ) (side : Side) → Separate p n at 16 → Se
 side_word-apart at p n Left h = separate-swap at 4 p n (separate-part at 16 p n at 4 (omega arith) (omega arith) (separate-swap p n at 16 h))
 side_word-apart at p n Right h = separate-swap (at + 4) 4 p n (separate-part at 16 p n (at + 4) 4 (omega arith) (omega arith) (separate-swap p n at 16 h))
 
--- a node apart from each of some: each of them apart from it
+-- if a node doesn't overlap some others, they don't overlap it
 pub clear-each : (at : ℕ) (xs : List ℕ) → Clear at 16 xs → AllByRecursion (λ x. Separate x 16 at 16) xs
 clear-each at xs h = each_weaker _ _ (λ x s. separate-swap at 16 x 16 s) xs h
 

@@ -193,7 +193,7 @@ part_there bytes path shape layers rest is steps t = record { steps_are = steps;
 apart_nodes : (xs ls : List ℕ) (at : ℕ) (rs ys : List ℕ) → xs ++ ((ls ++ at ∷ rs) ++ ys) ≡ (xs ++ ls) ++ at ∷ (rs ++ ys)
 apart_nodes xs ls at rs ys = ap (λ zs. xs ++ zs) (append_assoc ls (at ∷ rs) ys) ∙ sym (append_assoc xs ls (at ∷ rs ++ ys))
 
--- what is sought is before all that is after a node, after all that is before it, and equals it
+-- what is looked for is before all nodes after a node, after all nodes before it, and equals it
 module _ (order : ℕ → ℕ → Ordering) (turn : ℕ → Ordering) (node : ℕ) (above : (y : ℕ) → order node y ≡ Less → turn y ≡ Less) (below : (x : ℕ) → order x node ≡ Less → turn x ≡ Greater) (equal : turn node ≡ Equal) where
   -- at the layers above the node the path goes to the side of what is looked for
   lead_by : (layers : List Layer) → AllByRecursion (λ x. order x node ≡ Less) (before layers) → AllByRecursion (λ y. order node y ≡ Less) (following layers) → LeadBy turn layers
@@ -269,7 +269,7 @@ module _ (compare : ℕ → Ordering) (order : ℕ → ℕ → Ordering) (keyed 
   abbrev turn : ℕ → Ordering
   turn x = ordering_reverse (compare x)
 
-  -- what is after a node that equals the key is above it, and what is before it below
+  -- nodes after a node that equals the key are above the key, and nodes before it below
   above : (at y : ℕ) (r : Ordering) → compare y ≡ r → compare at ≡ Equal → order at y ≡ Less → r ≡ Greater
   above at y Less e f l = let k : 1 ≤ 0 = subst (λ q. rank_of q ≤ 0) f (subst (λ q. rank_of (compare at) ≤ rank_of q) e (keyed at y l)) in absurd (omega (arith, k))
   above at y Equal e f l = let o = one at y f e in cc
@@ -294,7 +294,7 @@ module _ (compare : ℕ → Ordering) (order : ℕ → ℕ → Ordering) (keyed 
   back Equal s e = ap ordering_reverse e
   back Greater s e = ap ordering_reverse e
 
-  -- what is after a node above the key is above it too
+  -- nodes after a node above the key are above it too
   up : (x y : ℕ) → order x y ≡ Less → past x ≡ true → past y ≡ true
   up x y l e = reaches_up Greater (compare x) (compare y) (keyed x y l) e
 
@@ -335,7 +335,7 @@ goes_inside bytes path new result same on inside shape t =
     let way = inside shape u in
     subst (λ x. IsWayIn x new) way.shape_is (on way.layers way.rest (part_there bytes path shape way.layers way.rest way.shape_is way.steps_are u)).way
 
--- a path to what is sought stays inside
+-- a path to what is looked for stays inside
 pub leads_inside : (turn : ℕ → Ordering) (shape : Tree) (path : Path) → LeadsTo turn shape path → IsWayIn shape path
 leads_inside turn shape path way = record { layers = way.layers; rest = way.rest; shape_is = way.shape_is; steps_are = way.steps_are }
 

@@ -16,13 +16,13 @@ use Rattle.seg_rbtree.proofs.Climbing.{goes_up, goes_past, leads_by, part_there}
 use Rattle.seg_rbtree.proofs.Removed.{itself}
 use Rattle.seg_rbtree.proofs.Searching.{reaches_up}
 
--- what the place is before is at or above the key
+-- nodes after the place are at or above the key
 left_reaches : (r : Ordering) → before_first r ≡ Less → reaches Equal r ≡ true
 left_reaches Less e = cc
 left_reaches Equal e = refl
 left_reaches Greater e = refl
 
--- what it is after is below the key
+-- nodes before it are below the key
 right_misses : (r : Ordering) → before_first r ≡ Greater → reaches Equal r ≡ false
 right_misses Less e = refl
 right_misses Equal e = cc

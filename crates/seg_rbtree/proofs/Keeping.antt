@@ -17,7 +17,7 @@ unfolding set_number
 word_others bytes at v p n h =
     slice-put_other bytes at (spelling 4 v) p n (subst (λ m. (p + n ≤ at) ⊎ (at + m ≤ p)) (sym (length-spelling 4 v)) h)
 
--- ---- the laws of what is kept
+-- ---- lemmas about kept bytes
 
 pub keeps-none : (bytes : List ℕ) (at : ℕ) (nodes : List ℕ) → KeepsBeside bytes bytes at nodes
 keeps-none bytes at nodes = record { length_kept = refl; others = λ p n h k. refl }

@@ -51,7 +51,7 @@ none_behind order total xs node (y ∷ ys) a last =
 
 -- ---- steps to the right
 
--- steps that all go right are those of layers whose places are on their right sides
+-- steps that all go right belong to layers whose places are on their right sides
 right_steps : (layers : List Layer) → AllByRecursion (λ (s : Step). s.side ≡ Right) (steps_of layers) → AreRight layers
 right_steps [] a = tt
 right_steps (l ∷ ls) a = ((each_right _ (steps_of ls) (step_of l ∷ []) a).0, right_steps ls (each_left _ (steps_of ls) (step_of l ∷ []) a))

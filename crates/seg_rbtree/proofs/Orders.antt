@@ -15,7 +15,7 @@ use Rattle.seg_rbtree.specs.Ways.{Layer, branch, grow, plug, turn_of, LeadBy}
 use Rattle.seg_rbtree.specs.Changes.{NodesApart, StandApart, IsNew, with_node, without_node}
 use Rattle.seg_rbtree.proofs.Apartness.{separate-swap}
 
--- ---- parts of what is in order
+-- ---- parts of lists in order
 
 pub record AscendParts (order : ℕ → ℕ → Ordering) (xs : List ℕ) (at : ℕ) (ys : List ℕ) : Type 0 where
   pub left : Ascend order xs
@@ -115,7 +115,7 @@ module _ (order : ℕ → ℕ → Ordering) (node : ℕ) where
     forth : (x y : ℕ) → order x y ≡ Less → order y x ≡ Greater
     forth x y e = total.antisymm y x ∙ ap ordering_reverse e
 
-    -- what is before a node that this one is above of is below it too
+    -- nodes before a node below this one are below it too
     below_all : (at : ℕ) (xs : List ℕ) → order node at ≡ Greater → AllByRecursion (λ x. order x at ≡ Less) xs → AllByRecursion (λ x. order node x ≡ Greater) xs
     below_all at xs e h = each_weaker _ _ (λ x l. forth x node (total.trans x at node l (back node at e))) xs h
 

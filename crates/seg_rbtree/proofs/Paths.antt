@@ -40,7 +40,7 @@ module _ (compare : ℕ → Ordering) (order : ℕ → ℕ → Ordering) (keyed 
   abbrev turn : ℕ → Ordering
   turn x = ordering_reverse (compare x)
 
-  -- what is before a node that is below the key doesn't equal it, and what is after one above it
+  -- nodes before a node below the key don't equal it, nor do nodes after one above it
   differs_before : (at x : ℕ) → compare at ≡ Less → order x at ≡ Less → compare x ≢ Equal
   differs_before at x e l f =
       let k : 1 ≤ 0 = subst (λ r. rank_of r ≤ 0) f (subst (λ r. rank_of (compare x) ≤ rank_of r) e (keyed x at l)) in
@@ -132,7 +132,7 @@ first_among compare order one [] back node a e = first_here (λ x. is_eq (compar
 first_among compare order one (x ∷ front) back node a e =
     first_later (λ x. is_eq (compare x)) x (front ++ node ∷ back) (unequal (compare x) (λ f. let s = one x node f e in let l = (each_right _ front (node ∷ back) a.0).0 in cc)) ∙ first_among compare order one front back node a.1 e
 
--- what is found is the first node that equals the key
+-- the result is the first node that equals the key
 pub finds_first : (compare : ℕ → Ordering) (order : ℕ → ℕ → Ordering) → ((x y : ℕ) → compare x ≡ Equal → compare y ≡ Equal → order x y ≡ Equal) → (nodes : List ℕ) (found : Option ℕ) → Ascend order nodes → FindsEqual compare nodes found
     → found ≡ first_where (λ x. is_eq (compare x)) nodes
 finds_first compare order one nodes None a f = sym (first_none compare nodes f)

@@ -163,7 +163,7 @@ module _ (bytes one : List ℕ) (root : ℕ) (path last : Path) (turn : ℕ → 
             (apart_lost (length bytes) root node (nodes_of shape) (nodes_of (plug u.part u.above)) lost a));
       }
 
-  -- a black one was, and what was short is restored
+  -- a black one was removed, and the short subtree is repaired
   pub black_left : (new : List ℕ) (u : Unlinks bytes one last way.layers way.rest node Black) → Restores one new last.root (plug u.part u.above) → Leaves bytes new root (nodes_of shape) (without_node node (nodes_of shape))
   black_left new u s =
       let lost : Loses node (nodes_of shape) (nodes_of (plug u.part u.above)) = subst (λ s. Loses node (nodes_of s) (nodes_of (plug u.part u.above))) way.shape_is u.lost in

@@ -76,7 +76,7 @@ upward_of order p up (x ∷ xs) a = (λ e. each_weaker _ _ (λ y l. up x y l e) 
 reaches_by : (l x y : ℕ) → x ≤ y → leb l x ≡ true → leb l y ≡ true
 reaches_by l x y h e = grind (arith, nat_tests)
 
--- what is no further down from a key reaches what the other reaches
+-- a node that isn't further down from a key than another reaches what the other reaches
 pub reaches_up : (least r s : Ordering) → rank_of r ≤ rank_of s → reaches least r ≡ true → reaches least s ≡ true
 reaches_up least r s h e = reaches_by (rank_of least) (rank_of r) (rank_of s) h e
 

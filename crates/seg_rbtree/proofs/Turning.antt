@@ -26,7 +26,7 @@ turns-none bytes at room tree h = record { hangs = h; kept = keeps-none bytes at
 pub turns-then : (a b c : List ℕ) (at : ℕ) (room x y : Tree) → Turns a b at room x → Turns b c at room y → Turns a c at room y
 turns-then a b c at room x y h k = record { hangs = k.hangs; kept = keeps-trans a b c at (nodes_of room) h.kept k.kept }
 
--- the room may be that of any tree with the same nodes
+-- the room may belong to any tree with the same nodes
 pub turns-room : (a b : List ℕ) (at : ℕ) (room other x : Tree) → nodes_of room ≡ nodes_of other → Turns a b at room x → Turns a b at other x
 turns-room a b at room other x e h = record { hangs = h.hangs; kept = subst (KeepsBeside a b at) e h.kept }
 
@@ -36,8 +36,7 @@ in_list : (p n at : ℕ) (xs ys : List ℕ) → Clear p n (xs ++ at ∷ ys) → 
 in_list p n at [] ys h = (tt, h.0, h.1)
 in_list p n at (x ∷ xs) ys h = let r = in_list p n at xs ys h.1 in ((h.0, r.0), r.1, r.2)
 
--- a range that doesn't overlap the nodes of a branch overlaps neither the node nor those of its
--- subtrees
+-- a range that doesn't overlap the nodes of a branch overlaps neither the node nor its subtrees
 pub record ClearParts (p n at : ℕ) (near far : Tree) : Type 0 where
   pub near_clear : Clear p n (nodes_of near)
   pub node_apart : Separate p n at 16

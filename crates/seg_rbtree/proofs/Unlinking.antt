@@ -78,7 +78,7 @@ module _ (node next : ℕ) (colour : Colour) (side : Side) (other : Tree) (layer
   side_renamed lower black beside h s = s
   side_renamed lower red beside h s = (s.0, s.1, below_black lower s.2)
 
-  -- what a place wants doesn't depend on which nodes are above
+  -- the height that a place needs doesn't depend on which nodes are above
   renamed_wants : (lower : List Layer) (h : ℕ) → Wants (lower ++ around node) h → Wants (lower ++ around next) h
   renamed_wants [] h w = w
   renamed_wants (l ∷ ls) h w = (side_renamed ls l.colour l.other h w.0, renamed_wants ls (height_above l.colour h) w.1)

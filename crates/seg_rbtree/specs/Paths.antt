@@ -103,8 +103,8 @@ TakesOutAt old new path = (turn : ℕ → Ordering) (node : ℕ) (shape : Tree)
     → StandApart (length old) path.root (nodes_of shape)
     → Leaves old new path.root (nodes_of shape) (without_node node (nodes_of shape))
 
--- The node at the end of a path was replaced by another, whose words may only overlap those of the
--- replaced node.
+-- The node at the end of a path was replaced by another, whose words may only overlap the replaced
+-- node's words.
 abbrev pub RenamesAt : List ℕ → List ℕ → Path → ℕ → Type 0
 RenamesAt old new path to = (turn : ℕ → Ordering) (node : ℕ) (shape : Tree)
     → IsSearchTree old path.root shape → LeadsTo turn shape path

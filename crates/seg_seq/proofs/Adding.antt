@@ -75,7 +75,7 @@ module _ (allocator : ℕ) (old mid : List ℕ) (table : Table) (list : Place) (
   even : list.at % 8 ≡ 0
   even = s.aligned
 
-  -- the cell, the new node and the others lie apart
+  -- the cell, the new node and the others don't overlap
   pub added_spread : AreSpread mid (list.at ∷ payload ∷ l.nodes)
   added_spread = are_spread allocator mid given.heap list.at t.home inside even all low owned
 

@@ -46,7 +46,7 @@ module _ (bytes : List ℕ) (table : Table) (U : ℕ) where
   each_append holds_none r = r
   each_append (holds_more {blocks = bs} {owned = cs} h hs) r = rw append_assoc (holds_more h (each_append hs r))
 
-  -- the values of the nodes before one, its own, and those of the nodes after it
+  -- the values of the nodes before one, of this node, and of the nodes after it
   pub record SplitAt (xs : List ℕ) (node : ℕ) (ys : List ℕ) (vs : Values) (owned : List ℕ) : Type 0 where
     pub left : Values
     pub right : Values
@@ -256,7 +256,7 @@ module _ (allocator : ℕ) (old : List ℕ) (table : Table) (list : Place) (U no
       all_fit : (h : ℕ) → times h (s.home ∷ map block_of all) + (times h owned + times h shares) ≤ times h (positions (live old))
       all_fit h = let o = beside h in let c = blocks_count h in let a = times-append h (s.home ∷ blocks) shares in omega arith
 
-      -- a block of what an item owns, or of a frozen object
+      -- a block that an item or a frozen object owns
       beside_other : (h : ℕ) → 1 ≤ times h owned + times h shares → h ≢ s.home
       beside_other h some e =
           let mine : 1 ≤ times s.home owned + times s.home shares = subst (λ k. 1 ≤ times k owned + times k shares) e some in
@@ -272,7 +272,7 @@ module _ (allocator : ℕ) (old : List ℕ) (table : Table) (list : Place) (U no
           let m = times-more h s.home (map block_of all) in
           other_kept allocator old s.heap list.at s.home inside s.aligned all low own one r.changes h (omega arith) (beside_other h some) (omega arith)
 
-      -- what calls find there that destroy the item
+      -- what a call finds that destroys the item
       pub item_beside : (names : List ℕ) (kept : List Place) → SharedBeside old table (s.home ∷ blocks) names theirs kept now final → SharedBeside one table (item_stands.home ∷ p.its) names theirs kept now final
       unfolding item_stands
       item_beside names kept shared = record {

@@ -55,7 +55,7 @@ vector_form table T U V o k read is vec =
     let f : form_at table T ≡ Some (Form.vec V) = read ∙ ap (map_option form_of) (is ∙ ap (λ t. Some t) vec) in
     (f, λ other. let same : Some (Form.vec V) ≡ Some (Form.vec U) = sym f ∙ other in cc)
 
--- what a heap tells to be a vector of numbers has numbers as its items
+-- if the heap says that a type is a vector of numbers, its items are numbers
 pub number_items : (table : Table) (T U V : ℕ) → numbers_in table T ≡ Some V → form_at table T ≡ Some (Form.vec U) → form_at table U ≡ Some Form.i64
 number_items table T U V told vector = grind (arith, common_steps)
 
@@ -64,7 +64,7 @@ text_form table T o k read is text = read ∙ ap (map_option form_of) (is ∙ ap
 
 -- ---- the items of a vector
 
--- what the cells of a vector's type name
+-- the layout of what the cells of a vector's type point to
 abbrev content_of : (table : Table) (T U : ℕ) → 1 ≤ size table U → Content
 content_of table T U some = record { shape = shape.Buffer; tag = record { kind = tag.Buffer; type_id = T }; entry = record { size = size table U; before = 0; held = held.Value U; some = some } }
 
@@ -151,7 +151,7 @@ module _ (allocator : ℕ) (old : Stored) (cell T U : ℕ) (vs : Values) (blocks
 
 -- ---- the bytes of a string
 
--- what the cells of a string's type name
+-- the layout of what the cells of a string's type point to
 abbrev text_content : ℕ → Content
 text_content T = record { shape = shape.Buffer; tag = record { kind = tag.Buffer; type_id = T }; entry = record { size = 1; before = 0; held = held.Bytes; some = omega arith } }
 

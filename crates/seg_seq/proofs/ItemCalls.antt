@@ -89,7 +89,7 @@ module _ (allocator : ℕ) (old : Stored) (cell T U : ℕ) (vs : Values) (blocks
         let same : default_of counted.types V ≡ default_of old.types U = ap (λ t. default_of t V) same_types ∙ ap (default_of old.types) V_is in
         any_pushed (default_of old.types U) changes (λ within known. subst (λ v. Holds new.window.bytes counted.types (object_at at V) v []) same (default within known))
 
-  -- an item more that is counted alone
+  -- one more item that is only counted
   module _ (mid counted : Stored) (r : Reserves allocator old.window.bytes mid.window.bytes old.types (object_at cell T) (Seq vs) blocks (buffer_asks old.window.bytes cell each len) (len * each))
       (counted_is : counted.window.bytes ≡ set_word mid.window.bytes (cell + 4) len) (first before at : ℕ) (first_is : first ≡ start mid.window.bytes cell) (before_is : before ≡ 0)
       (at_is : at ≡ (first + kept * each + before) % 2 ^ 32) where
@@ -101,7 +101,7 @@ module _ (allocator : ℕ) (old : Stored) (cell T U : ℕ) (vs : Values) (blocks
       at_is = (let there : at ≡ (start mid.window.bytes cell + count_at old.window.bytes cell * size old.types U + 0) % 2 ^ 32 = rw (first_is, kept_is, one_size, before_is) at at_is in omega arith);
     }
 
--- what is written there then is the item
+-- what is then written there is the item
 module _ (allocator : ℕ) (old : Stored) (cell T U : ℕ) (vs : Values) (blocks : List ℕ) (h : HasItems allocator old (object_at cell T) U vs blocks) (counted new : Stored) (at : ℕ)
     (c : CountsItem allocator old counted (object_at cell T) U vs blocks at) (same_types : counted.types ≡ old.types) where
   counted_few : count_at old.window.bytes cell + 1 ≡ min (count_at old.window.bytes cell + 1) 4294967295

@@ -108,7 +108,7 @@ module _ (allocator : ℕ) (old : List ℕ) (table : Table) (place : Place) (U :
       owned = λ h. omega (arith, s.owned h, blocks_are h, times-more h s.home blocks, times-append h (block_of p ∷ []) last.zs, times-append h (block_of p ∷ []) last.xs);
     }
 
-    -- what calls find there that destroy the item
+    -- what a call finds that destroys the item
     pub item_beside : (names : List ℕ) (theirs : ℕ → List ℕ) (kept : List Place) (now final : List Frozen) → SharedBeside old table (s.home ∷ blocks) names theirs kept now final
         → SharedBeside old table (item_stands.home ∷ last.zs) names theirs kept now final
     unfolding item_stands others
@@ -157,7 +157,7 @@ module _ (allocator : ℕ) (old : List ℕ) (table : Table) (place : Place) (U :
       live_mid : (h : ℕ) → times h (positions (live mid)) + times h c.gives ≡ times h (positions (live old))
       live_mid h = omega (arith, c.changes.live_are h, goes h, times-append h last.zs shares)
 
-      -- a block that doesn't go is kept, but for the buffer
+      -- a block that isn't freed is kept, except for the buffer
       other_kept : (h : ℕ) → 1 ≤ times h (positions (live old)) → times h last.zs + times h shares ≡ 0 → h ≢ block_of p → KeepsBlock old mid h
       other_kept h some none other =
           let k = c.changes.kept h some (omega (arith, none, times-append h last.zs shares)) in

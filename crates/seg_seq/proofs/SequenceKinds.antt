@@ -41,7 +41,7 @@ module _ (table : Table) (T : ℕ) (c : Content) where
     pub buffer_vector : (U : ℕ) → form_at table T ≡ Some (Form.vec U) → NamesBuffer table T c
     buffer_vector U f = elim is [ inl e ↦ let no = rw f at (subst Kinds e of) in absurd no | inr e ↦ names_vector U f (subst Kinds e of) ]
 
--- what is a string by its content is one
+-- a type with a string's layout is a string
 pub text_of : (table : Table) (T : ℕ) (form : Option Form) (c : Content) → KindOf table T form (Ok (kind.Text, c)) → form ≡ Some Form.str
 text_of table T (Some Form.str) c k = refl
 text_of table T None c k = absurd k

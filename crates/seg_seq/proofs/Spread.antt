@@ -113,7 +113,7 @@ module _ (allocator : ℕ) (old new : List ℕ) (places : List ℕ) (heap : IsHe
     pair : (h : ℕ) → 1 ≤ times h (positions (live old)) → OneOrApart old x h
     pair h owned = there (OneOrApart old x) h (positions (live old)) (there (λ t. AllByRecursion (OneOrApart old t) (positions (live old))) x (positions (live old)) (live-apart old allocator heap) some) owned
 
-    -- a part of the block that lies apart from the places in it is kept
+    -- a part of the block that doesn't overlap the places in it is kept
     pub part_same : (q m : ℕ) → x ≤ q → q + m ≤ x + 16 * units_at old x → ((p : ℕ) → 1 ≤ times p places → IsInside old x p 8 → Separate q m p 8) → IsSame old new q m
     part_same q m low high f = changes.others q m (each_there (λ p. Separate q m p 8) places (λ p is. let w = there (HasHome old) p places homes is in go p is w.home w.inside (pair w.home w.home_live)))
       where

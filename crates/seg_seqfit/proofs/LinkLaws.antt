@@ -53,7 +53,7 @@ Links-after bytes (t ∷ xs) ys p last l =
     [ true ↦ (λ l. Links-after bytes xs ys p last l) | false ↦ (λ l. Links-after bytes xs ys (t.at + 12) last l.1) ] in
     go l
 
--- the words before the one after some tiles stay, and what that one begins is changed
+-- the words before the one after some tiles stay, and the list from that word on changes
 pub Links-changed : (old new : List ℕ) (xs ys zs : List Tile) (p from to : ℕ) (last last' : Option ℕ) → p + 4 ≤ from → Fill from xs to → Agrees old new p (link_past p xs)
     → Links old p (free_of (xs ++ ys)) last → Links new (link_past p xs) (free_of zs) last' → Links new p (free_of (xs ++ zs)) last'
 Links-changed old new [] ys zs p from to last last' low f same l l' = l'
@@ -87,7 +87,7 @@ Links-moved old new (t ∷ ts) p q from to last e same f l =
     ] in
     go l
 
--- what a pointer word of the list names
+-- the target of a pointer word of the list
 pub names_tile : (bytes : List ℕ) (ts : List Tile) (p from to t : ℕ) → from % 16 ≡ 0 → Fill from ts to → Links bytes p (free_of ts) None → target bytes p ≡ Some t → (t % 16 ≡ 0) × (t ≤ to)
 names_tile bytes [] p from to t aligned f l e = absurd (no (sym e ∙ l))
   where

@@ -204,7 +204,7 @@ abbrev pub AreAbove : ℕ → List Span → Type 0
 AreAbove at [] = ⊤
 AreAbove at (g ∷ gs) = (at ≤ g.at) × AreAbove at gs
 
--- the free blocks before a pointer word are passed; those of `todo` are below the block, and the
+-- the free blocks before a pointer word are passed; the ones in `todo` are below the block, and the
 -- rest above
 pub record IsPassed (bytes : List ℕ) (seen rest : List Span) (block link low : ℕ) : Type 0 where
   pub done : List Span

@@ -47,7 +47,7 @@ module _ (old : List ℕ) (xs ys : List Tile) (at u : ℕ) (was : IsTiling 0 old
       (IsLocal-trans unlinked closed taken link at (at + 16 * u) (IsLocal-word unlinked (at + 12) (distance (at + 12) None) link at (at + 16 * u) (omega arith) (omega arith))
       (IsLocal-word closed at (size_word u true) link at (at + 16 * u) (omega arith) (omega arith)))
 
-  -- a word of the old bytes that none of these writes meets
+  -- a word of the old bytes that none of these writes overlaps
   kept : (p : ℕ) → at + 4 ≤ p → (p + 4 ≤ at + 12) ⊎ (at + 16 ≤ p) → word taken p ≡ word old p
   kept p low out =
       let below_link = below in

@@ -105,7 +105,7 @@ module _ (bytes : List ℕ) (at total largest units : ℕ) (k : Counted bytes at
       let units_are = it.units_is in
       record { others = it.others; rest = it.rest; total_is = omega arith; largest_is = omega arith; few = omega arith }
 
--- the same under other names
+-- the same for equal arguments
 pub counted_at : (bytes : List ℕ) (at at' total total' largest largest' : ℕ) → at' ≡ at → total' ≡ total → largest' ≡ largest → Counted bytes at total largest → Counted bytes at' total' largest'
 counted_at bytes at at' total total' largest largest' p t l k = rw (p, t, l) k
 

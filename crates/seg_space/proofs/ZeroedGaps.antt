@@ -153,7 +153,7 @@ module _ (a : ℕ) (old mid : List ℕ) (at units : ℕ) (z : Zeroing a old mid 
 
 -- ---- all of them
 
--- tiles lie apart from the free ones among them, but for themselves
+-- a tile overlaps no free tile but itself
 abbrev Beside : Tile → Span → Type 0
 Beside t g = ((t.live ≡ false) × (t.at ≡ g.at)) ⊎ Separate t.at (16 * t.units) g.at (16 * g.units)
 

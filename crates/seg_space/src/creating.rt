@@ -17,8 +17,8 @@ use seg_ptr::{Window, header, is_size};
 use seg_raw::{Fault, Region};
 use std::alloc::Allocator;
 
-/// A new, empty segment of `size` bytes at a base of a region. All its bytes are 0 but those of the header and of a
-/// heap with one free block. Fails with `BadSize` if the size isn't one of a segment, and with `Misplaced` if the
+/// A new, empty segment of `size` bytes at a base of a region. All its bytes are 0, except in the header and in the
+/// heap, which is one free block. Fails with `BadSize` if the size isn't one of a segment, and with `Misplaced` if the
 /// segment may not be there; the region is returned with the fault.
 pub fn create<F: Fit, A: Allocator>(
     region: Region<A>,

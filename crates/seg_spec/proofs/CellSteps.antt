@@ -38,7 +38,7 @@ module _ (table : Table) (valid : IsTable table) where
   pub each_none : (P : ℕ → Option Form → Type 0) (T : ℕ) → form_at table T ≡ None → EachCell table T P
   each_none P T e = rw (no_cells table T e) tt
 
-  -- what is no struct has one
+  -- any type but a struct has one
   pub one_cell : (T : ℕ) (form : Form) → form_at table T ≡ Some form → IsOne table valid form → cells table T ≡ record { from = 0; type = T } ∷ []
   one_cell T Form.i64 f h = absurd h
   one_cell T (Form.struct Us) f h = absurd h
@@ -137,9 +137,9 @@ module _ (table : Table) (valid : IsTable table) where
   pub each_cell_weaker : (P Q : ℕ → Option Form → Type 0) (T : ℕ) → ((d : ℕ) (form : Option Form) → d + 8 ≤ size table T → d % 8 ≡ 0 → P d form → Q d form) → EachCell table T P → EachCell table T Q
   each_cell_weaker P Q T f a = each_both _ _ _ (λ c p l. f c.from (form_at table c.type) l.0 l.1 p) (cells table T) a (cells_lie T)
 
--- ---- changes in turn
+-- ---- changes one after the other
 
--- R is about the bytes of the cell alone
+-- R only depends on the bytes of the cell
 abbrev pub IsLocal : (List ℕ → List ℕ → ℕ → Option Form → Type 0) → Type 0
 IsLocal R = (a b c d : List ℕ) (at : ℕ) (form : Option Form) → IsSame a c at 8 → IsSame b d at 8 → R a b at form → R c d at form
 

@@ -75,7 +75,7 @@ all_room allocator bytes heap = let l = live_room bytes (tiles bytes) heap_start
 
 -- ---- the cells that point to objects in a value
 
--- how many objects a label names by itself
+-- how many objects a label refers to by itself
 abbrev own_names : Label → ℕ
 own_names (Label.shared T p) = 1
 own_names _ = 0
@@ -209,7 +209,7 @@ few_named p (q ∷ qs) =
 cells_beside : (xs ys : List Root) → length (cells_in (xs ++ ys)) ≡ length (cells_in xs) + length (cells_in ys)
 cells_beside xs ys = ap length (cells_append xs ys) ∙ length-append (cells_in xs) (cells_in ys)
 
--- the values of the frozen objects are those of their roots
+-- the frozen objects and their roots have the same values
 frozen_cells : (fs : List Frozen) → length (cells_in (map root_of_frozen fs)) ≡ length (names_of fs)
 frozen_cells [] = refl
 frozen_cells (f ∷ fs) =

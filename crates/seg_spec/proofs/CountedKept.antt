@@ -30,6 +30,6 @@ counted_with next picture other before root after split others none same c =
       falling = subst IsFalling (sym same) c.falling;
     }
 
--- what a call kept that changed the heap alone
+-- what a call keeps that only changes the heap
 pub counted_on : (old new : List ℕ) (picture : Picture) → KeepsBack old new → AreCounted (word old next_word) picture → AreCounted (word new next_word) picture
 counted_on old new picture back c = counted_still old new picture (next_same old new back) c

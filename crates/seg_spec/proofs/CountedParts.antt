@@ -52,7 +52,7 @@ same_frozen picture by_name roots = refl
 same_frozen picture by_type roots = refl
 same_frozen picture loose roots = refl
 
--- ---- the same names in another order
+-- ---- the same targets in another order
 
 pub record SameNames (xs ys : List Place) : Type 0 where
   pub counts : (p : ℕ) → times_named p xs ≡ times_named p ys

@@ -80,7 +80,7 @@ counted_first next fs xs ys zs c =
     omega arith)
     (each_joined P ys (xs ++ zs) (each_left P ys zs rest) (each_joined P xs zs (each_left P xs (ys ++ zs) c.named) (each_right P ys zs rest))) c
 
--- ---- cells that go one list after the other
+-- ---- cells that are released one list after the other
 
 -- the same objects stay if cells are released at once or some of them first
 pub left_in_turn : (most next : ℕ) (xs ys kept : List Place) (fs : List Frozen) → length xs + length (names_of fs) ≤ most → IsFalling fs → IsCounted next fs ((xs ++ ys) ++ kept) → left (xs ++ ys) fs ≡ left ys (left xs fs)

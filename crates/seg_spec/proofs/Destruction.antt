@@ -184,7 +184,7 @@ pub awaits_blocks : (allocator : ℕ) (a : List ℕ) (table : Table) (first : Op
     → Awaits allocator a table first ys names kept theirs final
 awaits_blocks allocator a table first xs ys names kept theirs final same w = record { named = w.named; frozen = w.frozen; beside = beside_same allocator a table first xs ys w.named theirs w.frozen same w.beside; releasing = w.releasing }
 
--- if the blocks of all objects are kept and allocated, those of the objects that stay are too
+-- if the blocks of all objects are kept and allocated, so are the blocks of the objects that stay
 pub final_kept : (allocator : ℕ) (old new : List ℕ) (table : Table) (first : Option ℕ) (blocks names : List ℕ) (kept : List Place) (theirs : ℕ → List ℕ) (final : List Frozen)
     → (w : Awaits allocator old table first blocks names kept theirs final) → AreLive old blocks → ((h : ℕ) → 1 ≤ times h (blocks_by theirs w.frozen) → KeepsBlock old new h) → KeepFrozen old new theirs final
 final_kept allocator old new table first blocks names kept theirs final w owned whole =
@@ -224,7 +224,7 @@ adds_same allocator a b table f xs ys zs more kept theirs final same k = record 
     all : SameBlocks (xs ++ zs) (ys ++ zs)
     all h = omega (arith, same h, times-append h xs zs, times-append h ys zs)
 
--- one more waits
+-- one more block waits
 pub adds_pushed : (allocator : ℕ) (old : List ℕ) (table : Table) → IsTable table → (p : ℕ) (first : Option ℕ) (xs ys ns more : List ℕ) (kept : List Place) (theirs : ℕ → List ℕ) (final : List Frozen) → GoesWith old table p xs ns
     → Awaits allocator old table first ys (ns ++ more) kept theirs final → AreLive old (xs ++ ys) → Adds allocator old (set_pointer old (block_of p + 12) first) table (Some p) xs ys more kept theirs final
 adds_pushed allocator old table valid p first xs ys ns more kept theirs final o waiting owned =
@@ -487,7 +487,7 @@ module _ (allocator : ℕ) (old now : List ℕ) (table : Table) (valid : IsTable
           front : KeepsFront opened new × KeepsBack opened new
           front = front_kept opened new g.kept large
 
-  -- if no block waits any more, all were freed except those of the objects that stay
+  -- if no block waits any more, all were freed except the blocks of the objects that stay
   pub all_freed : first ≡ None → Destroys allocator old now table blocks theirs final
   all_freed none = go (subst (λ o. Awaits allocator now table o f.left [] kept_cells theirs final) none f.awaits)
     where

@@ -16,7 +16,7 @@ tiles_held bytes s =
     let l = s.held.laid_out in
     record { filled = l.heap.filled; headers = l.heap.headers; apart = l.heap.apart; ownable = l.blocks; of_version = tags_of_version bytes s }
 
--- the table of an image whose front is right is that of its picture
+-- the table of an image whose front is right is its picture's table
 pub front_table : (bytes : List ℕ) (table : Table) (s : IsSound bytes) → HasFront bytes table → s.picture.table ≡ table
 front_table bytes table s f = HasTable-one bytes 64 s.picture.table table s.held.laid_out.is_table f.is_table s.held.laid_out.types f.types
 

@@ -16,7 +16,7 @@ use Rattle.seg_spec.proofs.Unfolding.{same_tree, found_here, found_after, deep_e
 abbrev NameLower : List Frozen → Type 0
 NameLower fs = AllByRecursion (λ (f : Frozen). AllByRecursion (IsBelow f.number fs) (names_in f.value)) fs
 
--- ---- what was below before
+-- ---- references below a number
 
 pub below_weaker : (n m : ℕ) (fs : List Frozen) (q : Place) → AllByRecursion (λ (f : Frozen). f.number < m) fs → IsBelow n fs q → IsBelow m fs q
 below_weaker n m [] q a h = absurd h
@@ -67,7 +67,7 @@ value_raised_by : (names : List Place) (fs : List Frozen) (at : ℕ) → value_a
 value_raised_by [] fs at = refl
 value_raised_by (r ∷ names) fs at = value_raised r.at (raised_by names fs) at ∙ value_raised_by names fs at
 
--- counts are nothing to what is meant
+-- the meaning doesn't depend on counts
 meaning_raised : (names : List Place) (fs : List Frozen) (n at : ℕ) → meaning n (raised_by names fs) at ≡ meaning n fs at
 unfolding meaning
 meaning_raised names fs zero at = refl

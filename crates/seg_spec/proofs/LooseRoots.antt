@@ -35,7 +35,7 @@ module _ (old new : List ℕ) (picture : Picture) (held : IsHeld old picture) (b
   pub apart : RootsComeApart old picture held (roots_before picture loose before) gone (roots_after picture loose after)
   apart = roots_come_apart old picture held (roots_before picture loose before) gone (roots_after picture loose after) (roots_are picture loose before gone after split)
 
-  -- the blocks of those that go
+  -- the blocks of the removed ones
   pub its : List ℕ
   its = apart.its
 

@@ -13,7 +13,7 @@ use Rattle.seg_spec.specs.Cells.{EachCell, IsMoved}
 use Rattle.seg_spec.proofs.Frame.{SamePlace, each_left, each_right, each_of_map, each_map, each_weaker, buffer-same, buffer-kept, spaced-same, nodes-same, nodes-kept, IsRing-same, IsTree-same, keys_at-same, places-same, inner-same, shorter, further, HoldsEach-kept}
 use Rattle.seg_spec.proofs.CellLaws.{cells-form}
 
--- ---- the cells of a struct are those of its fields
+-- ---- the cells of a struct are its fields' cells
 
 -- of each cell of fields that are one after the other
 abbrev pub EachField : Table → ℕ → List ℕ → (ℕ → Option Form → Type 0) → Type 0

@@ -106,7 +106,7 @@ module _ (allocator : ℕ) (old : List ℕ) (table : Table) (place : Place) (v :
     unfolding inner_stands
     inner_home = refl
 
-    -- what calls find there that destroy the value
+    -- what a call finds that destroys the value
     pub inner_beside : (theirs : ℕ → List ℕ) (kept : List Place) (now final : List Frozen) → SharedBeside old table (s.home ∷ blocks) (named_in c.value) theirs kept now final
         → SharedBeside old table (block ∷ c.its) (named_in c.value) theirs kept now final
     inner_beside theirs kept now final beside = shared_fewer old table (s.home ∷ blocks) (block ∷ c.its) (named_in c.value) theirs kept now final fewer beside

@@ -19,7 +19,7 @@ use Rattle.seg_spec.proofs.Destruction.{places_inside, parts_then, same_adds, ad
 use Rattle.seg_spec.specs.Shared.{named_in, named_each}
 use Rattle.seg_spec.specs.Frozen.{Frozen}
 
--- ---- what a value is made of
+-- ---- what a value consists of
 
 pub each_parts : (bytes : List ℕ) (table : Table) {places : List Place} {vs : Values} {owned : List ℕ} → HoldsEach bytes table places vs owned → AreParts bytes table places owned (named_each vs)
 unfolding named_each

@@ -18,7 +18,7 @@ use Rattle.seg_spec.proofs.CellSteps.{ChangesOnly-wider}
 use Rattle.seg_spec.proofs.Owed.{push_waits}
 use Rattle.seg_spec.proofs.Labels.{labelled_live, labelled_heap, labelled_other}
 
--- what waits begins with its own block
+-- the list of waiting blocks begins with the first one
 pub record Begins (p : ℕ) (blocks : List ℕ) : Type 0 where
   pub rest : List ℕ
   pub blocks_are : blocks ≡ block_of p ∷ rest

@@ -114,7 +114,7 @@ module _ (allocator : ℕ) (old new : List ℕ) (table : Table) (valid : IsTable
         payload = λ g m low high apart. changes.others g m apart;
       }
 
-  -- what isn't the object's own block stays
+  -- all but the object's own block stays
   pub beside_it : (h : ℕ) → 1 ≤ times h (positions (live old)) → h ≢ block_of f.at → KeepsLinked old new h
   beside_it h some other = lowered_keeps.others h some (times-other h (block_of f.at) [] (λ e. other (sym e)))
 
@@ -174,7 +174,7 @@ module _ (allocator : ℕ) (old : List ℕ) (table : Table) (valid : IsTable tab
   k : Named p frozen
   k = turn.it
 
-  -- the object's own blocks, and those of the others
+  -- the object's own blocks, and the blocks of the others
   abbrev mine : List ℕ
   mine = theirs k.object.at
 
@@ -260,7 +260,7 @@ module _ (allocator : ℕ) (old : List ℕ) (table : Table) (valid : IsTable tab
         beside_it allocator old new table valid k.object (k.object.count - 1) mine others w.pends.heap there_is fits changes_there count_there h n.0
         (λ e. let m : 1 ≤ times h mine = subst (λ x. 1 ≤ times x mine) (sym e) own_there in absurd (omega (arith, n.1)))
 
-    -- its own block is changed behind the header alone
+    -- its own block only changed after the header
     own_ownable : IsOwnable new table (block_of k.object.at)
     own_ownable =
         let own = block_of k.object.at in
@@ -274,7 +274,7 @@ module _ (allocator : ℕ) (old : List ℕ) (table : Table) (valid : IsTable tab
           link_is = target-same old new (block_of k.object.at + 12) (changes_there.others (block_of k.object.at + 12) 4 (inl (omega (arith, low)))) ∙ o.link_is;
         }
 
-    -- those of the objects before and after, and of one at its place between them
+    -- the blocks of the objects before and after, and of one in between
     among : (f : Frozen) → f.at ≡ k.object.at → (h : ℕ) → times h (blocks_by theirs (k.before ++ f ∷ k.after)) ≡ times h lefts + times h mine + times h rights
     among f same h =
         let e : times h (theirs f.at) ≡ times h mine = ap (λ q. times h (theirs q)) same in

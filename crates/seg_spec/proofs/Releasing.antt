@@ -48,7 +48,7 @@ left_same xs ys (f ∷ fs) a =
     kept_same f (f.count - times_named f.at xs) (f.count - times_named f.at ys) (left (xs ++ ns) fs) (left (ys ++ ns) fs) (left xs fs) (left ys fs)
     (ap (λ n. f.count - n) a.0) (left_same (xs ++ ns) (ys ++ ns) fs more) (left_same xs ys fs a.1)
 
--- ---- the names in the objects after a turn
+-- ---- what the objects point to after a step
 
 -- a sum over the targets
 pub names_apart : (size : List Place → ℕ) → size [] ≡ 0 → ((xs ys : List Place) → size (xs ++ ys) ≡ size xs + size ys) → (p : ℕ) (fs : List Frozen)
@@ -241,7 +241,7 @@ module _ (next : ℕ) (q : Place) (rest kept : List Place) (fs : List Frozen) (c
   abbrev all_names : List Place
   all_names = cells ++ names_of (lowered q.at fs)
 
-  -- all names are those from before, but for the one
+  -- all targets from before but the one
   one_fewer : (r : ℕ) → times_named r (((q ∷ rest) ++ kept) ++ names_of fs) ≡ times_named r (q ∷ []) + times_named r all_names
   one_fewer r =
       let a = named-append r (q ∷ []) ((rest ++ kept) ++ names_of fs) in
@@ -277,7 +277,7 @@ module _ (next : ℕ) (q : Place) (rest kept : List Place) (fs : List Frozen) (c
         counts = counts_lowered q all_names fs c.distinct shares;
       }
 
--- ---- the names in another order
+-- ---- the targets in another order
 
 named_permuted : (p : ℕ) (xs ys : List Place) → IsPermutation xs ys → times_named p ys ≡ times_named p xs
 named_permuted p xs ys s =

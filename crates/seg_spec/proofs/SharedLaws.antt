@@ -96,7 +96,8 @@ module _ (P : Frozen → Type 0) (whatever : (f : Frozen) (n : ℕ) → P f → 
 
 -- ---- the objects that stay
 
--- each object counts these cells: those that go, those that stay, and those in the objects themselves
+-- each object counts these cells: the released ones, the ones that stay, and the ones in the
+-- objects themselves
 pub CountsAll : List Place → List Place → List Frozen → Type 0
 CountsAll gone stay fs = AllByRecursion (λ (f : Frozen). f.count ≡ times_named f.at gone + times_named f.at stay + times_named f.at (names_of fs)) fs
 

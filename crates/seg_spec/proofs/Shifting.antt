@@ -25,7 +25,7 @@ use Rattle.seg_spec.proofs.Moving.{EachField, fields_struct, Holds-moved}
 use Rattle.seg_spec.proofs.CellSteps.{ChangesOnly-trans, each_i64, each_one, each_cell_weaker}
 use Rattle.seg_spec.proofs.WriteInside.{KeptBut, live_kept_but}
 
--- ---- what cells name
+-- ---- what cells point to
 
 module _ (bytes : List ℕ) (table : Table) (valid : IsTable table) where
   -- if the word points to something, it is the payload of one of the blocks, or of one that other

@@ -59,7 +59,7 @@ found_in n all (f ∷ fs) q d a (inr h) =
 pub found : (n : ℕ) (fs : List Frozen) (q : Place) → AreDistinct fs → AllByRecursion (λ (f : Frozen). AllByRecursion (IsBelow f.number fs) (names_in f.value)) fs → IsBelow n fs q → Found n fs q
 found n fs q d a h = let f = found_in n fs fs q d a h in record { object = f.0; less = f.1; value_is = f.2; names = f.3 }
 
--- ---- numbers fall, so a tree is the same however far one may go down
+-- ---- numbers fall, so the tree doesn't depend on the allowed depth
 
 module _ (fs : List Frozen) (distinct : AreDistinct fs) (falling : AllByRecursion (λ (f : Frozen). AllByRecursion (IsBelow f.number fs) (names_in f.value)) fs) where
   all_agree : (n m : ℕ) → ((q : Place) → IsBelow n fs q → meaning n fs q.at ≡ meaning m fs q.at) → (qs : List Place) → AllByRecursion (IsBelow n fs) qs → Agree (meaning n fs) (meaning m fs) qs

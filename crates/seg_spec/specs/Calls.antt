@@ -11,8 +11,8 @@ use Rattle.seg_spec.specs.Reads.{Place, Holds}
 use Rattle.seg_spec.specs.Sound.{times, positions}
 use Rattle.seg_spec.specs.Demand.{Ask, NoRoom}
 
--- The object has no name and no owner. Its block has the tag of an object, and this block and those
--- of its value are allocated and differ.
+-- The object has no name and no owner. Its block has the tag of an object, and this block and its
+-- value's blocks are allocated and differ.
 pub record IsLoose (bytes : List ℕ) (table : Table) (object : Place) (v : Value)
     (inside : List ℕ) : Type 0 where
   pub block : IsBlock bytes object.at (tag_of Kind.object object.type) (size table object.type)

@@ -1,4 +1,4 @@
--- The requests of operations to the heap, in order, and the blocks that they free. A request names
+-- The requests of operations to the heap, in order, and the blocks that they free. A request has
 -- two sizes: the preferred one, and the least one. The heap is a list of allocated blocks and an
 -- end.
 --     need n                              the size in units of a block for n payload bytes

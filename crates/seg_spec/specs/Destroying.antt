@@ -87,7 +87,7 @@ abbrev pub KeepFrozen : List ℕ → List ℕ → (ℕ → List ℕ) → List Fr
 KeepFrozen old new theirs frozen =
     AllByRecursion (λ f. AllByRecursion (KeepsBlockAround old new f.at 4) (theirs f.at)) frozen
 
--- Blocks wait from `first` on, and frozen objects exist apart from them. `blocks` are those of
+-- Blocks wait from `first` on, and frozen objects exist apart from them. `blocks` are the blocks of
 -- both.
 pub record PendsBeside (allocator : ℕ) (bytes : List ℕ) (table : Table) (first : Option ℕ)
     (blocks names : List ℕ) (theirs : ℕ → List ℕ) (frozen : List Frozen) : Type 0 where

@@ -40,7 +40,7 @@ pub record HasTiles (bytes : List ℕ) (table : Table) : Type 0 where
   pub of_version :
       AllByRecursion (λ b. IsTagOf (word bytes version_word) (tag_at bytes b.at)) (live bytes)
 
--- The image is laid out, and tags are those of its version. Each value reads, and frozen objects
+-- The image is laid out, and has only tags of its version. Each value reads, and frozen objects
 -- count their cells. All blocks of the index and the roots are allocated, but may have several
 -- owners or none.
 pub record HoldsAll (bytes : List ℕ) : Type 0 where

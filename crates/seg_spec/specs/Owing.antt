@@ -28,7 +28,7 @@ NamesNothing bytes at (Some Form.i64) = ⊤
 NamesNothing bytes at _ = target bytes at ≡ None
 
 -- A value of a waiting block owns `blocks`, and its shared cells point to `names`. Or its pointers
--- are all null, like those of an unused entry.
+-- are all null, like in an unused entry.
 abbrev pub IsPart : List ℕ → Table → Place → List ℕ → List ℕ → Type 0
 IsPart bytes table place blocks names =
     ((v : Value) × Holds bytes table place v blocks × (names ≡ named_in v)) ⊎
@@ -79,7 +79,7 @@ OpensBlock bytes table p Kind.frozen T form values links =
 OpensBlock bytes table p _ T _ values links = ⊥
 
 mutual
-  -- the block, those that its values own, and those of the nodes to which it links
+  -- the block, the blocks that its values own, and the blocks of the nodes to which it links
   pub data Owes (bytes : List ℕ) (table : Table) : ℕ → List ℕ → List ℕ → Type 0 where
     owes : {p : ℕ} {blocks names : List ℕ} (kind : Kind) (T : ℕ) (values : List Place)
         (links : List ℕ) (xs ys ns ms : List ℕ) →

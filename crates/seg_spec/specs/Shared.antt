@@ -7,7 +7,7 @@
 -- of its object.
 --     names_in v, names_of frozen          what the shared cells in a value point to, or in frozen objects
 --     named_in v                           the positions of these objects
---     IsBelow n frozen place               the place is that of one of the objects, with a number below n
+--     IsBelow n frozen place               one of the objects has this place, and a number below n
 --     IsCounted next frozen cells          each object counts the cells that point to it, these and those
 --                                          in the objects; objects point to those with lower numbers only;
 --                                          next is above all numbers

@@ -449,7 +449,7 @@ module _ (allocator : ℕ) (old : List ℕ) (table : Table) (place : Place) (U :
     pub home_there_new : 1 ≤ times s.home (positions (live new))
     home_there_new = subst (λ bs. 1 ≤ times s.home (positions bs)) (sym then.live_is) (home_live allocator old table place (Map keys vs) blocks s)
 
-    -- the new entry lies in the buffer, apart from the place
+    -- the new entry lies in the buffer, and doesn't overlap the place
     pub new_apart : Separate (p + index * (8 + size table U)) (8 + size table U) place.at (size table place.type)
     new_apart =
         let mine = there (λ t. AllByRecursion (OneOrApart new t) (positions (live new))) s.home (positions (live new)) (live-apart new allocator then.heap) home_there_new in

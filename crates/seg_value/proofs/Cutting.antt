@@ -80,7 +80,7 @@ module _ (old new : List ℕ) (table : Table) (valid : IsTable table) (place : P
         parts = rw (ap (λ (r : Opened). r.parts) o.opened_is) (inner-same old new table valid U 8 each entries (omega arith) all);
       }
 
--- the blocks that a step into such a place names
+-- the blocks of a step into such a place
 names_buffer : (old : List ℕ) (table : Table) (place : Place) (form : Form) (opened : Opened) → has_buffer (Some form) ≡ true → Opens old table place form opened → opened.blocks ≡ named old place.at
 names_buffer old table place Form.i64 opened b o = absurd (cc)
 names_buffer old table place (Form.list U) opened b o = absurd (cc)
@@ -249,7 +249,7 @@ module _ (allocator : ℕ) (old : List ℕ) (table : Table) (place : Place) (for
       again : (opened : Opened) → Opens old table place form opened → StaysOpen old new table s.is_table place cell_same form opened
       again opened o = open_again old new table s.is_table place cell_same form opened b room_now same_entries o
 
-      -- what the values inside own is kept
+      -- the blocks of the values inside are kept
       inside_kept : (opened : Opened) (owned : List ℕ) → Opens old table place form opened → blocks ≡ opened.blocks ++ owned → AllByRecursion (KeepsBlock old new) owned
       inside_kept opened owned o blocks_are = each_there (KeepsBlock old new) owned (λ h some_of. one h some_of (cases_eq h (block_of p)))
         where

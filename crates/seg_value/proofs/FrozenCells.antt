@@ -230,6 +230,6 @@ module _ (allocator : ℕ) (old mid : List ℕ) (table : Table) (cell : Place) (
           (keep_others p (own ∷ inside) theirs mid new (left (names_in v) now) apart_left c.shared_kept.1);
     }
 
--- what a call promises that moves an object of a type, read at another name of the type
+-- the promise of a call that moves an object of a type, for an equal type
 pub moved_as : (allocator : ℕ) (old mid : List ℕ) (table : Table) (t T object p : ℕ) (w : Value) (inside : List ℕ) → t ≡ T → MovesFrozen allocator old mid table t object w inside p → MovesFrozen allocator old mid table T object w inside p
 moved_as allocator old mid table t T object p w inside e m = subst (λ x. MovesFrozen allocator old mid table x object w inside p) e m

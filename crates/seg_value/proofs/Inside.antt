@@ -76,7 +76,7 @@ module _ (allocator : ℕ) (old new : List ℕ) (table : Table) (g at m : ℕ) (
       not_it : (h : ℕ) → times h (g ∷ []) ≡ 0 → h ≢ g
       not_it h away e = let one : times g (g ∷ []) ≡ 0 = subst (λ x. times x (g ∷ []) ≡ 0) e away in omega (arith, times-same g [])
 
-  -- and all blocks but for what is around the write
+  -- and all blocks except around the write
   pub frames_around : (p n : ℕ) → p ≤ at → at + m ≤ p + n → Frames old new p n []
   frames_around p n low high = record {
     length_kept = changes.length_kept;

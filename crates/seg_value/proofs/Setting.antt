@@ -249,7 +249,7 @@ module _ (allocator : ℕ) (old : List ℕ) (table : Table) (own : Place) (U : �
           none_or_some zero = inl refl
           none_or_some (suc n) = inr (omega arith)
 
-  -- what a destruction of the object at a position promises
+  -- what the destruction of the object at a position promises
   abbrev pub IsDestroyed : List ℕ → List ℕ → Table → ℕ → Type 0
   IsDestroyed mid after here held =
       (U : ℕ) (v : Value) (inside : List ℕ) → IsTable here → IsHeap allocator mid → IsLoose mid here (record { at = held; type = U }) v inside →

@@ -32,7 +32,7 @@ use Rattle.seg_spec.proofs.Standing.{Frames, live_at, beside_stands, beside_home
 use Rattle.seg_spec.specs.Sharing.{FrozenBeside, cell_count}
 use Rattle.seg_value.proofs.Pointed.{names_by, names_of_cell, SharedCell, shared_cell, pointed}
 
--- what a call promises that clears a cell
+-- the promise of a call that clears a cell
 abbrev pub ClearsCell : ℕ → List ℕ → List ℕ → Table → Place → Type 0
 ClearsCell allocator old new table cell = (v : Value) (blocks : List ℕ) (s : Stands allocator old table cell v blocks) →
     BesideShared old table (s.home ∷ blocks) (named_in v) (ClearsPlace old new table cell (default_of table cell.type) blocks [])

@@ -65,7 +65,7 @@ loose_goes bytes table object U v inside l = record {
   named_are = λ h. let a = times-append h (named_in v) [] in let b = times-append h (named_in v ++ []) [] in omega arith;
 }
 
--- what joined those that wait is destroyed
+-- what was added to the waiting blocks is destroyed
 pub added_destroys : (allocator : ℕ) (old mid new : List ℕ) (table : Table) (first : Option ℕ) (xs ys names blocks : List ℕ) (kept : List Place) (theirs : ℕ → List ℕ) (final : List Frozen) →
     Adds allocator old mid table first xs ys names kept theirs final →
     SameBlocks (xs ++ ys) blocks → Destroys allocator mid new table blocks theirs final → Destroys allocator old new table blocks theirs final
