@@ -76,7 +76,6 @@ pub(crate) fn free_tree() -> Tree
     Tree::new(FREE)
 }
 
-/// The block with this node.
 fn node_block<A: Allocator>(w: &Window<A>, node: u32) -> Option<Block>
     ensures bounds { IfSome result (λ f. (f.at + UNIT ≡ node) × LiesIn w.now.bytes f) }
     ensures read { (g : Span) → node ≡ g.at + UNIT → IsSized w.now.bytes g
@@ -135,7 +134,6 @@ fn lead_to<A: Allocator>(path: &mut Path, w: &Window<A>, block: Block)
     path.lead_to_node(w, free_tree(), &BySize, block.at + UNIT);
 }
 
-/// Writes the header of a free block.
 fn set_free<A: Allocator>(w: &mut Window<A>, block: Block)
     requires { block_end block ≤ MAX_LEN }
     ensures { w.new ≡ with_bytes w.old (set_free w.old.bytes block.at block.units) }

@@ -70,7 +70,6 @@ fn is_shared(kind: Option<Type>) -> bool
     matches!(kind, Some(Type::Shared(_)))
 }
 
-/// Checks the heap and everything in it.
 fn check_heap<A: Allocator, B: Allocator + Copy>(
     alloc: B,
     w: &Window<A>,

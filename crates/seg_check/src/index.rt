@@ -208,7 +208,6 @@ fn entry_in(node: u32) -> u32
     node.wrapping_add(Content::index_node().entry.size - ENTRY)
 }
 
-/// Whether a name comes before another.
 fn is_before(name: &[u8], other: &[u8]) -> bool
     ensures { IsTrue result ↔ Precedes name.now other.now }
 {

@@ -95,7 +95,6 @@ impl Stage {
     ghost use Rattle.seg_spec.specs.Pointer.{target};
     ghost use Rattle.seg_check.specs.Walks.{Completes, IsColourOf, IsAtEnd, IsShallow, AreFewRed};
 
-    /// At the root.
     fn new(tree: Tree) -> Stage
         ensures wanted { result.wanted ≡ tree.nodes }
         ensures pointer { result.pointer ≡ tree.root }

@@ -119,7 +119,6 @@ impl<F: Fit, A: Allocator> Segment<F, A> {
     }
 }
 
-/// Writes a type table into the image.
 fn write_types<A: Allocator>(w: &mut Window<A>, types: &TypeTable)
     ensures host { KeepsHost w.old w.new }
     ensures changes { IsTable types.now →

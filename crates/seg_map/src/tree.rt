@@ -32,7 +32,6 @@ use seg_value::{Content, Entry, Heap};
 use std::alloc::Allocator;
 use std::cmp::Ordering;
 
-/// The order of nodes by their keys.
 struct ByKey;
 
 impl NodeOrder<i64> for ByKey {
@@ -66,7 +65,6 @@ impl UniqueKeys<i64> for ByKey {
     ghost one = { λ _ _ bytes x y key first second. equal_to_one int_cmp_total (signed_long bytes ((x + 16) % 2 ^ 32)) (signed_long bytes ((y + 16) % 2 ^ 32)) key first second };
 }
 
-/// The position of a node's key.
 fn key_place(node: u32) -> u32
     ensures { result ≡ (node + 16) % 2 ^ 32 }
 {

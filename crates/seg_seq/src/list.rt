@@ -20,14 +20,12 @@ use seg_raw::Code;
 use seg_value::{Content, Heap, LIST_LINKS, Place};
 use std::alloc::Allocator;
 
-/// The node of an item.
 fn node_of(item: u32) -> u32
     ensures { result ≡ (item + (2 ^ 32 - 8)) % 2 ^ 32 }
 {
     item.wrapping_sub(LIST_LINKS)
 }
 
-/// The item of a node.
 pub(crate) fn item_of(node: u32) -> u32
     ensures { result ≡ (node + 8) % 2 ^ 32 }
 {

@@ -41,7 +41,6 @@ pub fn create<F: Fit, A: Allocator>(
     Ok(Segment::new(window, TypeTable::new()))
 }
 
-/// Writes the image of an empty segment.
 fn write_empty<F: Fit, A: Allocator>(w: &mut Window<A>, size: u32, index: IndexKind)
     ensures host { KeepsHost w.old w.new }
     ensures empty { IsImageLength size → length w.old.bytes ≡ size →

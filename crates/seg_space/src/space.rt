@@ -48,7 +48,6 @@ impl Gaps {
     }
 }
 
-/// The position where a block ends.
 fn end_of(block: Block) -> u32
     requires { block.at + 16 * block.units ≤ 2 ^ 30 }
     ensures { result ≡ block.at + 16 * block.units }

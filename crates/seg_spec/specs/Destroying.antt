@@ -1,10 +1,10 @@
 -- What destruction finds and leaves. It works without recursion and memory: blocks that are still
 -- to be freed wait in a list through the links of their headers. A waiting block *shows* what is
--- freed with it: its values, and the nodes after it (`Owing`). Frozen objects are not in this list.
--- They count their cells, and join it with their last cell. `names` are the positions to which
--- destroyed shared cells point. `theirs` gives the blocks of each frozen object, by its position.
--- `final` are the frozen objects that stay in the end. The order of blocks in a list doesn't
--- matter.
+-- freed with it: its values, and the nodes after it (`Owing`). A frozen object isn't in this list:
+-- it counts its cells, and is only added when the last one is released. `names` are the positions
+-- to which destroyed shared cells point. `theirs` gives the blocks of each frozen object, by its
+-- position. `final` are the frozen objects that stay in the end. The order of blocks in a list
+-- doesn't matter.
 --     AreLive bytes blocks                       these blocks are allocated, and each is listed at most once
 --     GoesWith bytes table p blocks names        the block with payload p, with all that is freed with it
 --     Pends allocator bytes table first owed names
