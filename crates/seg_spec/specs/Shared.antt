@@ -92,6 +92,7 @@ abbrev pub value_at_position : List Frozen → ℕ → Option Value
 value_at_position [] p = None
 value_at_position (f ∷ fs) p = if f.at == p then Some f.value else value_at_position fs p
 
+-- a shared cell read as an owner: of the object's value as a tree, or of nothing
 abbrev pub owner_by : (Value → Value) → Option Value → Value
 owner_by tree None = Empty
 owner_by tree (Some v) = Full (tree v)
@@ -138,6 +139,7 @@ left gone [] = []
 left gone (f ∷ fs) = kept_with f (f.count - times_named f.at gone)
     (left (gone ++ names_in f.value) fs) (left gone fs)
 
+-- an object with n remaining cells: it is freed if n is 0
 abbrev pub freed_with : Frozen → ℕ → List Frozen → List Frozen → List Frozen
 freed_with f zero without with_it = f ∷ without
 freed_with f (suc n) without with_it = with_it
