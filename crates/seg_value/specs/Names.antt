@@ -37,8 +37,8 @@ abbrev pub name_entry : List ℕ → ℕ → ℕ
 name_entry bytes i = start bytes index_cell + i * 8
 
 -- What calls on the index find. The heap is well-formed. The index's cell has a null pointer and
--- counts 0, or points to an allocated block with room for its entries. No entry points to the byte
--- after its pointer.
+-- counts 0, or points to an allocated block with room for its entries. Each entry points to a
+-- multiple of 8, or has a null pointer.
 pub record FindsNames (allocator : ℕ) (bytes : List ℕ) (table : Table) : Type 0 where
   pub heap : IsHeap allocator bytes
   pub allocator_is : word bytes 16 ≡ allocator
