@@ -1,4 +1,4 @@
--- A heap of one allocated block, which is released: one gap.
+-- A heap of one allocated block, which is freed: it becomes one gap.
 use Rattle.std.proofs.Common.{◌≡◌, ℕ, ◌+◌, ◌*◌, ◌^◌, ◌≤◌, true, false, List, [], ◌∷◌, length, Some, None, refl, sym, ◌∙◌, subst, arith, inl, inr, ◌⊎◌}
 use Rattle.seg_bytes.specs.Bytes.{set_word, Agrees}
 use Rattle.seg_spec.specs.Pointer.{target, distance, set_pointer}

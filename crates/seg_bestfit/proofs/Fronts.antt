@@ -1,4 +1,4 @@
--- The front of a free tile is taken, and the rest gets its place in the tree.
+-- The front of a free tile is allocated, and the rest takes its place in the tree.
 use Rattle.std.proofs.Common.{◌≡◌, ◌≢◌, ℕ, ◌+◌, ◌-◌, ◌*◌, ◌≤◌, ◌⊎◌, inl, inr, ⊎_elim, true, false, List, [], ◌∷◌, ◌++◌, length, Some, None, refl, sym, ap, ◌∙◌, subst, arith}
 use Rattle.seg_bytes.specs.Bytes.{word, set_word, Agrees, IsSame}
 use Rattle.seg_spec.specs.Pointer.{distance, set_pointer}

@@ -1,4 +1,4 @@
--- The free blocks among the tiles, and the one that is taken.
+-- The free blocks among the tiles, and the one that is allocated.
 use Rattle.std.proofs.Common.{◌≡◌, ◌≢◌, ℕ, ◌+◌, ◌-◌, ◌*◌, ◌%◌, ◌≤◌, true, false, List, [], ◌∷◌, ◌++◌, length, cond, Some, None, refl, sym, ap, ◌∙◌, subst, arith, ⊎_elim}
 use Rattle.std.proofs.lemmas.Bool.{cases_lt}
 use Rattle.seg_bytes.specs.Bytes.{Agrees}

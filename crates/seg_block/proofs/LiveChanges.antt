@@ -1,4 +1,4 @@
--- Allocated tiles are joined and cut. The free structure stays as it is.
+-- Allocated tiles are joined and split. The free structure doesn't change.
 use Rattle.std.proofs.Common.{◌≡◌, ℕ, ◌+◌, ◌*◌, ◌≤◌, true, List, [], ◌∷◌, ◌++◌, refl, arith}
 use Rattle.seg_spec.specs.Heap.{Tile}
 use Rattle.seg_block.specs.Sizes.{set_size, set_split}

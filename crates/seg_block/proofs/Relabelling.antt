@@ -1,4 +1,4 @@
--- A tile of the same units is allocated or free.
+-- A tile becomes allocated or free, with the same size.
 use Rattle.std.proofs.Common.{◌≡◌, ℕ, ◌+◌, ◌*◌, ◌≤◌, Bool, false, List, [], ◌∷◌, ◌++◌, length, refl, arith, inl, inr, ◌⊎◌}
 use Rattle.seg_bytes.specs.Bytes.{word, set_word, Agrees}
 use Rattle.seg_spec.specs.Heap.{Tile, Fill, AreHeaders, heap_start, tag_at}

@@ -1,4 +1,4 @@
--- Where two names differ first decides how they compare, and else their lengths do.
+-- The first difference of two names decides how they compare. If there is none, their lengths do.
 use Rattle.std.proofs.Common.{◌≡◌, ℕ, zero, suc, ◌<◌, List, [], ◌∷◌, length, get_or, refl, sym, ap, ◌∙◌, arith}
 use Rattle.std.specs.Ordering.{nat_cmp, ordering_then, MatchOrdering}
 use Rattle.std.specs.Cmp.Lexicographic.{slice_cmp}

@@ -1,4 +1,4 @@
--- What calls on the index find: in an image, and again after a call on the index.
+-- What calls on the index find in an image, and after another call on the index.
 use Rattle.std.proofs.Common.{◌≡◌, ℕ, ◌+◌, ◌*◌, ◌≤◌, List, [], ◌∷◌, ◌++◌, length, refl, sym, ◌∙◌, subst, arith}
 use Rattle.std.specs.List.{AllByRecursion}
 use Rattle.seg_bytes.specs.Bytes.{word, IsSame}

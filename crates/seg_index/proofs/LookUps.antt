@@ -1,4 +1,4 @@
--- What looking a name up returns, as the entry or the spot of the name.
+-- The result of looking up a name: its entry, or the spot to insert it at.
 use Rattle.std.proofs.Common.{◌≡◌, ℕ, zero, suc, ◌≤◌, Bool, true, false, List, [], ◌∷◌, Option, Some, None, MatchOption, refl, sym, ap, ◌∙◌, subst, arith}
 use Rattle.std.specs.Prelude.{if◌then◌else◌}
 use Rattle.seg_bytes.specs.Bytes.{word}

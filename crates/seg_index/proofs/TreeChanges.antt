@@ -1,4 +1,4 @@
--- The index as a tree after a change: the names that it lists, from its nodes and their entries.
+-- A tree index after a change: the names in it, from its nodes and their entries.
 use Rattle.std.proofs.Common.{◌≡◌, ℕ, suc, ◌+◌, List, [], ◌∷◌, ◌++◌, length, map, refl, sym, ap, ◌∙◌, subst, arith}
 use Rattle.std.specs.Prelude.{Contains}
 use Rattle.std.specs.List.{AllByRecursion}

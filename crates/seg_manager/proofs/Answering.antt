@@ -1,4 +1,4 @@
--- What an option or a result is, from the tests that a call makes.
+-- Options and results, from the tests in a call.
 use Rattle.std.proofs.Common.{◌≡◌, ℕ, true, false, Option, Some, None, Result, Ok, Err, MatchResult, List, ap, refl, sym, subst, ◌∙◌}
 use Rattle.std.specs.Option.{is_some, IsSome}
 use Rattle.seg_spec.specs.Window.{Placement, with_bytes}

@@ -1,4 +1,4 @@
--- The named objects of a segment, as calls that read the index find them.
+-- The named objects that calls find when they read the index.
 use Rattle.std.proofs.Common.{◌≡◌, ℕ, ◌<◌, Bool, true, false, List, [], ◌∷◌, Option, Some, None, MatchOption, Result, Ok, Err, option_map, refl, sym, ap, ◌∙◌, subst}
 use Rattle.std.specs.Prelude.{◌==◌, if◌then◌else◌, not, nat_eq, slice_get, IsSomeAnd}
 use Rattle.std.specs.Option.{option_eq}

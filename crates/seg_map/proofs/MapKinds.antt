@@ -1,4 +1,4 @@
--- The kind of the maps of a type, from what the type's cells name.
+-- The kind of the maps of a type, from the layout of what its cells point to.
 use Rattle.std.proofs.Common.{◌≡◌, ℕ, Bool, true, false, IsOkUnless, Option, Some, None, Result, Ok, Err, ℤ, List, sym, ap, ◌∙◌, subst, refl, arith}
 use Rattle.std.specs.Option.{ok_or}
 use Rattle.std.specs.Result.{result_ok}

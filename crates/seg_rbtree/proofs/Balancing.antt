@@ -1,4 +1,4 @@
--- The rules of colours, from the whole tree to a place and back.
+-- The rules of colours of a whole tree and at a place in it.
 use Rattle.std.proofs.Common.{◌≡◌, ℕ, suc, ◌⊎◌, inl, inr, List, [], ◌∷◌, refl, subst}
 use Rattle.seg_spec.specs.Shapes.{Colour, black, red, Tree, IsBlack, IsBalanced, IsRedBlack}
 use Rattle.seg_rbtree.specs.declared.node.Side.{Side}

@@ -1,4 +1,4 @@
--- In a total order what equals the same key is equal.
+-- In a total order, nodes that equal the same key are equal.
 use Rattle.std.proofs.Common.{◌≡◌, ap, ◌∙◌}
 use Rattle.std.specs.Cmp.{IsTotalOrder}
 use Rattle.std.specs.Ordering.{ordering_reverse}

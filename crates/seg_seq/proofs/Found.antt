@@ -1,4 +1,4 @@
--- Where the bytes of a string and the items of a vector are.
+-- The positions of a string's bytes and of a vector's items.
 use Rattle.std.proofs.Common.{◌≡◌, ℕ, ◌+◌, ◌*◌, ◌%◌, ◌^◌, ◌<◌, ◌≤◌, List, length, take, get_or, Option, Some, None, refl, sym, ap, ◌∙◌, arith, drop-cons}
 use Rattle.seg_bytes.specs.Bytes.{byte, slice, spelled}
 use Rattle.seg_spec.specs.Pointer.{target}

@@ -1,4 +1,4 @@
--- Entries that a buffer has room for, from what the calls below them return.
+-- Entries for which a buffer has room, from the results of the calls below.
 use Rattle.std.proofs.Common.{◌≡◌, ℕ, ◌+◌, ◌-◌, ◌*◌, ◌%◌, ◌^◌, ◌<◌, ◌≤◌, ◌⊎◌, inl, inr, min, List, [], length, Option, Some, refl, sym, ◌∙◌, ap, subst, arith, zero-add}
 use Rattle.std.proofs.lemmas.Grind.{common_steps}
 use Rattle.seg_bytes.specs.Bytes.{long, signed, set_word, set_long, ChangesOnly}

@@ -1,4 +1,4 @@
--- What the calls on vectors return, from what the calls below them return.
+-- The results of the calls on vectors, from the results of the calls below.
 use Rattle.std.proofs.Common.{◌≡◌, ℕ, ◌+◌, ◌-◌, ◌*◌, ◌%◌, ◌^◌, ◌<◌, inl, inr, min, List, [], ◌∷◌, length, Option, Some, refl, sym, ap, ◌∙◌, subst, arith, zero-add}
 use Rattle.seg_bytes.specs.Bytes.{set_word, ChangesOnly}
 use Rattle.seg_spec.specs.Types.{Form, Table, IsTable, form_at, size}

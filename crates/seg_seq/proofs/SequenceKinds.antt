@@ -1,4 +1,4 @@
--- What the cells of the sequences of each kind name.
+-- The layouts of what the cells of each kind of sequence point to.
 use Rattle.std.proofs.Common.{◌≡◌, ◌⊎◌, inl, inr, ℕ, Option, Some, None, Ok, refl, sym, ◌∙◌, ap, subst}
 use Rattle.seg_spec.specs.Types.{Form, Table, form_at}
 use Rattle.seg_value.specs.Buffers.{NamesBuffer}

@@ -1,4 +1,4 @@
--- What the calls on strings return, from what the calls below them return.
+-- The results of the calls on strings, from the results of the calls below.
 use Rattle.std.proofs.Common.{◌≡◌, ℕ, ◌+◌, ◌*◌, ◌%◌, ◌^◌, ◌<◌, ◌≤◌, ◌⊎◌, inl, inr, min, List, [], ◌∷◌, ◌++◌, length, take, Option, Some, None, refl, sym, ap, ◌∙◌, arith}
 use Rattle.std.proofs.Math.Nat.{mul-one}
 use Rattle.std.specs.Prelude.{Result, Ok, Err}

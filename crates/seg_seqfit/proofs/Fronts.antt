@@ -1,4 +1,4 @@
--- The front of a free tile is taken, and the rest gets its place in the free list.
+-- The front of a free tile is allocated, and the rest takes its place in the free list.
 use Rattle.std.proofs.Common.{◌≡◌, ℕ, ◌+◌, ◌*◌, ◌%◌, ◌≤◌, true, false, List, [], ◌∷◌, ◌++◌, length, Some, None, refl, ◌∙◌, subst, arith, inl, inr}
 use Rattle.seg_bytes.specs.Bytes.{word, set_word}
 use Rattle.seg_spec.specs.Pointer.{target, distance, set_pointer}

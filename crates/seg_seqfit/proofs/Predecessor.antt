@@ -1,4 +1,4 @@
--- The free block before a block in the list: along the list, and down the tiles.
+-- The search for the free block before a block: along the list, and down the tiles.
 use Rattle.std.proofs.Common.{◌≡◌, ℕ, ◌+◌, ◌*◌, ◌≤◌, Bool, true, false, List, [], ◌∷◌, ◌++◌, length, cond, Some, None, refl, sym, ap, ◌∙◌, subst, arith, ⊎_elim}
 use Rattle.std.proofs.lemmas.List.{append_assoc}
 use Rattle.seg_spec.specs.Heap.{Tile, span_of, is_live_at, Fill, Links, free_of, heap_start}

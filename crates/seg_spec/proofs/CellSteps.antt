@@ -1,4 +1,4 @@
--- Cells that change one after the other.
+-- Changing cells one after the other.
 use Rattle.std.proofs.Common.{◌≡◌, ℕ, zero, suc, ◌+◌, ◌*◌, ◌%◌, ◌^◌, ◌<◌, ◌≤◌, ◌⊎◌, inl, inr, List, [], ◌∷◌, ◌++◌, length, map, take, Option, Some, None, sum_by, refl, sym, ap, ◌∙◌, subst, arith, add-zero, add_assoc, add-one}
 use Rattle.std.specs.Prelude.{All, slice_get}
 use Rattle.std.specs.List.{AllByRecursion}

@@ -1,4 +1,4 @@
--- The allocated blocks after one request for a new block.
+-- The allocated blocks after one more block was allocated.
 use Rattle.std.proofs.Common.{◌≡◌, ℕ, List, [], ◌∷◌, Option, Some, None, option_map, option_and_then, refl, sym, ap, ◌∙◌, arith}
 use Rattle.seg_spec.specs.Heap.{Span, granted, with_block, pick, gaps_of, after_request, Granted, same, fresh}
 use Rattle.seg_spec.specs.Sound.{times, positions}

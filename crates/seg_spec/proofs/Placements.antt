@@ -1,4 +1,4 @@
--- The same window has the same bytes.
+-- Equal windows have equal bytes.
 use Rattle.std.proofs.Common.{◌≡◌, ap}
 use Rattle.seg_spec.specs.Window.{Placement}
 

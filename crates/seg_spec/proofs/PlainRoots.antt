@@ -1,4 +1,4 @@
--- A root with no words before its values: its block begins with them.
+-- A root without words before its values: its block begins with the values.
 use Rattle.std.proofs.Common.{◌≡◌, ℕ, ◌+◌, ◌*◌, List, [], ◌∷◌, length, sym, ap, ◌∙◌, subst, arith}
 use Rattle.seg_bytes.specs.Bytes.{slice}
 use Rattle.seg_spec.specs.Types.{Table, size}

@@ -1,4 +1,5 @@
--- A buffer that gets room for more entries, by what the request for a block returned: for cells of any kind.
+-- A buffer gets room for more entries, by the result of the request for a block, for cells of any
+-- kind.
 use Rattle.std.proofs.Common.{◌≡◌, ℕ, ◌-◌, ◌*◌, ◌^◌, ◌<◌, ◌≤◌, max, leb, cond, true, false, List, [], ◌∷◌, length, Option, Some, None, MatchOption, option_map, refl, sym, ap, ◌∙◌, subst, arith}
 use Rattle.std.specs.Prelude.{Contains}
 use Rattle.std.proofs.Math.Nat.{mul-le-mul_right}

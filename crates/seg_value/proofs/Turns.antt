@@ -1,4 +1,4 @@
--- One turn of destruction, and what it needs of an object without an owner.
+-- One step of destruction, and what it needs of an object without an owner.
 use Rattle.std.proofs.Common.{◌≡◌, ◌≢◌, ℕ, ◌+◌, ◌≤◌, inl, List, [], ◌∷◌, ◌++◌, length, Option, None, refl, sym, ap, ◌∙◌, subst, arith}
 use Rattle.seg_spec.specs.Header.{free_word, back_start, back_size, KeepsFront, KeepsBack}
 use Rattle.seg_spec.specs.Types.{Table, IsTable}
