@@ -90,7 +90,7 @@ module _ (bytes : List ℕ) (table : Table) where
       let same = same_form g form (sym e ∙ f) in
       buffered_by place form v blocks opened inside owned b (subst (λ h. Opens bytes table place h opened) same o) hs v_is blocks_is
 
-  -- what contains such entries
+  -- a place with such entries
   pub holds_buffered : (place : Place) (form : Form) (v : Value) (owned : List ℕ) → form_at table place.type ≡ Some form → has_buffer (Some form) ≡ true →
       NamesRoom bytes place.at (tag_of Kind.buffer place.type) (item_size table form) → HoldsEntries bytes table form (start bytes place.at) (count_at bytes place.at) v owned →
       Holds bytes table place v (named bytes place.at ++ owned)

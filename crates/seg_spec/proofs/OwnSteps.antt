@@ -12,7 +12,7 @@ use Rattle.seg_spec.proofs.Writing.{set_number-changes}
 use Rattle.seg_spec.proofs.CellSteps.{ChangesOnly-trans, ChangesOnly-wider}
 
 module _ (bytes : List ℕ) (table : Table) where
-  -- what an own that contains a value names
+  -- the target of an own with a value
   pub record FullOwn (place : Place) (U : ℕ) (v : Value) (blocks : List ℕ) : Type 0 where
     pub object : ℕ
     pub inside : List ℕ

@@ -128,7 +128,7 @@ module _ (bytes : List ℕ) (table : Table) where
       let others = no_cells_parts U ps rest ws h more in
       record { no_blocks = ap (λ bs. bs ++ rest) one.no_blocks ∙ others.no_blocks; no_names = ap (λ bs. bs ++ ws) one.no_names ∙ others.no_names }
 
-  -- a value whose cells point to nothing points to nothing in its first cell
+  -- if all cells of a value are null, its first cell is
   at_first : (place : Place) (form : Form) (valid : IsTable table) → form_at table place.type ≡ Some form → IsOne table valid form → EachCell table place.type (λ d k. NamesNothing bytes (place.at + d) k) → target bytes place.at ≡ None
   at_first place form valid f one a =
       let a' = rw (one_cell table valid place.type form f one) at a in
