@@ -12,7 +12,7 @@ use Rattle.seg_block.proofs.Tiled.{around}
 use Rattle.seg_block.proofs.Neighbours.{IsSized-tile}
 use Rattle.seg_block.proofs.Heaps.{tiling_of_heap, heap_of_tiling, IsTiledHeap}
 
--- the tiles around a live one
+-- the tiles around an allocated one
 pub record HasLive (ts : List Tile) (b : Span) : Type 0 where
   pub xs : List Tile
   pub ys : List Tile

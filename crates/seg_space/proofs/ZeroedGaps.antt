@@ -63,7 +63,7 @@ free_before (t ∷ ts) from to f =
     let rest = each_weaker _ (λ g. (from ≤ g.at) × (2 ≤ g.units) × (end_of g ≤ to)) (λ g h. (omega (arith, h.0), h.1, h.2)) (free_of ts) (free_before ts (from + 16 * t.units) to f.2) in
     elim t.live as (λ b. AllByRecursion (λ g. (from ≤ g.at) × (2 ≤ g.units) × (end_of g ≤ to)) (cond b (free_of ts) (span_of t ∷ free_of ts))) [ true ↦ rest | false ↦ ((omega arith, two, omega arith), rest) ]
 
--- the next tile: a live one is passed, a free one zeroed
+-- the next tile: an allocated one is passed, a free one zeroed
 module _ (a : ℕ) (old mid : List ℕ) (at : ℕ) (z : Zeroing a old mid at) (t : Tile) (ts : List Tile) (parts : z.others ≡ t ∷ ts) where
   all_parts : tiles old ≡ (z.passed ++ t ∷ []) ++ ts
   all_parts = z.tiles_are ∙ ap (λ os. z.passed ++ os) parts ∙ sym (append_assoc z.passed (t ∷ []) ts)

@@ -56,7 +56,7 @@ still_given (x ∷ xs) bs b h none =
     let other = (not_there b.at (x ∷ xs) none).0 in
     still_given xs (without x bs) b (still_among x bs b h (λ e. other (sym e))) (omega (arith, none, times-more b.at x xs))
 
--- a block that is kept and stays live has its size, and between calls its link
+-- a block that is kept and stays allocated keeps its size, and between calls its link
 pub kept_linked : (allocator : ℕ) (old new : List ℕ) (table : Table) → IsHeap allocator old → IsHeap allocator new → (gives : List ℕ) → live new ≡ after_gives (live old) gives → (h : ℕ) → 1 ≤ times h (positions (live old))
     → times h gives ≡ 0 → IsOwnable old table h → IsOwnable new table h → KeepsBlock old new h → KeepsLinked old new h
 kept_linked allocator old new table heap heap_then gives live_is h some none was is k =

@@ -23,7 +23,7 @@ use Rattle.seg_spec.proofs.Standing.{ownable_linked}
 use Rattle.seg_spec.proofs.SharedBeside.{awaits_shared}
 use Rattle.seg_value.specs.Waiting.{AddsIn, IsOpened}
 
--- a block in a list of live ones
+-- a block in a list of allocated ones
 pub is_live : (bytes : List ℕ) (at : ℕ) → 1 ≤ times at (positions (live bytes)) → IsLive bytes at
 is_live bytes at some =
     let f = found at (live bytes) some in
