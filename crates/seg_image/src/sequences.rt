@@ -194,8 +194,8 @@ impl<A: Allocator> Image<A> {
         on!(self, segment => placed(push_front(segment.heap_mut(), place), item))
     }
 
-    /// Destroys the last item of a vector or a list, or drops the last byte of a string. `OtherType` if the place is
-    /// none of these, `Null` if it is empty.
+    /// Destroys the last item of a vector or a list, or drops the last byte of a string. `OtherType` for other places,
+    /// `Null` if it is empty.
     pub fn pop_back(&mut self, place: Place) -> Result<(), Code>
         ensures bytes { ChangesBytes self.old self.new }
         ensures text { (xs blocks : List ℕ) →

@@ -24,7 +24,7 @@ pub struct Numbers {
 }
 
 impl Numbers {
-    /// The vector of numbers at a place. `OtherType` if the place is none.
+    /// The vector of numbers at a place. `OtherType` if the place has another type.
     pub fn of<F: Fit, A: Allocator>(heap: &Heap<F, A>, vector: Place) -> Result<Numbers, Code>
         ensures { MatchResult result
             (λ numbers. (numbers.vector ≡ vector) × HasNumbers heap.now.types vector.type_id)

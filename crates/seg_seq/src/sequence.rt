@@ -19,7 +19,7 @@ use seg_raw::Code;
 use seg_value::{Content, Heap, Held, Place};
 use std::alloc::Allocator;
 
-/// How many bytes a string has, or how many items a vector or a list has. `OtherType` if the place is none of these.
+/// How many bytes a string has, or how many items a vector or a list has. `OtherType` for other places.
 pub fn len<F: Fit, A: Allocator>(heap: &Heap<F, A>, sequence: Place) -> Result<u32, Code>
     ensures text { (xs blocks : List ℕ) →
         HasText F.allocator heap.now (place_of sequence) xs blocks → result ≡ Ok (length xs) }
@@ -36,8 +36,8 @@ pub fn len<F: Fit, A: Allocator>(heap: &Heap<F, A>, sequence: Place) -> Result<u
     Ok(heap.count(sequence.at))
 }
 
-/// The position of an item of a vector or a list, or of a byte of a string. `OtherType` if the place is none of these,
-/// `OutOfRange` if it has no such item.
+/// The position of an item of a vector or a list, or of a byte of a string. `OtherType` for other places, `OutOfRange`
+/// if there is no such item.
 pub fn at<F: Fit, A: Allocator>(heap: &Heap<F, A>, sequence: Place, index: u32) -> Result<u32, Code>
     ensures text { (xs blocks : List ℕ) →
         HasText F.allocator heap.now (place_of sequence) xs blocks →
@@ -142,8 +142,8 @@ pub(crate) fn count_entry<F: Fit, A: Allocator>(
     Ok(content.entry.value_at(start, kept))
 }
 
-/// Destroys the last item of a vector or a list, or drops the last byte of a string. `OtherType` if the place is none
-/// of these, `Null` if it is empty.
+/// Destroys the last item of a vector or a list, or drops the last byte of a string. `OtherType` for other places,
+/// `Null` if it is empty.
 pub fn pop_back<F: Fit, A: Allocator>(heap: &mut Heap<F, A>, sequence: Place) -> Result<(), Code>
     ensures window { KeepsHost heap.old.window heap.new.window }
     ensures types { heap.new.types ≡ heap.old.types }
