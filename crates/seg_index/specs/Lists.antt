@@ -1,4 +1,5 @@
--- The index of names, of either kind, before and after calls.
+-- The index of names, of either kind, before and after calls. `names` are the named objects in
+-- order, and `blocks` the blocks that the index owns.
 --     entry_of root                         the index's entry for a root
 --     comes_before name other               whether a name precedes another
 --     root_after names name                 the first root whose name is after another one

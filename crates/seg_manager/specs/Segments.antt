@@ -1,4 +1,5 @@
--- The calls on a segment: what they require of it, and what they leave.
+-- The calls on a segment: their premise (`IsSegment`), and what they leave. A segment in a contract
+-- has the window's bytes and the type table (`Stored`).
 --     IsSegment allocator s picture       the bytes contain the picture, whose types the segment has
 --     Becomes allocator old new other gone
 --                                         the bytes contain another picture, and each allocated block outside

@@ -1,4 +1,5 @@
--- Calls on maps of one kind.
+-- Calls on maps of one kind. U is the type of the values, `keys` and vs are the keys and the values
+-- in order, and `blocks` the blocks that the map owns. An index of a key is its index in `keys`.
 --     first_of keys               the first of keys, if there is one
 --     keys_above keys after       those above another, in their order
 --     value_of U at               the place of a value of type U

@@ -1,4 +1,5 @@
--- Lists before and after calls.
+-- Lists before and after calls. U is the type of the items, vs are the items, and `blocks` the
+-- blocks that the list owns.
 --     IsList table T U content         the type is a list of values of type U, with these nodes
 --     HasList allocator heap list U vs blocks     a place has a list with these items
 --     IsNoList table T                 the type is no list

@@ -1,4 +1,6 @@
--- Strings and vectors before and after calls.
+-- Strings and vectors before and after calls. U is the type of the items, vs are the items, and xs
+-- the bytes of a text. The place owns `blocks`. `asks` are requests to the heap, and `gives` freed
+-- blocks.
 --     HasText allocator heap place xs blocks      the place has a string with this text
 --     HasItems allocator heap place U vs blocks   the place has a vector with these items
 --     item_type form                              the type of the items of a vector or a list

@@ -1,4 +1,4 @@
--- A heap of values in contracts: the bytes in their region, and the type table.
+-- A heap of values, or a segment, in contracts: the bytes in their region, and the type table.
 use Rattle.seg_spec.specs.Window.{Placement}
 use Rattle.seg_spec.specs.Types.{Table}
 
