@@ -1,7 +1,7 @@
 -- A client's run, one instruction at a time.
 --     EndsAt stepper                   the stepper is at the end of the code
---     StepsOn allocator old new ..     the current line's instruction was performed; .. are the segment
---                                      and the output before and after
+--     StepsOn allocator old new ..     the current line's instruction was performed; .. are the
+--                                      segment and the output before and after
 use Rattle.std.specs.Prelude.{◌≡◌, ℕ, List, Option, Some, slice_get}
 use Rattle.seg_value.specs.Stored.{Stored}
 use Rattle.client_program.specs.declared.jump.Jump.{Jump}

@@ -2,7 +2,8 @@
 --     Step     what it reads: the row, the operands, and what is known in front of the instruction
 --     meets, given, ended_in     whether a register holds what is needed, what a register gets,
 --                                what is known once references have ended
---     checked_first, known_in_parts, applied     the first reason to refuse the instruction, what is
+--     checked_first, known_in_parts, applied     the first reason to refuse the instruction, what
+--                                                is
 --                                              known after it in both parts, or either
 use Rattle.std.specs.Prelude.{⊤, ℕ, ℤ, pos, negsuc, List, Bool, true, false, not, ◌==◌, if◌then◌else◌, Option, Some, None, Ok, slice_get, slice_set}
 use Rattle.std.specs.Option.{is_some, option_and_then}

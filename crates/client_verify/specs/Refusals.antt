@@ -1,6 +1,7 @@
 -- Why a client is refused, fault by fault.
 --     IsRefused table client fault     the fault, and what it says of the client
---     WalksTo client i here            what the verifier makes of the instructions in front of place i
+--     WalksTo client i here            what the verifier makes of the instructions in front of
+--                                      place i
 use Rattle.std.specs.Prelude.{◌≡◌, ◌+◌, ◌<◌, ◌^◌, ℕ, replicate, take, Ok, Err}
 use Rattle.seg_raw.specs.declared.fault.Fault.{Fault}
 use Rattle.seg_raw.specs.declared.fault.Fault.TheVariants as fault
