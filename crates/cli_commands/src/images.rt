@@ -11,6 +11,7 @@ use cli_words::{ImageTask, NewImage, Picture};
 use lezgauri::Sink;
 use std::alloc::Global;
 
+/// `new FILE SIZE ALG INDEX [--force]`: writes the image of an empty segment.
 pub fn new_file<'a, F: Files>(
     alloc: Global,
     new: &NewImage<'a>,

@@ -10,6 +10,7 @@ pub enum FileFault {
     Failed(FileProblem),
 }
 
+/// Access to files by name.
 pub trait Files {
     /// The bytes of a file. Fails if it has more than `limit`.
     fn read(&mut self, alloc: Global, name: &str, limit: u64) -> Result<Vec<u8>, FileFault>;

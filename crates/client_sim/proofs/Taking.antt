@@ -61,7 +61,7 @@ empty_is (node Label.opt nil) e = refl
 empty_is (node Label.opt (cons w nil)) e = cc
 empty_is v e = cc
 
--- the empty path leads from a root to itself
+-- the empty path from a root ends at the root
 leads_itself : (bytes : List ℕ) (table : Table) (root : Root) → Leads bytes table (item_of table root 0) [] (record { at = root.at; type = root.type })
 leads_itself bytes table root =
     let first : root.at ≡ (item_of table root 0).at = omega arith in

@@ -191,6 +191,7 @@ pub enum Ends {
     Frozen,
 }
 
+/// A row of the instruction table.
 #[derive(Debug, Clone, Copy, PartialEq, Eq)]
 pub struct Row {
     pub operation: Operation,

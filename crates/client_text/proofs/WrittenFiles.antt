@@ -149,7 +149,7 @@ file_is old start v t c i items all e of_types =
     ∙ ap (λ xs. (old ++ header_in pieces) ++ xs) (bytes_in pieces)
     ∙ regroup old (header_in pieces) (flat_map form_bytes pieces.types) (flat_map constant_bytes pieces.constants) (flat_map instruction_bytes pieces.instructions)
 
--- after the last line the file is that of the pieces
+-- after the last line the file is the file of the pieces
 pub ends : (text old start file : List ℕ) (v t c i n : ℕ) → Written (meant text) start file n → drop n (meant text) ≡ [] → n ≤ length (meant text) → start ≡ old ++ header_bytes v t c i → t ≤ 32 → c ≤ 256 → i ≤ 4096
     → ((items : List Item) → EachSpells (meant text) items → v ≡ items_version (take t items))
     → ((items : List Item) → EachSpells (meant text) items → map section_of (take n items) ≡ outlined t c i) → (pieces : Pieces) × Says text pieces × (file ≡ old ++ file_of pieces)

@@ -44,7 +44,7 @@ with_part part parts = if nat_lt (length parts) 8 then part ∷ parts else parts
 abbrev pub inside : RegisterTypes → Open → List Open → Progress
 inside ks part parts = record { known = ks; steps = 0; parts = with_part part parts }
 
--- after an END; steps are those of what it ended
+-- after an END; `steps` is the number of steps of the part that it ended
 abbrev pub following : RegisterTypes → (before steps : ℕ) → List Open → Progress
 following ks before steps parts =
     record { known = ks; steps = at_most (before + steps); parts = parts }
