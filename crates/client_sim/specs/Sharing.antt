@@ -3,8 +3,8 @@
 --     SharesCell allocator old new table p q
 --                                        the cell at p now refers to the object of the cell at q
 --     OnCell allocator old table p object claim
---                                        the claim is true of the cell at p, which may be destroyed
---                                        with the object, if a number is left for a frozen object
+--                                        the claim is true of the cell at p, which has the object's
+--                                        type, if a number is left for a frozen object
 --     FreezesObject allocator old new table p object
 --                                        the object becomes frozen, and the cell at p refers to it
 --     FindsNoRoom allocator old new table p object

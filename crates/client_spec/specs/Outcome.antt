@@ -3,7 +3,8 @@
 --     CanRun image texts room base moves                  the image is sound and has a place, the
 --                                                         moves are allowed, and the clients are
 --                                                         accepted
---     IsOutcome image texts input room base moves lefts   so it is, and these are the results
+--     IsOutcome image texts input room base moves lefts   the clients can run, and these are their
+--                                                         results
 --     IsRefusalOf image texts room base moves refusal     why no client runs; everything that is
 --                                                         tested earlier is right
 use Rattle.std.specs.Prelude.{◌≡◌, ⊤, ℕ, ◌^◌, ◌≤◌, List, [], length, take, Some, slice_get}

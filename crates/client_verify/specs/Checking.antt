@@ -5,8 +5,7 @@
 --     meets, given, ended_in     whether a register contains what is needed, what a register gets,
 --                                what is known once references have ended
 --     checked_first, known_in_parts, applied     the first reason to refuse the instruction, what
---                                                is
---                                              known after it in both parts, or either
+--                                                is known after it in both parts, or either
 use Rattle.std.specs.Prelude.{⊤, ℕ, ℤ, pos, negsuc, List, Bool, true, false, not, ◌==◌, if◌then◌else◌, Option, Some, None, Ok, slice_get, slice_set}
 use Rattle.std.specs.Option.{is_some, option_and_then}
 use Rattle.seg_spec.specs.Types.{Form, Table, form_at}

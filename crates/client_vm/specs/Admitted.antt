@@ -1,8 +1,6 @@
 -- Whether clients may run on an image, and what is wrong if they may not.
---     AreAcceptedOn image texts           the image is sound, and the clients are accepted one by
---                                         one
---     IsWrong image texts refused         the image has the fault, or it is sound and a client has
---                                         it
+--     AreAcceptedOn image texts       the image is sound, and the clients are accepted one by one
+--     IsWrong image texts refused     the image has the fault, or it is sound and a client has it
 use Rattle.std.specs.Prelude.{ℕ, List, Option, Some, None}
 use Rattle.seg_spec.specs.Images.{IsSound}
 use Rattle.seg_raw.specs.declared.fault.Fault.{Fault}
