@@ -208,7 +208,7 @@ pub struct Row {
     pub ends: Ends,
 }
 
-// operation, word, version, role; a, b, c, number; what b and c hold; what a holds afterwards, which references end
+// operation, word, version, role; a, b, c, number; what b and c must contain; what a contains afterwards, which references end
 macro_rules! row {
     ($operation:ident, $word:literal, $version:literal, $role:ident; $a:ident, $b:ident, $c:ident, $number:ident;
      $needs_b:ident $(($kinds:ident))?, $needs_c:ident; $gives:ident, $ends:ident) => {
