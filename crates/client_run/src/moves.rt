@@ -43,7 +43,8 @@ pub fn first_bad_move(len: u32, room: u32, moves: &[Move]) -> Option<usize>
     None
 }
 
-/// Whether a segment of `len` bytes may be at a base of a region of `room` bytes.
+/// Whether a segment of `len` bytes may be at a base of a region of `room` bytes: the base is a multiple of 16, and the segment ends
+/// within the region.
 pub fn is_place(room: u32, base: u32, len: u32) -> bool
     requires { len ≤ 2 ^ 30 }
     ensures { IsTrue result ↔ IsPlace room base len }

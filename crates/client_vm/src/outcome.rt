@@ -4,7 +4,8 @@ use client_output::{Ended, Refused, Report};
 use client_run::Move;
 use std::alloc::Allocator;
 
-/// The region, in bytes; the segment's base in it; and the moves, which each client makes again.
+/// The region that clients run in: its length `room` and the segment's `base`, in bytes, and the moves, which each client makes
+/// again. A base is a multiple of 16, and the segment must end within the region.
 #[derive(Debug, Clone, Copy)]
 pub struct Schedule<'a> {
     pub room: u32,
