@@ -102,7 +102,7 @@ module _ {others : List Root} {s : State} {bytes : List ℕ} (pictured : Picture
     pub stands : Stands (word bytes allocator_word) bytes pictured.picture.table target value blocks
     pub tree : value_at (m q.at) (Selector.content ∷ xs) ≡ Some (replaced m value)
     pub reads : value_through frozen (node (Label.shared q.type q.at) nil) (Selector.content ∷ xs) ≡ Some value
-    -- the object that q points to exists
+    -- the objects that the value's cells share exist, with numbers below n
     pub n : ℕ
     pub named : AllByRecursion (IsBelow n frozen) (names_in value)
 

@@ -257,7 +257,7 @@ module _ {others : List Root} {s : State} {old : List ℕ} (pictured : Pictures 
     pub keeps : KeepsRoots pictured later (λ o. o ≡ Origin.Owned b)
     pub stays : KeepsFrozen old new pictured.picture.table pictured.picture.frozen later.picture.frozen
 
-  -- the root's index among the loose ones, and the roots after it is removed
+  -- the loose roots before and after this one, and the consequence of its removal
   pub record OwnedAmong (b : ℕ) (root : Root) : Type 0 where
     pub before : List Root
     pub after : List Root

@@ -7,7 +7,7 @@ use Rattle.client_text.specs.Outlines.{outlined, IsOutline}
 
 -- ---- the sections that may follow lines in order
 
--- the section may follow n instructions, of which there are more
+-- a section that follows i of n instructions is an instruction, and i is less than n
 last_next : (i : ℕ) (s : Section) (following : List Section) (n : ℕ) → replicate i section.Instructions ++ s ∷ following ≡ replicate n section.Instructions → (s ≡ section.Instructions) × (i < n)
 last_next zero s following zero e = cc
 last_next zero s following (suc n) e = ((tail_of s section.Instructions following _ e).0, omega arith)

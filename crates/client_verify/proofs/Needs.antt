@@ -69,7 +69,7 @@ reference_same types number kinds f RegisterType.Int following rest are same = r
 reference_same types number kinds f (RegisterType.Reference x t) following rest are same = form_same number kinds (f x) (form_at types t) (following (RegisterType.Reference x t)) (rest (x, t)) (are x) (same x t)
 reference_same types number kinds f (RegisterType.Owner t) following rest are same = refl
 
--- a reference that allows changes has the class that shares it
+-- a class that isn't frozen is its own sharing class
 own_class : (x : Class) → is_frozen x ≡ false → sharing x ≡ x
 own_class (Class.Frozen x) e = cc
 own_class x e = refl
