@@ -5,7 +5,7 @@ use cli_files::{Files, read_file, read_image};
 use lezgauri::{Image, prepare, run, verify};
 use std::alloc::Global;
 
-/// Verifies and prepares the client in a file on an open image, so many times.
+/// Verifies and prepares the client in a file on an open image, `times` times.
 pub(crate) fn prepare_client<F: Files>(
     alloc: Global,
     files: &mut F,
@@ -19,7 +19,7 @@ pub(crate) fn prepare_client<F: Files>(
     Some(())
 }
 
-/// Runs a prepared client on an open image, so many times. None where it printed nothing in all of them.
+/// Runs a prepared client on an open image, `times` times. Returns `None` if it never printed anything.
 pub(crate) fn run_client<F: Files>(
     alloc: Global,
     files: &mut F,

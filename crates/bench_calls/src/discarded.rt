@@ -2,7 +2,7 @@ ghost use Rattle.std.specs.Prelude.{false, None};
 
 use lezgauri::Sink;
 
-/// Output that nobody reads. It takes all, and counts it.
+/// An output that counts its bytes and drops them.
 #[derive(Drop)]
 pub(crate) struct Discarded {
     bytes: u64,

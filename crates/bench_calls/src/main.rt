@@ -1,6 +1,6 @@
-//! The program `bench_calls`: works by the library's own calls, for `bench/operations.py` and `bench/clients.py` to count. Its words
-//! name the work (`push`, `best`, `seq`, `prepare` or `run`), how many times it is done, and in how many passes; for the last two an
-//! image and a client too. It prints nothing.
+//! The program `bench_calls`: workloads of library calls, whose instructions `bench/operations.py` and `bench/clients.py` count.
+//! The arguments are the workload (`push`, `best`, `seq`, `prepare` or `run`), the number of repetitions, and the number of
+//! passes; the last two workloads also take an image and a client. It prints nothing.
 #![tactic(auto)]
 
 mod clients;
@@ -22,26 +22,26 @@ use std::env;
 use std::process::ExitCode;
 use std::rt::Env;
 
-/// The bytes of the segment.
+/// The size of the segment, in bytes.
 const SIZE: u32 = 32 << 20;
 
 /// The type of a number.
 const NUMBER: TypeId = 0;
 
-/// The type of a vector of them.
+/// The type of a vector of numbers.
 const NUMBERS: TypeId = 1;
 
-/// The units of a block for one number.
+/// The size of a block for one number, in units of 16 bytes.
 const NUMBER_UNITS: u32 = 2;
 
-/// What is done so many times, in each of some passes.
+/// A workload, which is repeated in each pass.
 #[derive(Clone, Copy)]
 enum Work {
-    /// A number is pushed onto a vector, which is empty when a pass begins.
+    /// Push a number onto a vector, which is empty when a pass begins.
     Push,
-    /// A block is taken by best fit, and given back.
+    /// Allocate a block by best fit, and free it.
     Best,
-    /// The same by sequential fit.
+    /// Allocate a block by sequential fit, and free it.
     Seq,
 }
 
@@ -55,7 +55,7 @@ impl Work {
         }
     }
 
-    /// None where something is refused.
+    /// Returns `None` if a call fails.
     fn perform(self, alloc: Global, times: u32, passes: u32) -> Option<()> {
         let all = times.saturating_mul(passes);
         match self {
@@ -80,7 +80,7 @@ fn words(rt: &(impl Env + AllocGlobal)) -> Option<Vec<String>> {
     env::args(rt).ok()?.collect::<Vec<String>>(rt.alloc()).ok()
 }
 
-/// Does what the command line asks for. None where it asks for nothing known, or where something is refused.
+/// Performs the workload of the command line. Returns `None` if the arguments are wrong or a call fails.
 fn asked(rt: &HostRuntime, words: &[String]) -> Option<()> {
     match words {
         [_, work, times, passes] => {
@@ -105,7 +105,7 @@ fn number(word: &String) -> Option<u32> {
     word.as_str().parse().ok()
 }
 
-/// Takes a block in a new segment and gives it back, so many times.
+/// Allocates a block in a new segment and frees it, `times` times.
 fn allocate<F: Fit>(alloc: Global, index: IndexKind, times: u32) -> Option<()> {
     let mut segment: Segment<F, Global> = segment(alloc, index)?;
     let window = segment.heap_mut().window_mut();
@@ -116,8 +116,8 @@ fn allocate<F: Fit>(alloc: Global, index: IndexKind, times: u32) -> Option<()> {
     Some(())
 }
 
-/// Makes a segment with a vector of numbers, and in each pass pushes so many and takes them all out. None where something is
-/// refused.
+/// Makes a segment with a vector of numbers, and in each pass pushes `times` numbers and removes them all. Returns `None` if a
+/// call fails.
 fn push(alloc: Global, times: u32, passes: u32) -> Option<()> {
     let mut segment: Segment<BestFit, Global> = segment(alloc, IndexKind::Tree)?;
     let at = segment.construct(b"v", NUMBERS, 1).ok()?;
@@ -132,7 +132,7 @@ fn push(alloc: Global, times: u32, passes: u32) -> Option<()> {
     Some(())
 }
 
-/// A segment in memory that knows the types. All of it was written, so that no call is the first to touch a page.
+/// A new segment with the types. All its memory was written before, so that no call is the first to touch a page.
 fn segment<F: Fit>(alloc: Global, index: IndexKind) -> Option<Segment<F, Global>> {
     let region = Region::new(alloc, SIZE).ok()?;
     let mut segment = create(region, 0, SIZE, index).ok()?;
@@ -148,7 +148,7 @@ fn types() -> Result<TypeTable, Fault> {
     TypeTable::read(&entries)
 }
 
-/// Pushes the numbers from 0 on, so many of them.
+/// Pushes the numbers 0, 1, 2 and so on, `times` of them.
 fn push_numbers<F: Fit, A: Allocator>(
     heap: &mut Heap<F, A>,
     vector: Place,

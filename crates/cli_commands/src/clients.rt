@@ -12,7 +12,7 @@ use client_trace::{Untraced, trace};
 use lezgauri::{Fault, Image, Ready, Sink};
 use std::alloc::Global;
 
-/// `verify FILE CLIENT`: prints the steps that the client takes at most on the image.
+/// `verify FILE CLIENT`: prints the most steps that the client can take on the image.
 pub fn verify_file<'a, F: Files, O: Sink>(
     alloc: Global,
     image: &'a str,
@@ -33,7 +33,7 @@ fn bound_of(alloc: Global, image: Vec<u8>, client: &[u8]) -> Result<u64, Fault> 
     Ok(verified(&image, client)?.bound())
 }
 
-/// `trace IMAGE CLIENT [--input FILE]`: prints each step of the client on the image with what the registers hold.
+/// `trace IMAGE CLIENT [--input FILE]`: prints each step of the client on the image with the registers' contents.
 pub fn trace_file<'a, F: Files, O: Sink>(
     alloc: Global,
     traced: &Trace<'a>,
@@ -88,7 +88,8 @@ fn trace_client<O: Sink>(
     }
 }
 
-/// `asm TEXT OUT [--force]`: writes the client that a text spells, not over the text, and not over a file that isn't a client.
+/// `asm TEXT OUT [--force]`: assembles a text, and writes the client. Refuses to write over the text, and without `--force` over
+/// a file that isn't a client.
 pub fn assemble_file<'a, F: Files>(
     alloc: Global,
     assembly: &Assembly<'a>,

@@ -1,4 +1,4 @@
-//! The calls of the library that the commands make. What they promise isn't passed on: the commands are tested.
+//! The library calls that the commands make. They have no contracts here: the commands are tested, not proved.
 
 use lezgauri::{
     AllocatorKind, Client, Fault, Image, IndexKind, Ready, Verified, assemble, parse, prepare,
@@ -6,7 +6,6 @@ use lezgauri::{
 };
 use std::alloc::Global;
 
-/// The image of an empty segment.
 pub(crate) fn created(
     alloc: Global,
     size: u32,
@@ -16,7 +15,7 @@ pub(crate) fn created(
     Image::create(alloc, size, allocator, index)
 }
 
-/// An image that is open, or its first fault.
+/// An image after it is opened, or its first fault.
 pub(crate) fn opened(alloc: Global, bytes: Vec<u8>) -> Result<Image<Global>, Fault> {
     match Image::open(alloc, bytes) {
         Ok(image) => Ok(image),
@@ -24,22 +23,22 @@ pub(crate) fn opened(alloc: Global, bytes: Vec<u8>) -> Result<Image<Global>, Fau
     }
 }
 
-/// Adds so many bytes, and returns the new size.
+/// Grows the segment by `extra` bytes, and returns the new size in bytes.
 pub(crate) fn grown(image: &mut Image<Global>, extra: u32) -> Result<u32, Fault> {
     image.grow(extra)
 }
 
-/// Cuts the free memory at the end, and returns the new size.
+/// Cuts off the free memory at the end, and returns the new size in bytes.
 pub(crate) fn shrunk(image: &mut Image<Global>) -> u32 {
     image.shrink()
 }
 
-/// A client that may run on an image.
+/// A client that is verified for an image.
 pub(crate) fn verified<'a>(image: &Image<Global>, client: &'a [u8]) -> Result<Verified<'a>, Fault> {
     verify(image, client)
 }
 
-/// A client that may run on an image, made ready.
+/// A client that is verified for an image, and prepared.
 pub(crate) fn ready<'a>(
     alloc: Global,
     image: &Image<Global>,
@@ -48,7 +47,7 @@ pub(crate) fn ready<'a>(
     Ok(prepare(alloc, verified(image, client)?)?)
 }
 
-/// The client that a text spells.
+/// The client that a text assembles to.
 pub(crate) fn assembled(alloc: Global, text: &[u8]) -> Result<Vec<u8>, Fault> {
     assemble(alloc, text)
 }

@@ -8,8 +8,8 @@ use cli_words::{ImageTask, Request};
 use lezgauri::{Refused, Sink};
 use std::alloc::{AllocError, Global};
 
-/// Writes in words why a command failed. The files that it worked on are read again for that; one that can't be read any more
-/// is left out of the words.
+/// Explains why a command failed, in words. For that the files are read again; if one can't be read any more, the explanation
+/// does without it.
 pub fn explain_failure<'a, F: Files, E: Sink>(
     alloc: Global,
     request: &Request<'a>,
@@ -24,7 +24,7 @@ pub fn explain_failure<'a, F: Files, E: Sink>(
     Ok(())
 }
 
-/// Why a command failed. Nothing where the line has the words already.
+/// Why a command failed, or nothing if the printed line is in words already.
 fn words_of<'a, F: Files>(
     alloc: Global,
     request: &Request<'a>,
@@ -43,7 +43,7 @@ fn words_of<'a, F: Files>(
     }
 }
 
-/// What a refusal of the library is, where what it worked on was read.
+/// The explanation of a refusal by the library, from the files that could be read.
 fn explained(alloc: Global, refused: &Refused, read: &Read) -> Result<Vec<u8>, AllocError> {
     let clients = slices(alloc, read.clients.as_slice())?;
     let sources = Sources {
@@ -51,7 +51,7 @@ fn explained(alloc: Global, refused: &Refused, read: &Read) -> Result<Vec<u8>, A
         clients: clients.as_slice(),
         text: read.text.as_deref(),
     };
-    // of one client alone it needn't be said which
+    // the number of the only client isn't needed
     let client = if clients.len() > 1 {
         refused.client
     } else {
@@ -60,7 +60,7 @@ fn explained(alloc: Global, refused: &Refused, read: &Read) -> Result<Vec<u8>, A
     explain(alloc, refused.fault, client, &sources)
 }
 
-/// What a command worked on, where it can be read again.
+/// The contents of the files that a command works on, if they can be read again.
 #[derive(Drop)]
 struct Read {
     image: Option<Vec<u8>>,

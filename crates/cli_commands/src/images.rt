@@ -24,8 +24,8 @@ pub fn new_file<'a, F: Files>(
     Ok(write_file(files, new.file, image.as_slice())?)
 }
 
-/// The commands on an image alone: prints what the task makes of the image, or writes it where it is a picture, and rewrites
-/// the file where the image changes.
+/// The commands on one image: prints the task's text, writes its picture if it has one, and rewrites the image's file if the
+/// image changes.
 pub fn image_file<'a, F: Files, O: Sink>(
     alloc: Global,
     file: &'a str,
@@ -61,7 +61,7 @@ fn check_picture<'a, F: Files>(
     refuse_other_format(alloc, files, picture.file, Format::Picture)
 }
 
-/// The picture that a task writes.
+/// The picture that a task writes, if it writes one.
 fn picture_of<'a>(task: ImageTask<'a>) -> Option<Picture<'a>> {
     match task {
         ImageTask::Picture(picture) => Some(picture),
@@ -76,7 +76,7 @@ fn picture_of<'a>(task: ImageTask<'a>) -> Option<Picture<'a>> {
     }
 }
 
-/// Prints a text, and rewrites the file where there is another image for it, also where the output fails.
+/// Prints a text, and rewrites the file if there is a new image, even if the output fails.
 fn give<'a, F: Files, O: Sink>(
     file: &'a str,
     made: &Made,

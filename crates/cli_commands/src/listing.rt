@@ -1,11 +1,11 @@
-//! What a segment has, as text.
+//! Listings of a segment's contents, as text.
 
 use crate::made::Unmade;
 use cli_show::{Extent, all_objects, heap_lines, one_object, picture};
 use lezgauri::{Image, MAX_TYPES, Named, TypeId};
 use std::alloc::{AllocError, Global};
 
-/// The bytes of a segment, of its free memory and of its largest gap, and how many objects it has, a line each.
+/// The bytes of a segment, of its free memory and of its largest free block, and the number of its objects, a line each.
 pub(crate) fn statistics(alloc: Global, image: &Image<Global>) -> Result<Vec<u8>, AllocError> {
     let size = image.size();
     let free = image.free_memory();
@@ -18,7 +18,7 @@ pub(crate) fn statistics(alloc: Global, image: &Image<Global>) -> Result<Vec<u8>
     Ok(lines.into_bytes())
 }
 
-/// The names in ascending order with types and counts, then the types of unique objects, a line each.
+/// The names in ascending order with types and counts, and then the types of unique objects, a line each.
 pub(crate) fn objects(alloc: Global, image: &Image<Global>) -> Result<Vec<u8>, AllocError> {
     let mut lines = Vec::new(alloc);
     add_named(&mut lines, alloc, image)?;
@@ -52,7 +52,7 @@ fn has_unique(image: &Image<Global>, t: TypeId) -> bool {
     image.find_unique(t).is_ok()
 }
 
-/// The objects with their values, all or the one with a name, a line each value.
+/// The objects with their values, a line for each value: all objects, or the one with a name.
 pub(crate) fn shown<'a>(
     alloc: Global,
     image: &Image<Global>,
@@ -77,7 +77,7 @@ fn all(alloc: Global, image: &Image<Global>, extent: Extent) -> Result<Vec<u8>, 
     }
 }
 
-/// The object with a name and its values, if there is one.
+/// The object with a name and its values. Fails with `Absent` if there is none.
 fn named(
     alloc: Global,
     image: &Image<Global>,
@@ -90,7 +90,7 @@ fn named(
     }
 }
 
-/// The heap block by block.
+/// The heap's blocks, a line each.
 pub(crate) fn blocks(alloc: Global, image: &Image<Global>) -> Result<Vec<u8>, AllocError> {
     match image {
         Image::Seq(segment) => heap_lines(alloc, segment),
@@ -98,7 +98,7 @@ pub(crate) fn blocks(alloc: Global, image: &Image<Global>) -> Result<Vec<u8>, Al
     }
 }
 
-/// The heap as a picture.
+/// The heap as an SVG picture.
 pub(crate) fn pictured(alloc: Global, image: &Image<Global>) -> Result<Vec<u8>, AllocError> {
     match image {
         Image::Seq(segment) => picture(alloc, segment),
@@ -106,7 +106,7 @@ pub(crate) fn pictured(alloc: Global, image: &Image<Global>) -> Result<Vec<u8>, 
     }
 }
 
-/// The new size of a segment, as a line.
+/// A line with the new size of a segment, in bytes.
 pub(crate) fn size(alloc: Global, size: u32) -> Result<Vec<u8>, AllocError> {
     Ok(format!(in alloc; "size {size}\n")?.into_bytes())
 }

@@ -5,17 +5,17 @@ use cli_words::{Allocator, ImageTask, Index, NewImage};
 use lezgauri::{AllocatorKind, Fault, Image, IndexKind};
 use std::alloc::{AllocError, Global};
 
-/// What is made of an image: a text, and the image that is saved where it changes.
+/// The result of a task on an image: a text, and the image to save if it changes.
 #[derive(Drop)]
 pub struct Made {
     pub text: Vec<u8>,
     pub image: Option<Vec<u8>>,
 }
 
-/// Why nothing is made of an image.
+/// Why a task on an image has no result.
 #[derive(Clone, Copy)]
 pub enum Unmade<'a> {
-    /// What is wrong with it, or with what is asked of it.
+    /// A fault of the image, or of the task's arguments.
     Fault(Fault),
     /// No object has this name.
     Absent(&'a str),
@@ -55,7 +55,7 @@ pub fn new_image(alloc: Global, new: &NewImage) -> Result<Vec<u8>, Fault> {
     Ok(created(alloc, new.size, allocator, index)?.into_bytes())
 }
 
-/// What a task makes of an image.
+/// Does a task on an image.
 pub fn made_of<'a>(alloc: Global, bytes: Vec<u8>, task: ImageTask<'a>) -> Result<Made, Unmade<'a>> {
     let mut image = opened(alloc, bytes)?;
     let text = text_of(alloc, &mut image, task)?;
@@ -82,7 +82,7 @@ fn text_of<'a>(
         ImageTask::Picture(_) => Ok(pictured(alloc, image)?),
         ImageTask::Grow { extra } => Ok(size(alloc, grown(image, extra)?)?),
         ImageTask::Shrink => Ok(size(alloc, shrunk(image))?),
-        // an image is one of version 2 as soon as it is open
+        // opening an image upgrades it to version 2
         ImageTask::Upgrade => Ok(Vec::from_slice(alloc, b"version 2\n")?),
     }
 }

@@ -1,9 +1,9 @@
-//! Words for why a file can't be read or written.
+//! Explanations of why a file can't be read or written.
 
 use cli_files::{FileProblem, Format};
 use std::alloc::{AllocError, Global};
 
-/// Why a file can't be read or written, and what would be right.
+/// Why a file can't be read or written, and what would be right, in words.
 pub(crate) fn told(alloc: Global, name: &str, problem: FileProblem) -> Result<Vec<u8>, AllocError> {
     let words = match problem {
         FileProblem::TooLong { limit } => format!(in alloc;
@@ -25,7 +25,7 @@ pub(crate) fn told(alloc: Global, name: &str, problem: FileProblem) -> Result<Ve
     Ok(words.into_bytes())
 }
 
-/// What a file of a format is called.
+/// The noun for a file of a format.
 fn noun_of(format: Format) -> &'static str {
     match format {
         Format::Image => "an image",
@@ -34,7 +34,7 @@ fn noun_of(format: Format) -> &'static str {
     }
 }
 
-/// What follows the file's name, for a problem that has words without numbers.
+/// The words after the file's name, for a problem without numbers.
 fn plain_words(problem: FileProblem) -> &'static str {
     match problem {
         FileProblem::Missing => "doesn't exist, or is a link to a file that doesn't exist",

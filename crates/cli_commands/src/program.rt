@@ -10,8 +10,8 @@ use lezgauri::Sink;
 use std::alloc::Global;
 use std::convert::AsStr;
 
-/// Does what the words say, the program's name first, and returns the status: 0 success, 1 a fault of the library, 2 a wrong
-/// command line, 3 a file or an output that failed.
+/// Runs the command line, which begins with the program's name, and returns the status: 0 for success, 1 for a fault that the
+/// library reports, 2 for a wrong command line, 3 for a failed file or output.
 pub fn command<S: AsStr, F: Files, O: Sink, E: Sink>(
     alloc: Global,
     words: &[S],
@@ -28,7 +28,7 @@ pub fn command<S: AsStr, F: Files, O: Sink, E: Sink>(
     }
 }
 
-/// Does what is asked for, and returns the status.
+/// Performs a request, and returns the status.
 fn answer<F: Files, O: Sink, E: Sink>(
     alloc: Global,
     asked: &Asked,
@@ -44,7 +44,7 @@ fn answer<F: Files, O: Sink, E: Sink>(
         Err(failure) => {
             let status = report(alloc, &failure, err);
             if asked.explained && !err.failed() {
-                // where there is no memory for the words, the line says it alone
+                // without memory for an explanation, the printed line is all
                 let _ = explain_failure(alloc, &asked.request, &failure, files, err);
             }
             status
@@ -52,7 +52,7 @@ fn answer<F: Files, O: Sink, E: Sink>(
     }
 }
 
-/// What is asked for.
+/// Performs a request.
 fn perform<'a, F: Files, O: Sink>(
     alloc: Global,
     request: &Request<'a>,

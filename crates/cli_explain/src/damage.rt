@@ -1,4 +1,4 @@
-//! What is wrong with an image.
+//! Explanations of faults in an image.
 
 use crate::bytes::word;
 use crate::field::entry_flaw;
@@ -9,24 +9,24 @@ use seg_ptr::{MAX_LEN, MIN_LEN, header, is_size};
 use std::alloc::{AllocError, Global};
 use std::fmt::Write;
 
-/// Where the version stands.
+/// The position of the version.
 const VERSION: usize = 8;
 
-/// What values should be.
+/// The rules for values.
 const VALUES: &str =
     "a list should be a ring, a map a red-black tree with ascending keys, each with as many nodes as it says, \
 and a pointer null exactly where there are none\n";
 
-/// What cells that share should be.
+/// The rules for shared cells.
 const SHARING: &str =
     "a cell that shares should name a frozen object exactly where it says 1, and one with a lower number where \
 it stands in a frozen object itself\n";
 
-/// What frozen objects should be.
+/// The rules for frozen objects.
 const FROZEN: &str =
     "a frozen object should count the cells that name it, and have a number below the one at byte 28\n";
 
-/// Adds what is wrong with an image's length or its header.
+/// Explains a fault in an image's length or header.
 pub(crate) fn add_bad_header(text: &mut String, image: Option<&[u8]>) -> Result<(), AllocError> {
     let Some(image) = image else {
         return Ok(());
@@ -65,7 +65,7 @@ fn add_bad_word(text: &mut String, image: &[u8]) -> Result<(), AllocError> {
     }
 }
 
-/// The first field of the header with a number that it may not have: its name, the number, and which it may have.
+/// The first field of the header with a wrong number: its name, the number, and the numbers that it may have.
 fn wrong_number(image: &[u8]) -> Option<(&'static str, u32, &'static str)> {
     let version = word(image, VERSION);
     if !matches!(version, 1 | 2) {
@@ -80,7 +80,7 @@ fn wrong_number(image: &[u8]) -> Option<(&'static str, u32, &'static str)> {
     (index > 1).then_some(("the index at byte 20", index, "0 (flat) or 1 (a tree)"))
 }
 
-/// Adds what is wrong with an entry of an image's type table.
+/// Explains a fault in an entry of an image's type table.
 pub(crate) fn add_bad_type(
     text: &mut String,
     number: u32,
@@ -101,7 +101,7 @@ pub(crate) fn add_bad_type(
     )
 }
 
-/// Adds where a byte of an image lies.
+/// Describes the place of a byte in an image.
 pub(crate) fn add_place(
     text: &mut String,
     alloc: Global,
@@ -114,7 +114,7 @@ pub(crate) fn add_place(
     }
 }
 
-/// Adds where the pointer at a byte lies, and what it names.
+/// Describes the place of a pointer, and what it points to.
 pub(crate) fn add_pointer(
     text: &mut String,
     alloc: Global,
@@ -131,7 +131,7 @@ pub(crate) fn add_pointer(
     }
 }
 
-/// Adds where the value at a byte lies, and what would be right.
+/// Describes the place of a value, and says what would be right.
 pub(crate) fn add_bad_value(
     text: &mut String,
     alloc: Global,

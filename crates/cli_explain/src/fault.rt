@@ -10,8 +10,8 @@ use seg_raw::Fault;
 use std::alloc::{AllocError, Global};
 use std::fmt::Write;
 
-/// One or more lines in words, each ended by `\n`: what the fault is, where it is, and what would be right.
-/// `client`: which client has the fault, counted from 0, where one of several has.
+/// Explains a fault in one or more lines, each ended by `\n`: what the fault is, where it is, and what would be right. `client`
+/// is the number of the client that has the fault, from 0, if there are several clients.
 pub fn explain(
     alloc: Global,
     fault: Fault,
@@ -27,7 +27,7 @@ pub fn explain(
     Ok(text.into_bytes())
 }
 
-/// Adds where the fault is.
+/// Adds the place of the fault.
 fn add_places(
     text: &mut String,
     alloc: Global,
@@ -55,7 +55,7 @@ fn add_places(
     }
 }
 
-/// Adds what an entry is in the client, and what it is where the client would run.
+/// Describes a type entry of the client, and the image's type with that number.
 fn add_mismatch(
     text: &mut String,
     number: u32,
@@ -90,7 +90,7 @@ fn kind_of(number: u32, types: &TypeTable) -> Option<Type> {
     types.kind(TypeId::try_from(number).ok()?)
 }
 
-/// Adds what would be right, for a fault that has one rule.
+/// Adds the rule that is broken, for a fault that has one rule.
 fn add_rule(text: &mut String, fault: Fault) -> Result<(), AllocError> {
     match fault {
         Fault::Misplaced => write!(
@@ -111,7 +111,7 @@ and its base be a multiple of 16 from which the segment ends within its room\n"
     }
 }
 
-/// The rule of a fault that has one without numbers, as a line.
+/// The rule as a line, for a fault whose rule has no numbers.
 fn rule(fault: Fault) -> &'static str {
     match fault {
         Fault::Memory => "the host refused memory that the command asked for\n",

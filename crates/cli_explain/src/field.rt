@@ -1,4 +1,4 @@
-//! What is wrong with a field of a client file.
+//! Explanations of faults in a client file.
 
 use crate::bytes::word;
 use crate::flaw::{Flaw, is_name};
@@ -10,13 +10,13 @@ use std::alloc::AllocError;
 use std::fmt;
 use std::fmt::Write;
 
-/// Where the type entries begin.
+/// The position of the first type entry.
 const TYPES_AT: usize = 20;
 
-/// A field of a client file. Entries are counted from 0.
+/// A field of a client file. Numbers of entries count from 0.
 #[derive(Clone, Copy)]
 enum Field {
-    /// A word of the header, and what is said of a wrong one.
+    /// A word of the header, with the explanation of a wrong one.
     Header(&'static str, &'static str),
     Type(usize),
     Constant(usize),
@@ -37,7 +37,7 @@ impl fmt::Display for Field {
     }
 }
 
-/// A constant as a file spells it.
+/// A constant as it is in a file.
 #[derive(Clone, Copy)]
 struct Spelled<'a> {
     kind: u8,
@@ -52,7 +52,7 @@ struct File<'a> {
     bytes: &'a [u8],
 }
 
-/// Adds which field of a client file begins at a byte, and what is wrong with it.
+/// Explains which field of a client file begins at a byte, and what is wrong with it.
 pub(crate) fn add_bad_code(
     text: &mut String,
     bytes: Option<&[u8]>,
@@ -104,7 +104,7 @@ impl<'a> File<'a> {
         }
     }
 
-    /// The same, after the types.
+    /// The field that begins at a position after the types.
     fn later_field(&self, at: usize) -> Field {
         let mut from = self.constants_at();
         for number in 0..self.constant_count() {
@@ -133,7 +133,7 @@ impl<'a> File<'a> {
         })
     }
 
-    /// What is wrong with a field, which begins at a position.
+    /// What is wrong with a field that begins at a position.
     fn flaw(&self, field: Field, at: usize) -> Flaw<'static> {
         match field {
             Field::Header(_, wrong) => Flaw::Unmet(wrong),
@@ -169,7 +169,7 @@ impl<'a> File<'a> {
         }
     }
 
-    /// What is wrong with the instruction with a number, which begins at a position.
+    /// What is wrong with the instruction with this number, which begins at a position.
     fn instruction_flaw(&self, number: usize, at: usize) -> Flaw<'static> {
         let Some(spelled) = self.bytes.get(at..at.saturating_add(Instruction::SIZE)) else {
             return Flaw::Unmet(rule::WHOLE);
@@ -198,7 +198,7 @@ impl<'a> File<'a> {
         }
     }
 
-    /// What stands in front of the instruction with a number.
+    /// What comes before the instruction with this number.
     fn outline(&self, number: usize) -> Outline {
         let mut outline = Outline::new(self.type_count(), word(self.bytes, 4));
         let code = self.add_constants(&mut outline);
@@ -230,8 +230,8 @@ impl<'a> File<'a> {
     }
 }
 
-/// What is wrong with an entry that is no type: its kind, its number of parts, or what it breaks of the rules for types.
-/// `shares`: whether it may be one of cells that share.
+/// What is wrong with an entry that is no valid type: its kind, its number of parts, or a rule for types that it breaks. `shares`
+/// is whether it may be the type of shared cells.
 pub(crate) fn entry_flaw(entry: &[u8], shares: bool) -> Flaw<'static> {
     let [kind, parts, rest @ ..] = entry else {
         return Flaw::Unmet(rule::WHOLE);

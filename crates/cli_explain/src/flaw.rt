@@ -2,18 +2,18 @@ use crate::quoted::Quoted;
 use client_code::{ConstantKind, Operation};
 use std::fmt;
 
-/// What is wrong with a part of a client, in its text or its file.
+/// What is wrong with a part of a client, in its text or in its file.
 #[derive(Clone, Copy)]
 pub(crate) enum Flaw<'a> {
-    /// A rule that it doesn't meet.
+    /// The rule that it breaks.
     Unmet(&'static str),
     /// A word, and what is wrong with it.
     Word(&'a [u8], &'static str),
-    /// An operand of a file, and what is wrong with it.
+    /// An operand in a file, and what is wrong with it.
     Operand(char, &'static str),
-    /// A number between words.
+    /// A number between two pieces of text.
     Number(&'static str, usize, &'static str),
-    /// An operation has too few or too many operands.
+    /// An operation with too few or too many operands.
     Count {
         operation: Operation,
         wanted: usize,
@@ -22,7 +22,7 @@ pub(crate) enum Flaw<'a> {
 }
 
 impl Flaw<'_> {
-    /// A name has no byte or too many, or one that it may not have.
+    /// A name that is empty or too long, or has a byte that it may not have.
     pub(crate) fn name(kind: ConstantKind) -> Flaw<'static> {
         Flaw::Number(
             "the name should have 1 to ",
@@ -36,7 +36,7 @@ impl Flaw<'_> {
         Flaw::Number("the client has no type ", number, "")
     }
 
-    /// A constant, and why the instruction may not name it.
+    /// A constant, and why the instruction may not refer to it.
     pub(crate) fn constant(number: usize, wrong: &'static str) -> Flaw<'static> {
         Flaw::Number("constant ", number, wrong)
     }
@@ -64,7 +64,7 @@ impl fmt::Display for Flaw<'_> {
     }
 }
 
-/// Whether bytes may be a name of a kind.
+/// Whether bytes are a valid name of a kind.
 pub(crate) fn is_name(kind: ConstantKind, bytes: &[u8]) -> bool {
     !bytes.is_empty()
         && bytes.len() <= longest(kind)

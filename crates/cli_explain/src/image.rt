@@ -1,4 +1,4 @@
-//! Where a byte of an image lies, sound or not.
+//! Finds the place of a byte in an image, sound or not.
 
 use crate::location::{Area, Location, Owner};
 use crate::sources::types_of;
@@ -11,14 +11,14 @@ use seg_seqfit::SeqFit;
 use seg_value::Heap;
 use std::alloc::{AllocError, Global};
 
-/// An image, which is read only, so that the allocator doesn't matter.
+/// An image that is only read, so its allocator doesn't matter.
 #[derive(Drop)]
 pub(crate) struct Image {
     heap: Heap<SeqFit, Global>,
 }
 
 impl Image {
-    /// The image of these bytes, if they aren't too many.
+    /// The image with these bytes, unless they are too long.
     pub(crate) fn new(alloc: Global, bytes: &[u8]) -> Result<Option<Image>, AllocError> {
         match window_of(Vec::from_slice(alloc, bytes)?) {
             Some(window) => Ok(Some(Image {
@@ -32,12 +32,12 @@ impl Image {
         self.heap.window()
     }
 
-    /// What the pointer at a byte names.
+    /// The position that the pointer at a byte points to.
     pub(crate) fn target(&self, at: u32) -> Option<u32> {
         self.window().target(at as usize)
     }
 
-    /// Whether it is of the version that has frozen objects.
+    /// Whether the image's version has frozen objects.
     pub(crate) fn shares(&self) -> bool {
         header::shares(self.window())
     }
@@ -50,7 +50,7 @@ impl Image {
         }
     }
 
-    /// Where a byte lies.
+    /// The place of a byte.
     pub(crate) fn location(&self, at: u32) -> Location<'_> {
         if at >= self.window().len() {
             return Location::Outside;
@@ -67,7 +67,7 @@ impl Image {
         self.in_block(at).unwrap_or(Location::Heap)
     }
 
-    /// The same, where it is in the block of a named object. It looks at names as long as they ascend.
+    /// The place of a byte in the block of a named object. The search ends at the first name that doesn't ascend.
     fn in_named(&self, at: u32) -> Option<Location<'_>> {
         let w = self.window();
         let mut entry = first_name(&self.heap)?;
@@ -84,7 +84,7 @@ impl Image {
         None
     }
 
-    /// The part of a named object's block that a byte is of, if it is of any.
+    /// The part of a named object's block that contains a byte, if the block does.
     fn area_of(&self, entry: NameEntry, at: u32) -> Option<Area> {
         let w = self.window();
         let object = entry.object?;
@@ -97,7 +97,7 @@ impl Image {
         })
     }
 
-    /// The same, where it is in the block of a unique object.
+    /// The place of a byte in the block of a unique object.
     fn in_unique(&self, at: u32) -> Option<Location<'_>> {
         for type_id in 0..MAX_TYPES as TypeId {
             if let Some(object) = unique(self.window(), type_id) {
@@ -113,14 +113,14 @@ impl Image {
         None
     }
 
-    /// How far a byte is from the start of the block whose payload begins at a position, if it is in that.
+    /// The offset of a byte in the block with its payload at a position, if the block contains it.
     fn offset(&self, payload: u32, at: u32) -> Option<u32> {
         let from = at.checked_sub(block_of(payload))?;
         let block = block_at(self.window(), block_of(payload))?;
         (from / UNIT < block.units).then_some(from)
     }
 
-    /// The same, where it is in a block that the headers before it lead to.
+    /// The place of a byte in a block that can be reached from the block headers before it.
     fn in_block(&self, at: u32) -> Option<Location<'_>> {
         let block = self.block_around(at)?;
         let area = match at.saturating_sub(block.at).checked_sub(UNIT) {
@@ -134,7 +134,7 @@ impl Image {
         Some(Location::Block(owner, area))
     }
 
-    /// The tag of the block at a position, if it is live.
+    /// The tag of the block at a position, if it is allocated.
     fn tag(&self, block: u32) -> Option<Tag> {
         let w = self.window();
         if is_live(w, block) {
@@ -158,7 +158,7 @@ impl Image {
     }
 }
 
-/// A window over the bytes of an image, if they aren't too many.
+/// A window over the bytes of an image, unless they are too long.
 fn window_of(bytes: Vec<u8>) -> Option<Window<Global>> {
     match u32::try_from(bytes.len()) {
         Ok(len) if len <= MAX_LEN => Window::place(Region::from_vec(bytes), 0, len).ok(),

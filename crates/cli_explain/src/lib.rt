@@ -1,4 +1,4 @@
-//! Words for a refusal: what a fault is, where it is, and what would be right.
+//! Explanations of refusals in words: what the fault is, where it is, and what would be right.
 #![tactic(auto)]
 
 mod bytes;

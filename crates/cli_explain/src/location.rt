@@ -4,48 +4,48 @@ use seg_layout::{ENTRY, TypeId};
 use seg_ptr::header;
 use std::fmt;
 
-/// Where a byte of an image lies.
+/// The place of a byte in an image.
 #[derive(Clone, Copy)]
 pub(crate) enum Location<'a> {
     /// In a field of the first 64 bytes.
     Header(&'static str),
-    /// In the entry of the type table with a number.
+    /// In the entry with this number of the type table.
     TypeEntry(u32),
-    /// In the pointer to the unique object of a type.
+    /// In the pointer to the unique object of this type.
     Unique(u32),
     Block(Owner<'a>, Area),
-    /// In no block that the headers before it lead to.
+    /// In the heap, in no block that can be reached from the headers before it.
     Heap,
     /// After the image's end.
     Outside,
 }
 
-/// What a block is, or the object that it holds.
+/// The kind of a block, or the object in it.
 #[derive(Clone, Copy)]
 pub(crate) enum Owner<'a> {
     Name(&'a [u8]),
     /// The unique object of a type.
     Unique(TypeId),
-    /// No object that was found. The block's position, and its tag.
+    /// An allocated block of an unknown object: its position and its tag.
     Live(u32, Tag),
-    /// None, since the block is free. Its position.
+    /// A free block: its position.
     Free(u32),
 }
 
-/// The part of a block that a byte is of.
+/// The part of a block that contains a byte.
 #[derive(Clone, Copy)]
 pub(crate) enum Area {
     Header,
-    /// So many bytes after the start of its values.
+    /// The values, with the offset in bytes from their start.
     Values(u32),
-    /// The name and what follows it.
+    /// The name and the bytes after it.
     Name,
-    /// So many bytes after the start of its payload.
+    /// The payload, with the offset in bytes from its start.
     Payload(u32),
 }
 
 impl Location<'_> {
-    /// Where a byte before the heap lies.
+    /// The place of a byte before the heap.
     pub(crate) fn of_front(at: u32) -> Location<'static> {
         let place = at as usize;
         if place >= header::UNIQUES {
@@ -85,7 +85,7 @@ impl fmt::Display for Location<'_> {
     }
 }
 
-/// What a live block holds.
+/// The contents of an allocated block.
 #[derive(Clone, Copy)]
 struct Content(Tag);
 

@@ -5,7 +5,7 @@ use client_verify::{Class, RegisterType};
 use seg_layout::{TypeId, TypeTable};
 use std::fmt;
 
-/// What the types and the constants of a client are.
+/// The types and the constants of a client, for descriptions.
 #[derive(Clone, Copy)]
 pub(crate) struct Names<'a> {
     client: Client<'a>,
@@ -27,12 +27,12 @@ impl<'a> Names<'a> {
         }
     }
 
-    /// What a register holds.
+    /// A description of what a register contains.
     pub(crate) fn present(&self, holds: RegisterType) -> Known<'a> {
         self.known(holds, Tense::Present)
     }
 
-    /// What a register held.
+    /// A description of what a register contained.
     pub(crate) fn past(&self, held: RegisterType) -> Known<'a> {
         self.known(held, Tense::Past)
     }
@@ -72,7 +72,7 @@ enum Tense {
     Past,
 }
 
-/// What is known of a register, or was.
+/// A description of what is known of a register, or was.
 #[derive(Clone, Copy)]
 pub(crate) struct Known<'a> {
     names: Names<'a>,
@@ -97,7 +97,7 @@ impl Known<'_> {
     }
 }
 
-/// What a register does with a value of any kind, with a reference and with an owner.
+/// The verbs for a register with any value, with a reference and with an owner.
 #[derive(Clone, Copy)]
 struct Verbs {
     hold: &'static str,
@@ -131,10 +131,10 @@ impl fmt::Display for Known<'_> {
     }
 }
 
-/// What a reference leads into.
+/// What a reference refers into.
 #[derive(Clone, Copy)]
 enum Whole<'a> {
-    /// The objects of an exact name or of a family, as the word says.
+    /// The objects of an exact name or of a family; the word tells which.
     Named(&'static str, &'a [u8]),
     Unique(NumberedType),
     Register(u8),

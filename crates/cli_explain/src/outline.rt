@@ -8,10 +8,10 @@ use client_code::{
 /// The most constants of a client.
 pub(crate) const MOST_CONSTANTS: usize = 256;
 
-/// The most turns of a loop.
+/// The most iterations of a loop.
 const TURNS: i32 = 1_000_000_000;
 
-/// An instruction as a file or a text has it. Unlike an `Instruction`, it may have any operands.
+/// An instruction as it is in a file or a text. Unlike an `Instruction`, it may have wrong operands.
 #[derive(Clone, Copy)]
 pub(crate) struct Draft {
     pub(crate) operation: Operation,
@@ -22,7 +22,7 @@ pub(crate) struct Draft {
 }
 
 impl Draft {
-    /// The instruction that 8 bytes spell, if their operation is known.
+    /// The instruction in 8 bytes, if its operation is known.
     pub(crate) fn read(bytes: &[u8]) -> Option<Draft> {
         let [operation, a, b, c, n0, n1, n2, n3] = bytes else {
             return None;
@@ -37,7 +37,7 @@ impl Draft {
     }
 }
 
-/// What stands in front of an instruction of a client, and how many types and which version the whole client has.
+/// What comes before an instruction of a client, and how many types and which version the whole client has.
 #[derive(Drop)]
 pub(crate) struct Outline {
     pub(crate) types: usize,
@@ -60,11 +60,11 @@ impl Outline {
     }
 
     pub(crate) fn add_constant(&mut self, kind: ConstantKind) {
-        // one too many is a flaw of its own
+        // a constant too many is reported elsewhere
         let _ = self.constants.try_push(kind);
     }
 
-    /// Goes past an instruction. False where it may not stand here.
+    /// Passes an instruction. Returns false if it is misplaced.
     pub(crate) fn pass(&mut self, role: Role) -> bool {
         self.instructions = self.instructions.saturating_add(1);
         self.nesting.pass(role)
@@ -74,7 +74,7 @@ impl Outline {
         self.nesting.is_closed()
     }
 
-    /// The first thing that is wrong with an instruction here.
+    /// The first thing that is wrong with an instruction at this place.
     pub(crate) fn flaw(&mut self, instruction: Draft) -> Option<Flaw<'static>> {
         let row = instruction.operation.row();
         if row.version > self.version {
@@ -132,7 +132,7 @@ impl Outline {
     }
 }
 
-/// Of a constant that an instruction names, where there is none.
+/// For a constant that an instruction refers to and that doesn't exist.
 const ABSENT: &str = " isn't there";
 
 fn is_operand(operand: Operand, n: u8) -> bool {
@@ -143,7 +143,7 @@ fn is_operand(operand: Operand, n: u8) -> bool {
     }
 }
 
-/// What is wrong with an operand that isn't of a kind.
+/// The description of a wrong operand, by its kind.
 pub(crate) fn operand_words(operand: Operand) -> &'static str {
     match operand {
         Operand::Unused => "should be 0, since the operation doesn't have it",

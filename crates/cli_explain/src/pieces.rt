@@ -1,7 +1,7 @@
-/// What a byte parts a text into, one piece after the other.
+/// Splits a text at a byte, one piece after the other.
 #[derive(Clone, Copy)]
 pub(crate) struct Pieces<'a> {
-    /// What follows the pieces so far, if anything does.
+    /// The text after the pieces so far, if there is any.
     left: Option<&'a [u8]>,
     by: u8,
 }
@@ -21,7 +21,7 @@ impl<'a> Pieces<'a> {
         }
     }
 
-    /// The bytes that are left.
+    /// The length of the rest, in bytes.
     fn len(&self) -> usize {
         match self.left {
             Some(left) => left.len(),
@@ -47,7 +47,7 @@ impl<'a> Pieces<'a> {
         None
     }
 
-    /// How many pieces that aren't empty are left.
+    /// How many pieces of the rest aren't empty.
     pub(crate) fn count_words(mut self) -> usize {
         let mut count = 0usize;
         for _ in 0..self.len() {
@@ -60,7 +60,7 @@ impl<'a> Pieces<'a> {
     }
 }
 
-/// How many bytes stand in front of the first of a kind.
+/// How many bytes come before the first `by`.
 fn len_before(text: &[u8], by: u8) -> usize {
     let mut len = 0usize;
     for byte in text {

@@ -1,9 +1,9 @@
 use std::fmt;
 
-/// The most bytes that are shown of a line or a word.
+/// How many bytes of a line or a word are shown.
 const MOST: usize = 100;
 
-/// Bytes between backquotes, those that aren't visible as in Rust, and of long ones the first.
+/// Bytes between backquotes, with Rust's escapes for bytes that aren't visible. Of long ones only the first bytes are shown.
 #[derive(Clone, Copy)]
 pub(crate) struct Quoted<'a>(pub(crate) &'a [u8]);
 

@@ -5,7 +5,7 @@ use client_verify::{Reason, RegisterType, Registers, Rule};
 use seg_layout::{Type, TypeId};
 use std::fmt;
 
-/// The registers b and c of an instruction, each once.
+/// The registers b and c of an instruction, without repetition.
 pub(crate) fn used(instruction: Instruction) -> [Option<u8>; 2] {
     let row = instruction.operation.row();
     let b = register(row.b, instruction.b);
@@ -20,21 +20,21 @@ fn register(operand: Operand, n: u8) -> Option<u8> {
     }
 }
 
-/// What a register should be for an instruction.
+/// What a register should contain for an instruction.
 #[derive(Clone, Copy)]
 pub(crate) struct Demand {
     pub(crate) register: u8,
     need: Need,
     /// The field that a struct should have.
     field: i32,
-    /// What the own or the cell holds that register b leads to.
+    /// The type of the value in the own or shared cell that register b refers to.
     content: Option<NumberedType>,
-    /// Whether the register leads into a frozen object.
+    /// Whether the register refers into a frozen object.
     is_read_only: bool,
 }
 
 impl Demand {
-    /// What the first of registers b and c should be that isn't what the instruction needs.
+    /// What register b or c should contain: the first of them that doesn't contain what the instruction needs.
     pub(crate) fn unmet(names: &Names, registers: &Registers, instruction: Instruction) -> Demand {
         let row = instruction.operation.row();
         let content = held_content(names, registers.get(instruction.b));
@@ -53,7 +53,7 @@ impl Demand {
     }
 }
 
-/// What the own or the cell holds that a register leads to.
+/// The type of the value in the own or shared cell that a register refers to.
 fn held_content(names: &Names, holds: RegisterType) -> Option<TypeId> {
     let (_, to) = holds.led()?;
     match names.types().kind(to)? {
@@ -68,7 +68,7 @@ fn held_content(names: &Names, holds: RegisterType) -> Option<TypeId> {
     }
 }
 
-/// Whether register b is what the instruction needs: whether it would do with a right register c.
+/// Whether register b is right: whether the instruction would pass with some register c.
 fn is_first_met(
     names: &Names,
     registers: &Registers,

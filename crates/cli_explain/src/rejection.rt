@@ -1,4 +1,4 @@
-//! Why the verifier refuses an instruction, in words.
+//! Explains why the verifier refuses an instruction.
 
 use crate::names::Names;
 use crate::quoted::Quoted;
@@ -11,18 +11,18 @@ use client_verify::{Class, MOST_STEPS, Reason, RegisterType, Registers};
 use std::alloc::{AllocError, Global};
 use std::fmt::Write;
 
-/// A client in front of the instruction that is refused.
+/// A client up to the instruction that is refused.
 #[derive(Drop)]
 struct Refusal<'a> {
     replay: Replay,
     names: Names<'a>,
     /// The client's canonical text.
     printed: Vec<u8>,
-    /// How many lines stand in it before the code.
+    /// How many lines of the text come before the code.
     front: u32,
 }
 
-/// Adds why the instruction with a number is refused.
+/// Explains why the instruction with this number is refused.
 pub(crate) fn add_rejection(
     text: &mut String,
     alloc: Global,
@@ -41,7 +41,7 @@ pub(crate) fn add_rejection(
     text.push_str(rule(reason, client.instruction(number)))
 }
 
-/// Adds how many steps a client takes at most.
+/// Adds the bound of a client's steps.
 pub(crate) fn add_bound(
     text: &mut String,
     alloc: Global,
@@ -70,13 +70,13 @@ fn printed(alloc: Global, client: &Client) -> Result<Vec<u8>, AllocError> {
     }
 }
 
-/// How many lines of a client's text stand before its code.
+/// How many lines of a client's text come before its code.
 fn lines_before(client: &Client) -> u32 {
     let constants = u32::try_from(client.constants().len()).unwrap_or(u32::MAX);
     client.type_count().saturating_add(constants)
 }
 
-/// The rule that a reason stands for, at an instruction.
+/// The rule for a reason, at an instruction.
 fn rule(reason: u8, instruction: Option<Instruction>) -> &'static str {
     if reason == Reason::WrongOperand.number() {
         "each register has to hold what the operation needs, on every way to the instruction\n"
@@ -89,7 +89,7 @@ fn rule(reason: u8, instruction: Option<Instruction>) -> &'static str {
     }
 }
 
-/// Why an object isn't put or frozen into itself.
+/// Why an object can't be put or frozen into itself.
 fn of_holding(instruction: Option<Instruction>) -> &'static str {
     match instruction.map(|it| it.operation.row().ends) {
         Some(Ends::Frozen) => {
@@ -110,7 +110,7 @@ impl<'a> Refusal<'a> {
         })
     }
 
-    /// The line of the printed text that an instruction stands in.
+    /// The number of the instruction's line in the printed text.
     fn line_of(&self, number: u32) -> u32 {
         self.front.saturating_add(number).saturating_add(1)
     }
@@ -131,7 +131,7 @@ impl<'a> Refusal<'a> {
         self.replay.registers()
     }
 
-    /// Adds what the registers hold that the instruction is refused for.
+    /// Describes the registers for which the instruction is refused.
     fn add_registers(
         &self,
         text: &mut String,
@@ -164,7 +164,7 @@ impl<'a> Refusal<'a> {
         Ok(())
     }
 
-    /// Adds what is known of a register, and where nothing is, what it held before.
+    /// Describes what is known of a register. If nothing is known, describes what it contained before.
     fn add_known(&self, text: &mut String, register: u8) -> Result<(), AllocError> {
         let holds = self.registers().get(register);
         let known = self.names.present(holds);
@@ -191,7 +191,7 @@ impl<'a> Refusal<'a> {
         write!(text, "r{register} should {demand}\n")
     }
 
-    /// Adds the object that the register owns which would change.
+    /// Describes the register that would be overwritten, and the object that it owns.
     fn add_lost(&self, text: &mut String, instruction: Instruction) -> Result<(), AllocError> {
         let register = match instruction.operation.row().gives {
             Gives::Forgotten => return Ok(()),
@@ -209,7 +209,7 @@ impl<'a> Refusal<'a> {
         write!(text, "r{register} {owned}, and would be overwritten\n")
     }
 
-    /// Adds the registers that an `END` finds wrong.
+    /// Describes the registers that are wrong at an `END`.
     fn add_end(&self, text: &mut String) -> Result<(), AllocError> {
         for register in 0..REGISTERS {
             match self.replay.innermost() {
@@ -223,7 +223,7 @@ impl<'a> Refusal<'a> {
         Ok(())
     }
 
-    /// Adds a register that a loop's body may not leave as it does.
+    /// Describes a register that a loop's body may not leave like this.
     fn add_kept(
         &self,
         text: &mut String,
@@ -243,7 +243,7 @@ impl<'a> Refusal<'a> {
         text.push('\n')
     }
 
-    /// Adds the instruction that changed a register last.
+    /// Adds the last instruction that changed a register.
     fn add_since(&self, text: &mut String, register: u8) -> Result<(), AllocError> {
         match self.replay.change(register) {
             Some(Change { held: _, by }) => {
@@ -254,7 +254,7 @@ impl<'a> Refusal<'a> {
         }
     }
 
-    /// Adds a register that owns an object at the end of one part of two.
+    /// Describes a register that owns an object at the end of only one of two parts.
     fn add_joined(
         &self,
         text: &mut String,
@@ -272,7 +272,7 @@ impl<'a> Refusal<'a> {
         )
     }
 
-    /// Adds how a reference that ended comes again.
+    /// Says how to get a reference again that has ended.
     fn add_again(&self, text: &mut String, held: RegisterType) -> Result<(), AllocError> {
         match held.led() {
             Some((Class::Name(_), _)) => text.push_str(": FIND the object again"),

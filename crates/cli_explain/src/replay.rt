@@ -2,24 +2,24 @@ use client_code::{Client, REGISTERS, Role};
 use client_verify::{RegisterType, Registers, Verifier};
 use std::alloc::{AllocError, Global};
 
-/// What a register held before it changed last, and the number of the instruction that changed it.
+/// What a register contained before its last change, and the number of the instruction that changed it.
 #[derive(Clone, Copy)]
 pub(crate) struct Change {
     pub(crate) held: RegisterType,
     pub(crate) by: u32,
 }
 
-/// A part of the code that is open, and what its end is compared with.
+/// An open part of the code, with what its end is compared with.
 #[derive(Clone, Copy)]
 pub(crate) enum Part {
     Success,
     /// What was known at the end of the success part.
     Else(Registers),
-    /// What was known in front of the loop.
+    /// What was known before the loop.
     Body(Registers),
 }
 
-/// What the verifier knows at a place of a client's code, and how each register came to hold what it does.
+/// What the verifier knows at a place in a client's code, and the last change of each register.
 #[derive(Drop)]
 pub(crate) struct Replay {
     registers: Registers,
@@ -29,7 +29,7 @@ pub(crate) struct Replay {
 }
 
 impl Replay {
-    /// In front of the instruction with a number, or of one before it that is refused.
+    /// The state before the instruction with this number, or before an earlier one that is refused.
     pub(crate) fn until(alloc: Global, client: &Client, end: u32) -> Result<Replay, AllocError> {
         let types = client.types();
         let mut verifier = Verifier::new(&types);
@@ -50,7 +50,6 @@ impl Replay {
         Ok(replay)
     }
 
-    /// What is known of the registers.
     pub(crate) fn registers(&self) -> &Registers {
         &self.registers
     }
@@ -65,12 +64,12 @@ impl Replay {
         *self.changes.get(usize::from(register))?
     }
 
-    /// The part that an `END` would end.
+    /// The part that the next `END` ends.
     pub(crate) fn innermost(&self) -> Option<Part> {
         self.parts.last().copied()
     }
 
-    /// Opens and ends the parts that an instruction of a role does.
+    /// Opens or ends parts, by an instruction's role.
     fn nest(&mut self, role: Role) -> Result<(), AllocError> {
         match role {
             Role::Plain => {}
@@ -87,7 +86,7 @@ impl Replay {
         Ok(())
     }
 
-    /// Makes known what is known after the instruction with a number.
+    /// Records what is known after the instruction with this number.
     fn know(&mut self, number: u32, after: &Registers) {
         for register in 0..REGISTERS {
             let held = self.registers.get(register);
@@ -99,7 +98,7 @@ impl Replay {
     }
 }
 
-/// Lets the verifier go past the instruction with a number, and returns its role, if it isn't refused.
+/// Passes the instruction with this number to the verifier. Returns its role, or `None` if it is refused.
 fn passed(verifier: &mut Verifier, client: &Client, number: u32) -> Option<Role> {
     let instruction = client.instruction(number)?;
     verifier.pass(instruction).ok()?;

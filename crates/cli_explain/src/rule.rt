@@ -1,4 +1,4 @@
-//! What a client has to meet, as words for one that doesn't.
+//! The rules for clients, as explanations.
 
 use client_code::Role;
 
@@ -11,7 +11,7 @@ pub(crate) const FEW: &str = "a client may have 32 types, 256 constants and 4096
 pub(crate) const KINDS: &str =
     "the kind of a type should be 1 to 8, and an unused entry, which is all 0, be followed by such alone";
 
-/// The same in a client, and in an image of version 2.
+/// The kinds of types in a client, and in an image of version 2.
 pub(crate) const MORE_KINDS: &str =
     "the kind of a type should be 1 to 9, and an unused entry, which is all 0, be followed by such alone";
 
@@ -45,7 +45,7 @@ pub(crate) const ENDS: &str = "the file should end after the last instruction";
 
 pub(crate) const ANY: &str = "it should be as docs/FORMATS.md says";
 
-/// What an instruction of a role doesn't meet where it may not stand.
+/// The rule that an instruction of a role breaks if it is misplaced.
 pub(crate) fn of_place(role: Role) -> &'static str {
     match role {
         Role::Plain => ANY,

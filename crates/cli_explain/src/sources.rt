@@ -2,12 +2,12 @@ use client_code::{Client, parse};
 use seg_layout::{ENTRY, MAX_TYPES, TypeTable};
 use seg_ptr::header;
 
-/// What a refused command worked on, where it was read.
+/// The files that a refused command read, as far as they can be read again.
 #[derive(Clone, Copy)]
 pub struct Sources<'a> {
     /// The image's bytes.
     pub image: Option<&'a [u8]>,
-    /// The files of the clients, in the order in which they run.
+    /// The files of the clients, in the order of their runs.
     pub clients: &'a [&'a [u8]],
     /// The assembler text of a client.
     pub text: Option<&'a [u8]>,
@@ -21,17 +21,17 @@ pub(crate) fn type_bytes(image: &[u8]) -> &[u8] {
 }
 
 impl<'a> Sources<'a> {
-    /// The file of a client, of the first where none is named.
+    /// The file of a client; of the first if no number is given.
     pub(crate) fn file(&self, client: Option<usize>) -> Option<&'a [u8]> {
         self.clients.get(client.unwrap_or(0)).copied()
     }
 
-    /// The client with the fault, where its file has none.
+    /// The client with the fault, if its file is valid.
     pub(crate) fn client(&self, client: Option<usize>) -> Option<Client<'a>> {
         client_of(self.file(client)?)
     }
 
-    /// The types that a client finds: the image's, and those of the clients before it.
+    /// The types in the segment before a client: the image's, and those of the clients before it.
     pub(crate) fn types_before(&self, client: Option<usize>) -> Option<TypeTable> {
         let mut types = types_of(self.image?)?;
         for file in self.clients.iter().take(client.unwrap_or(0)) {
@@ -47,7 +47,7 @@ fn client_of(file: &[u8]) -> Option<Client<'_>> {
     parse(file).ok()
 }
 
-/// The types of an image, if they are a table.
+/// The types of an image, if its table is valid.
 pub(crate) fn types_of(image: &[u8]) -> Option<TypeTable> {
     TypeTable::read_shared(type_bytes(image)).ok()
 }

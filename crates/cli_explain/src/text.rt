@@ -1,4 +1,4 @@
-//! What is wrong with a line of a client's text.
+//! Explanations of faults in a client's text.
 
 use crate::flaw::{Flaw, is_name};
 use crate::outline::{Draft, MOST_CONSTANTS, Outline, operand_words};
@@ -11,7 +11,7 @@ use std::alloc::AllocError;
 use std::fmt::Write;
 use std::str;
 
-/// The line with a number, counted from 1, without its end.
+/// The line with this number, counted from 1, without its end.
 pub(crate) fn line(text: &[u8], number: u32) -> Option<&[u8]> {
     let mut lines = Pieces::lines(text);
     for _ in 0..number.checked_sub(1)? {
@@ -20,7 +20,7 @@ pub(crate) fn line(text: &[u8], number: u32) -> Option<&[u8]> {
     lines.next()
 }
 
-/// Adds the line with a number, counted from 1, and what is wrong with it.
+/// Quotes the line with this number, counted from 1, and explains what is wrong with it.
 pub(crate) fn add_bad_line(
     text: &mut String,
     source: Option<&[u8]>,
@@ -42,7 +42,7 @@ pub(crate) fn add_bad_line(
     }
 }
 
-/// The line with a number, if it says something.
+/// The line with this number, unless it is empty or a comment.
 fn meant_line(source: &[u8], number: u32) -> Option<&[u8]> {
     match line(source, number)? {
         [b';', ..] => None,
@@ -55,7 +55,7 @@ fn first_word(line: &[u8]) -> &[u8] {
     Pieces::words(line).next_word().unwrap_or(&[])
 }
 
-/// What a line is, by its first word.
+/// The kind of a line, by its first word.
 #[derive(Clone, Copy)]
 enum Statement {
     Type,
@@ -81,7 +81,7 @@ impl Statement {
     }
 }
 
-/// What stands in front of the line with a number, and the types of the whole text.
+/// What comes before the line with this number, and the types of the whole text.
 fn outline(source: &[u8], number: u32) -> Outline {
     let mut outline = Outline::new(type_count(source), version(source));
     let mut lines = Pieces::lines(source);
@@ -152,7 +152,7 @@ fn line_flaw<'a>(source: &[u8], number: u32, line: &'a [u8]) -> Flaw<'a> {
     }
 }
 
-/// What a statement doesn't meet by standing where it does.
+/// The rule that a statement breaks by its place.
 fn misplaced(outline: &Outline, statement: Statement) -> Option<&'static str> {
     match statement {
         Statement::Type => (!outline.constants.is_empty() || outline.instructions > 0).then_some(
@@ -167,7 +167,7 @@ fn misplaced(outline: &Outline, statement: Statement) -> Option<&'static str> {
     }
 }
 
-/// The words for types, each with the most parts that may follow.
+/// The words for types, each with the most parts that may follow it.
 const TYPES: [(&str, usize); 9] = [
     ("i64", 0),
     ("str", 0),
@@ -189,7 +189,7 @@ fn most_parts(word: &[u8]) -> Option<usize> {
     None
 }
 
-/// What is wrong with a type, where the client has so many.
+/// What is wrong with a type, in a client with `types` types.
 fn type_flaw<'a>(mut words: Pieces<'a>, types: usize) -> Flaw<'a> {
     let Some(word) = words.next_word() else {
         return Flaw::Unmet(rule::PARTS);
@@ -211,7 +211,7 @@ fn type_flaw<'a>(mut words: Pieces<'a>, types: usize) -> Flaw<'a> {
     }
 }
 
-/// The first of so many words that is no type of a client that has so many.
+/// The first of `parts` words that is no type of a client with `types` types.
 fn wrong_part<'a>(mut words: Pieces<'a>, parts: usize, types: usize) -> Option<&'a [u8]> {
     for _ in 0..parts {
         let part = words.next_word()?;
@@ -261,7 +261,7 @@ fn name_flaw<'a>(
     })
 }
 
-/// Whether a line before the one with a number has this name.
+/// Whether a line before the one with this number has this name.
 fn is_named_before(source: &[u8], number: u32, kind: ConstantKind, name: &[u8]) -> bool {
     let mut lines = Pieces::lines(source);
     for _ in 1..number {
@@ -316,7 +316,7 @@ fn word_count(operation: Operation) -> usize {
         .saturating_add(number_count(row.number))
 }
 
-/// How many words spell an operand.
+/// How many words an operand has.
 fn operand_count(operand: Operand) -> usize {
     match operand {
         Operand::Unused => 0,
@@ -324,7 +324,7 @@ fn operand_count(operand: Operand) -> usize {
     }
 }
 
-/// How many words spell a number.
+/// How many words a number has.
 fn number_count(number: Number) -> usize {
     match number {
         Number::Unused => 0,
@@ -403,7 +403,7 @@ fn read_index<'a>(
     }
 }
 
-/// The number after a letter, without leading zeros.
+/// The number after a letter. Leading zeros are wrong.
 fn index(letter: u8, word: &[u8]) -> Option<u8> {
     let (first, digits) = word.split_first()?;
     if *first != letter {
@@ -412,7 +412,7 @@ fn index(letter: u8, word: &[u8]) -> Option<u8> {
     u8::try_from(signed(digits)?).ok()
 }
 
-/// The signed number that a word spells, without a plus sign and leading zeros.
+/// The signed number in a word. A plus sign and leading zeros are wrong.
 fn signed(word: &[u8]) -> Option<i32> {
     let is_plain = match word {
         [b'+', ..] | [b'0', _, ..] | [b'-', b'0', ..] => false,

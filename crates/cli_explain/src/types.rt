@@ -1,7 +1,7 @@
 use seg_layout::{Type, TypeId};
 use std::fmt;
 
-/// What a type is.
+/// A type in words.
 #[derive(Clone, Copy)]
 pub(crate) struct TypeWords(pub(crate) Type);
 
@@ -31,7 +31,7 @@ fn write_fields<W: fmt::Write>(f: &mut fmt::Formatter<W>, fields: &[TypeId]) -> 
     Ok(())
 }
 
-/// A type of a table: its number, and what it is where the table has it.
+/// The number of a type, and the type if the table has it.
 #[derive(Clone, Copy)]
 pub(crate) struct NumberedType {
     pub(crate) number: TypeId,

@@ -7,13 +7,13 @@ use std::os::unix::fs::{MetadataExt, OpenOptionsExt, PermissionsExt, fchown};
 use std::path::Path;
 use std::rt;
 
-/// How many names are tried for the file that is written beside another.
+/// How many names are tried for the new file beside the one that it replaces.
 const NAMES: u32 = 100;
 
 /// The permissions to read, to write and to run, of the owner, the group and all others.
 const ACCESS: u32 = 0o777;
 
-/// What the system's mask leaves of this is what a file has that is made where none was.
+/// The permissions of a new file that replaces none, before the system's mask is applied.
 const ACCESS_OF_NEW: u32 = 0o666;
 
 /// For the owner alone.
@@ -25,7 +25,7 @@ pub struct HostFiles<'a, R> {
     rt: &'a R,
 }
 
-/// A new file beside the one that it is to replace.
+/// A new file beside the one that it will replace.
 #[derive(Drop)]
 struct Beside {
     name: String,
@@ -39,15 +39,15 @@ impl<'a, R: rt::Files<File = File> + AllocGlobal> HostFiles<'a, R> {
 
     fn read_at_most(&self, alloc: Global, name: &str, limit: u64) -> io::Result<Vec<u8>> {
         let file = fs::open(self.rt, name)?;
-        // one more than the file has, so that its end is seen without another request
+        // one byte more than the file has, so that reading reaches its end in one request
         let room = file.metadata()?.len().min(limit).saturating_add(1);
         let mut bytes = Vec::with_capacity(alloc, room as usize)?;
         file.take(limit).read_to_end(&mut bytes)?;
         Ok(bytes)
     }
 
-    /// What the system knows of the plain file with this name, or at the end of the links from it. None if there is no plain
-    /// file, or if it can't be reached, since then it can't be written either.
+    /// The metadata of the plain file with this name, through links. `None` if there is no plain file, or if it can't be reached,
+    /// since then it can't be written either.
     fn plain_file(&self, name: &str) -> Result<Option<Metadata>, FileFault> {
         match fs::metadata(self.rt, name) {
             Ok(there) if there.is_file() => Ok(Some(there)),
@@ -56,8 +56,8 @@ impl<'a, R: rt::Files<File = File> + AllocGlobal> HostFiles<'a, R> {
         }
     }
 
-    /// Makes a file, or replaces the plain file that is there; what is there and is neither plain nor a link, as a device or a
-    /// pipe, is written to.
+    /// Makes a file, or replaces the plain file with this name. Anything else but a link, for example a device or a pipe, is
+    /// written to.
     fn write_file(&self, name: &str, bytes: &[u8]) -> io::Result<()> {
         match fs::symlink_metadata(self.rt, name) {
             Ok(there) if there.is_symlink() => self.write_through(name, bytes),
@@ -68,8 +68,8 @@ impl<'a, R: rt::Files<File = File> + AllocGlobal> HostFiles<'a, R> {
         }
     }
 
-    /// Writes what a link leads to, through all links that follow: a plain file is replaced in its own folder, and the links stay.
-    /// A link that leads nowhere, or round to itself, is an error: a file where nobody asked for one is worse than none.
+    /// Writes through a link, and all links that follow: a plain file is replaced in its own folder, and the links stay. A link
+    /// to nothing or to itself is an error, because it is worse to make a file that nobody asked for.
     fn write_through(&self, link: &str, bytes: &[u8]) -> io::Result<()> {
         let there = fs::metadata(self.rt, link)?;
         if !there.is_file() {
@@ -79,26 +79,25 @@ impl<'a, R: rt::Files<File = File> + AllocGlobal> HostFiles<'a, R> {
         self.replace(target.as_str(), Some(&there), bytes)
     }
 
-    /// Writes a new file beside this name, and renames it to the name. So a reader sees the old bytes or the new ones, and where
-    /// this fails all is as it was; only where the disk fails at the very end is there an error with the new bytes in place. The
-    /// folder is opened first, so that one that may not be read, and so not be brought to the disk, is an error with nothing
-    /// written.
+    /// Writes a new file beside this name, and renames it to the name. So a reader sees either the old bytes or the new ones, and
+    /// a failure changes nothing, except that a disk that fails at the very end can leave the new bytes with an error. The folder
+    /// is opened first: if it can't be read, it can't be synced to the disk, and that is an error before anything is written.
     ///
-    /// Another name of the old file (a hard link) keeps the old bytes.
+    /// If the old file has another hard link, that keeps the old bytes.
     fn replace(&self, name: &str, old: Option<&Metadata>, bytes: &[u8]) -> io::Result<()> {
         let folder = fs::open(self.rt, folder_of(name))?;
         let Beside { name: beside, file } = self.make_beside(name, old)?;
         let filled = fill(file, old, bytes);
         let placed = filled.and_then(|()| fs::rename(self.rt, beside.as_str(), name));
         if placed.is_err() {
-            // the error that counts is the first
+            // report the first error, not this one's
             let _ = fs::remove_file(self.rt, beside.as_str());
         }
         placed.and_then(|()| sync_folder(&folder))
     }
 
-    /// Makes the first of the files `NAME.1.new`, `NAME.2.new` and so on that isn't there. What stands under such a name, also a
-    /// link that leads nowhere, is never opened, so whoever foresees the name gains nothing.
+    /// Makes the first of the files `NAME.1.new`, `NAME.2.new` and so on that doesn't exist. Whatever exists with such a name,
+    /// even a dangling link, is never opened, so nobody gains by guessing the name.
     fn make_beside(&self, name: &str, old: Option<&Metadata>) -> io::Result<Beside> {
         for number in 1..=NAMES {
             let beside = format!(in self.rt.alloc(); "{name}.{number}.new")?;
@@ -111,7 +110,8 @@ impl<'a, R: rt::Files<File = File> + AllocGlobal> HostFiles<'a, R> {
         Err(io::Error::from(ErrorKind::AlreadyExists))
     }
 
-    /// Makes a file, and fails where anything has its name. One that is to replace another is its owner's alone at first.
+    /// Makes a file, or fails if something has its name. A file that will replace another is at first accessible only to its
+    /// owner.
     fn make_new(&self, name: &str, old: Option<&Metadata>) -> io::Result<File> {
         let access = if old.is_some() {
             ACCESS_OF_OWNER
@@ -126,7 +126,7 @@ impl<'a, R: rt::Files<File = File> + AllocGlobal> HostFiles<'a, R> {
     }
 }
 
-/// Gives a new file the bytes and then the old file's permissions, and waits until the disk has them.
+/// Writes the bytes to a new file and gives it the old file's permissions, and waits until they are on the disk.
 fn fill(mut file: File, old: Option<&Metadata>, bytes: &[u8]) -> io::Result<()> {
     file.write_all(bytes)?;
     if let Some(old) = old {
@@ -135,14 +135,14 @@ fn fill(mut file: File, old: Option<&Metadata>, bytes: &[u8]) -> io::Result<()> 
     file.sync_all()
 }
 
-/// Gives a new file the old one's permissions, and its group and owner where the system lets this user.
+/// Gives a new file the old one's permissions, and its group and owner if the system allows this user to.
 fn keep_access(file: &File, old: &Metadata) -> io::Result<()> {
     let _ = fchown(file, None, Some(old.gid()));
     let _ = fchown(file, Some(old.uid()), None);
     file.set_permissions(Permissions::from_mode(old.mode() & ACCESS))
 }
 
-/// Brings a renaming to the disk, where the file system has a way to: some have none for a folder.
+/// Syncs a renaming to the disk, if the file system can: some can't sync a folder.
 fn sync_folder(folder: &File) -> io::Result<()> {
     match folder.sync_all() {
         Err(error) if has_no_way(error.kind()) => Ok(()),
@@ -150,12 +150,12 @@ fn sync_folder(folder: &File) -> io::Result<()> {
     }
 }
 
-/// Whether a call failed since the file system has no way to do it.
+/// Whether a call failed because the file system doesn't support it.
 fn has_no_way(kind: ErrorKind) -> bool {
     matches!(kind, ErrorKind::InvalidInput | ErrorKind::Unsupported)
 }
 
-/// The folder in which the file with this name lies.
+/// The folder of the file with this name.
 fn folder_of(name: &str) -> Path<'_> {
     match Path::new(name).parent() {
         Some(folder) if !folder.as_os_str().is_empty() => folder,
@@ -171,7 +171,7 @@ fn test_len(len: u64, limit: u64) -> Result<(), FileFault> {
     Ok(())
 }
 
-/// Why the system didn't read a file.
+/// The failure for an error while reading a file.
 fn unread(error: io::Error) -> FileFault {
     let problem = match error.kind() {
         ErrorKind::OutOfMemory => return FileFault::Memory,
@@ -183,7 +183,7 @@ fn unread(error: io::Error) -> FileFault {
     FileFault::Failed(problem)
 }
 
-/// Why the system didn't write a file.
+/// The failure for an error while writing a file.
 fn unwritten(error: io::Error) -> FileFault {
     let problem = match error.kind() {
         ErrorKind::OutOfMemory => return FileFault::Memory,
@@ -200,7 +200,7 @@ fn unwritten(error: io::Error) -> FileFault {
 
 impl<R: rt::Files<File = File> + AllocGlobal> Files for HostFiles<'_, R> {
     fn read(&mut self, alloc: Global, name: &str, limit: u64) -> Result<Vec<u8>, FileFault> {
-        // a plain file that is too long isn't read first; what else there is has no length that is known
+        // don't read a plain file that is too long; other files have no known length
         if let Some(there) = self.plain_file(name)? {
             test_len(there.len(), limit)?;
         }

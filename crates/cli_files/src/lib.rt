@@ -1,4 +1,4 @@
-//! The files that the program reads and writes, by name, and those of the host.
+//! Reading and writing files by name, for the program and for the host.
 #![tactic(auto)]
 
 mod files;

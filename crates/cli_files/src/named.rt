@@ -2,18 +2,18 @@ use crate::files::{FileFault, Files};
 use crate::problem::FileProblem;
 use std::alloc::Global;
 
-/// The most bytes of an image.
+/// The most bytes of an image (1 GiB).
 const MAX_IMAGE: u64 = 1 << 30;
 
-/// The most bytes of a client, of a text and of the input.
+/// The most bytes of a client, a text or the input (1 MiB).
 const MAX_FILE: u64 = 1 << 20;
 
 /// Why a file wasn't read or written.
 #[derive(Clone, Copy)]
 pub enum FileFailure<'a> {
-    /// A request for memory was refused.
+    /// The program is out of memory.
     Memory,
-    /// The file with this name can't be read or written, and why.
+    /// The file with this name can't be read or written, for this reason.
     File(&'a str, FileProblem),
 }
 
@@ -44,7 +44,7 @@ pub fn read_file<'a, F: Files>(
     read(alloc, files, name, MAX_FILE)
 }
 
-/// The bytes of each of some files, clients or texts.
+/// The bytes of several files, clients or texts, in order.
 pub fn read_files<'a, F: Files>(
     alloc: Global,
     files: &mut F,

@@ -1,11 +1,11 @@
-//! What a command doesn't write over.
+//! Refusals to overwrite files.
 
 use crate::files::Files;
 use crate::named::FileFailure;
 use crate::problem::{FileProblem, Format};
 use std::alloc::Global;
 
-/// Refuses to write a file that is one that the command reads.
+/// Refuses to write to a file that the command reads.
 pub fn refuse_input<'a, F: Files>(
     files: &mut F,
     name: &'a str,
@@ -17,7 +17,7 @@ pub fn refuse_input<'a, F: Files>(
     Ok(())
 }
 
-/// Whether both names are of one plain file.
+/// Whether both names refer to one plain file.
 pub fn is_same_file<'a, F: Files>(
     files: &mut F,
     name: &'a str,
@@ -29,7 +29,7 @@ pub fn is_same_file<'a, F: Files>(
     }
 }
 
-/// Refuses to write over a plain file that has bytes and isn't of the format.
+/// Refuses to overwrite a plain file that isn't empty and isn't of the format.
 pub fn refuse_other_format<'a, F: Files>(
     alloc: Global,
     files: &mut F,

@@ -1,4 +1,4 @@
-/// What a file is that a command writes.
+/// The format of a file that a command writes.
 #[derive(Debug, Clone, Copy, PartialEq, Eq)]
 pub enum Format {
     Image,
@@ -8,7 +8,7 @@ pub enum Format {
 }
 
 impl Format {
-    /// What each file of this format begins with.
+    /// The first bytes of each file of this format.
     pub fn magic(self) -> &'static str {
         match self {
             Format::Image => "SEGIMAGE",
@@ -21,24 +21,24 @@ impl Format {
 /// Why a file can't be read or written.
 #[derive(Debug, Clone, Copy, PartialEq, Eq)]
 pub enum FileProblem {
-    /// A file to be read doesn't exist, or is a link to one that doesn't.
+    /// The file to read doesn't exist, or is a link to one that doesn't.
     Missing,
-    /// The folder of a file to be written doesn't exist, or the file is a link to one that doesn't.
+    /// The folder of the file to write doesn't exist, or the file is a link to one that doesn't.
     NoFolder,
-    /// It is a folder.
+    /// The file is a folder.
     Folder,
-    /// Permission to read it is missing.
+    /// The user has no permission to read the file.
     Unreadable,
-    /// Permission to write it, or to make a file in its folder, is missing.
+    /// The user has no permission to write the file, or to make a file in its folder.
     Unwritable,
-    /// The disk is full, or a quota or a limit on the size of files is reached.
+    /// The disk is full, or a quota or the limit on file sizes is reached.
     NoSpace,
-    /// It has more bytes than this limit.
+    /// The file has more bytes than this limit.
     TooLong { limit: u64 },
-    /// The system failed for another reason.
+    /// The system call failed for another reason.
     System,
-    /// The command reads this file, under this name or another, so it doesn't write it.
+    /// The command reads this file, under this name or another, so it can't write it.
     Input,
-    /// It has bytes already and isn't of the format that would be written over it.
+    /// The file isn't empty, and isn't of the format that would overwrite it.
     OtherFormat(Format),
 }

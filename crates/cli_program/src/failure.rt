@@ -7,20 +7,20 @@ use std::alloc::{AllocError, Global};
 /// Why a command failed.
 #[derive(Drop)]
 pub enum Failure<'a> {
-    /// A wrong command line: what is wrong with it.
+    /// The command line is wrong, for this reason.
     Words(String),
-    /// No object of the image has this name.
+    /// The image has no object with this name.
     Absent(&'a str),
-    /// A refusal of the library.
+    /// The library refused the image, a client or an argument.
     Refused(Refused),
-    /// A file that can't be read or written, and why.
+    /// The file with this name can't be read or written, for this reason.
     File(&'a str, FileProblem),
     /// The standard output failed.
     Output,
 }
 
 impl Failure<'_> {
-    /// The status that the program ends with.
+    /// The exit status of the program.
     pub fn status(&self) -> u8 {
         match self {
             Failure::Refused(_) | Failure::Absent(_) => 1,
@@ -29,7 +29,7 @@ impl Failure<'_> {
         }
     }
 
-    /// What is written on the error output: one line, or for a wrong command line what it should be.
+    /// The message for the error output: one line, or several for a wrong command line.
     pub fn line(&self, alloc: Global) -> Result<String, AllocError> {
         match self {
             Failure::Words(text) => format!(in alloc; "{text}"),

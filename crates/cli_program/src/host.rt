@@ -5,12 +5,12 @@ use client_output::Sink;
 use std::rt::Env;
 use std::{env, io};
 
-/// The words of the command line, the program's name first.
+/// The arguments of the command line, with the program's name first.
 pub fn words(rt: &(impl Env + AllocGlobal)) -> io::Result<Vec<String>> {
     Ok(env::args(rt)?.collect(rt.alloc())?)
 }
 
-/// Says why the words can't be had, for want of memory or since one of them isn't text, and returns the status.
+/// Reports why the arguments can't be read (out of memory, or one isn't text), and returns the status.
 pub fn refuse<E: Sink>(error: &io::Error, err: &mut E) -> u8
     requires { E.has_failed err.old ≡ false }
 {

@@ -5,7 +5,7 @@ use cli_files::{
 use cli_words::Run;
 use std::alloc::{AllocError, Global};
 
-/// What clients run on: the bytes of an image and of the clients, and those that the clients read.
+/// What a run reads: the bytes of an image, of the clients, and of the input.
 #[derive(Drop)]
 pub struct Inputs {
     pub image: Vec<u8>,
@@ -13,7 +13,7 @@ pub struct Inputs {
     pub input: Vec<u8>,
 }
 
-/// The bytes of the files that a run reads. `OUT` is looked at between them, in the order of the words.
+/// Reads the files of a run in the order of the arguments. `OUT` is checked at its place in that order.
 pub fn read_inputs<'a, F: Files>(
     alloc: Global,
     files: &mut F,
@@ -30,8 +30,8 @@ pub fn read_inputs<'a, F: Files>(
     })
 }
 
-/// Refuses to write the saved image over a client, over the input, and over a file that isn't an image. Over the image itself
-/// it may be written, and what that has is checked before anything runs.
+/// Refuses to write the saved image over a client, over the input, or over a file that isn't an image. It may overwrite the image
+/// itself, since that is checked before anything runs.
 fn check_out<'a, F: Files>(
     alloc: Global,
     files: &mut F,
@@ -49,7 +49,7 @@ fn check_out<'a, F: Files>(
     refuse_other_format(alloc, files, run.out, Format::Image)
 }
 
-/// The bytes of the file that clients read, none where it is left out.
+/// The bytes of the input's file; empty if there is none.
 pub fn read_input<'a, F: Files>(
     alloc: Global,
     files: &mut F,
@@ -61,7 +61,7 @@ pub fn read_input<'a, F: Files>(
     }
 }
 
-/// The bytes of each of some files.
+/// The bytes of several files, as slices.
 pub fn slices(alloc: Global, files: &[Vec<u8>]) -> Result<Vec<&[u8]>, AllocError> {
     let mut slices = Vec::new(alloc);
     for file in files {

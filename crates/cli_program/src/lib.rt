@@ -1,5 +1,4 @@
-//! The command that runs clients, with what all commands share: the host's words, the files that a run reads and writes, why a
-//! command failed, and what is printed.
+//! The command that runs clients, and what all commands share: the host's arguments, the files of a run, failures, and printing.
 #![tactic(auto)]
 
 mod failure;

@@ -14,8 +14,8 @@ pub fn print<'a, O: Sink>(out: &mut O, text: &[u8]) -> Result<(), Failure<'a>>
     }
 }
 
-/// Writes why a command failed, one line, or for a wrong command line what it should be, and returns the status. Where there is
-/// no memory for it, or the error output fails, the status says it alone.
+/// Writes the message for a failure, and returns the status. Without memory for the message, or if the error output fails, the
+/// status is all.
 pub fn report<E: Sink>(alloc: Global, failure: &Failure, err: &mut E) -> u8
     requires works { E.has_failed err.old ≡ false }
 {
@@ -25,7 +25,7 @@ pub fn report<E: Sink>(alloc: Global, failure: &Failure, err: &mut E) -> u8
     failure.status()
 }
 
-/// Writes a text on the error output. That it fails changes nothing.
+/// Writes a text to the error output. A failure is ignored.
 pub fn tell<E: Sink>(err: &mut E, text: &[u8])
     requires works { E.has_failed err.old ≡ false }
 {

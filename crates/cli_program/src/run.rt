@@ -8,8 +8,8 @@ use cli_words::Run;
 use client_vm::{Outcome, Refused, Schedule, Sink, run_image};
 use std::alloc::Global;
 
-/// `run IMAGE OUT CLIENT.. [--base N] [--room N] [--input FILE]`: runs the clients, and writes the saved image also where
-/// their output failed.
+/// `run IMAGE OUT CLIENT.. [--base N] [--room N] [--input FILE]`: runs the clients, and writes the saved image, even if their
+/// output failed.
 pub fn run_files<'a, F: Files, O: Sink>(
     alloc: Global,
     run: &Run<'a>,
@@ -53,7 +53,7 @@ fn outcome_of<O: Sink>(
     )?)
 }
 
-/// The bytes of the region of an image of so many: the image ends it, where the words say nothing else.
+/// The region's size in bytes: `--room`, or just enough for the image at its base.
 fn room_of(run: &Run, len: usize) -> u32 {
     let len = u32::try_from(len).unwrap_or(u32::MAX);
     run.room.unwrap_or(run.base.saturating_add(len))

@@ -2,7 +2,7 @@ use crate::failure::Failure;
 use cli_files::{Files, write_file};
 use client_output::Ended;
 
-/// Writes the saved image, also where the clients' output failed, which is the failure then.
+/// Writes the saved image, even if the clients' output failed; then that is the failure.
 pub fn save<'a, F: Files>(
     files: &mut F,
     name: &'a str,

@@ -2,7 +2,7 @@ use seg_block::{Block, HEAP_START, Tag, UNIT, block_at, is_live, tag_word};
 use seg_ptr::Window;
 use std::alloc::{AllocError, Global};
 
-/// The blocks of the heap, free ones too, in ascending order of their positions.
+/// All blocks of the heap, with free ones, in ascending order of their positions.
 pub(crate) fn blocks(alloc: Global, w: &Window<Global>) -> Result<Vec<Block>, AllocError> {
     let mut blocks = Vec::new(alloc);
     let mut at = HEAP_START;
@@ -16,7 +16,7 @@ pub(crate) fn blocks(alloc: Global, w: &Window<Global>) -> Result<Vec<Block>, Al
     Ok(blocks)
 }
 
-/// The tag of the block at a position, if it is live.
+/// The tag of the block at a position, if it is allocated.
 pub(crate) fn live_tag(w: &Window<Global>, block: u32) -> Option<Tag> {
     if is_live(w, block) {
         Tag::read(tag_word(w, block))

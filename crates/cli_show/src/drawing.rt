@@ -1,4 +1,4 @@
-//! The heap as a picture, in SVG.
+//! The heap as an SVG picture.
 
 ghost use Rattle.std.specs.Prelude.{◌<◌};
 
@@ -9,10 +9,10 @@ use seg_block::{Fit, HEAP_START, UNIT};
 use seg_manager::Segment;
 use std::alloc::{AllocError, Global};
 
-/// The cells of a row.
+/// The number of cells in a row.
 const COLUMNS: u32 = 128;
 
-/// The most rows.
+/// The highest number of rows.
 const ROWS: u32 = 64;
 
 /// The width and the height of a cell, in pixels.
@@ -26,19 +26,19 @@ const TOP: u32 = 40;
 /// The space beside and below the cells, in pixels.
 const MARGIN: u32 = 8;
 
-/// A cell of the picture: a run of units, all of one length.
+/// A cell of the picture. All cells have the same number of units.
 #[derive(Clone, Copy)]
 struct Cell {
-    /// What the block is for that has most of it.
+    /// The purpose of the block that has most of the cell's units.
     purpose: Purpose,
-    /// How many of its units that block has.
+    /// How many of the cell's units that block has.
     units: u32,
-    /// Whether a block begins here, where a cell is one unit.
+    /// Whether a block begins here, if a cell is one unit.
     begins: bool,
 }
 
-/// A picture of the heap, from its lowest unit on in rows, coloured by what blocks are for, with a legend. Where the heap has
-/// more units than the picture has cells, a cell stands for several, and shows the block that has most of them.
+/// A picture of the heap in rows, from its lowest unit on, coloured by the purpose of blocks, with a legend. If the heap has more
+/// units than the picture has cells, a cell is several units, and shows the block that has most of them.
 pub fn picture<F: Fit>(alloc: Global, segment: &Segment<F, Global>) -> Result<Vec<u8>, AllocError> {
     let units = segment.window().len().saturating_sub(HEAP_START) / UNIT;
     let scale = units.div_ceil(COLUMNS * ROWS).max(1);
@@ -73,7 +73,7 @@ fn cells(
     Ok(cells)
 }
 
-/// Gives a block the cells of which it has more than the blocks before it.
+/// Gives a block each cell of which it has more units than the blocks before it.
 fn paint(cells: &mut [Cell], it: &OwnedBlock, scale: u32)
     requires some { 0 < scale }
 {
@@ -96,12 +96,12 @@ fn paint(cells: &mut [Cell], it: &OwnedBlock, scale: u32)
     }
 }
 
-/// What the picture is called, and its colours on a light and on a dark page.
+/// The picture's title, and its colours on a light and on a dark page.
 const HEAD: &str = "<title>The heap of a segment</title>
 <style>.page{fill:#ffffff}text{fill:#1f2328}@media(prefers-color-scheme:dark){.page{fill:#0d1117}text{fill:#f0f6fc}[fill=\"#e8e8e8\"]{fill:#30363d}}</style>
 ";
 
-/// Begins a picture of so many rows, with its background.
+/// Begins a picture with this number of rows, with its background.
 fn begin(lines: &mut Lines, rows: u32) -> Result<(), AllocError> {
     let margin = MARGIN;
     let width = COLUMNS * WIDTH + 2 * MARGIN;
@@ -130,7 +130,7 @@ fn add_legend(lines: &mut Lines, scale: u32) -> Result<(), AllocError> {
     )?.as_bytes())
 }
 
-/// Adds a purpose's colour to the legend, and its word.
+/// Adds a purpose's colour and word to the legend.
 fn add_key(lines: &mut Lines, x: u32, purpose: Purpose) -> Result<(), AllocError> {
     let (colour, word) = (purpose.colour(), purpose.word());
     let after = x.saturating_add(20);
@@ -139,7 +139,7 @@ fn add_key(lines: &mut Lines, x: u32, purpose: Purpose) -> Result<(), AllocError
     )?.as_bytes())
 }
 
-/// Adds a rectangle for each run of cells of a row that show the same.
+/// Adds a rectangle for each run of equal cells in a row.
 fn add_cells(lines: &mut Lines, cells: &[Cell]) -> Result<(), AllocError> {
     let mut from = 0;
     let mut to = 0u32;
@@ -154,7 +154,7 @@ fn add_cells(lines: &mut Lines, cells: &[Cell]) -> Result<(), AllocError> {
     Ok(())
 }
 
-/// Whether the cell after this one shows something else, or stands in another row.
+/// Whether the next cell is different, or is in another row.
 fn ends_run(cells: &[Cell], index: usize) -> bool {
     let following = index.saturating_add(1);
     match (cells.get(index), cells.get(following)) {
@@ -165,7 +165,7 @@ fn ends_run(cells: &[Cell], index: usize) -> bool {
     }
 }
 
-/// Adds the rectangle of the cells from one to another of the same row, with a line between it and the next one.
+/// Adds the rectangle for the cells from one index to another in a row, with a line after it.
 fn add_run(lines: &mut Lines, from: u32, to: u32, purpose: Purpose) -> Result<(), AllocError> {
     let (x, y) = (
         from % COLUMNS * WIDTH,

@@ -1,13 +1,13 @@
-/// How much is shown of what is long or deep.
+/// How much of long and deep values is shown.
 #[derive(Clone, Copy)]
 pub enum Extent {
-    /// The first bytes of a string, the first parts of a value, and the values that aren't deep inside others.
+    /// Only the first bytes of a string, the first parts of a value, and the upper levels of values in values.
     Cut,
     All,
 }
 
 impl Extent {
-    /// The most bytes of a string.
+    /// How many bytes of a string are shown.
     pub(crate) fn bytes(self) -> usize {
         match self {
             Extent::Cut => 60,
@@ -15,7 +15,7 @@ impl Extent {
         }
     }
 
-    /// The most parts of a value.
+    /// How many parts of a value are shown.
     pub(crate) fn parts(self) -> u32 {
         match self {
             Extent::Cut => 20,

@@ -1,4 +1,4 @@
-//! What a segment holds, to be looked at: its objects with their values, and its heap block by block, as text and as a picture.
+//! Shows the contents of a segment: its objects with their values, and its heap block by block, as text and as a picture.
 #![tactic(auto)]
 
 mod blocks;

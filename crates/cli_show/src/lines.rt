@@ -1,10 +1,10 @@
 use std::alloc::{AllocError, Global};
 
-/// The most levels by which a line is indented. A deeper one begins with its level, so that all lines together are as long as
-/// what they tell.
+/// The deepest level with indentation. A deeper line begins with its level instead, so that the length of all lines is
+/// proportional to their contents.
 const DEEPEST: usize = 20;
 
-/// Lines of text, each as deep as what it tells.
+/// Lines of text, indented by level.
 #[derive(Drop)]
 pub(crate) struct Lines {
     alloc: Global,
@@ -38,7 +38,7 @@ impl Lines {
         self.text.extend_from_slice(text)
     }
 
-    /// Adds a number after a word.
+    /// Adds a word and a number.
     pub(crate) fn add_number(&mut self, word: &str, number: i64) -> Result<(), AllocError> {
         self.add(format!(in self.alloc; "{word}{number}")?.as_bytes())
     }
@@ -48,7 +48,7 @@ impl Lines {
         self.add(format!(in self.alloc; "[{index}]")?.as_bytes())
     }
 
-    /// Adds bytes in quotation marks, those that aren't visible as escapes.
+    /// Adds bytes in quotation marks, with escapes for bytes that aren't visible.
     pub(crate) fn add_quoted(&mut self, bytes: &[u8]) -> Result<(), AllocError> {
         self.text.push(b'"')?;
         for byte in bytes.escape_ascii() {
@@ -57,7 +57,7 @@ impl Lines {
         Ok(self.text.push(b'"')?)
     }
 
-    /// Adds a byte so many times.
+    /// Adds a byte `len` times.
     pub(crate) fn add_bar(&mut self, len: u32, byte: u8) -> Result<(), AllocError> {
         for _ in 0..len {
             self.text.push(byte)?;

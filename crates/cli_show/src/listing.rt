@@ -8,11 +8,11 @@ use seg_block::{Block, Fit};
 use seg_manager::Segment;
 use std::alloc::{AllocError, Global};
 
-/// How long the bar of the largest block is.
+/// The length of the longest bar.
 const LONGEST_BAR: u32 = 32;
 
-/// A line for each block of the heap, in ascending order: its position in bytes, its size in units of 16 bytes, what it is
-/// for, the object that it belongs to, and a bar as long as it is large.
+/// A line for each block of the heap, in ascending order of position: its position in bytes, its size in units of 16 bytes, its
+/// purpose, the object that it belongs to, and a bar of proportional length.
 pub fn heap_lines<F: Fit>(
     alloc: Global,
     segment: &Segment<F, Global>,
@@ -55,19 +55,19 @@ fn add_block(
     lines.end()
 }
 
-/// Adds where a block is, and how large.
+/// Adds a block's position and size.
 fn add_extent(lines: &mut Lines, block: Block) -> Result<(), AllocError> {
     lines.add_number("", i64::from(block.at))?;
     lines.add_number(" ", i64::from(block.units))?;
     lines.add(b" ")
 }
 
-/// The object that a block is of.
+/// The object that a block belongs to.
 fn root_of<'a, 'b>(it: &OwnedBlock, roots: &'b [Root<'a>]) -> Option<&'b Root<'a>> {
     roots.get(it.root?)
 }
 
-/// How long the bar of a block of so many units is: at least 1.
+/// The length of the bar of a block with this many units: at least 1.
 fn bar(units: u32, largest: u32) -> u32 {
     let length = u64::from(units) * u64::from(LONGEST_BAR) / u64::from(largest.max(1));
     u32::try_from(length).unwrap_or(LONGEST_BAR).max(1)

@@ -11,8 +11,8 @@ use seg_manager::Segment;
 use seg_value::{Heap, Place, frozen};
 use std::alloc::{AllocError, Global};
 
-/// All objects that the index names: those with a name in ascending order, then the unique ones by type. Then the frozen ones
-/// by falling numbers.
+/// All objects: the named ones in ascending order of their names, the unique ones in order of type, and the frozen ones in
+/// descending order of their numbers.
 pub fn all_objects<F: Fit>(
     alloc: Global,
     segment: &Segment<F, Global>,
@@ -26,7 +26,7 @@ pub fn all_objects<F: Fit>(
     Ok(shown.lines.into_bytes())
 }
 
-/// The object with a name, if there is one, and each frozen one that a cell of what is shown names.
+/// The object with a name, if there is one, and each frozen object that a shown cell points to.
 pub fn one_object<F: Fit>(
     alloc: Global,
     segment: &Segment<F, Global>,
@@ -51,7 +51,7 @@ struct Shown<'h, F: Fit> {
     heap: &'h Heap<F, Global>,
     extent: Extent,
     lines: Lines,
-    /// For each unit of the segment, whether a cell in these lines names the frozen object whose value begins in it. Empty where
+    /// For each unit of the segment, whether a cell in these lines points to the frozen object whose value begins in it. Empty if
     /// no object is frozen.
     named: Vec<bool>,
 }
@@ -76,12 +76,12 @@ impl<'h, F: Fit> Shown<'h, F> {
         })
     }
 
-    /// Whether a cell in the lines names the frozen object with its value at this position.
+    /// Whether a cell in the lines points to the frozen object with its value at this position.
     fn names(&self, value: u32) -> bool {
         self.named.get((value / UNIT) as usize) == Some(&true)
     }
 
-    /// Adds an object, each of its values with all inside it.
+    /// Adds an object, with its values and all values inside them.
     fn add_object(&mut self, root: &Root) -> Result<(), AllocError> {
         let size = self.heap.types().size(root.first.type_id);
         for index in 0..root.count {
@@ -91,7 +91,7 @@ impl<'h, F: Fit> Shown<'h, F> {
         Ok(())
     }
 
-    /// Ends the line of a value, and adds those of all inside it.
+    /// Ends the line of a value, and adds the lines of all values inside it.
     fn add_value(&mut self, value: Place) -> Result<(), AllocError> {
         self.end_line(value)?;
         let mut walk = Walk::new(self.lines.alloc(), self.heap, value, self.extent)?;
@@ -111,7 +111,7 @@ impl<'h, F: Fit> Shown<'h, F> {
         Ok(())
     }
 
-    /// Ends a line with a value: a number, a text, or what it is and how many parts it has.
+    /// Ends a line with a value: a number, a text, or the kind of value and how many parts it has.
     fn end_line(&mut self, value: Place) -> Result<(), AllocError> {
         self.lines.add(b": ")?;
         self.add_content(value)?;
@@ -129,14 +129,14 @@ impl<'h, F: Fit> Shown<'h, F> {
             Some(Type::Own(_)) => return self.lines.add(own_word(self.heap.count(value.at))),
             Some(Type::Struct(_)) => return self.lines.add(b"struct"),
             Some(Type::Shared(_)) => return self.add_shared(value),
-            // a sound image has no value of another type
+            // not reached: a sound image has no value of an unknown type
             None => return Ok(()),
         };
         self.lines
             .add_number(word, i64::from(self.heap.count(value.at)))
     }
 
-    /// Adds which frozen object a cell names, by its number.
+    /// Adds the number of the frozen object that a cell points to.
     fn add_shared(&mut self, cell: Place) -> Result<(), AllocError> {
         match frozen(self.heap, cell) {
             Some(value) => {
@@ -150,7 +150,7 @@ impl<'h, F: Fit> Shown<'h, F> {
         }
     }
 
-    /// Adds a string's bytes in quotation marks, and how many it has where some aren't shown.
+    /// Adds a string's bytes in quotation marks, and its length if not all bytes are shown.
     fn add_text(&mut self, text: Place) -> Result<(), AllocError> {
         let len = self.heap.count(text.at) as usize;
         let shown = len.min(self.extent.bytes());
@@ -183,7 +183,7 @@ fn add_root_name(lines: &mut Lines, root: &Root, index: u16) -> Result<(), Alloc
     Ok(())
 }
 
-/// Says how many parts aren't shown, if there are any.
+/// Adds how many parts aren't shown, if there are any.
 fn add_rest(lines: &mut Lines, level: usize, rest: u32) -> Result<(), AllocError> {
     if rest == 0 {
         return Ok(());
@@ -203,7 +203,7 @@ fn add_step(lines: &mut Lines, step: Step) -> Result<(), AllocError> {
     }
 }
 
-/// What an own of so many objects holds.
+/// The word for the contents of an own, by the number of objects in it.
 fn own_word(count: u32) -> &'static [u8] {
     if count == 0 { b"nothing" } else { b"an object" }
 }

@@ -8,13 +8,13 @@ use seg_ptr::Window;
 use seg_value::{Heap, Place};
 use std::alloc::{AllocError, Global};
 
-/// A block of the heap, what it is for, and which of the segment's objects it belongs to.
+/// A block of the heap, its purpose, and the object that it belongs to.
 #[derive(Clone, Copy)]
 pub(crate) struct OwnedBlock {
     pub(crate) block: Block,
-    /// None where it is free.
+    /// `None` if the block is free.
     pub(crate) tag: Option<Tag>,
-    /// The object's place in the list of them.
+    /// The object's index in the list of objects.
     pub(crate) root: Option<usize>,
 }
 
@@ -31,7 +31,7 @@ pub(crate) fn owned_blocks<F: Fit>(
     Ok(owned)
 }
 
-/// The same, each without an object.
+/// The blocks, each without an object.
 fn unowned_blocks(alloc: Global, w: &Window<Global>) -> Result<Vec<OwnedBlock>, AllocError> {
     let mut unowned = Vec::new(alloc);
     for block in &blocks(alloc, w)? {
@@ -44,7 +44,7 @@ fn unowned_blocks(alloc: Global, w: &Window<Global>) -> Result<Vec<OwnedBlock>, 
     Ok(unowned)
 }
 
-/// Gives an object's blocks to it: its own, and those of all values inside it.
+/// Assigns blocks to an object: its own, and those of all values inside it.
 fn claim_object<F: Fit>(
     alloc: Global,
     heap: &Heap<F, Global>,
@@ -59,7 +59,7 @@ fn claim_object<F: Fit>(
     Ok(())
 }
 
-/// Gives an object the blocks that a value and all inside it stand in, and those that they name.
+/// Assigns to an object the blocks of a value and of all values inside it.
 fn claim_value<F: Fit>(
     alloc: Global,
     heap: &Heap<F, Global>,
@@ -79,7 +79,7 @@ fn claim_value<F: Fit>(
     Ok(())
 }
 
-/// Gives an object the block that a value stands in, and its buffer's.
+/// Assigns to an object the block that contains a value, and the value's buffer.
 fn claim_blocks<F: Fit>(
     heap: &Heap<F, Global>,
     owned: &mut [OwnedBlock],
@@ -91,13 +91,13 @@ fn claim_blocks<F: Fit>(
         Some(Type::Str | Type::Vec(_) | Type::FlatMap(_)) => {
             claim(owned, heap.start(value.at), index);
         }
-        // what these name is met as a value
+        // nodes and objects are assigned when the walk reaches the values in them
         Some(Type::List(_) | Type::Map(_) | Type::Own(_)) => {}
         Some(Type::I64 | Type::Struct(_) | Type::Shared(_)) | None => {}
     }
 }
 
-/// Gives an object the block that a position lies in, if it lies in one.
+/// Assigns to an object the block that contains a position, if there is one.
 fn claim(owned: &mut [OwnedBlock], at: u32, index: usize) {
     if let Some(found) = block_around(owned, at) {
         if let Some(block) = owned.get_mut(found) {
@@ -106,7 +106,7 @@ fn claim(owned: &mut [OwnedBlock], at: u32, index: usize) {
     }
 }
 
-/// The block that begins last of those that begin at a position or before it.
+/// The last block that begins at or before a position.
 fn block_around(owned: &[OwnedBlock], at: u32) -> Option<usize> {
     match owned.binary_search_by(|it| it.block.at.cmp(&at)) {
         Ok(found) => Some(found),

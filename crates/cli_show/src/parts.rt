@@ -5,20 +5,20 @@ use seg_seq::{at, next};
 use seg_value::{Heap, Place};
 use std::alloc::Global;
 
-/// How a value is reached from the one that it stands in.
+/// A step from a value to a part of it.
 #[derive(Clone, Copy)]
 pub(crate) enum Step {
-    /// The item of a vector or a list, from 0.
+    /// The item of a vector or a list with this index, from 0.
     Index(u32),
-    /// The value of a map's key.
+    /// The value of this key in a map.
     Key(i64),
-    /// The field of a struct, from 0.
+    /// The field of a struct with this index, from 0.
     Field(u32),
-    /// What an own holds.
+    /// The object of an own.
     Content,
 }
 
-/// A value that stands right inside another one.
+/// A direct part of a value.
 #[derive(Clone, Copy)]
 pub(crate) struct Part {
     pub(crate) step: Step,
@@ -34,16 +34,16 @@ impl Part {
     }
 }
 
-/// The values right inside a value, one after the other.
+/// An iterator over the direct parts of a value.
 #[derive(Clone, Copy)]
 pub(crate) struct Parts {
     whole: Place,
-    /// How many came so far.
+    /// How many parts were returned so far.
     came: u32,
     left: u32,
-    /// The item of a list that came last.
+    /// The last list item that was returned.
     item: u32,
-    /// The key of a map that came last.
+    /// The last key of a map that was returned.
     key: i64,
 }
 
@@ -58,12 +58,11 @@ impl Parts {
         }
     }
 
-    /// How many came so far.
     pub(crate) fn came(&self) -> u32 {
         self.came
     }
 
-    /// How many are still to come.
+    /// How many parts are still to come.
     pub(crate) fn left(&self) -> u32 {
         self.left
     }
@@ -95,7 +94,7 @@ impl Parts {
         Some(Part::new(Step::Index(index), item, t))
     }
 
-    /// The item after the one that came last.
+    /// The list item after the last one.
     fn list_item<F: Fit>(&mut self, heap: &Heap<F, Global>, index: u32, t: TypeId) -> Option<Part> {
         self.item = match index {
             0 => item_at(heap, self.whole, 0)?,
@@ -104,7 +103,7 @@ impl Parts {
         Some(Part::new(Step::Index(index), self.item, t))
     }
 
-    /// The value of the key after the one that came last.
+    /// The value of the key after the last one.
     fn entry<F: Fit>(&mut self, heap: &Heap<F, Global>, index: u32, t: TypeId) -> Option<Part> {
         self.key = match index {
             0 => least_key(heap, self.whole)?,
@@ -131,7 +130,7 @@ fn value_of<F: Fit>(heap: &Heap<F, Global>, map: Place, key: i64) -> Option<u32>
     get(heap, map, key).ok()
 }
 
-/// How many values stand right inside a value.
+/// How many direct parts a value has.
 fn part_count<F: Fit>(heap: &Heap<F, Global>, whole: Place) -> u32 {
     match heap.types().kind(whole.type_id) {
         None | Some(Type::I64 | Type::Str | Type::Shared(_)) => 0,

@@ -1,7 +1,7 @@
 use crate::owners::OwnedBlock;
 use seg_block::Kind;
 
-/// What a block of the heap is for.
+/// The purpose of a block of the heap.
 #[derive(Clone, Copy, PartialEq, Eq)]
 pub(crate) enum Purpose {
     Object,
@@ -11,7 +11,7 @@ pub(crate) enum Purpose {
     Gap,
 }
 
-/// All of them, in the order in which a legend lists them.
+/// All purposes, in the order of the legend.
 pub(crate) const PURPOSES: [Purpose; 5] = [
     Purpose::Object,
     Purpose::Buffer,
@@ -43,7 +43,7 @@ impl Purpose {
         }
     }
 
-    /// Its colour in a picture. All differ also for those who see few colours.
+    /// Its colour in a picture. The colours can be told apart by colour-blind people too.
     pub(crate) fn colour(self) -> &'static str {
         match self {
             Purpose::Object => "#0072b2",

@@ -6,17 +6,17 @@ use seg_ptr::Window;
 use seg_value::{Content, Heap, Place};
 use std::alloc::{AllocError, Global};
 
-/// What an object is found by.
+/// How an object is found.
 #[derive(Clone, Copy)]
 pub(crate) enum RootName<'a> {
     Named(&'a [u8]),
-    /// The unique object of its type.
+    /// By its type.
     Unique,
-    /// Cells that share it: how many, and its number.
+    /// Through shared cells: `count` is how many, and `number` is the object's number.
     Frozen { count: u32, number: u32 },
 }
 
-/// An object that a segment's index names or that is frozen, with so many values.
+/// A named, unique or frozen object, with its number of values.
 #[derive(Clone, Copy)]
 pub(crate) struct Root<'a> {
     pub(crate) name: RootName<'a>,
@@ -36,7 +36,7 @@ impl Root<'_> {
         matches!(self.name, RootName::Frozen { .. })
     }
 
-    /// A frozen object's number, 0 of any other.
+    /// A frozen object's number; 0 for other objects.
     fn number(&self) -> u32 {
         match self.name {
             RootName::Frozen { number, .. } => number,
@@ -44,7 +44,7 @@ impl Root<'_> {
         }
     }
 
-    /// The value with an index, where each has so many bytes.
+    /// The value with this index, if each value has `size` bytes.
     pub(crate) fn value(&self, index: u16, size: u32) -> Place {
         let from = u32::from(index).saturating_mul(size);
         Place {
@@ -54,8 +54,8 @@ impl Root<'_> {
     }
 }
 
-/// The named objects in ascending order of their names, then the unique ones by type, then the frozen ones by falling numbers,
-/// so that each comes before those that it names.
+/// The named objects in ascending order of their names, the unique ones in order of type, and then the frozen ones in descending
+/// order of their numbers, so that each comes before those that its cells point to.
 pub(crate) fn roots<F: Fit>(
     alloc: Global,
     segment: &Segment<F, Global>,
@@ -72,7 +72,7 @@ pub(crate) fn roots<F: Fit>(
     Ok(roots)
 }
 
-/// The frozen objects by falling numbers.
+/// The frozen objects in descending order of their numbers.
 fn frozen_roots<F: Fit>(
     alloc: Global,
     heap: &Heap<F, Global>,
@@ -106,7 +106,7 @@ fn frozen_root<F: Fit>(heap: &Heap<F, Global>, block: u32) -> Option<Root<'stati
     })
 }
 
-/// How many cells name the frozen object whose value stands at a position. Its count and its number stand right before it.
+/// How many cells share the frozen object with its value at a position. Its count and its number come right before the value.
 fn frozen_count(w: &Window<Global>, value: u32) -> u32 {
     w.get32(value.saturating_sub(8) as usize)
 }

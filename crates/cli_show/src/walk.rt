@@ -5,17 +5,17 @@ use seg_layout::MAX_TYPES;
 use seg_value::{Heap, Place};
 use std::alloc::{AllocError, Global};
 
-/// What a walk through a value meets.
+/// An event of a walk through a value.
 #[derive(Clone, Copy)]
 pub(crate) enum Met {
-    /// A value inside it, at a level from 1.
+    /// A value inside it, at this level, counted from 1.
     Part { level: usize, part: Part },
-    /// The end of the parts of a value, which are at this level, with how many of them weren't walked to.
+    /// The end of the parts at this level; `rest` is how many of them the walk skipped.
     End { level: usize, rest: u32 },
 }
 
-/// A walk through all values inside a value, each before those inside it. It takes host memory for the values that it is in,
-/// and no machine stack.
+/// A walk through all values inside a value, each before the values inside it. It needs host memory for the values on its path,
+/// and no recursion.
 #[derive(Drop)]
 pub(crate) struct Walk {
     open: Vec<Parts>,
@@ -35,7 +35,7 @@ impl Walk {
         })
     }
 
-    /// What comes next, until the parts of the whole value have ended.
+    /// The next event, or `None` after the parts of the whole value.
     pub(crate) fn next<F: Fit>(
         &mut self,
         heap: &Heap<F, Global>,
@@ -59,8 +59,9 @@ impl Walk {
     }
 }
 
-/// How many turns a walk has at most in a segment of so many bytes. Each 8 bytes are of one value, or of structs in one another,
-/// of as many types at most as a table has; and each is met once as a part and once where its parts end.
+/// An upper bound for the number of events of a walk in a segment of `len` bytes. Every 8 bytes belong to one value, or to
+/// structs in one another, of which there are at most as many as types; and a walk has two events for each value, at its
+/// beginning and at its end.
 pub(crate) fn most_turns(len: u32) -> u64 {
     u64::from(len) / 8 * 2 * MAX_TYPES as u64
 }

@@ -2,7 +2,7 @@ use crate::{Argument, FORCE, INPUT, Line, RUN, Takes, parser, parser_of};
 use clap::Command;
 use std::alloc::{AllocError, Global};
 
-/// What each command takes beside its own arguments.
+/// The arguments that all commands have.
 const SHARED: &[Argument] = &[Argument {
     id: "explain",
     takes: Takes::Flag,
@@ -102,7 +102,7 @@ const ASSEMBLE: [Argument; 3] = [
     },
 ];
 
-/// The commands, in the order in which help lists them.
+/// The commands, in the order of the help text.
 const LINES: &[Line] = &[
     Line {
         name: "new",
@@ -190,7 +190,7 @@ const LINES: &[Line] = &[
     },
 ];
 
-/// The words that `segtool` understands.
+/// The parser of `segtool`'s command line.
 pub fn command_line<'a>(alloc: Global) -> Result<Command<'a>, AllocError> {
     let mut program = Command::new(alloc, "segtool")
         .about("Checks images of managed segments, and runs verified clients on them")

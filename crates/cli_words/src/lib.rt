@@ -1,4 +1,4 @@
-//! The words of the command line: what each command takes, and what the words ask for.
+//! The command line: the arguments of each command, and the request that they make.
 #![tactic(auto)]
 
 mod command_line;

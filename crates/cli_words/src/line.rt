@@ -2,16 +2,16 @@ use clap::builder::{ValueParser, ValueRange};
 use clap::{Arg, ArgAction, ArgMatches, Command, value_parser};
 use std::alloc::{AllocError, Global};
 
-/// A command with its arguments, in the order in which they come.
+/// A command with its arguments, in order.
 pub struct Line {
     pub name: &'static str,
     pub about: &'static str,
     pub arguments: &'static [Argument],
-    /// What help shows last.
+    /// The end of the command's help.
     pub examples: &'static str,
 }
 
-/// An argument: what it is read back by, which is also what help calls it, what it takes, and what help says of it.
+/// An argument: its id, which is also its name in the help, what it takes, and its help.
 pub struct Argument {
     pub id: &'static str,
     pub takes: Takes,
@@ -21,16 +21,16 @@ pub struct Argument {
 /// What an argument takes. All but options and `Optional` are required.
 pub enum Takes {
     Word,
-    /// A word that may be left out.
+    /// An argument that may be left out.
     Optional,
     Words,
     OneOf(&'static [&'static str]),
     Bytes,
-    /// An option alone.
+    /// An option without a value.
     Flag,
-    /// An option, with a file.
+    /// An option with a file.
     File,
-    /// An option, with a number of bytes.
+    /// An option with a number of bytes.
     Number,
 }
 
@@ -63,12 +63,12 @@ pub fn parser_of<'a>(alloc: Global, argument: &'static Argument) -> Arg<'a> {
     }
 }
 
-/// The word with this id, which the command line requires of the commands that have it.
+/// The argument with this id, of a command that requires it.
 pub fn word<'a>(arguments: &ArgMatches<'a>, id: &str) -> &'a str {
     arguments.get_str(id).unwrap_or("")
 }
 
-/// The number with this id, 0 where it is left out.
+/// The number with this id, or 0 if it is left out.
 pub fn number(arguments: &ArgMatches, id: &str) -> u32 {
     arguments.get_one(id).unwrap_or(0)
 }

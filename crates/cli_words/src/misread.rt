@@ -1,12 +1,12 @@
 use clap::error::ErrorKind;
 use std::alloc::{AllocError, AllocFailed, Global};
 
-/// Why words ask for nothing.
+/// Why a command line makes no request.
 #[derive(Drop)]
 pub enum Misread {
-    /// A request for memory was refused.
+    /// The program is out of memory.
     Memory,
-    /// They aren't words that the program understands: what is wrong, and how the command is used.
+    /// The arguments are wrong: why, and how the command is used.
     Words(String),
 }
 

@@ -7,7 +7,7 @@ use clap::ArgMatches;
 use std::alloc::{AllocError, Global};
 use std::convert::AsStr;
 
-/// What the words of `segtool` ask for, the program's name first.
+/// The request of a command line of `segtool`, which begins with the program's name.
 pub fn read<'a, S: AsStr>(alloc: Global, words: &'a [S]) -> Result<Asked<'a>, Misread> {
     match command_line(alloc)?.try_get_matches_from(words) {
         Ok(matches) => Ok(Asked {
@@ -22,7 +22,7 @@ pub fn read<'a, S: AsStr>(alloc: Global, words: &'a [S]) -> Result<Asked<'a>, Mi
     }
 }
 
-/// Whether a fault of the command is to be told in words.
+/// Whether failures of the command are explained in words.
 fn is_explained(matches: &ArgMatches) -> bool {
     match matches.subcommand() {
         Some((_, arguments)) => arguments.get_flag("explain"),
@@ -41,12 +41,12 @@ fn request_of<'a>(alloc: Global, matches: &ArgMatches<'a>) -> Result<Request<'a>
             }),
             None => Ok(client_request(alloc, command, arguments)),
         },
-        // the command line requires a command
+        // can't happen: the parser requires a command
         None => Ok(Request::Help(String::new(alloc))),
     }
 }
 
-/// What a command asks of an image, if it is one on an image alone.
+/// The task of a command, if it is one on an image alone.
 fn task_of<'a>(command: &str, arguments: &ArgMatches<'a>) -> Option<ImageTask<'a>> {
     match command {
         "check" => Some(ImageTask::Check),
@@ -72,7 +72,7 @@ fn task_of<'a>(command: &str, arguments: &ArgMatches<'a>) -> Option<ImageTask<'a
     }
 }
 
-/// What a command with a client asks for.
+/// The request of a command with a client.
 fn client_request<'a>(alloc: Global, command: &str, arguments: &ArgMatches<'a>) -> Request<'a> {
     match command {
         "verify" => Request::Verify {
@@ -92,7 +92,7 @@ fn client_request<'a>(alloc: Global, command: &str, arguments: &ArgMatches<'a>) 
         "print" => Request::Print {
             client: word(arguments, "CLIENT"),
         },
-        // the command line has no other
+        // can't happen: the parser has no other command
         _ => Request::Help(String::new(alloc)),
     }
 }

@@ -1,18 +1,18 @@
 use crate::Run;
 
-/// What the words of `segtool` ask for.
+/// The request of a command line of `segtool`.
 #[derive(Drop)]
 pub struct Asked<'a> {
     pub request: Request<'a>,
-    /// Whether a fault is to be told in words too.
+    /// Whether failures are explained in words.
     pub explained: bool,
 }
 
-/// What a command does. Files are named as the words name them.
+/// What a command does. File names are as in the arguments.
 #[derive(Drop)]
 pub enum Request<'a> {
     New(NewImage<'a>),
-    /// Something of the image in a file.
+    /// A task on the image in a file.
     Image { file: &'a str, task: ImageTask<'a> },
     Verify { image: &'a str, client: &'a str },
     Run(Run<'a>),
@@ -23,68 +23,68 @@ pub enum Request<'a> {
     Help(String),
 }
 
-/// What is asked of an image.
+/// A task on an image.
 #[derive(Clone, Copy)]
 pub enum ImageTask<'a> {
     Check,
     Stat,
     List,
-    /// Its objects with their values: all, or the one with a name; whole, or with what is long or deep left out.
+    /// Show its objects with their values: all objects, or the one with a name; everything, or without long and deep parts.
     Show { name: Option<&'a str>, whole: bool },
-    /// Its heap block by block.
+    /// Show its heap, block by block.
     Map,
-    /// Its heap as a picture.
+    /// Draw its heap.
     Picture(Picture<'a>),
-    /// So many bytes more.
+    /// Grow it by this many bytes.
     Grow { extra: u32 },
     Shrink,
-    /// The same in version 2.
+    /// Upgrade it to version 2.
     Upgrade,
 }
 
-/// How a segment keeps its free blocks: by sequential fit or by best fit.
+/// How a segment finds free blocks: by sequential fit or by best fit.
 #[derive(Clone, Copy)]
 pub enum Allocator {
     Seq,
     Best,
 }
 
-/// How a segment keeps its names.
+/// How a segment keeps its index of names.
 #[derive(Clone, Copy)]
 pub enum Index {
     Flat,
     Tree,
 }
 
-/// An image to be made, of an empty segment of so many bytes.
+/// A new image of an empty segment, with its size in bytes.
 #[derive(Clone, Copy)]
 pub struct NewImage<'a> {
     pub file: &'a str,
     pub size: u32,
     pub allocator: Allocator,
     pub index: Index,
-    /// Whether `file` is written over whatever it has.
+    /// Whether `file` is overwritten even if it isn't empty.
     pub forced: bool,
 }
 
-/// A picture to be written to a file.
+/// A picture to write to a file.
 #[derive(Clone, Copy)]
 pub struct Picture<'a> {
     pub file: &'a str,
-    /// Whether `file` is written over whatever it has.
+    /// Whether `file` is overwritten even if it isn't a picture.
     pub forced: bool,
 }
 
-/// A text to be assembled to a client.
+/// A text to assemble into a client.
 #[derive(Clone, Copy)]
 pub struct Assembly<'a> {
     pub text: &'a str,
     pub client: &'a str,
-    /// Whether `client` is written over whatever it has.
+    /// Whether `client` is overwritten even if it isn't a client.
     pub forced: bool,
 }
 
-/// A client to be run on an image step by step. Nothing is saved.
+/// A client to trace on an image. Nothing is saved.
 #[derive(Clone, Copy)]
 pub struct Trace<'a> {
     pub image: &'a str,

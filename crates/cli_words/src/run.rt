@@ -2,7 +2,8 @@ use crate::line::{Argument, Takes, number, word};
 use clap::ArgMatches;
 use std::alloc::{AllocError, Global};
 
-/// Clients to be run one after the other on an image, in a region of so many bytes, or as many as it needs.
+/// Clients to run one after the other on an image, in a region of `room` bytes, or one just large enough for the image if that is
+/// `None`.
 #[derive(Drop)]
 pub struct Run<'a> {
     pub image: &'a str,
@@ -11,25 +12,25 @@ pub struct Run<'a> {
     pub input: Option<&'a str>,
     pub base: u32,
     pub room: Option<u32>,
-    /// Whether `out` is written over whatever it has.
+    /// Whether `out` is overwritten even if it isn't an image.
     pub forced: bool,
 }
 
-/// What a client reads.
+/// The file that a client reads.
 pub const INPUT: Argument = Argument {
     id: "input",
     takes: Takes::File,
     help: "The bytes that the clients read, none if left out",
 };
 
-/// What has an image written over a file that isn't one.
+/// Allows overwriting a file that isn't an image.
 pub const FORCE: Argument = Argument {
     id: "force",
     takes: Takes::Flag,
     help: "Write the image over a file that isn't empty and isn't an image",
 };
 
-/// What it takes to run clients.
+/// The arguments of a run.
 pub const RUN: [Argument; 7] = [
     Argument {
         id: "IMAGE",
@@ -60,7 +61,7 @@ pub const RUN: [Argument; 7] = [
     FORCE,
 ];
 
-/// The run that a command with the arguments [`RUN`] asks for.
+/// The run in a command line with the arguments [`RUN`].
 pub fn run_of<'a>(alloc: Global, arguments: &ArgMatches<'a>) -> Result<Run<'a>, AllocError> {
     Ok(Run {
         image: word(arguments, "IMAGE"),

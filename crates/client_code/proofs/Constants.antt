@@ -1,4 +1,4 @@
--- Constants that stand one after the other in a file.
+-- Constants that follow each other in a file.
 use Rattle.std.proofs.Common.{◌≡◌, ◌≢◌, ℕ, ◌+◌, ◌<◌, ◌≤◌, List, [], ◌∷◌, ◌++◌, length, drop, get_or, refl, sym, ap, ◌∙◌, subst, arith, inl, inr, append_assoc, append-nil, Option, Some, None}
 use Rattle.std.specs.Prelude.{⊤, flat_map, All, AllPairs}
 use Rattle.std.specs.List.{AllByRecursion}
@@ -14,7 +14,7 @@ use Rattle.client_code.specs.declared.constant.ConstantKind.TheVariants as kind
 use Rattle.client_code.specs.Views.{constant_by, kind_of}
 use Rattle.client_code.specs.Files.{AreConstants}
 
--- what is spelled after the same front, where each element has one spelling
+-- two lists with the same spelling after a common front are equal, if each element has one spelling
 pub fronts : {A : Type 0} (f : A → List ℕ) (P : A → Type 0) → ((x y : A) (us vs : List ℕ) → P x → P y → f x ++ us ≡ f y ++ vs → (x ≡ y) × (us ≡ vs))
     → (xs ys : List A) (us vs : List ℕ) → AllByRecursion P xs → AllByRecursion P ys → length xs ≤ length ys → flat_map f xs ++ us ≡ flat_map f ys ++ vs
     → (more : List A) × (ys ≡ xs ++ more) × (us ≡ flat_map f more ++ vs)
@@ -47,7 +47,7 @@ pairs_push cs c pairs differs i j d l h =
           )
     ]
 
--- one constant on
+-- one more constant
 pub one_more : (file : List ℕ) (at next following : ℕ) (cs : List Constant) (c : Constant) → AreConstants file at cs next
     → drop next file ≡ constant_bytes c ++ drop following file → IsConstant c → following ≡ next + length (constant_bytes c) → All (λ other. Differ other c) cs
     → AreConstants file at (cs ++ c ∷ []) following
@@ -75,7 +75,7 @@ last_differs cs more c pairs k d h =
     let p = pairs k (length cs) d h (omega arith) in
     subst (λ x. Differ x c) (get_or_append_left cs (c ∷ more) d k h) (subst (λ y. Differ (get_or (cs ++ c ∷ more) k d) y) (get_or_at cs c more d (length cs) refl) p)
 
--- no constants go on where none stands that may be there
+-- no constants follow a position at which there is no valid constant
 pub none_more : (file : List ℕ) (at next following : ℕ) (cs ds : List Constant) → AreConstants file at cs next
     → ((c : Constant) (rest : List ℕ) → IsConstant c → All (λ other. Differ other c) cs → drop next file ≢ constant_bytes c ++ rest) → length cs < length ds
     → AreConstants file at ds following → ⊥
@@ -90,9 +90,9 @@ none_more file at next following cs ds so_far none few all =
         let different = subst (AllPairs Differ) e all.different in
         none c (flat_map constant_bytes more ++ drop following file) (last_of IsConstant cs more c each) (last_differs cs more c different) (s ∙ append_assoc (constant_bytes c) (flat_map constant_bytes more) (drop following file))
 
--- ---- constants that are read again
+-- ---- constants that are read a second time
 
--- after the first of some constants, which stand up to a position
+-- the state after the first of some constants, which end at a position
 pub record Walk (file : List ℕ) (cs : List Constant) (end next : ℕ) (front : List Constant) : Type 0 where
   pub rest : List Constant
   pub whole : cs ≡ front ++ rest
@@ -122,7 +122,7 @@ walk_never file cs end next front walk few right none = go walk.rest walk.whole 
         none d (flat_map constant_bytes rest ++ drop end file) (last_of IsConstant front rest d (subst (All IsConstant) whole right))
         (remaining ∙ append_assoc (constant_bytes d) (flat_map constant_bytes rest) (drop end file))
 
--- the last constant that was read is one of them
+-- the last constant read is one of them
 pub walk_last : (P : Constant → Type 0) (file : List ℕ) (cs : List Constant) (end next : ℕ) (front : List Constant) (c : Constant) → Walk file cs end next (front ++ c ∷ []) → All P cs → P c
 walk_last P file cs end next front c walk all = last_of P front walk.rest c (subst (All P) (walk.whole ∙ append_assoc front (c ∷ []) walk.rest) all)
 
@@ -140,7 +140,7 @@ kind_by kind.Text bytes = refl
 kind_by kind.Name bytes = refl
 kind_by kind.Family bytes = refl
 
--- a text differs from all others
+-- a text differs from every other constant
 pub text_differs : (x : Constant) (k : ConstantKind) (bytes : List ℕ) → k ≡ kind.Text → Differ x (constant_by k bytes)
 text_differs (Constant.Text y) kind.Text bytes e = tt
 text_differs (Constant.Name y) kind.Text bytes e = tt

@@ -1,4 +1,4 @@
--- Instructions that stand one after the other in a file.
+-- Instructions that follow each other in a file.
 use Rattle.std.proofs.Common.{◌≡◌, ℕ, ◌+◌, ◌*◌, ◌<◌, ◌≤◌, List, [], ◌∷◌, ◌++◌, length, take, drop, refl, sym, ap, ◌∙◌, subst, arith, Some, None, append-nil, take-add}
 use Rattle.std.specs.Prelude.{flat_map}
 use Rattle.std.specs.List.{AllByRecursion}
@@ -108,7 +108,7 @@ module _ (file : List ℕ) (at : ℕ) (types : Table) (constants : List Constant
         (drop (at + 8 * k) file) [] (all_words types constants to.list to.right) (all_words types constants (listing code) all_right) (omega arith) e in
         (f.0, f.1, f.2 ∙ append-nil (flat_map instruction_bytes f.0))
 
-    -- the next instruction stands there, and may stand there
+    -- the next instruction is at that position, and its role is allowed there
     pub stands : (k : ℕ) (parts : List Part) → CodeTo file at types constants k parts → k < length (listing code) → (j : Instruction) × Right types constants j
         × (at + 8 * k + 8 ≤ length file) × (slice file (at + 8 * k) 8 ≡ instruction_bytes j) × (passed parts (role_of j) ≡ None → ⊥)
     stands k parts to h =
@@ -133,7 +133,7 @@ module _ (file : List ℕ) (at : ℕ) (types : Table) (constants : List Constant
               cc,
         )
 
-    -- after the last instruction nothing is open
+    -- no part is open after the last instruction
     pub closed : (k : ℕ) (parts : List Part) → CodeTo file at types constants k parts → length (listing code) ≡ k → parts ≡ []
     closed k parts to h =
         let r = remaining k parts to (omega arith) in

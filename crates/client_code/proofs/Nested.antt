@@ -1,4 +1,5 @@
--- Instructions whose parts open and close in order are the listing of code, and the other way round.
+-- Instructions whose parts open and close in order are the listing of a tree, and the listing of a
+-- tree is such instructions.
 use Rattle.std.proofs.Common.{◌≡◌, ℕ, ◌+◌, ◌<◌, ◌≤◌, Bool, true, false, List, [], ◌∷◌, ◌++◌, length, map, refl, sym, ap, ◌∙◌, subst, arith, Option, Some, None, append_assoc, append-nil}
 use Rattle.std.specs.Prelude.{⊤, nat_lt, if◌then◌else◌}
 use Rattle.std.specs.List.{AllByRecursion}
@@ -73,7 +74,7 @@ placed_one : (a xs : List Role) → (a ++ Role.End ∷ []) ++ xs ≡ a ++ Role.E
 placed_one a xs = simp append_assoc
 
 module _ (types : Table) (constants : List Constant) where
-  -- an instruction that is right by itself
+  -- a valid instruction, whatever is around it
   abbrev pub Right : Instruction → Type 0
   Right i = IsInstruction types constants (role_of i) i
 
@@ -98,7 +99,7 @@ module _ (types : Table) (constants : List Constant) where
       let n = subst (λ (q : Operation). IsNumber types constants i.b (row_of q).number i.number) o h.number in
       λ t. record { operation = o t; a = a t; b = b t; c = c t; number = n t }
 
-  -- code that may stand n parts deep
+  -- code that is valid inside n parts
   record Fits (cs : Statements) (n : ℕ) : Type 0 where
     code : IsCode types constants cs
     shallow : n + depth cs ≤ 8
@@ -111,7 +112,8 @@ module _ (types : Table) (constants : List Constant) where
   unfolding IsCode depth
   more_fits c cs n h d f = record { code = (h, f.code); shallow = (let s = f.shallow in omega arith) }
 
-  -- the instructions close these open parts, one after the other, and end with code outside of all
+  -- the instructions close these open parts, one after the other, and the code after the last of
+  -- them
   abbrev Closes : List Part → List Instruction → Type 0
   Closes [] is = (cs : Statements) × Fits cs 0 × (is ≡ listing cs)
   Closes (part.Success ∷ parts) is = (cs : Statements) × (ds : Statements) × (rest : List Instruction) × Fits cs (length parts + 1) × Fits ds (length parts + 1)
@@ -119,7 +121,7 @@ module _ (types : Table) (constants : List Constant) where
   Closes (part.Else ∷ parts) is = (cs : Statements) × (rest : List Instruction) × Fits cs (length parts + 1) × (is ≡ listing cs ++ mark Operation.End ∷ rest) × Closes parts rest
   Closes (part.Body ∷ parts) is = (cs : Statements) × (rest : List Instruction) × Fits cs (length parts + 1) × (is ≡ listing cs ++ mark Operation.End ∷ rest) × Closes parts rest
 
-  -- a statement in front
+  -- one more statement in front
   in_front : (c : Statement) (parts : List Part) (is : List Instruction) → IsStatement types constants c → length parts + depth_one c ≤ 8 → Closes parts is → Closes parts (listing_one c ++ is)
   unfolding listing
   in_front c [] is h d r = (next c r.0, more_fits c r.0 0 h d r.1, ap (λ xs. listing_one c ++ xs) r.2)
@@ -170,7 +172,7 @@ module _ (types : Table) (constants : List Constant) where
   closes [] all (part ∷ parts) few p = cc
   closes (i ∷ is) all parts few p = step i is all.0 (closes is all.1) (role_of i) refl parts few p
 
-  -- the code that instructions list
+  -- the tree with these instructions as its listing
   pub code_of : (is : List Instruction) → AllByRecursion Right is → passed_all [] (roles is) ≡ Some [] → (cs : Statements) × IsCode types constants cs × (depth cs ≤ 8) × (is ≡ listing cs)
   code_of is all p = let r = closes is all [] (omega arith) p in (r.0, (r.1).code, (let s = (r.1).shallow in omega arith), r.2)
 
@@ -203,7 +205,7 @@ module _ (types : Table) (constants : List Constant) where
         ∙ ap (option_and_then (λ now. passed_all now (roles (listing s) ++ Role.End ∷ rest))) (opened_room parts part.Body (omega arith))
         ∙ listed s (part.Body ∷ parts) (Role.End ∷ rest) h.1 (omega arith)
 
--- what is open after more instructions
+-- the open parts after more instructions
 pub passed_more : (parts : List Part) (xs ys : List Role) → passed_all parts (xs ++ ys) ≡ option_and_then (λ now. passed_all now ys) (passed_all parts xs)
 passed_more parts [] ys = refl
 passed_more parts (x ∷ xs) ys = following (passed parts x) (λ q. passed_more q xs ys)

@@ -1,4 +1,4 @@
--- What opening and closing a part makes of the open ones.
+-- How opening and closing a part changes the list of open parts.
 use Rattle.std.proofs.Common.{◌≡◌, ℕ, ◌<◌, ◌≤◌, Bool, true, false, List, [], ◌∷◌, ◌++◌, length, sym, ap, ◌∙◌, subst, arith, Some, None, MatchBool, rules}
 use Rattle.std.specs.Prelude.{reverse, nat_lt, if◌then◌else◌}
 use Rattle.std.proofs.lemmas.List.{reverse-append, length-reverse, length-append}
@@ -16,7 +16,7 @@ lt_true m n h = search rules
 pub opened_room : (parts : List Part) (part : Part) → length parts < 8 → opened parts part ≡ Some (part ∷ parts)
 opened_room parts part h = ap (λ b. if b then Some (part ∷ parts) else None) (lt_true (length parts) 8 h)
 
--- past ELSE, the part after an opener is the else part
+-- after ELSE, the success part becomes the else part
 else_passed : (old rest new : List Part) (r : Bool) → old ≡ rest ++ part.Success ∷ []
     → length old ≤ 8 → MatchBool r (opened (reverse rest) part.Else ≡ Some (reverse new)) (opened (reverse rest) part.Else ≡ None)
     → MatchBool r (passed (reverse old) Role.Else ≡ Some (reverse new)) (passed (reverse old) Role.Else ≡ None)

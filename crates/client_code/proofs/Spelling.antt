@@ -1,4 +1,4 @@
--- What reads of a client file's bytes make of them.
+-- What the reader's functions return for a client file's bytes.
 use Rattle.std.proofs.Common.{◌≡◌, ℕ, ◌+◌, ◌-◌, ◌*◌, ◌/◌, ◌%◌, ◌<◌, ◌≤◌, Fits, w8, List, [], ◌∷◌, ◌++◌, length, take, drop, get_or, refl, sym, ap, ◌∙◌, arith, rules}
 use Rattle.std.specs.Prelude.{◌≢◌, slice_index, IsTrue, nat_le, All, Option, Some, None, IfSome, IfNone}
 use Rattle.std.proofs.lemmas.List.{get_or_default, take_rest, drop-drop, length-take-le, take-append-drop}
@@ -36,7 +36,7 @@ text_valid kind.Text bytes e h = (λ t. (search rules, all_bytes bytes h), λ v.
 text_valid kind.Name bytes e h = cc
 text_valid kind.Family bytes e h = cc
 
--- a constant that was read stands there, and the rest after it
+-- a constant that was read is at that position, and the rest of the file after it
 pub constant_at : (file front rest bytes : List ℕ) (k : ConstantKind) (at len n : ℕ) → front ≡ take (length file - at) (drop at file) → 2 ≤ length front
     → rest ≡ take (length front - 2) (drop 2 front) → len ≡ get_or front 1 0 → n ≡ get_or front 1 0 → n ≤ length rest → bytes ≡ take (n - 0) (drop 0 rest)
     → ((xs : List ℕ) → constant_bytes (constant_by k xs) ≡ get_or front 0 0 ∷ length xs ∷ xs) → drop at file ≡ constant_bytes (constant_by k bytes) ++ drop (at + 2 + len) file
@@ -55,7 +55,7 @@ constant_at file front rest bytes k at len n f long r l m fits b law =
     two_of (a ∷ []) rest h e = absurd (omega arith)
     two_of (a ∷ b ∷ xs) rest h e = ap (λ ys. a ∷ b ∷ ys) (sym (e ∙ take_rest (a ∷ b ∷ xs) 2))
 
--- the last four of 8 bytes are the word of the number that they spell
+-- the last four of 8 bytes are the word of the number that they encode
 word_of_four : (a b c d n : ℕ) → a < 256 → b < 256 → c < 256 → d < 256 → n ≡ a + 256 * b + 65536 * c + 16777216 * d → word_bytes n ≡ a ∷ b ∷ c ∷ d ∷ []
 word_of_four a b c d n f g h k e =
     let first : n % 256 ≡ a = omega arith in
@@ -78,7 +78,7 @@ eight (b0 ∷ b1 ∷ b2 ∷ b3 ∷ b4 ∷ b5 ∷ b6 ∷ b7 ∷ []) n l h e = ap 
     (sym (word_of_four b4 b5 b6 b7 n (let f = h 4 in omega arith) (let f = h 5 in omega arith) (let f = h 6 in omega arith) (let f = h 7 in omega arith) e))
 eight (b0 ∷ b1 ∷ b2 ∷ b3 ∷ b4 ∷ b5 ∷ b6 ∷ b7 ∷ b8 ∷ bytes) n l h e = absurd (omega arith)
 
--- what 8 bytes spell
+-- the instruction that 8 bytes encode
 pub decoded : (r : Option Instruction) (file field : List ℕ) (at : ℕ)
     → at + 8 ≤ length file → field ≡ slice file at 8 → IfSome r (λ i. field ≡ instruction_bytes (instruction_of i))
     → IfSome r (λ i. (at + 8 ≤ length file) × (slice file at 8 ≡ instruction_bytes (instruction_of i)))

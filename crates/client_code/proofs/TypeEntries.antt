@@ -42,7 +42,7 @@ are_types file bytes table n whole same valid spells size used =
       spelled = ap (λ k. slice file 20 (16 * k)) f.0 ∙ sym same ∙ f.1;
     }
 
--- the bytes of a table are its own
+-- the bytes of a table spell that table
 pub spells_flat : (bytes : List ℕ) (table : Table) → bytes ≡ flat_map form_bytes table → Spells bytes table
 spells_flat bytes table e =
     let flat = flat_map form_bytes table in

@@ -1,4 +1,4 @@
--- A client file is its parts, and the parts are the file.
+-- A client file is its parts one after the other, and such parts are a client file.
 use Rattle.std.proofs.Common.{◌≡◌, ℕ, zero, suc, ◌+◌, ◌*◌, ◌/◌, ◌%◌, ◌^◌, ◌<◌, ◌≤◌, List, [], ◌∷◌, ◌++◌, length, take, drop, get_or, refl, sym, ap, ◌∙◌, subst, arith, append_assoc, append-nil}
 use Rattle.std.specs.Prelude.{⊤, flat_map, codes, slice_get, ◌≢◌, FitsSigned, IfSome, IfNone, Option, Some, None, Result, Ok, Err, IfErr}
 use Rattle.std.specs.List.{AllByRecursion}
@@ -53,7 +53,7 @@ split_at : (file : List ℕ) (at n : ℕ) → drop at file ≡ slice file at n +
 unfolding slice
 split_at file at n = sym (take-append-drop n (drop at file)) ∙ ap (λ xs. take n (drop at file) ++ xs) (drop-drop n at file)
 
--- a word that stands after a front
+-- a word after a front
 word_after : (file front rest : List ℕ) (at n : ℕ) → file ≡ front ++ (word_bytes n ++ rest) → length front ≡ at → n < 256 ^ 4 → number 4 file at ≡ n
 word_after file front rest at n e l small =
     let long = ap length e ∙ length-append front (word_bytes n ++ rest) in
@@ -217,7 +217,7 @@ spelled_parts file client spells =
       };
     }
 
--- ---- what is read from one file
+-- ---- reading one file
 
 header_same : (file : List ℕ) (t c i u d j : ℕ) → IsFileHeader file t c i → IsFileHeader file u d j → (t ≡ u) × (c ≡ d) × (i ≡ j)
 header_same file t c i u d j h g = (sym h.of_types ∙ g.of_types, sym h.of_constants ∙ g.of_constants, sym h.of_instructions ∙ g.of_instructions)
@@ -277,7 +277,7 @@ pub no_matter : {T E : Type 0} (r : Result T E) (Q : Type 0) → Q → IfErr r (
 no_matter (Ok x) Q q = tt
 no_matter (Err e) Q q = q
 
--- ---- what a client's file says again
+-- ---- reading the file of a client again
 
 pub types_again : (file : List ℕ) (tree : Client) → SpellsClient file tree → (table : Table) (n : ℕ) → n ≡ length tree.types → length table ≡ n → AreTypes file table → table ≡ tree.types
 types_again file tree spells table n m e types = types_same file table tree.types types (spelled_parts file tree spells).types (e ∙ m)
@@ -285,7 +285,7 @@ types_again file tree spells table n m e types = types_same file table tree.type
 pub types_there_again : (file : List ℕ) (tree : Client) → SpellsClient file tree → (n : ℕ) → n ≡ length tree.types → ((table : Table) → length table ≡ n → AreTypes file table → ⊥) → ⊥
 types_there_again file tree spells n m wrong = wrong tree.types (sym m) (spelled_parts file tree spells).types
 
--- in front of the constants
+-- the position of the constants
 pub constants_begin : (file : List ℕ) (tree : Client) → SpellsClient file tree → (at t : ℕ) → t ≡ length tree.types → at ≡ 20 + 16 * t → Walk file tree.constants (code_place tree) at []
 constants_begin file tree spells at t n e =
     walk_starts file at (code_place tree) tree.constants (subst (λ x. AreConstants file x tree.constants (code_place tree)) (ap (λ x. 20 + 16 * x) (sym n) ∙ sym e) (spelled_parts file tree spells).constants)
@@ -333,7 +333,7 @@ past_instructions (x ∷ is) (suc i) h = past_instructions is i (omega arith)
 pub end_there : (file : List ℕ) (tree : Client) → SpellsClient file tree → (place n : ℕ) → place ≡ code_place tree → n ≡ length (listing tree.code) → place + 8 * n ≡ length file
 end_there file tree spells place n e m = let ends = (spelled_parts file tree spells).code.ends in omega arith
 
--- what is found at the place of an instruction is that instruction
+-- decoding at the place of an instruction gives that instruction
 pub same_instruction : (file : List ℕ) (tree : Client) → SpellsClient file tree → (i place : ℕ) (r : Option program.Instruction) → i < length (listing tree.code)
     → place ≡ code_place tree + 8 * i → IfSome r (λ j. (place + 8 ≤ length file) × (slice file place 8 ≡ instruction_bytes (instruction_of j)))
     → IfSome r (λ j. FitsSigned w32 j.number)
@@ -346,7 +346,7 @@ same_instruction file tree spells i place (Some r) h e found range none =
     let same = sym found.1 ∙ ap (λ n. slice file n 8) e ∙ there.5 in
     ap Some (instruction_front (instruction_of r) there.0 [] [] range there.2 (ap (λ xs. xs ++ []) same)).0 ∙ sym there.1
 
--- where the parts of a client that is read stand
+-- the positions of the parts of a client
 pub read_places : (file : List ℕ) (tree : Client)
     → SpellsClient file tree → (t c i at place : ℕ) (cs : List Constant) → IsFileHeader file t c i → at ≡ 20 + 16 * t → length cs ≡ c → AreConstants file at cs place
     → (t ≡ length tree.types) × (c ≡ length tree.constants) × (i ≡ length (listing tree.code)) × (place ≡ code_place tree)

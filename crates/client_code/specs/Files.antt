@@ -1,13 +1,15 @@
--- A client file, part by part.
---     code_place client                                where the code of a client begins
---     IsFileVersion version                            files have this version
---     IsFileHeader file types constants instructions   the header says so
---     AreRight file place                              the header's fields in front
---                                                      of a position are right
---     AreTypes file table                              these types stand after it
---     AreConstants file at constants following         these constants stand there,
---                                                      and the rest after them
---     IsCodeAt file at table constants code            this code stands there, up to the end
+-- A client file, part by part: header, types, constants and code. Grammar (client_spec) defines the
+-- whole file.
+--     code_place client                                the position of the code
+--     IsFileVersion version                            files may have this version
+--     IsFileHeader file types constants instructions   the header has these counts
+--     AreRight file place                              the header's fields before a position
+--                                                      are right
+--     AreTypes file table                              these types come after the header
+--     AreConstants file at constants following         these constants are at a position, and
+--                                                      the rest of the file at `following`
+--     IsCodeAt file at table constants code            this code is at a position, and ends the
+--                                                      file
 use Rattle.std.specs.Prelude.{◌≡◌, ℕ, ◌+◌, ◌*◌, ◌≤◌, List, ◌++◌, length, take, drop, flat_map, codes, All, AllPairs}
 use Rattle.seg_bytes.specs.Bytes as bytes
 use Rattle.seg_spec.specs.Header.{sharing_version}
@@ -19,7 +21,7 @@ abbrev pub code_place : Client → ℕ
 code_place client =
     20 + 16 * length client.types + length (flat_map constant_bytes client.constants)
 
--- files have this version; that of a client's file is also that of its types
+-- files may have this version; a client's file has the version that its types need
 abbrev pub IsFileVersion : ℕ → Type 0
 IsFileVersion version = (1 ≤ version) × (version ≤ sharing_version)
 
@@ -45,13 +47,13 @@ pub record AreConstants (file : List ℕ) (at : ℕ) (constants : List Constant)
   pub each : All IsConstant constants
   pub different : AllPairs Differ constants
 
--- the types that stand after the header
+-- these types come after the header
 pub record AreTypes (file : List ℕ) (table : Table) : Type 0 where
   pub valid : IsTable table
   pub whole : 20 + 16 * length table ≤ length file
   pub spelled : bytes.slice file 20 (16 * length table) ≡ flat_map form_bytes table
 
--- the code that stands there, up to the file's end
+-- this code is at the position, and ends the file
 pub record IsCodeAt (file : List ℕ) (at : ℕ) (table : Table) (constants : List Constant)
     (code : Statements) : Type 0 where
   pub right : IsCode table constants code

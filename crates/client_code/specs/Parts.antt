@@ -1,6 +1,6 @@
--- The parts that are open at a place of code, the innermost first.
---     passed parts role         those that are open after an instruction of this
---                               role, if it may stand here
+-- The open parts at a place in code, the innermost first. At most eight can be open.
+--     passed parts role         the open parts after an instruction of this role, or None if the
+--                               role is an error there
 --     passed_all parts roles    the same for several instructions
 use Rattle.std.specs.Prelude.{List, [], ◌∷◌, length, reverse, Option, Some, None, nat_lt, if◌then◌else◌}
 use Rattle.std.specs.Option.{option_and_then}

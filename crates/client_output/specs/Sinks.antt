@@ -1,6 +1,6 @@
--- What a sink over a writer shows.
+-- The contents of a sink over a writer.
 --     writer_of sink      the writer
---     failed_of sink      its last write took nothing
+--     failed_of sink      whether the sink has failed
 use Rattle.std.specs.Prelude.{Bool}
 use Rattle.client_output.specs.declared.sink.Through.{Through}
 

@@ -1,4 +1,4 @@
-//! What comes out of runs: the sinks that their output goes to, the report of what each did, and why none ran.
+//! The results of runs: the sinks for their output, the report of each run, and the reason if none ran.
 #![tactic(auto)]
 
 mod output;

@@ -5,7 +5,7 @@ use seg_raw::Fault;
 use std::alloc::{AllocError, AllocFailed};
 use std::fmt;
 
-/// Why nothing ran: the fault, and the client that has it, counted from 0, where one has. `Display` writes the line
+/// Why nothing ran: the fault, and the number of the client that has it, from 0, if it is a client's. `Display` writes the line
 /// that the program prints.
 #[derive(Debug, Clone, Copy, PartialEq, Eq)]
 pub struct Refused {

@@ -1,4 +1,4 @@
-/// How a run ended: at the end of its code, or at an output that failed.
+/// How a run ended: at the end of its code, or at a failed output.
 #[derive(Debug, Clone, Copy, PartialEq, Eq, Default)]
 pub enum Ended {
     #[default]
@@ -6,7 +6,7 @@ pub enum Ended {
     OutputFailed,
 }
 
-/// What a run did: the steps that it took, the bytes of the input that it read, and how it ended.
+/// What a run did: how many steps it took, how many bytes of the input it read, and how it ended.
 #[derive(Debug, Clone, Copy, PartialEq, Eq, Default)]
 pub struct Report {
     pub steps: u64,

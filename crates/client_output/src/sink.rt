@@ -3,17 +3,17 @@ ghost use Rattle.client_output.specs.Sinks.{writer_of, failed_of};
 
 use std::io::Write;
 
-/// What output is written to. After a write that takes nothing it has failed, and takes no more.
+/// A destination for output. A write that takes no byte is a failure; after that the sink takes nothing.
 pub trait Sink {
     ghost has_failed: { Self → Bool };
 
-    // The bytes taken so far, where the sink tells.
+    // The bytes taken so far, if the sink reports them.
     ghost taken: { Self → Option (List ℕ) };
 
     fn failed(&self) -> bool
         ensures { result ≡ has_failed self.now };
 
-    /// Takes a prefix of the bytes, and returns its length. The sink has failed afterwards exactly where that is 0.
+    /// Takes a prefix of the bytes, and returns its length. A return of 0 means that the sink has failed.
     fn write(&mut self, bytes: &[u8]) -> usize
         requires some { 0 < length bytes.now }
         requires works { has_failed self.old ≡ false }
@@ -23,7 +23,7 @@ pub trait Sink {
         ensures failed { (has_failed self.new ≡ true) ↔ (result ≡ 0) };
 }
 
-/// A sink over a writer. A write of the writer that fails, or that takes nothing, fails the sink.
+/// A sink over a writer. It fails if a write of the writer fails or takes no byte.
 #[derive(Drop)]
 pub struct Through<W: Write> {
     writer: W,

@@ -1,7 +1,7 @@
--- A client's run that goes on one instruction at a time.
---     EndsAt stepper                   it stands at the end of the code
---     StepsOn allocator old new ..     the instruction of the line where it stood was performed, with
---                                      the segment and the output before and after
+-- A client's run, one instruction at a time.
+--     EndsAt stepper                   the stepper is at the end of the code
+--     StepsOn allocator old new ..     the current line's instruction was performed; .. are the
+--                                      segment and the output before and after
 use Rattle.std.specs.Prelude.{◌≡◌, ℕ, List, Option, Some, slice_get}
 use Rattle.seg_value.specs.Stored.{Stored}
 use Rattle.client_program.specs.declared.jump.Jump.{Jump}
@@ -17,11 +17,10 @@ use Rattle.client_run.specs.Machines.{control_of}
 use Rattle.client_run.specs.Passing.{Passes}
 use Rattle.client_run.specs.Worlds.{DoesOn}
 
--- it stands at the end of the code
 abbrev pub EndsAt : {A : _} → Stepper A → Type 0
 EndsAt stepper = JumpIs (lines_in stepper.program.now) stepper.at 0
 
--- the instruction of the line where it stood was performed, and it stands where the run goes on
+-- the current line's instruction was performed, and the stepper is at the next line
 pub record StepsOn {A : _} (allocator : ℕ) (old new : Stepper A) (stepped : Stepped)
     (before after : Stored) (taken taken_then : Option (List ℕ)) : Type 0 where
   pub line : Line

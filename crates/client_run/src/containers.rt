@@ -33,7 +33,7 @@ fn length<F: Fit, A: Allocator>(segment: &Segment<F, A>, container: Place) -> i6
     i64::from(segment.heap().count(container.at))
 }
 
-/// Items.
+/// Items of texts, vectors and lists.
 impl Machine<'_> {
     pub(crate) fn len<F: Fit, A: Allocator>(&mut self, segment: &Segment<F, A>, i: &Instruction)
         ensures loops { KeepsLoops self.old self.new }
@@ -43,7 +43,7 @@ impl Machine<'_> {
         self.give(i, length(segment, self.place(i.b)));
     }
 
-    /// Puts the length of the string or container in register b into register a, or the code that refused its change.
+    /// Puts the length of the string or container in register b into register a, or the error code of a failed change.
     #[inline]
     fn try_length<F: Fit, A: Allocator>(
         &mut self,
@@ -62,7 +62,7 @@ impl Machine<'_> {
         self.try_give(i, length)
     }
 
-    /// Gives the byte of a string, or refers to the item of a vector or a list.
+    /// Puts the byte of a string into register a, or a reference to the item of a vector or a list.
     #[inline(never)]
     pub(crate) fn item_at<F: Fit, A: Allocator>(
         &mut self,
@@ -85,7 +85,7 @@ impl Machine<'_> {
         self.try_refer(i, item, held_type(segment, sequence))
     }
 
-    /// The position of the item that register c counts.
+    /// The position of the item with the index in register c.
     fn position<F: Fit, A: Allocator>(
         &self,
         segment: &Segment<F, A>,
@@ -129,7 +129,7 @@ impl Machine<'_> {
         Jump::Next
     }
 
-    /// As [`push_back`](Machine::push_back), where a node or a larger buffer may have to be asked for.
+    /// Like [`push_back`](Machine::push_back), if a node or a larger buffer may have to be allocated.
     #[inline(never)]
     fn push_asking<F: Fit, A: Allocator>(
         &mut self,

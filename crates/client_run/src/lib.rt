@@ -1,4 +1,4 @@
-//! Makes a verified client ready, and runs it on a segment, to its end or one instruction at a time.
+//! Prepares a verified client, and runs it on a segment, to its end or one instruction at a time.
 #![tactic(auto)]
 
 mod containers;

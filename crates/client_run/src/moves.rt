@@ -16,8 +16,8 @@ pub struct Move {
     pub base: u32,
 }
 
-/// The index of the first move that can't be made on a segment: its step is 0 or not above the one before, or the segment
-/// may not lie at its base.
+/// The index of the first move that can't be made on a segment, or `None` if all fit. A move can't be made if its step is 0 or
+/// not above the step before, or if its base is no place for the segment.
 pub fn moves_fit<F: Fit, A: Allocator>(segment: &Segment<F, A>, moves: &[Move]) -> Option<usize>
     ensures { let room = length (region_of segment.now.window) in
         let len = length segment.now.window.bytes in
@@ -27,7 +27,7 @@ pub fn moves_fit<F: Fit, A: Allocator>(segment: &Segment<F, A>, moves: &[Move]) 
     first_bad_move(segment.window().len(), segment.window().room(), moves)
 }
 
-/// The first move that can't be made: its step isn't above the one before, or its base is none for the segment.
+/// The index of the first move that can't be made, or `None`, for a segment of `len` bytes in a region of `room` bytes.
 pub fn first_bad_move(len: u32, room: u32, moves: &[Move]) -> Option<usize>
     requires { len ≤ 2 ^ 30 }
     ensures { MatchOption result (AreMoves room len 0 (moves_of moves.now))
@@ -43,7 +43,8 @@ pub fn first_bad_move(len: u32, room: u32, moves: &[Move]) -> Option<usize>
     None
 }
 
-/// Whether a segment of `len` bytes may lie at a base of a region of `room` bytes.
+/// Whether a segment of `len` bytes may be at a base of a region of `room` bytes: the base is a multiple of 16, and the segment ends
+/// within the region.
 pub fn is_place(room: u32, base: u32, len: u32) -> bool
     requires { len ≤ 2 ^ 30 }
     ensures { IsTrue result ↔ IsPlace room base len }
@@ -51,7 +52,7 @@ pub fn is_place(room: u32, base: u32, len: u32) -> bool
     base % 16 == 0 && len <= room && base <= room - len
 }
 
-/// The moves that are still to be made.
+/// The moves that aren't made yet.
 #[derive(Drop)]
 pub(crate) struct Moves<'a> {
     rest: &'a [Move],
@@ -64,7 +65,7 @@ impl<'a> Moves<'a> {
         Moves { rest: moves }
     }
 
-    /// How many steps come before the next move, and more than any run has where there is no move.
+    /// How many steps come before the next move. Without a move that is more than any run has.
     #[tactic(auto, using(crate::proofs::MovesLaws::first_is))]
     fn due(&self) -> u64
         ensures { 0 < first_step (moves_of self.now.rest.now) →
@@ -76,8 +77,8 @@ impl<'a> Moves<'a> {
         }
     }
 
-    /// Makes the next move where it is due: so many steps were taken, and the next line is one. Returns how many more come
-    /// at least, 1 or more, before a move is due.
+    /// Makes the next move if it is due: `steps` were taken, and the next line is a step. Returns a lower bound, 1 or more, of
+    /// the number of lines before a move is due.
     #[inline(never)]
     pub(crate) fn make_due<A: Allocator>(
         &mut self,
@@ -99,7 +100,6 @@ impl<'a> Moves<'a> {
         self.due().saturating_sub(steps).max(1)
     }
 
-    /// Makes the next move.
     fn make<A: Allocator>(&mut self, w: &mut Window<A>)
         ensures { MakesNext (moves_of self.old.rest.now) w.old (moves_of self.new.rest.now) w.new }
     {

@@ -6,13 +6,13 @@ use arrayvec::ArrayVec;
 use client_code::{Constant, ConstantKind};
 use itoa::Buffer;
 
-/// The most bytes of a name: those of an exact name, or of a family's prefix, `#` and a number.
+/// The most bytes of a name: an exact name, or a family's prefix, `#` and a number.
 const MAX_NAME: usize = seg_manager::MAX_NAME as usize;
 
 /// The bytes of a name.
 pub(crate) type Name = ArrayVec<u8, MAX_NAME>;
 
-/// The name that a constant gives: itself, or its prefix, `#` and the number in decimal.
+/// The name for a constant: itself, or its prefix, `#` and the number in decimal.
 pub(crate) fn name_of(constant: Constant, number: i64) -> Name
     ensures { NamedBy (constant_of constant.entry) number result.items }
 {
@@ -28,7 +28,7 @@ pub(crate) fn name_of(constant: Constant, number: i64) -> Name
     name
 }
 
-/// Adds bytes, as many as there is room for: a client's names have it for all.
+/// Adds as many bytes as fit. All bytes of a client's name fit.
 fn append(name: &mut Name, bytes: &[u8])
     ensures { length name.old.items + length bytes.now ≤ 63 →
         name.new.items ≡ name.old.items ++ bytes.now }

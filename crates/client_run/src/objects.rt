@@ -1,4 +1,4 @@
-//! Named, unique and anonymous objects.
+//! Instructions on named, unique and anonymous objects.
 
 ghost use Rattle.std.specs.Prelude.{◌≡◌, ◌≤◌, FitsSigned};
 ghost use Rattle.std.specs.Int.{w64};
@@ -26,7 +26,7 @@ use std::alloc::Allocator;
 
 /// Named objects.
 impl Machine<'_> {
-    /// The name that an instruction gives: that of its constant, with the number of register b for a family.
+    /// The name in an instruction: its constant, with the number in register b for a family.
     fn name(&self, i: &Instruction) -> Name
         ensures named { NamedIn self.now i.now result.items }
         ensures fits { FitsSigned w64 (number_at self.now.numbers i.now.b) }
@@ -34,7 +34,7 @@ impl Machine<'_> {
         name_of(self.constant(i), self.number(i.b))
     }
 
-    /// The number in register c as a count or an index, or what stands for it where there is no register.
+    /// The number in register c as a count or an index, or `none` if operand c is 16.
     fn optional(&self, c: u8, none: u32) -> Result<u32, Code>
         requires { c ≤ REGISTERS }
         ensures { IsOptional (optional_in self.now c none) result }
@@ -83,7 +83,7 @@ impl Machine<'_> {
         self.try_refer(i, at, type_id)
     }
 
-    /// The position of the item of a named object that register c counts, its first where there is no register.
+    /// The position of a named object's item with the index in register c; the first item if operand c is 16.
     fn item<F: Fit, A: Allocator>(
         &self,
         segment: &Segment<F, A>,
@@ -227,7 +227,7 @@ impl Machine<'_> {
     }
 }
 
-/// Objects that a register or an own holds.
+/// Objects that a register or an own has.
 impl Machine<'_> {
     #[inline(never)]
     pub(crate) fn new_object<F: Fit, A: Allocator>(
@@ -306,7 +306,7 @@ impl Machine<'_> {
     }
 }
 
-/// The value of the object that an own or a shared cell names, by its position.
+/// The position of the value that an own or a shared cell points to.
 fn held_object<F: Fit, A: Allocator>(segment: &Segment<F, A>, holder: Place) -> Option<u32>
     ensures { result ≡ content_at (form_at segment.now.types holder.type_id)
         (target segment.now.window.bytes holder.at) }
@@ -317,7 +317,7 @@ fn held_object<F: Fit, A: Allocator>(segment: &Segment<F, A>, holder: Place) -> 
     }
 }
 
-/// Frozen objects, which cells share.
+/// Frozen objects, which shared cells refer to.
 impl Machine<'_> {
     #[inline(never)]
     pub(crate) fn freeze<F: Fit, A: Allocator>(

@@ -1,4 +1,4 @@
-//! Numbers, fields, and values of any type.
+//! Instructions on numbers, fields, and values of any type.
 
 ghost use Rattle.std.specs.Prelude.{◌≡◌, ◌+◌, ◌≤◌, ◌↔◌, ℕ, IsTrue, Some, length, slice_index_or};
 ghost use Rattle.seg_bytes.specs.Bytes.{signed_long, ChangesOnly};
@@ -17,7 +17,7 @@ use seg_manager::Segment;
 use seg_value::{Held, Place};
 use std::alloc::Allocator;
 
-/// The type of what an own, a shared or a container holds.
+/// The type of the values in an own, a shared or a container.
 pub(crate) fn held_type<F: Fit, A: Allocator>(segment: &Segment<F, A>, holder: Place) -> TypeId
     ensures { (T : ℕ) → held_in (form_at segment.now.types holder.type_id) ≡ Some T → result ≡ T }
 {
@@ -30,7 +30,6 @@ pub(crate) fn held_type<F: Fit, A: Allocator>(segment: &Segment<F, A>, holder: P
     }
 }
 
-/// The type of the frozen objects that the cells of a type share.
 fn shared_type<F: Fit, A: Allocator>(segment: &Segment<F, A>, type_id: TypeId) -> TypeId
     ensures { (T : ℕ) → shared_in (form_at segment.now.types type_id) ≡ Some T → result ≡ T }
 {
@@ -40,7 +39,6 @@ fn shared_type<F: Fit, A: Allocator>(segment: &Segment<F, A>, type_id: TypeId) -
     }
 }
 
-/// Whether a string stands at a place.
 pub(crate) fn is_text<F: Fit, A: Allocator>(segment: &Segment<F, A>, place: Place) -> bool
     ensures { IsTrue result ↔ form_at segment.now.types place.type_id ≡ Some Form.str }
 {

@@ -1,4 +1,4 @@
-//! What a client prints.
+//! Instructions that print.
 
 ghost use Rattle.std.specs.Prelude.{◌≡◌, true, false, slice_index_or, OnOk, OnErr};
 ghost use Rattle.client_program.specs.Paths.{number_at};

@@ -1,4 +1,5 @@
--- Where the blocks of a value stand at multiples of 8, as live blocks do, so does each place that a path leads to.
+-- If the blocks of a value are at multiples of 8, as allocated blocks are, so is each place that a
+-- path refers to.
 use Rattle.std.proofs.Common.{◌≡◌, ℕ, zero, suc, ◌+◌, ◌*◌, ◌%◌, ◌<◌, List, [], ◌∷◌, ◌++◌, map, Option, Some, None, unwrap_or, option_to_list, option_map, MatchOption, refl, sym, subst, arith}
 use Rattle.std.specs.List.{AllByRecursion}
 use Rattle.seg_spec.specs.Types.{Form, Table, size, IsTable}
@@ -39,7 +40,7 @@ further_aligned : (more : ℕ) (ps : List ℕ) → Aligned more → AreAligned p
 further_aligned more [] m a = tt
 further_aligned more (p ∷ ps) m a = ((let e = a.0 in omega arith), further_aligned more ps m a.1)
 
--- ---- from blocks to what stands in them
+-- ---- from blocks to the values in them
 
 start_aligned : (bytes : List ℕ) (o : Option ℕ) (n kind each : ℕ) → MatchOption o (n ≡ 0) (λ p. IsBlock bytes p kind (n * each)) → AreAligned (option_to_list (option_map block_of o)) → Aligned (unwrap_or o 0)
 start_aligned bytes None n kind each r a = refl
@@ -84,7 +85,7 @@ module _ (bytes : List ℕ) (table : Table) (valid : IsTable table) where
       let inside : AreAligned (m.xs ++ (m.zs ++ m.ys)) = subst AreAligned m.blocks_are (each_right _ opened.blocks opens_as.owned all) in
       leads_aligned rest m.holds_it (each_at (λ (q : Place). Aligned q.at) opened.parts i part parts part_is) (each_left _ m.zs m.ys (each_right _ m.xs (m.zs ++ m.ys) inside))
 
-  -- a path from an item of a root whose block begins with its values
+  -- a path from an item of a root without words before its values
   pub root_aligned : (root : Root) (blocks : List ℕ) → root.words ≡ [] → HoldsRoot bytes table root blocks → AreAligned blocks → (j : ℕ) → j < count root.values
       → {path : List Selector} {inner : Place} → Leads bytes table (item_of table root j) path inner → Aligned inner.at
   root_aligned root blocks no_words h b j within leads =

@@ -1,4 +1,5 @@
--- A run doesn't depend on where the segment lies: with any host, base and moves there is one that takes the same steps, prints the same and leaves the same image.
+-- A run doesn't depend on the segment's place. For any host, base and moves there is a run with the
+-- same steps, the same output and the same final image.
 use Rattle.std.proofs.Common.{◌≡◌, ℕ, zero, suc, ◌++◌, List, [], ◌∷◌, refl, sym, ap, ◌∙◌, subst, inl, inr}
 use Rattle.std.specs.Prelude.{nat_abs, ⊤}
 use Rattle.seg_bytes.specs.Bytes.{put}
@@ -15,7 +16,7 @@ use Rattle.client_spec.specs.Clients.{given_next, GoesOn, RunClients, StayWithin
 abbrev at : Situation → List ℕ → ℕ → Situation
 at x host base = record { state = x.state; image = x.image; host = host; base = base; steps = x.steps }
 
--- wherever it begins, the second way leads to the same state and image
+-- the other way reaches the same state and image from any host and base
 record Follows (way other : Way Situation) : Type 0 where
   pub each : (x y : Situation) (n : ℕ) (end : Ending) → way x y n end → (host : List ℕ) (base : ℕ) → (host_then : List ℕ) × (base_then : ℕ) × other (at x host base) (at y host_then base_then) n end
 
@@ -121,7 +122,7 @@ module _ (constants : List Constant) (others : List Root) (moves other : List Mo
     one_follows (opener i on_success on_code) = performs_follows i _ _ _ _ (run_follows on_success) (run_follows on_code)
     one_follows (loop i body) = then_follows _ _ _ _ step_follows (turns_follow i.b (nat_abs i.number) _ _ (run_follows body))
 
--- what is given, and left, with the image at a base of a host
+-- what is given, and the result, with the image at a base of a host
 abbrev pub given_at : Given → List Move → List ℕ → ℕ → Given
 given_at given moves host base = record { others = given.others; moves = moves; image = given.image; host = host; base = base; input = given.input }
 
@@ -184,7 +185,7 @@ client_anywhere client given left r moves host base =
 
 -- ---- several
 
--- they differ in the host and the base alone
+-- they differ only in the host and the base
 abbrev pub AreAlike : List Left → List Left → Type 0
 AreAlike [] [] = ⊤
 AreAlike [] (other ∷ others) = ⊥
@@ -202,7 +203,7 @@ clients_anywhere (client ∷ clients) given (left ∷ lefts) r moves host base =
     let more = rest one.0 one.1 left.ending (λ g. clients_anywhere clients (given_next given left) lefts g moves one.0 one.1) r.1 in
     (its ∷ more.0, ((one.0, one.1, refl), more.1), (one.2, more.2))
   where
-    -- what the next client is given, and what they leave there
+    -- what the next client is given, and the results there
     Rest : (host_then : List ℕ) (base_then : ℕ) (others : List Left) → Type 0
     Rest host_then base_then others = RunClients clients (given_next (given_at given moves host base) (left_at left host_then base_then)) others
 
@@ -214,7 +215,7 @@ clients_anywhere (client ∷ clients) given (left ∷ lefts) r moves host base =
     rest host_then base_then stopped f g = ([], subst (λ ls. AreAlike ls []) (sym g) tt, refl)
     rest host_then base_then stuck f g = absurd g
 
--- ---- what they leave is the same
+-- ---- the results are the same
 
 pub outputs_alike : (lefts others : List Left) → AreAlike lefts others → outputs others ≡ outputs lefts
 outputs_alike [] [] h = refl

@@ -1,4 +1,5 @@
--- A call changed the value at a place: the image pictures the state with this value. References into the same root end, but for the one that led there.
+-- After a call changed the value at a place, the image pictures the state with the new value.
+-- References into the same root end, except for the one to that place.
 use Rattle.std.proofs.Common.{◌≡◌, ◌⊎◌, ℕ, List, [], ◌∷◌, ◌++◌, Bool, true, false, Some, refl, sym, ◌∙◌, ap, subst, arith, inl, inr, Option}
 use Rattle.std.specs.Prelude.{if◌then◌else◌}
 use Rattle.std.proofs.lemmas.List.{length-map}
@@ -42,7 +43,8 @@ module _ {others : List Root} {types : Table} {constants : List Constant} (one :
   then_is : state_then ≡ put_origin s l.path.origin root_then
   then_is = put_at_is s l.path l.found.whole v l.found.type l.found.at
 
-  -- a path from another root leads where it led, and so do this one and each that doesn't go on after it
+  -- a path from another root still refers to the same place; so do this path, and each path that
+  -- doesn't continue from it
   elsewhere : (other : Path) (target : Place) (x : Value) → (other.origin ≡ l.path.origin → GoesOnAfter l.path.selectors other.selectors → ⊥) → path_value s other ≡ Some x → LeadsInImage h.pictured other target
       → LeadsInImage put.later other target
   elsewhere other target x apart there led = elim (put.leads other target x there led) [ inl g ↦ absurd (apart g.0 g.1) | inr k ↦ k ]
@@ -50,7 +52,7 @@ module _ {others : List Root} {types : Table} {constants : List Constant} (one :
   registers_are : (r : ℕ) → (register state_then r ≡ register s r) ⊎ (register state_then r ≡ with_owned root_then (register s r))
   registers_are r = subst (λ z. (register z r ≡ register s r) ⊎ (register z r ≡ with_owned root_then (register s r))) (sym then_is) (put_register s l.path.origin l.found.whole root_then l.found.type l.found.at r)
 
-  -- what owns nothing stays
+  -- a register that owns nothing is unchanged
   stays : (r : ℕ) (x : Register) → register s r ≡ x → with_owned root_then x ≡ x → register state_then r ≡ x
   stays r x is same = elim (registers_are r) [ inl e ↦ e ∙ is | inr e ↦ e ∙ ap (with_owned root_then) is ∙ same ]
 
@@ -58,7 +60,7 @@ module _ {others : List Root} {types : Table} {constants : List Constant} (one :
   not_after_none x [] ys e = cc
   not_after_none x (z ∷ xs) ys e = cc
 
-  -- what is still known of a register is shown
+  -- what is still known of a register is represented
   shown_by : (r : ℕ) (k : RegisterType) → ((b ≡ r) ⊎ ((class' : Class) (U : ℕ) → k ≡ RegisterType.Reference class' U → same_class (sharing class) (sharing class') ≡ false)) → Meets constants s k (register s r)
       → Shown h.pictured w r k (register s r)
       → Shown put.later (with_image w new) r k (register state_then r)
@@ -112,7 +114,7 @@ module _ {others : List Root} {types : Table} {constants : List Constant} (one :
   unfolding shows_changed
   frame_changed = record { frozen = put.stays; unknown = λ r e o. record { register_is = owner_changed h r state_then root_then o (registers_are r); place_is = refl; owns_is = refl } }
 
-  -- the path leads where it led, and the new value stands there
+  -- the path refers to the same place, which has the new value
   pub leads_changed : LeadsInImage shows_changed.pictured l.path (place_in w b)
   unfolding shows_changed
   leads_changed = elsewhere l.path (place_in w b) l.value (λ e g. not_after_itself l.path.selectors g) l.there l.in_image

@@ -1,4 +1,5 @@
--- What is still shown of a register where the references of a class have ended; and the type that an instruction names, in the world's table.
+-- What is still represented of a register after the references of a class have ended; and the type
+-- in an instruction, in the world's table.
 use Rattle.std.proofs.Common.{◌≡◌, ℕ, ◌<◌, ◌≤◌, ◌⊎◌, inl, inr, List, length, Bool, true, false, Option, Some, refl, sym, ◌∙◌, ap, subst, arith, ℤ, pos}
 use Rattle.std.specs.Prelude.{nat_abs, if◌then◌else◌, ◌%◌}
 use Rattle.seg_spec.specs.Types.{Form, Table, form_at}
@@ -22,7 +23,8 @@ use Rattle.client_sim.specs.Shows.{World, number_in, place_in, owns_in, Shown, S
 use Rattle.client_sim.proofs.Rooted.{BeginsFrom, Remains}
 use Rattle.client_sim.proofs.Finding.{type_number, slice_there}
 
--- a call leaves an image that holds this picture, whose frozen objects are counted, and each live block that isn't gone
+-- A call left an image with this picture, whose frozen objects are counted. It kept each allocated
+-- block that isn't in `gone`.
 pub record LeavesPicture (old new : List ℕ) (other : Picture) (gone : List ℕ) : Type 0 where
   pub held : IsHeld new other
   pub counted : AreCounted (word new next_word) other
@@ -30,7 +32,7 @@ pub record LeavesPicture (old new : List ℕ) (other : Picture) (gone : List ℕ
   pub front_kept : KeepsFront old new
   pub kept : (h : ℕ) → 1 ≤ times h (positions (live old)) → times h gone ≡ 0 → KeepsBlock old new h
 
--- the type that the number names is in the table
+-- the type with the instruction's number is in the table
 pub type_known : {types : Table} {constants : List Constant} {ks : RegisterTypes} {s : State} → IsAsKnown types constants ks s → (b : ℕ) (number : ℤ) (T : ℕ) → length types ≤ 32 → ((n : ℕ) → number ≡ pos n → T ≡ n % 256)
     → IsNumber types constants b Number.TypeId number → (nat_abs number ≡ T) × (T < length s.types) × ((form : Form) × (form_at s.types T ≡ Some form))
 type_known {types = types} {constants = constants} {s = s} as_known b number T few names valid =
@@ -46,7 +48,7 @@ type_known {types = types} {constants = constants} {s = s} as_known b number T f
 module _ {others : List Root} {types : Table} {constants : List Constant} (one : OneEach constants) {first : Option (List ℕ)} {allocator : ℕ} {ks : RegisterTypes} {s : State} {w : World}
     (h : Shows others types constants first allocator ks s w) (class : Class) (ks' : RegisterTypes) (s' : State) (w' : World) (later : Pictures others s' w'.image) (Ends : Origin → Type 0)
     (within : (o : Origin) → Ends o → InClass constants class o) where
-  -- a register that holds what it held, where only paths of the class end
+  -- an unchanged register, if only paths of the class end
   pub ended_shown : (r : ℕ) → known ks' r ≡ without_class (sharing class) (known ks r) → register s' r ≡ register s r → number_in w' r ≡ number_in w r → place_in w' r ≡ place_in w r → owns_in w' r ≡ owns_in w r
       → (Ends (Origin.Owned r) → ⊥) → Remains constants Ends ks ks' s s' w w' r ⊎ Shown later w' r (known ks' r) (register s' r)
   ended_shown r known_is register_is number_is place_is owns_is apart = by (known ks r) refl (h.shown r)

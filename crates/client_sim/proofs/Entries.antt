@@ -1,4 +1,4 @@
--- Keys that come to a map, or go, whatever state the world stands for.
+-- Adding and removing keys of a map, for every state that the world represents.
 use Rattle.std.proofs.Common.{◌≡◌, ℕ, suc, ◌+◌, ◌<◌, ℤ, pos, length, List, [], ◌∷◌, ◌++◌, Bool, true, false, Option, Some, None, refl, sym, ◌∙◌, ap, subst, arith}
 use Rattle.std.specs.Prelude.{⊤, take, drop, insert, remove, slice_set}
 use Rattle.std.specs.Option.{option_map_or}
@@ -84,14 +84,15 @@ module _ (allocator : ℕ) (constants : List Constant) (role : Role) (a b c : �
   abbrev key : ℤ
   key = number_in w c
 
-  -- each map at the place
+  -- for each map at the place
   abbrev pub EachMap : (Form → ℕ → List ℤ → Values → List ℕ → Type 0) → Type 0
   EachMap claim = (form : Form) (U : ℕ) (keys : List ℤ) (vs : Values) (blocks : List ℕ) → form_at w.table place.type ≡ Some form → map_value form ≡ Some U
       → Stands allocator w.image w.table place (Map keys vs) blocks → claim form U keys vs blocks
 
-  -- ---- a key goes
+  -- ---- a key is removed
 
-  -- what becomes of a map in the block `home`, by the place of the key: it goes with its value, beside whichever frozen objects
+  -- A map in the block `home` after DELK, by the position of the key: the key is removed, and its
+  -- value is destroyed, whatever frozen objects there are.
   abbrev pub Deletes : List ℕ → Bool → List ℤ → Values → ℕ → List ℕ → Option ℕ → Type 0
   Deletes new gone keys vs home blocks None = (gone ≡ false) × (new ≡ w.image)
   Deletes new gone keys vs home blocks (Some j) =
@@ -146,14 +147,14 @@ module _ (allocator : ℕ) (constants : List Constant) (role : Role) (a b c : �
       subst (λ k. Acts others types constants first allocator i success k s w (with_number (with_image w new) a (truth gone))) (sym o.1)
       (deleted one h r t.0 v.0 v.1 v.2 v.3 v.4 v.5 (number_shown others types constants first allocator ks s w h c q.0 q.1) valid.a o.0 new gone (key_place v.0 key) refl stands d))
 
-  -- ---- a key comes
+  -- ---- a key is added
 
   -- the requests for one more key
   abbrev pub entry_asks : Form → ℕ → List Ask
   entry_asks (Form.flat_map V) U = buffer_asks w.image place.at (8 + size w.table U) (count_at w.image place.at + 1)
   entry_asks form U = block_for (map_words + size w.table U) ∷ []
 
-  -- a key came, with the default of a value, which stands at p
+  -- a key was added, with the default value at position p
   pub record AddsEntry (new : List ℕ) (form : Form) (U : ℕ) (keys : List ℤ) (vs : Values) (blocks : List ℕ) (p : ℕ) : Type 0 where
     pub others : List ℕ
     pub succeeds : Succeeds allocator w.image new w.table place (with_entry (keys, vs) key (default_of w.table U)) (entry_asks form U) [] blocks others
@@ -170,7 +171,7 @@ module _ (allocator : ℕ) (constants : List Constant) (role : Role) (a b c : �
       ∙ ap (λ y. if_absent y (block_for (map_words + size s.types V) ∷ [])) (sym e)
   form_asks h o e form U f = cc
 
-  -- what becomes of a map, by the place of the key
+  -- a map after PUTK, by the position of the key
   abbrev pub Puts : List ℕ → Form → ℕ → List ℤ → Values → List ℕ → ℕ → Option ℕ → Type 0
   Puts new form U keys vs blocks p None = AddsEntry new form U keys vs blocks p
   Puts new form U keys vs blocks p (Some j) = (new ≡ w.image) × Leads w.image w.table place (Selector.key key ∷ []) (record { at = p; type = U })
@@ -183,7 +184,7 @@ module _ (allocator : ℕ) (constants : List Constant) (role : Role) (a b c : �
     there_put : (path_value s r.its.path >>= entries_in) ≡ Some (keys, vs)
     there_put = ap (λ x. x >>= entries_in) r.its.there ∙ ap entries_in value_is
 
-    -- the requests, by the place of the key
+    -- the requests, by the position of the key
     asks_by : (o : Option ℕ) → key_place keys key ≡ o → if_absent o (entry_asks r.form r.what) ≡ cell_asks Operation.PutKey constants (of Operation.PutKey) s w.image place.at r.form
     asks_by o e = form_asks h o (found_is (of Operation.PutKey) s r.its.path key keys vs r.path_is key_is there_put ∙ e) r.form r.what r.is
 

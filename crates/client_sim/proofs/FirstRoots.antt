@@ -1,4 +1,5 @@
--- The first root of a list that passes a test, as that of a name or of a type; and where it gives way to another.
+-- The first root of a list that passes a test, for example of a name or a type, and replacing that
+-- root.
 use Rattle.std.proofs.Common.{◌≡◌, ℕ, Bool, true, false, List, [], ◌∷◌, ◌++◌, Option, Some, None, refl, sym, ◌∙◌, ap, subst, append_assoc}
 use Rattle.std.specs.Prelude.{◌==◌, if◌then◌else◌}
 use Rattle.std.specs.List.{AllByRecursion}

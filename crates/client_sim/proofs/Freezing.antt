@@ -1,4 +1,5 @@
--- FREEZE: an object that a register owns becomes frozen, and a cell names it; what the cell named before is released.
+-- FREEZE: an object that a register owns becomes frozen, and a cell shares it. The object that the
+-- cell shared before is released.
 use Rattle.std.proofs.Common.{◌≡◌, ◌≢◌, ℕ, suc, ◌+◌, ◌<◌, ℤ, pos, List, [], ◌∷◌, ◌++◌, length, Option, Some, None, true, false, inl, inr, ◌^◌, refl, sym, ◌∙◌, ap, subst, arith}
 use Rattle.std.specs.Prelude.{Ok, Bool, not, ◌==◌, ◌&&◌, if◌then◌else◌, slice_set}
 use Rattle.std.proofs.lemmas.Bool.{eqb-true, eq-eqb}
@@ -186,7 +187,7 @@ module _ (allocator : ℕ) (constants : List Constant) (role : Role) (a b c : �
       stands : Stands allocator w.image table (place_in w b) l.value l.found.blocks
       stands = subst (λ (ts : Table). Stands allocator w.image ts (place_in w b) l.value l.found.blocks) on_table l.stands
 
-      -- the object, and the frozen objects beside
+      -- the object, and the other frozen objects
       record Around : Type 0 where
         inside : List ℕ
         holds : HoldsRoot w.image table o.root (block_of (place_in w c).at ∷ inside)
@@ -217,7 +218,7 @@ module _ (allocator : ℕ) (constants : List Constant) (role : Role) (a b c : �
       form_here : form_at table (place_in w b).type ≡ Some (Form.shared f.held)
       form_here = ap (form_at table) l.type_is ∙ ap (λ (ts : Table). form_at ts f.type) (pictured.types ∙ sym same_types) ∙ f.form
 
-      -- what holds of the call holds of it here
+      -- the call's contract, here
       of_call : (claim : Table → CellClaim) → OnCell allocator w.image w.table (place_in w b) object (claim w.table) → suc next < 2 ^ 32 → (x : Around) → claim table f.held l.value o.value l.found.blocks x.inside x.theirs frozen
       of_call claim call some x =
           let k = beside x in
@@ -328,7 +329,7 @@ module _ (allocator : ℕ) (constants : List Constant) (role : Role) (a b c : �
         abbrev then_pictured : Pictures others moved_state new
         then_pictured = moved.to.later
 
-        -- no object stood where it stands then
+        -- no object was at the new object's position
         elsewhere : AllByRecursion (λ (g : Frozen). g.at ≢ z.payload) frozen
         elsewhere =
             let k = (beside x).1 in
@@ -386,7 +387,7 @@ module _ (allocator : ℕ) (constants : List Constant) (role : Role) (a b c : �
             let full_fits = value_of_form t.types f.type (Form.shared f.held) full f.form (shared_fits t.types (Form.shared f.held) f.held refl (replaced m o.value) shape) in
             agrees_release types constants one (others_ended f.class b ks) (put_at t l.path full) c (agrees_put_others types constants one f.class b f.type ks t h.as_known f.known_as refers full full_fits)
 
-        -- ---- registers that are only read
+        -- ---- references that are only read
 
         stay : StayNamed w.image new table frozen then_pictured.picture.frozen
         stay = record {
@@ -465,7 +466,7 @@ module _ (allocator : ℕ) (constants : List Constant) (role : Role) (a b c : �
         abbrev asks_here : List Ask
         asks_here = block_for (frozen_words + size table f.held) ∷ []
 
-        -- a new block has no old one
+        -- a new block replaces no old one
         none_replaced : (kind : ℕ) (bs : List Span) (end : ℕ) → Spending.replaced kind bs end asks_here ≡ []
         none_replaced kind bs end = by (after_ask kind bs end (block_for (frozen_words + size table f.held)))
           where

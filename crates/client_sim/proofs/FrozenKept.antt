@@ -1,4 +1,5 @@
--- Paths through cells that share, over a call: frozen objects that are named then hold what they held, and what leads on inside them still does.
+-- Paths through shared cells over a call: frozen objects that are still shared keep their values,
+-- and paths inside them refer to the same places.
 use Rattle.std.proofs.Common.{◌≡◌, ◌≢◌, inl, inr, ℕ, suc, ◌+◌, ◌*◌, Bool, true, false, List, [], ◌∷◌, Some, refl, sym, ◌∙◌, ap, subst, arith}
 use Rattle.std.specs.Prelude.{◌==◌, if◌then◌else◌}
 use Rattle.std.specs.List.{AllByRecursion}
@@ -54,7 +55,8 @@ module _ {others : List Root} {s : State} {bytes : List ℕ} (p q : Pictures oth
 
 -- ---- over a call
 
--- objects that are named before and after have their values, and paths in them lead where they led
+-- objects that are shared before and after have the same values, and paths in them refer to the
+-- same places
 pub record StayNamed (old new : List ℕ) (table : Table) (before after : List Frozen) : Type 0 where
   pub value : (n : ℕ) (x : Place) (f : Value) → IsBelow n before x → IsBelow n after x → value_at_position after x.at ≡ Some f → value_at_position before x.at ≡ Some f
   pub paths : (n : ℕ) (x : Place) → IsBelow n before x → IsBelow n after x → (xs : List Selector) (target : Place) → Leads old table (value_place x) xs target → Leads new table (value_place x) xs target
@@ -72,7 +74,7 @@ each_raised_by : (P : ℕ → ℕ → Value → Type 0) (names : List Place) (fs
 each_raised_by P [] fs a = a
 each_raised_by P (q ∷ names) fs a = each_raised P q.at (raised_by names fs) (each_raised_by P names fs a)
 
--- the value of an object that is left, where cells with these names go and others come, was its value before
+-- a remaining object has the value that it had before some cells were destroyed and others added
 pub left_value : (before after : List Frozen) (gone names : List Place) → AreDistinct before → AreDistinct after → after ≡ left gone (raised_by names before)
     → (n : ℕ) (x : Place) (v : Value) → IsBelow n after x → value_at_position after x.at ≡ Some v → value_at_position before x.at ≡ Some v
 left_value before after gone names distinct distinct_then after_is n x v b e =
@@ -80,7 +82,7 @@ left_value before after gone names distinct distinct_then after_is n x v b e =
     let each = left_each (λ (g : Frozen). P g.at g.type g.value) (λ g k h. h) gone (raised_by names before) (each_raised_by P names before (each_found before distinct)) in
     at_name P n after x v distinct_then (subst (AllByRecursion (λ (g : Frozen). P g.at g.type g.value)) (sym after_is) each) b e
 
--- paths in one of the objects in which they are kept
+-- paths in one of the objects in which paths are kept
 pub paths_at : (old new : List ℕ) (table : Table) (n : ℕ) (x : Place) (fs : List Frozen) → KeepsFrozenPaths old new table fs → IsBelow n fs x
     → (xs : List Selector) (target : Place) → Leads old table (value_place x) xs target → Leads new table (value_place x) xs target
 paths_at old new table n x [] k b xs target leads = absurd b
@@ -90,7 +92,7 @@ paths_at old new table n x (f ∷ fs) k (inl b) xs target leads =
     subst (λ (y : Place). Leads new table y xs target) there (k.0 0 xs target (omega arith) (subst (λ (y : Place). Leads old table y xs target) (sym there) leads))
 paths_at old new table n x (f ∷ fs) k (inr b) xs target leads = paths_at old new table n x fs k.1 b xs target leads
 
--- so it is where none become frozen
+-- the same, if no object becomes frozen
 module _ {others : List Root} {s s' : State} {old new : List ℕ} (before : Pictures others s old) (after : Pictures others s' new)
     (stays : FrozenStay before.picture.frozen after.picture.frozen) (paths : KeepsFrozenPaths old new before.picture.table after.picture.frozen) where
   stay_value : (n : ℕ) (x : Place) (f : Value) → IsBelow n after.picture.frozen x → value_at_position after.picture.frozen x.at ≡ Some f → value_at_position before.picture.frozen x.at ≡ Some f
@@ -110,7 +112,7 @@ module _ {others : List Root} {s s' : State} {old new : List ℕ} (before : Pict
 
 module _ {others : List Root} {s s' : State} {old new : List ℕ} (p before : Pictures others s old) (after p' : Pictures others s' new)
     (stays : StayNamed old new before.picture.table before.picture.frozen after.picture.frozen) (types : s'.types ≡ s.types) where
-  -- it is named by cells in all of them
+  -- a cell refers to it in all of them
   pub record NamedStill (x : Place) : Type 0 where
     pub n : ℕ
     pub there : IsBelow n p.picture.frozen x
@@ -136,7 +138,7 @@ module _ {others : List Root} {s s' : State} {old new : List ℕ} (p before : Pi
       subst (λ (ts : Table). Leads new ts (value_place x) xs target) table_then
       (stays.paths k.n x k.there_before k.there_after xs target (subst (λ (ts : Table). Leads old ts (value_place x) xs target) table leads))
 
-  -- what an object names that is named still is named still
+  -- an object that is shared by cells of an object that is still shared is still shared
   deeper : (x : Place) (f : Value) → NamedStill x → value_at_position p.picture.frozen x.at ≡ Some f → (xs : List Selector) (U at : ℕ) → value_at f xs ≡ Some (node (Label.shared U at) nil) → NamedStill (record { at = at; type = U })
   deeper x f k e xs U at names =
       let a = inner p k.there e in

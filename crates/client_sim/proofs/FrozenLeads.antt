@@ -1,4 +1,4 @@
--- Where a path leads through cells that share: what stands there, and what the trees have there.
+-- The end of a path through shared cells: the value there, and the value in the unfolded state.
 use Rattle.std.proofs.Common.{◌≡◌, ℕ, zero, suc, List, [], ◌∷◌, ◌++◌, Some, refl, sym, ◌∙◌, ap, subst}
 use Rattle.std.specs.Prelude.{option_and_then}
 use Rattle.std.specs.List.{AllByRecursion}
@@ -19,14 +19,14 @@ use Rattle.client_spec.proofs.UnfoldedValues.{value_at_replaced}
 use Rattle.client_sim.specs.Seeing.{LeadsFrozen, inside, through}
 use Rattle.client_sim.proofs.FrozenPlaces.{frozen_stands, frozen_means}
 
--- further selectors lead on from there
+-- the selectors continue from there
 pub value_on : (xs ys : List Selector) (v w : Value) → value_at v xs ≡ Some w → value_at v (xs ++ ys) ≡ value_at w ys
 value_on [] ys v w e = ap (λ u. value_at u ys) (Some_inj e)
 value_on (x ∷ xs) ys v w e =
     let p = then_some (λ u. value_at u xs) (selected v x) w e in
     ap (λ o. option_and_then (λ u. value_at u (xs ++ ys)) o) p.1 ∙ value_on xs ys p.0 w p.2
 
--- what holds of all names in a value holds of those in a part
+-- what is true of all cells in a value is true of the cells in a part
 module _ (B : Place → Type 0) where
   pub of_nth : (vs : Values) (i : ℕ) (v : Value) → AllByRecursion B (names_each vs) → nth vs i ≡ Some v → AllByRecursion B (names_in v)
   unfolding names_in
@@ -57,9 +57,9 @@ module _ (B : Place → Type 0) where
   unfolding names_in
   of_cell U p a = a.0
 
--- ---- through cells that share
+-- ---- through shared cells
 
--- a part that is there is there so too
+-- an existing part exists there too
 part_so : (fs : List Frozen) (v w : Value) (x : Selector) → selected v x ≡ Some w → part_through fs v x ≡ Some w
 part_so fs (node (Label.shared T p) nil) w x e = none x e
   where
@@ -95,18 +95,18 @@ module _ {others : List Root} {s : State} {bytes : List ℕ} (pictured : Picture
   abbrev m : ℕ → Value
   m = meaning_in (word bytes next_word) pictured.picture
 
-  -- what stands where the path leads, of which the trees have the tree
+  -- the value at the end of the path, and its unfolded value in the unfolded state
   pub record FrozenFound (q : Place) (xs : List Selector) (target : Place) : Type 0 where
     pub value : Value
     pub blocks : List ℕ
     pub stands : Stands (word bytes allocator_word) bytes pictured.picture.table target value blocks
     pub tree : value_at (m q.at) (Selector.content ∷ xs) ≡ Some (replaced m value)
     pub reads : value_through frozen (node (Label.shared q.type q.at) nil) (Selector.content ∷ xs) ≡ Some value
-    -- what it names is there
+    -- the objects that the value's cells share exist, with numbers below n
     pub n : ℕ
     pub named : AllByRecursion (IsBelow n frozen) (names_in value)
 
-  -- the objects that a frozen one names are there, with lower numbers
+  -- the objects that a frozen object shares exist, and have lower numbers
   pub below_in : (n : ℕ) (q : Place) (f : Value) → IsBelow n frozen q → value_at_position frozen q.at ≡ Some f → (k : ℕ) × AllByRecursion (IsBelow k frozen) (names_in f)
   below_in n q f b e =
       let c = pictured.counted.counted in

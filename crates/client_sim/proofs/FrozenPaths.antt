@@ -1,4 +1,5 @@
--- Paths in frozen objects lead where they led, where the objects' blocks are kept but for the counts.
+-- Paths in frozen objects end at the same places, if the objects' blocks are unchanged except for
+-- the counts.
 use Rattle.std.proofs.Common.{◌≡◌, ◌≢◌, ℕ, zero, suc, ◌+◌, ◌-◌, ◌*◌, ◌≤◌, inl, inr, List, [], ◌∷◌, ◌++◌, Bool, true, false, refl, sym, ◌∙◌, ap, subst, arith}
 use Rattle.std.specs.Prelude.{⊤, ◌==◌, if◌then◌else◌}
 use Rattle.std.specs.List.{AllByRecursion}
@@ -28,7 +29,7 @@ use Rattle.seg_spec.proofs.RootPart.{items_nth}
 use Rattle.client_sim.specs.Shows.{FrozenStay, all_stay, some_go, some_shared, KeepsFrozenPaths}
 use Rattle.client_sim.proofs.MovedPlaces.{roots_split}
 
--- what is left of the frozen objects, and paths in them
+-- the frozen objects that remain, and paths in them
 pub record KeepsFrozen (old new : List ℕ) (table : Table) (before after : List Frozen) : Type 0 where
   pub stays : FrozenStay before after
   pub paths : KeepsFrozenPaths old new table after
@@ -47,15 +48,15 @@ same_paths : (bytes : List ℕ) (table : Table) (fs : List Frozen) → KeepsFroz
 same_paths bytes table [] = tt
 same_paths bytes table (f ∷ fs) = ((λ i path target within leads. leads), same_paths bytes table fs)
 
--- in an image that stays
+-- in an unchanged image
 pub frozen_same_image : (bytes : List ℕ) (table : Table) (fs : List Frozen) → KeepsFrozen bytes bytes table fs fs
 frozen_same_image bytes table fs = record { stays = all_stay refl; paths = same_paths bytes table fs }
 
--- where paths from all their roots are kept
+-- if paths from all their roots are kept
 pub frozen_of_roots : (old new : List ℕ) (picture : Picture) → AllByRecursion (KeepsPaths old new picture.table) (frozen_roots picture) → KeepsFrozenPaths old new picture.table picture.frozen
 frozen_of_roots old new picture = each_of_map (KeepsPaths old new picture.table) root_of_frozen picture.frozen
 
--- ---- the same objects, counted otherwise
+-- ---- the same objects, with other counts
 
 abbrev Recounted : List Frozen → List Frozen → Type 0
 Recounted [] [] = ⊤
@@ -87,7 +88,7 @@ recounted_by : (names : List Place) (fs : List Frozen) → Recounted fs (raised_
 recounted_by [] fs = recounted_same fs
 recounted_by (q ∷ names) fs = recounted_then fs (raised_by names fs) (raised q.at (raised_by names fs)) (recounted_by names fs) (recounted_raised q.at (raised_by names fs))
 
--- ---- a root whose blocks are kept but for the word that it begins with
+-- ---- a root whose blocks are unchanged except for its first word
 
 module _ (allocator : ℕ) (old new : List ℕ) (table : Table) (valid : IsTable table) (heap : IsHeap allocator old) where
   module _ (root : Root) (mine : List ℕ) (o : HoldsRoot old table root mine) (x : ℕ) (at_is : payload_of root ≡ x) (some : 4 ≤ words_size root) (owned : (h : ℕ) → times h mine ≤ times h (positions (live old)))
@@ -131,7 +132,7 @@ module _ (allocator : ℕ) (old new : List ℕ) (table : Table) (valid : IsTable
         Leads-each old new table valid (item_of table root i) i o.values (items_nth table root.at root.type (count root.values) i within)
         (places-same old new table valid root.type _ (spaced-same old new root.at (size table root.type) (count root.values) values)) inside_kept l
 
-  -- what is left of the objects, counted in whichever way, where cells with these names go
+  -- the objects that remain after these cells were destroyed, with any counts
   left_paths : (theirs : ℕ → List ℕ) (gone : List Place) (fs gs : List Frozen) → Recounted fs gs → ((h : ℕ) → times h (blocks_by theirs fs) ≤ times h (positions (live old))) → HoldFrozen old table theirs fs
       → KeepFrozen old new theirs (left gone gs) → KeepsFrozenPaths old new table (left gone gs)
   left_paths theirs gone [] [] same owned hold keep = tt
@@ -151,7 +152,7 @@ module _ (allocator : ℕ) (old new : List ℕ) (table : Table) (valid : IsTable
       go zero without with_it k = without k
       go (suc n) without with_it k = (own_paths (with_count g (suc n)) (ap (λ (x : Frozen). with_count x (suc n)) same.0) k.0, with_it k.1)
 
--- of those that an image has
+-- the frozen objects of an image
 frozen_left_of : (old new : List ℕ) (picture : Picture) → IsHeld old picture → (theirs : ℕ → List ℕ) → HoldFrozen old picture.table theirs picture.frozen → (gone : List Place) (gs : List Frozen) → Recounted picture.frozen gs
     → KeepFrozen old new theirs (left gone gs) → KeepsFrozenPaths old new picture.table (left gone gs)
 frozen_left_of old new picture held theirs hold gone gs recounted keep =
@@ -167,7 +168,7 @@ pub frozen_left : (old new : List ℕ) (picture : Picture) → IsHeld old pictur
     → KeepsFrozenPaths old new picture.table (left gone picture.frozen)
 frozen_left old new picture held theirs hold gone keep = frozen_left_of old new picture held theirs hold gone picture.frozen (recounted_same picture.frozen) keep
 
--- and of those where cells with these names came too
+-- and after other cells were added
 pub frozen_left_shared : (old new : List ℕ) (picture : Picture) → IsHeld old picture → (theirs : ℕ → List ℕ) → HoldFrozen old picture.table theirs picture.frozen → (gone names : List Place)
     → KeepFrozen old new theirs (left gone (raised_by names picture.frozen)) → KeepsFrozenPaths old new picture.table (left gone (raised_by names picture.frozen))
 frozen_left_shared old new picture held theirs hold gone names keep =

@@ -1,4 +1,5 @@
--- Where a path leads inside a frozen object, the place stands as calls on places ask; and what a cell means that names the object.
+-- At the end of a path inside a frozen object there is a place as calls need it; and the copy for a
+-- cell that shares the object.
 use Rattle.std.proofs.Common.{◌≡◌, ℕ, suc, ◌+◌, ◌*◌, ◌<◌, ◌≤◌, inl, inr, true, false, List, [], ◌∷◌, ◌++◌, map, length, Some, refl, sym, ◌∙◌, ap, subst, append_assoc, arith}
 use Rattle.std.specs.Prelude.{Bool, ◌==◌, if◌then◌else◌}
 use Rattle.std.proofs.lemmas.Bool.{cases_eq, eqb-true, eq-eqb}
@@ -31,7 +32,7 @@ use Rattle.client_spec.specs.Pictures.{Pictures, meaning_in}
 use Rattle.client_spec.proofs.Values.{Some_inj}
 use Rattle.client_sim.proofs.Aligned.{Aligned, AreAligned, leads_aligned}
 
--- ---- the object that a name finds
+-- ---- the object that a cell shares
 
 pub record FrozenNamed (frozen : List Frozen) (q : Place) (v : Value) : Type 0 where
   pub before : List Frozen
@@ -131,7 +132,7 @@ module _ (bytes : List ℕ) (picture : Picture) (held : IsHeld bytes picture) (b
       owned = owned;
     }
 
--- where a path leads inside a frozen object, the place holds the value there and stands as calls on places ask
+-- a place at the end of a path inside a frozen object has the value there, and is as calls need it
 pub frozen_stands : {others : List Root} {s : State} {bytes : List ℕ} (pictured : Pictures others s bytes) (n : ℕ) (q : Place) (f : Value)
     → IsBelow n pictured.picture.frozen q → value_at_position pictured.picture.frozen q.at ≡ Some f
     → (path : List Selector) (place : Place) → Leads bytes pictured.picture.table (record { at = q.at + frozen_words; type = q.type }) path place
@@ -157,7 +158,7 @@ frozen_stands {bytes = bytes} pictured n q f below value_is path place leads =
       part_stands bytes picture held front x.object back a path place from_object p,
     )
 
--- ---- what a cell means that names it
+-- ---- the copy for a cell that shares the object
 
 below_all : (n m : ℕ) (frozen : List Frozen) (q : Place) → AllByRecursion (λ (f : Frozen). f.number < m) frozen → IsBelow n frozen q → IsBelow m frozen q
 below_all n m [] q a h = absurd h
@@ -168,7 +169,7 @@ one_deeper : (n : ℕ) (frozen : List Frozen) (p : ℕ) (v : Value) → value_at
 unfolding meaning
 one_deeper n frozen p v e = ap (owner_by (λ u. replaced (meaning n frozen) u)) e
 
--- it owns the object's value as a tree
+-- the copy is an owned one of the object's unfolded value
 pub frozen_means : {others : List Root} {s : State} {bytes : List ℕ} (pictured : Pictures others s bytes) (n : ℕ) (q : Place) (f : Value)
     → IsBelow n pictured.picture.frozen q → value_at_position pictured.picture.frozen q.at ≡ Some f
     → meaning_in (word bytes next_word) pictured.picture q.at ≡ Full (replaced (meaning_in (word bytes next_word) pictured.picture) f)

@@ -1,4 +1,4 @@
--- What values name that an instruction leaves in the place of others.
+-- The shared cells in values that an instruction puts in the place of others.
 use Rattle.std.proofs.Common.{◌≡◌, ℕ, zero, suc, ◌-◌, ℤ, List, [], ◌++◌, Some, refl, sym, ◌∙◌, ap, subst, arith}
 use Rattle.std.specs.Prelude.{slice_get}
 use Rattle.std.proofs.lemmas.List.{append-nil}
@@ -39,7 +39,7 @@ pub names_one : (v : Value) → names_each (cons v nil) ≡ names_in v
 unfolding names_each
 names_one v = append-nil (names_in v)
 
--- ---- one that names nothing comes
+-- ---- a value without shared cells is added
 
 pub front_named : (d : Value) (vs : Values) → names_in d ≡ [] → names_each (cons d vs) ≡ names_each vs
 front_named d vs none = names_cons d vs ∙ ap (λ xs. xs ++ names_each vs) none
@@ -53,7 +53,7 @@ insert_named vs zero d none = front_named d vs none
 insert_named nil (suc i) d none = front_named d nil none
 insert_named (cons v vs) (suc i) d none = names_cons v (insert_nth vs i d) ∙ ap (λ xs. names_in v ++ xs) (insert_named vs i d none) ∙ sym (names_cons v vs)
 
--- ---- one goes
+-- ---- a value is removed
 
 pub remove_named : (vs : Values) (i : ℕ) (v : Value) → nth vs i ≡ Some v → SameNames (names_each vs) (names_in v ++ names_each (remove_nth vs i))
 remove_named nil i v e = cc
@@ -76,7 +76,7 @@ count_without_last nil = refl
 count_without_last (cons v nil) = refl
 count_without_last (cons v (cons w ws)) = let e = count_without_last (cons w ws) in omega (arith, e)
 
--- ---- what a part of a place holds
+-- ---- the value in a part of a place
 
 module _ (bytes : List ℕ) (table : Table) where
   part_holds : {places : List Place} {vs : Values} {blocks : List ℕ} (j : ℕ) (part : Place) (v : Value) → HoldsEach bytes table places vs blocks → slice_get places j ≡ Some part → nth vs j ≡ Some v
@@ -88,7 +88,7 @@ module _ (bytes : List ℕ) (table : Table) where
       (its, subst (λ p. Holds bytes table p v its) same (subst (λ x. Holds bytes table place x its) value h))
   part_holds (suc j) part v (holds_more h hs) e f = part_holds j part v hs e f
 
-  -- it is the part of the value there
+  -- it is the part of the place's value
   pub part_value : (place : Place) (j : ℕ) (gives : List ℕ) (p : PartBlocks bytes table place j gives) (label : Label) (vs : Values) (blocks : List ℕ) → Holds bytes table place (node label vs) blocks
       → (v : Value) → nth vs j ≡ Some v → v ≡ p.value
   part_value place j gives p label vs blocks (holds form opened inside owned form_is opens each v_is blocks_are) v there_is =

@@ -1,4 +1,4 @@
--- AT: the byte of a text that a number counts, or a reference to the item of a vector or a list.
+-- AT: the byte of a text at an index, or a reference to the item of a vector or a list.
 use Rattle.std.proofs.Common.{◌≡◌, ◌≢◌, ℕ, ◌<◌, ℤ, pos, List, [], ◌∷◌, length, true, Option, Some, None, refl, sym, ◌∙◌, ap, subst, inl, inr}
 use Rattle.std.specs.Prelude.{Ok, slice_index}
 use Rattle.std.specs.Option.{option_map_or}
@@ -31,11 +31,11 @@ use Rattle.client_sim.proofs.SeeingReads.{FormRead, found_read_by, form_read, te
 use Rattle.seg_spec.specs.Shared.{replaced, replaced_each}
 use Rattle.client_spec.proofs.UnfoldedValues.{count_replaced}
 
--- this holds of each text that stands at register b's place
+-- for each text at register b's place
 abbrev pub OfText : ℕ → ℕ → World → (List ℕ → Type 0) → Type 0
 OfText allocator b w claim = (xs blocks : List ℕ) → form_at w.table (place_in w b).type ≡ Some Form.str → Stands allocator w.image w.table (place_in w b) (Text xs) blocks → claim xs
 
--- this holds of the items of each vector or list that stands there, and of their type
+-- for the items of each vector or list at register b's place, and their type
 abbrev pub OfItems : ℕ → ℕ → World → (ℕ → Values → Type 0) → Type 0
 OfItems allocator b w claim = (form : Form) (U : ℕ) (vs : Values) (blocks : List ℕ) → form_at w.table (place_in w b).type ≡ Some form → vec_or_list_item form ≡ Some U
     → Stands allocator w.image w.table (place_in w b) (Seq vs) blocks → claim U vs
@@ -104,7 +104,7 @@ module _ (allocator : ℕ) (constants : List Constant) (role : Role) (a b c : �
       form_so : l.what ≡ RegisterType.Int → form_at w.table (place_in w b).type ≡ Some Form.str
       form_so is = l.its.form_is ∙ ap Some (str_is l.class l.its.form l.what l.its.is is)
 
-      -- nothing stands at the index
+      -- the index is out of range
       none_at : a < 16 → (code : ℕ) → outcome constants at_of true s ≡ fail a out_of_range s → code ≡ answer_number out_of_range
           → (answer : Answer) × (answer ≢ success) × Acts others types constants first allocator at_of answer bad s w (with_number w a (pos code))
       none_at within code fails code_is =
@@ -116,7 +116,7 @@ module _ (allocator : ℕ) (constants : List Constant) (role : Role) (a b c : �
                 (refuses_with others types constants first allocator ks s w h at_of out_of_range true a within g.0 fails refl)),
           )
 
-  -- the byte of the text that register c counts
+  -- the byte of the text with the index in register c
   abbrev pub IsByteAt : ℕ → List ℕ → Type 0
   IsByteAt n xs = (i : ℕ) × (index_below (length xs) index ≡ Some i) × (n ≡ slice_index xs i)
 
@@ -134,7 +134,7 @@ module _ (allocator : ℕ) (constants : List Constant) (role : Role) (a b c : �
         | inr v ↦ absurd (no_items l.its.form v.0 (Some_inj (sym l.its.form_is ∙ str)) v.4)
       ]
 
-  -- the item that register c counts stands at p, and has this type
+  -- the item with the index in register c is at p, and has this type
   abbrev pub IsItemAt : ℕ → ℕ → ℕ → Values → Type 0
   IsItemAt p T U vs = (i : ℕ) × (index_below (count vs) index ≡ Some i) × Leads w.image w.table (place_in w b) (Selector.item i ∷ []) (record { at = p; type = T }) × (T ≡ U)
 
@@ -152,7 +152,7 @@ module _ (allocator : ℕ) (constants : List Constant) (role : Role) (a b c : �
             (part_given h (item_known l.class) b l.class l.type l.what l.its at_of a (Selector.item f.0) v.0 to valid.a g.0 (item_part l.its.form v.0 f.0 v.4) f.3 f.2 given (quiet constants at_of h.pictured refl refl))
       ]
 
-  -- there is none so far
+  -- the index isn't below n
   abbrev pub HasNoneAt : ℕ → ℕ → Type 0
   HasNoneAt code n = (index_below n index ≡ None) × (code ≡ answer_number out_of_range)
 
@@ -168,7 +168,7 @@ module _ (allocator : ℕ) (constants : List Constant) (role : Role) (a b c : �
             none_at h good bad l valid.a code (row h good bad l (Seq v.1) v.3 ∙ ap (λ (o : Option ℕ). option_map_or (λ i. refer a (extend (path h good bad l) (Selector.item i)) s) o (fail a out_of_range s)) f.0) f.1
       ]
 
-  -- ---- where what is there is only read
+  -- ---- through a reference that is only read
 
   module _ {types : Table} {others : List Root} {first : Option (List ℕ)} {ks : RegisterTypes} {t : State} (h : Sees others types constants first allocator ks t w) (good bad : RegisterTypes) (x : Class) (T : ℕ)
       (known_is : known ks b ≡ RegisterType.Reference (Class.Frozen x) T) where

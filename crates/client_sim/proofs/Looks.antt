@@ -1,4 +1,5 @@
--- What an image pictures of a state, without the bytes that hold it: so objects may move in steps, of which only the last is in the image.
+-- How an image's picture represents a state, without the bytes of the image. So an object can move
+-- in several steps, of which only the last is an image.
 use Rattle.std.proofs.Common.{◌≡◌, ℕ, List, ◌++◌, Option, refl}
 use Rattle.std.specs.Prelude.{option_map}
 use Rattle.seg_bytes.specs.Bytes.{word}
@@ -12,7 +13,8 @@ use Rattle.seg_spec.specs.Counting.{AreCounted}
 use Rattle.client_spec.specs.Machine.{Origin, State}
 use Rattle.client_spec.specs.Pictures.{root_of_register, AreOwned, names_in, uniques_in, Pictures, root_at}
 
--- the picture has the state's types, names and unique objects, and what registers own beside the others
+-- the picture has the state's types, names and unique objects, and the objects of registers after
+-- the other loose ones
 pub record Looks (others : List Root) (s : State) : Type 0 where
   pub picture : Picture
   pub types : picture.table ≡ s.types
@@ -22,7 +24,7 @@ pub record Looks (others : List Root) (s : State) : Type 0 where
   pub are_owned : AreOwned s.registers owned
   pub loose : picture.loose ≡ others ++ owned
 
--- the root at which paths begin, and which of its items
+-- the root where a path begins, and the number of its item
 abbrev pub root_in : {others : List Root} {s : State} → Looks others s → Origin → Option (Root × ℕ)
 root_in looks (Origin.Name name i) = option_map (λ root. (root, i)) (root_named looks.picture.names name)
 root_in looks (Origin.Unique T) = option_map (λ root. (root, 0)) (root_of_type looks.picture.uniques T)
@@ -51,11 +53,11 @@ looks_with frozen looks = record {
   loose = looks.loose;
 }
 
--- the same with what is left of them where cells with these names go
+-- the same with the frozen objects that remain after these cells were destroyed
 abbrev pub looks_left : {others : List Root} {s : State} → List Place → Looks others s → Looks others s
 looks_left gone looks = looks_with (left gone looks.picture.frozen) looks
 
--- bytes that hold the picture, and count its frozen objects
+-- bytes with this picture, whose frozen objects are counted
 abbrev pub held_by : {others : List Root} {s : State} {bytes : List ℕ} → (looks : Looks others s) → IsHeld bytes looks.picture → AreCounted (word bytes next_word) looks.picture → Pictures others s bytes
 held_by looks held counted = record {
   picture = looks.picture;

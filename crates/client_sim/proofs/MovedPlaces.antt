@@ -1,4 +1,5 @@
--- A call on a place inside one root where other roots come or go: the image holds the roots then, paths beside the place lead where they led, and the frozen objects are counted.
+-- A call on a place inside one root, while other roots are added or removed: the image has the new
+-- roots, paths outside the place refer to the same places, and the frozen objects are counted.
 use Rattle.std.proofs.Common.{◌≡◌, ℕ, ◌+◌, ◌<◌, ◌≤◌, inl, inr, List, [], ◌∷◌, ◌++◌, Some, refl, sym, ◌∙◌, ap, subst, append_assoc, arith}
 use Rattle.std.proofs.lemmas.Bool.{cases_eq}
 use Rattle.std.specs.List.{AllByRecursion}
@@ -30,7 +31,7 @@ use Rattle.seg_spec.proofs.RootPaths.{roots_paths}
 
 -- ---- roots in another order
 
--- they hold what they held, own the same blocks, and name the same objects
+-- both lists have the same values, own the same blocks, and share the same objects
 pub record Reorders (xs ys : List Root) : Type 0 where
   pub holds : (bytes : List ℕ) (table : Table) (blocks : List ℕ) → HoldsRoots bytes table xs blocks → (others : List ℕ) × HoldsRoots bytes table ys others × SameBlocks blocks others
   pub cells : SameNames (cells_in xs) (cells_in ys)
@@ -68,7 +69,7 @@ order_swapped xs ys = record {
 pub order_under : (x : Root) {ys zs : List Root} → Reorders ys zs → Reorders (x ∷ ys) (x ∷ zs)
 order_under x o = order_joined (order_same {xs = x ∷ []} refl) o
 
--- one among others comes first, and back
+-- one root is moved to the front, and back
 pub order_first : (before : List Root) (x : Root) (after : List Root) → Reorders (before ++ x ∷ after) (x ∷ (before ++ after))
 order_first before x after = order_then (order_same (sym (append_assoc before (x ∷ []) after))) (order_joined (order_swapped before (x ∷ [])) (order_same {xs = after} refl))
 
@@ -78,12 +79,12 @@ order_back before x after = order_then (order_joined (order_swapped (x ∷ []) b
 pub order_exchanged : (x y : Root) (rest : List Root) → Reorders (x ∷ (y ∷ rest)) (y ∷ (x ∷ rest))
 order_exchanged x y rest = order_first (x ∷ []) y rest
 
--- the owners with the frozen objects behind
+-- the owners, and then the frozen objects
 pub roots_split : (picture : Picture) → roots_of picture ≡ owners_in picture ++ frozen_roots picture
 roots_split picture = simp append_assoc
 
 module _ (picture : Picture) (root : Root) (some rest : List Root) where
-  -- those among the some, or among the rest
+  -- the owners among `some` or `rest`
   pub frozen_first : Reorders (owners_in picture) (root ∷ (some ++ rest)) → Reorders (roots_of picture) (root ∷ ((some ++ frozen_roots picture) ++ rest))
   frozen_first o =
       let frozen = frozen_roots picture in
@@ -186,7 +187,7 @@ module _ (old : List ℕ) (picture : Picture) (held : IsHeld old picture) (root 
         | inr (inr far) ↦ absurd (omega (arith, far, s.inside.low, s.inside.high, p.lies_in.low, p.lies_in.high))
       ]
 
-  -- the blocks of other roots are others
+  -- other roots have other blocks
   pub beside_others : (allocator : ℕ) (s : Stands allocator old table q v blocks) (h : ℕ) → times h (s.home ∷ blocks) + times h some_blocks ≤ times h (positions (live old))
   beside_others allocator s h =
       elim (cases_eq s.home h) [
@@ -197,13 +198,13 @@ module _ (old : List ℕ) (picture : Picture) (held : IsHeld old picture) (root 
         | inr distinct ↦ let none = times-other h s.home blocks distinct in omega (arith, counts h, none)
       ]
 
-  -- ---- a call on it, where some others give way to others
+  -- ---- a call on it, while other roots are replaced
 
   module _ (new : List ℕ) (w : Value) (others come_blocks : List ℕ) (c : MovesPlace old new table q w others (blocks ++ some_blocks) (others ++ come_blocks)) where
     changes : MovesPlace old new table q w others (p.its ++ some_blocks) (others ++ come_blocks)
     changes = subst (λ bs. MovesPlace old new table q w others (bs ++ some_blocks) (others ++ come_blocks)) (sym its_are) c
 
-    -- the index and the other roots are kept, and so are paths beside the place
+    -- the index and the other roots are unchanged, and so are paths outside the place
     pub index_kept : AllByRecursion (KeepsBlock old new) held.index_blocks
     index_kept = each_there (KeepsBlock old new) held.index_blocks
         (λ h few. outside_all old new picture held owned.others owned.its some_blocks owned.blocks_are root j path q p w others come_blocks changes h (omega (arith, few)))
@@ -217,7 +218,7 @@ module _ (old : List ℕ) (picture : Picture) (held : IsHeld old picture) (root 
     pub paths_kept : AllByRecursion (KeepsPaths old new table) rest
     paths_kept = roots_paths old new table held.laid_out.is_table owned.holds_others rest_kept
 
-    -- the image holds the roots then
+    -- the image has the new roots
     pub moved_held : (other : Picture) (come : List Root) → HoldsRoots new table come come_blocks → Reorders (with_item root j (with_value_at path w) ∷ (come ++ rest)) (roots_of other) → other.table ≡ table
         → IsLaidOut new other held.index_blocks → IsHeld new other
     moved_held other come comes then same laid_out =
@@ -235,24 +236,24 @@ module _ (old : List ℕ) (picture : Picture) (held : IsHeld old picture) (root 
               omega (arith, e, all.2 h, times-append h held.index_blocks owned.others, times-append h mine (come_blocks ++ owned.others), times-append h come_blocks owned.others, times-append h held.index_blocks all.0);
         }
 
--- ---- what the owners name
+-- ---- the shared cells of the owners
 
 names_between : (xs ys zs us : List Place) → SameNames ((xs ++ ys) ++ (zs ++ us)) ((xs ++ zs) ++ (ys ++ us))
 names_between xs ys zs us = names_then (names_same (append_assoc xs ys (zs ++ us))) (names_then (names_joined (names_same {xs = xs} refl) (names_first ys zs us)) (names_same (sym (append_assoc xs zs (ys ++ us)))))
 
 module _ (root : Root) (j : ℕ) (item : Value) (item_is : nth root.values j ≡ Some item) (path : List Selector) (v : Value) (value_is : value_at item path ≡ Some v) where
-  -- the cells around the place, and those of the other owners
+  -- the cells of the root around the place, and those of the other owners
   pub other_cells : List Root → List Place
   other_cells rest = beside_part root j item item_is path v value_is ++ cells_in rest
 
-  -- beside them all owners name what the place and some owners do
+  -- the cells of all owners are these, and those of the place and of some owners
   pub names_now : (picture : Picture) (some rest : List Root) → Reorders (owners_in picture) (root ∷ (some ++ rest)) → SameNames (cells_in (owners_in picture)) ((names_in v ++ cells_in some) ++ other_cells rest)
   unfolding other_cells
   names_now picture some rest now =
       let around = beside_part root j item item_is path v value_is in
       names_then now.cells (names_then (names_joined (root_names root j item item_is path v value_is) (names_same (cells_append some rest))) (names_between (names_in v) around (cells_in some) (cells_in rest)))
 
-  -- so they do where the place is another value
+  -- and after the place has another value
   pub names_after : (other : Picture) (come rest : List Root) (w : Value) → Reorders (with_item root j (with_value_at path w) ∷ (come ++ rest)) (owners_in other)
       → SameNames ((names_in w ++ cells_in come) ++ other_cells rest) (cells_in (owners_in other))
   unfolding other_cells
@@ -261,7 +262,7 @@ module _ (root : Root) (j : ℕ) (item : Value) (item_is : nth root.values j ≡
       names_then (names_between (names_in w) (cells_in come) around (cells_in rest))
       (names_then (names_joined (root_names_then root j item item_is path v value_is w) (names_same (sym (cells_append come rest)))) then.cells)
 
-  -- some owners and a place give way to others, and cells with these names go
+  -- some owners and a place are replaced, and these cells are destroyed
   pub counted_moved : (next : ℕ) (picture other : Picture) (some come rest : List Root) (w : Value) → Reorders (owners_in picture) (root ∷ (some ++ rest))
       → Reorders (with_item root j (with_value_at path w) ∷ (come ++ rest)) (owners_in other)
       → (gone : List Place) → SameNames (names_in v ++ cells_in some) (gone ++ (names_in w ++ cells_in come)) → other.frozen ≡ left gone picture.frozen → AreCounted next picture → AreCounted next other

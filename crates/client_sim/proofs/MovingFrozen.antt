@@ -1,4 +1,5 @@
--- An object that a register owns becomes frozen, and a cell names it then: the image pictures the state then, and paths that still begin somewhere lead where they led.
+-- An object that a register owns becomes frozen, and a cell shares it: the image pictures the state
+-- afterwards, and paths that still have a root refer to the same places.
 use Rattle.std.proofs.Common.{◌≡◌, ◌≢◌, ℕ, suc, ◌≤◌, inl, inr, List, [], ◌∷◌, ◌++◌, Some, refl, sym, ◌∙◌, ap, subst, append_assoc, arith}
 use Rattle.std.proofs.lemmas.List.{append-nil}
 use Rattle.seg_bytes.specs.Bytes.{word}
@@ -47,17 +48,18 @@ one_value : (u : Value) → names_each (cons u nil) ≡ names_in u
 unfolding names_each
 one_value u = append-nil (names_in u)
 
--- ---- what it leaves
+-- ---- the result
 
 module _ {others : List Root} {s : State} {bytes : List ℕ} (pictured : Pictures others s bytes) {path : Path} {place : Place} (led : LeadsInImage pictured path place) (old_value : Value) (f : PlaceFound pictured led old_value)
     (new : List ℕ) where
-  -- The image pictures another state, with these frozen objects; paths in a frozen object that stays lead where they led.
+  -- The image pictures another state, with these frozen objects. Paths in a frozen object that
+  -- remains refer to the same places.
   pub record MovedFrozen (s' : State) (Ends : Origin → Type 0) (frozen : List Frozen) : Type 0 where
     pub to : MovedPaths pictured led old_value f new s' Ends
     pub frozen_is : to.later.picture.frozen ≡ frozen
     pub left_paths : KeepsFrozenPaths bytes new pictured.picture.table (left (names_in old_value) pictured.picture.frozen)
 
--- ---- beside a register's object
+-- ---- apart from a register's object
 
 module _ {others : List Root} {s : State} {bytes : List ℕ} (pictured : Pictures others s bytes) {path : Path} {place : Place} (led : LeadsInImage pictured path place) (old_value : Value) (f : PlaceFound pictured led old_value)
     (c : ℕ) (root : Root) (object : ℕ) (u : Value) (inside : List ℕ) (apart : path.origin ≢ Origin.Owned c) (owned : root_of_register s.registers pictured.owned c ≡ Some root)
@@ -84,7 +86,7 @@ module _ {others : List Root} {s : State} {bytes : List ℕ} (pictured : Picture
   order : Reorders (roots_of picture) (led.root ∷ ((root ∷ frozen_roots picture) ++ rest))
   order = frozen_first picture led.root (root ∷ []) rest b.order
 
-  -- the cells of the owners but for the place and the object
+  -- the cells of the owners except for the place and the object
   pub kept_beside : List Place
   kept_beside = other_cells led.root led.item f.whole f.root.item_is path.selectors old_value f.value_is rest
 
@@ -96,7 +98,7 @@ module _ {others : List Root} {s : State} {bytes : List ℕ} (pictured : Picture
       names_then (names_now led.root led.item f.whole f.root.item_is path.selectors old_value f.value_is picture (root ∷ []) rest b.order)
       (names_then (names_same same) (names_then (names_joined (names_swapped (names_in old_value) (names_in u)) (names_same {xs = kept_beside} refl)) (names_same (append_assoc (names_in u) (names_in old_value) kept_beside))))
 
-  -- the frozen objects beside the cell and the object, as a call finds them
+  -- the frozen objects apart from the cell and the object, as a call finds them
   pub frozen_beside : (allocator : ℕ) (stands : Stands allocator bytes table place old_value f.blocks)
       → FrozenBeside bytes table (stands.home ∷ (f.blocks ++ block_of object ∷ inside)) (names_in u ++ (names_in old_value ++ kept_beside)) (word bytes next_word) theirs picture.frozen
   frozen_beside allocator stands =
@@ -147,7 +149,7 @@ module _ {others : List Root} {s : State} {bytes : List ℕ} (pictured : Picture
     abbrev looks : Looks others (put_origin (set_register s c Register.Undefined) path.origin (change f.whole))
     looks = looks_with final (b.found.puts change).later
 
-    -- the owners, with the cell as it is then
+    -- the owners, with the changed cell
     owners : Reorders (changed ∷ rest) (owners_in looks.picture)
     owners =
         let found = b.found in
@@ -211,12 +213,12 @@ module _ {others : List Root} {s : State} {bytes : List ℕ} (pictured : Picture
           left_paths = frozen_left bytes new picture pictured.held theirs shared (names_in old_value) z.shared_kept;
         })
 
--- ---- a cell names what register c owned
+-- ---- a cell shares the object of register c
 
 module _ {others : List Root} {s : State} {bytes : List ℕ} (pictured : Pictures others s bytes) {path : Path} {place : Place} (led : LeadsInImage pictured path place) (old_value : Value) (f : PlaceFound pictured led old_value)
     (new : List ℕ) where
-  -- The object is frozen then, with the next number; what the cell named before is released, with the frozen objects that nothing
-  -- else names.
+  -- The object is frozen, with the next number. The object that the cell shared before is released,
+  -- with the frozen objects that nothing else shares.
   pub freeze_moves : (c : ℕ) (root : Root) (T object : ℕ) (u : Value) (inside : List ℕ) → path.origin ≢ Origin.Owned c → root_of_register s.registers pictured.owned c ≡ Some root
       → HoldsRoot bytes pictured.picture.table root (block_of object ∷ inside) → root.values ≡ cons u nil → word bytes version_word ≡ sharing_version
       → (theirs : ℕ → List ℕ) → HoldFrozen bytes pictured.picture.table theirs pictured.picture.frozen

@@ -1,4 +1,5 @@
--- An own takes the object that a register owns, or a register what an own held: the image pictures the state then, and paths that still begin somewhere lead where they led.
+-- An own takes the object of a register, or a register the object of an own: the image pictures the
+-- state afterwards, and paths that still have a root refer to the same places.
 use Rattle.std.proofs.Common.{◌≡◌, ◌≢◌, ℕ, zero, suc, ◌<◌, ◌⊎◌, inl, inr, List, [], ◌∷◌, ◌++◌, length, map, Option, Some, None, refl, sym, ◌∙◌, ap, subst, append_assoc, arith}
 use Rattle.std.proofs.lemmas.List.{append-nil}
 use Rattle.std.specs.Prelude.{slice_set}
@@ -40,7 +41,7 @@ use Rattle.client_sim.proofs.OwnedLooks.{Without, goes, comes}
 use Rattle.client_sim.proofs.MovedPlaces.{Reorders, order_same, order_then, order_under, order_first, order_back, order_exchanged, frozen_first, frozen_last, from_frozen_first, from_frozen_last}
 use Rattle.client_sim.proofs.MovedPlaces.{index_kept, beside_kept, paths_kept, moved_held, counted_moved}
 
--- ---- a put beside a register that owns nothing any more
+-- ---- a put, while a register loses its object
 
 pub set_order : {A : Type 0} (xs : List A) (i j : ℕ) (x y : A) → i ≢ j → slice_set (slice_set xs i x) j y ≡ slice_set (slice_set xs j y) i x
 set_order [] i j x y far = refl
@@ -74,7 +75,7 @@ put_order s c x (Origin.Owned q) v far =
 -- ---- the object of another register
 
 module _ {others : List Root} {s : State} {bytes : List ℕ} (pictured : Pictures others s bytes) {path : Path} {place : Place} (led : LeadsInImage pictured path place) (v : Value) (f : PlaceFound pictured led v) where
-  -- without it the path begins where it began; it stands beside that root among the owners
+  -- without it the path has the same root, which is another owner
   pub record OwnedBeside (c : ℕ) (root : Root) : Type 0 where
     pub without : Without (looks_of pictured) c root
     pub found : RootFound without.later path.origin led.root led.item f.whole
@@ -96,18 +97,19 @@ module _ {others : List Root} {s : State} {bytes : List ℕ} (pictured : Picture
             (order_then (order_under root (order_then (order_same split) (order_first before led.root after))) (order_exchanged root led.root (before ++ after))));
       }
 
--- ---- the roots where paths begin
+-- ---- the roots of paths
 
 module _ {others : List Root} {s : State} {bytes : List ℕ} (pictured : Pictures others s bytes) {path : Path} {place : Place} (led : LeadsInImage pictured path place) (old_value : Value) (f : PlaceFound pictured led old_value)
     (new : List ℕ) where
-  -- the image pictures another state, and a path begins where it began, but those from a register that owns nothing any more
+  -- the image pictures another state, and paths have the same roots, except for those from a
+  -- register that no longer owns anything
   pub record MovedPaths (s' : State) (Ends : Origin → Type 0) : Type 0 where
     pub later : Pictures others s' new
     pub table_is : later.picture.table ≡ pictured.picture.table
     pub leads : (other : Path) (target : Place) (x : Value) → path_value s other ≡ Some x → LeadsInImage pictured other target
         → Ends other.origin ⊎ (((other.origin ≡ path.origin) × GoesOnAfter path.selectors other.selectors) ⊎ LeadsInImage later other target)
 
-  -- and none became frozen
+  -- and no object became frozen
   pub record Moved (s' : State) (Ends : Origin → Type 0) : Type 0 where
     pub to : MovedPaths s' Ends
     pub stays : KeepsFrozen bytes new pictured.picture.table pictured.picture.frozen to.later.picture.frozen
@@ -126,13 +128,13 @@ module _ {others : List Root} {s : State} {bytes : List ℕ} (pictured : Picture
   abbrev whole_then : Value
   whole_then = with_value_at path.selectors w f.whole
 
-  -- where the roots begin then: at the changed one, or at one in which paths are kept
+  -- the root of a path is the changed one, or one in which paths are kept
   abbrev pub BeginsThen : {s' : State} → Looks others s' → (Origin → Type 0) → Type 0
   BeginsThen looks Ends =
       (o : Origin) (r : Root) (i : ℕ) → root_in (looks_of pictured) o ≡ Some (r, i)
       → Ends o ⊎ (((r ≡ led.root) × (i ≡ led.item → o ≡ path.origin) × (root_in looks o ≡ Some (changed, i))) ⊎ (KeepsPaths bytes new table r × (root_in looks o ≡ Some (r, i))))
 
-  -- where the roots are found again, paths lead where they led
+  -- if the roots are still there, paths refer to the same places
   pub leads_then : {s' : State} (looks : Looks others s') (held : IsHeld new looks.picture) (counted : AreCounted (word new next_word) looks.picture) (Ends : Origin → Type 0) → looks.picture.table ≡ table
       → KeepsPathsBeside bytes new table led.root led.item path.selectors → BeginsThen looks Ends
       → (other : Path) (target : Place) (x : Value) → path_value s other ≡ Some x → LeadsInImage pictured other target
@@ -164,9 +166,10 @@ module _ {others : List Root} {s : State} {bytes : List ℕ} (pictured : Picture
     (λ o r i e. sym (begins_at looks held counted o) ∙ e),
   )
 
-  -- ---- an own takes what register c owned
+  -- ---- an own takes the object of register c
 
-  -- The object goes; what the own held goes too, with the frozen objects that nothing else names.
+  -- The object moves. The object that was in the own is destroyed, with the frozen objects that
+  -- only it shared.
   pub put_moves : (c : ℕ) (root : Root) (its : List ℕ) → path.origin ≢ Origin.Owned c → root_of_register s.registers pictured.owned c ≡ Some root → HoldsRoot bytes table root its → names_in w ≡ names_each root.values
       → (theirs : ℕ → List ℕ) → HoldFrozen bytes table theirs pictured.picture.frozen → ClearsPlace bytes new table place w (f.blocks ++ its) its theirs pictured.picture.frozen (left (names_in old_value) pictured.picture.frozen)
       → Moved pictured led old_value f new (set_register (put_at s path w) c Register.Undefined) (λ o. o ≡ Origin.Owned c)
@@ -221,7 +224,7 @@ module _ {others : List Root} {s : State} {bytes : List ℕ} (pictured : Picture
         ]
       ])).0
 
-  -- ---- register a takes what an own held
+  -- ---- register a takes the object of an own
 
   pub take_moves : (a t : ℕ) (v : Value) (root : Root) → a < length s.registers → owned_by (register (put_at s path w) a) ≡ None → IsPlain root → root.type ≡ t → root.values ≡ cons v nil → HoldsRoot new table root f.blocks
       → SameNames (names_in old_value) (names_in w ++ names_each root.values) → {spans : List Span} → ChangesPlace bytes new table place w [] spans f.blocks f.blocks

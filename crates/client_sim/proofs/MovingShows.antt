@@ -1,4 +1,5 @@
--- Where an object moves between a register and an own, a world that stood for the state stands for the one then.
+-- If an object moves between a register and an own, a world that represented the state represents
+-- the state afterwards.
 use Rattle.std.proofs.Common.{◌≡◌, ◌≢◌, ℕ, ◌<◌, ◌⊎◌, inl, inr, List, [], ◌∷◌, ◌++◌, length, Bool, true, false, Option, Some, None, refl, sym, ◌∙◌, ap, subst, arith}
 use Rattle.std.specs.Prelude.{if◌then◌else◌, slice_set}
 use Rattle.seg_spec.specs.Header.{allocator_word, free_word, KeepsFront}
@@ -36,7 +37,7 @@ not_after_none : (x : Selector) (xs ys : List Selector) → xs ++ x ∷ ys ≡ [
 not_after_none x [] ys e = cc
 not_after_none x (z ∷ xs) ys e = cc
 
--- the world where register a owns something or nothing, at this place
+-- the world in which register a owns an object at this place, or nothing
 abbrev pub with_owning : World → List ℕ → ℕ → Bool → List ℕ → List ℕ → World
 with_owning w new a owns positions type_ids = record w { image = new; owns = slice_set w.owns a owns; positions = positions; type_ids = type_ids }
 
@@ -60,7 +61,7 @@ module _ {others : List Root} {types : Table} {constants : List Constant} (one :
       let refers : Refers constants s (register s b) class T = record { path = l.path; is = l.path_is; within = l.within; leads = record { value = l.value; there = l.there; typed = l.typed } } in
       agrees_put_others types constants one class b T ks s h.as_known is refers v fits
 
-  -- another register that owns nothing stays
+  -- another register that owns nothing is unchanged
   pub stays : (r : ℕ) → a ≢ r → (x : Register) → register s r ≡ x → owned_by x ≡ None → register moved_then r ≡ x
   stays r far x e none =
       let t = values.with_value_at l.path.selectors v l.found.whole in
@@ -71,7 +72,7 @@ module _ {others : List Root} {types : Table} {constants : List Constant} (one :
         | inr f ↦ f ∙ ap (with_owned t) e ∙ with_owned_none t x none
       ]
 
-  -- nothing is known of a register any more, or what was known of it, and no path from it ends
+  -- of a register the same is known as before, or nothing, and no path from it ends
   pub record StillKnown (r : ℕ) (k : RegisterType) : Type 0 where
     pub apart : (b ≡ r) ⊎ ((class' : Class) (U : ℕ) → k ≡ RegisterType.Reference class' U → same_class (sharing class) (sharing class') ≡ false)
     pub goes_on : (o : Origin) → BeginsFrom constants r k o → Ends o → ⊥
@@ -87,7 +88,7 @@ module _ {others : List Root} {types : Table} {constants : List Constant} (one :
     | inr (inr k) ↦ k
   ]
 
-  -- a register besides, of which the world tells what it told
+  -- another register, which is the same in both worlds
   module _ (w' : World) (r : ℕ) (far : a ≢ r) (numbers : number_in w' r ≡ number_in w r) (places : place_in w' r ≡ place_in w r) (owners : owns_in w' r ≡ owns_in w r) where
     shown_known : (k : RegisterType) → StillKnown r k → Meets constants s k (register s r) → Shown h.pictured w r k (register s r) → Shown m.later w' r k (register moved_then r)
     shown_known RegisterType.Undefined still e n = owners ∙ n
@@ -128,7 +129,7 @@ module _ {others : List Root} {types : Table} {constants : List Constant} (one :
     shown_beside k' (inl p) = subst (λ k. Shown m.later w' r k (register moved_then r)) (sym p.0) (owners ∙ unowned (known ks r) p.1 (h.shown r))
     shown_beside k' (inr p) = subst (λ k. Shown m.later w' r k (register moved_then r)) (sym p.0) (shown_known (known ks r) p.1 (h.as_known.each r) (h.shown r))
 
-  -- the world then, where register a and what is known of it are others
+  -- the world afterwards, with other knowledge of register a
   pub shows_moved : (k : RegisterType) (ks' : RegisterTypes) (owns : Bool) (positions type_ids : List ℕ) → a < 16 → length ks' ≡ 16 → length positions ≡ 17 → length type_ids ≡ 17
       → ((r : ℕ) → a ≢ r → place_in (with_owning w new a owns positions type_ids) r ≡ place_in w r)
       → KeepsFront w.image new → IsAsKnown types constants (slice_set ks' a k) moved_then
@@ -177,7 +178,7 @@ module _ {others : List Root} {types : Table} {constants : List Constant} (one :
         record { register_is = stays r far (register s r) refl (owns_nothing h r o); place_is = places r far; owns_is = set_beside w.owns a r owns false far };
   }
 
-  -- ---- what is known of the others
+  -- ---- what is known of the other registers
 
   abbrev Apart : ℕ → RegisterType → Type 0
   Apart r k = (b ≡ r) ⊎ ((class' : Class) (U : ℕ) → k ≡ RegisterType.Reference class' U → same_class (sharing class) (sharing class') ≡ false)
@@ -201,14 +202,14 @@ module _ {others : List Root} {types : Table} {constants : List Constant} (one :
       by (RegisterType.Owner U) = inr (refl, (λ d V e. cc))
       by (RegisterType.Reference c U) = choose (same_class (sharing class) (sharing c)) c U refl
 
-  -- where no path ends besides those into what the place held
+  -- if only paths into the old value of the place end
   pub stays_put : ((o : Origin) → Ends o → ⊥) → (r : ℕ) → Stays r (known ks r) (known known_put r)
   stays_put none r = elim (ended_or_apart r) [
     | inl p ↦ inl p
     | inr p ↦ inr (p.0, record { apart = p.1; goes_on = λ o begins ends. none o ends })
   ]
 
-  -- and where those from the register end too
+  -- and if the paths from the register end too
   pub stays_released : ((o : Origin) → Ends o → o ≡ Origin.Owned a) → (r : ℕ) → a ≢ r → Stays r (known ks r) (known (ended (Class.Register a) known_put) r)
   stays_released its r far =
       let at : known (ended (Class.Register a) known_put) r ≡ without_class (Class.Register a) (known known_put r) = known_ended (Class.Register a) known_put r in

@@ -1,4 +1,4 @@
--- The names that valid constants give can be printed, and are short enough.
+-- The names for valid constants are printable, and short enough.
 use Rattle.std.proofs.Common.{◌≡◌, ℕ, zero, suc, ◌^◌, ◌<◌, ◌≤◌, ℤ, pos, negsuc, List, [], ◌∷◌, length-append, Some, subst, arith}
 use Rattle.std.specs.Prelude.{All}
 use Rattle.std.specs.Fmt.{decimal, signed_decimal}

@@ -1,4 +1,4 @@
--- Named objects that are made, or found or made, and those that are destroyed, whatever state the world stands for.
+-- Making, finding and destroying named objects, for every state that the world represents.
 use Rattle.std.proofs.Common.{◌≡◌, ◌≢◌, ℕ, zero, suc, ◌^◌, ◌<◌, ◌≤◌, ◌⊎◌, inl, inr, ℤ, pos, negsuc, List, [], ◌∷◌, ◌++◌, length, Bool, true, false, Option, Some, None, refl, sym, ◌∙◌, ap, subst, arith}
 use Rattle.std.specs.Prelude.{◌/◌, ◌%◌, ◌==◌, ◌&&◌, ⊤, Ok, if◌then◌else◌, option_map, slice_get, slice_set, slice_index_or, nat_lt, nat_le, unwrap_or}
 use Rattle.std.specs.Option.{option_map_or}
@@ -56,9 +56,10 @@ use Rattle.client_sim.proofs.Naming.{Comes, Goes, Stays, named_comes, named_goes
 use Rattle.client_sim.proofs.Numbers.{with_number, quiet, gives_both, number_shown, unowned}
 use Rattle.client_sim.proofs.Rooted.{BeginsFrom, KeepsRoots, Remains, SameBesides, all_paths, all_frozen, other_paths, shows_rooted, pictured_rooted, frame_rooted}
 
--- ---- what calls say
+-- ---- contracts of calls
 
--- what a call says of each picture that the world's image has, with counted frozen objects, and of how it has it
+-- a call's contract for each picture of the world's image with counted frozen objects, and for the
+-- proof that the image has it
 abbrev pub OfHeld : (allocator : ℕ) (w : World) → ((p : Picture) → IsHeld w.image p → Type 0) → Type 0
 OfHeld allocator w P = (picture : Picture) (held : IsHeld w.image picture) → AreCounted (word w.image next_word) picture → w.table ≡ picture.table → word w.image allocator_word ≡ allocator → P picture held
 
@@ -67,7 +68,7 @@ abbrev pub object_root : Table → List ℕ → ℕ → ℕ → ℕ → Root
 object_root table name T n at = plain_root name at T (copies n (default_of table T))
 
 module _ (allocator : ℕ) (old : List ℕ) (table : Table) (name : List ℕ) (T : ℕ) (picture : Picture) (index_blocks new : List ℕ) where
-  -- the requests for a new object and its entry were granted, and it stands here
+  -- the requests for a new object and its entry were granted, and the object is here
   pub record IsMade (n at : ℕ) : Type 0 where
     pub before : List Root
     pub after : List Root
@@ -79,7 +80,7 @@ module _ (allocator : ℕ) (old : List ℕ) (table : Table) (name : List ℕ) (T
     pub kept : (h : ℕ) → 1 ≤ times h (positions (live old)) → times h index_blocks ≡ 0 → KeepsBlock old new h
     pub left : spent allocator (live old) (length old) (object_asks old table T n name) [] ≡ Some (live new)
 
-  -- one of the requests got nothing
+  -- one of the requests had no room
   pub record IsDenied (n : ℕ) : Type 0 where
     pub no_room : NoRoom allocator (live old) (length old) (object_asks old table T n name)
     pub held : IsHeld new picture
@@ -89,7 +90,7 @@ module _ (allocator : ℕ) (old : List ℕ) (table : Table) (name : List ℕ) (T
     pub kept : (h : ℕ) → 1 ≤ times h (positions (live old)) → KeepsBlock old new h
     pub left : live new ≡ live old
 
-  -- the object of the name and type went, with the frozen objects that it named last
+  -- the object of the name and type was destroyed, with the frozen objects that only it shared
   pub record IsLost : Type 0 where
     pub before : List Root
     pub root : Root
@@ -110,7 +111,7 @@ module _ (allocator : ℕ) (old : List ℕ) (table : Table) (name : List ℕ) (T
     pub kept : (h : ℕ) → 1 ≤ times h (positions (live old)) → times h ((objects ++ index_blocks) ++ blocks_by theirs picture.frozen) ≡ 0 → KeepsBlock old new h
     pub left : live new ≡ after_gives (live old) ((objects ++ entries) ++ blocks_by theirs (freed (names_each root.values) picture.frozen))
 
--- the number that an operand stands for
+-- the number in an operand
 abbrev pub number_for : ℤ → ℕ → ℤ → ℤ
 number_for d c given = if c == 16 then d else given
 
@@ -129,7 +130,7 @@ uncounted (pos n) h = choose (nat_lt 0 n) (nat_le n 65535) refl refl
     choose true false f g = ap (λ p. if p && nat_le n 65535 then Some n else None) f ∙ ap (λ q. if true && q then Some n else None) g
     choose false q f g = ap (λ p. if p && nat_le n 65535 then Some n else None) f
 
--- no root of the name has the type
+-- there is no object of this name, or it has another type
 why_kept : (T : ℕ) (o : Option Root) → killed o T ≡ None → (o ≡ None) ⊎ ((root : Root) × (o ≡ Some root) × ((root.type == T) ≡ false))
 why_kept T None e = inl refl
 why_kept T (Some root) e = choose (root.type == T) refl e
@@ -156,7 +157,7 @@ owner_ended class (RegisterType.Reference c t) = choose (same_class (sharing cla
     choose true = refl
     choose false = refl
 
--- ---- worlds whose image is another one
+-- ---- worlds with another image
 
 module _ {others : List Root} {types : Table} {constants : List Constant} {first : Option (List ℕ)} {allocator : ℕ} {ks : RegisterTypes} {s : State} {w : World} (h : Shows others types constants first allocator ks s w) where
   pub of_held : (P : (p : Picture) → IsHeld w.image p → Type 0) → OfHeld allocator w P → P h.pictured.picture h.pictured.held
@@ -190,7 +191,7 @@ module _ {others : List Root} {types : Table} {constants : List Constant} {first
           choose false g = inl (stays (RegisterType.Reference c T) e (ap (λ t. if t then RegisterType.Undefined else RegisterType.Reference c T) g)
               (λ o b x. origins_apart constants one class c o o g (ending o x) b refl))
 
-  -- the client's types are those of the world, as far as they go
+  -- the client's types are the first of the world's
   pub in_table : {T : ℕ} → AreRight types constants → T < length types → T < length w.table
   in_table {T} right below =
       let f = item_below types T below in
@@ -199,7 +200,7 @@ module _ {others : List Root} {types : Table} {constants : List Constant} {first
   registers_then : (new : List ℕ) → HasRegisters (with_image w new)
   registers_then new = record { numbers = h.registers.numbers; positions = h.registers.positions; type_ids = h.registers.type_ids; owns = h.registers.owns }
 
-  -- what is known stays known, where no path ends
+  -- all knowledge stays, if no path ends
   pub all_stays : (s' : State) (new : List ℕ) (later : Pictures others s' new) → KeepsRoots h.pictured later (λ o. ⊥) → KeepsFront w.image new → IsAsKnown types constants ks s' → s'.registers ≡ s.registers
       → SameBesides w (with_image w new) s s' → (shows : Shows others types constants first allocator ks s' (with_image w new)) × (shows.pictured ≡ later)
   all_stays s' new later keeps front as_known registers besides =
@@ -215,7 +216,7 @@ module _ {others : List Root} {types : Table} {constants : List Constant} {first
         pictured_rooted h ks s' (with_image w new) later (λ o. ⊥) keeps front as_known h.sixteen (registers_then new) besides each,
       )
 
-  -- but for references of a class
+  -- all knowledge stays, except for references of a class
   pub all_but_class : (one : OneEach constants) (class : Class) (Ends : Origin → Type 0) → ((o : Origin) → Ends o → InClass constants class o) → ((r : ℕ) → InClass constants class (Origin.Owned r) → ⊥)
       → (s' : State) (new : List ℕ) (later : Pictures others s' new) → KeepsRoots h.pictured later Ends → KeepsFront w.image new → IsAsKnown types constants (ended (sharing class) ks) s' → s'.registers ≡ s.registers
       → SameBesides w (with_image w new) s s' → Shows others types constants first allocator (ended (sharing class) ks) s' (with_image w new)
@@ -249,7 +250,7 @@ module _ {others : List Root} {types : Table} {constants : List Constant} {first
   abbrev path : Path
   path = path_from (Origin.Name bytes 0)
 
-  -- what is known goes on with the new object
+  -- the knowledge with the new object
   known_then : (n : ℕ) → 1 ≤ n → root_named h.pictured.picture.names bytes ≡ None → IsAsKnown types constants ks (state_then n)
   known_then n some missing =
       let d = default_of s.types T in
@@ -305,7 +306,7 @@ module _ {others : List Root} {types : Table} {constants : List Constant} {first
       (frame_number others types constants first allocator ks s (with_image w new) shows.0 a _ _ _
       (subst (λ p. Frame ks w (with_image w new) h.pictured p) (sym shows.1) (record { frozen = stays.stays; unknown = unknown_same ks s s w new refl }))))
 
-  -- a code for which nothing changed
+  -- an error code; nothing changed
   pub refused : (answer : Answer) (code : ℕ) → code ≡ answer_number answer → new ≡ w.image → outcome constants i true s ≡ fail a answer s → ChangesBlocks constants i h.pictured answer w.image
       → Acts others types constants first allocator i answer (slice_set ks a RegisterType.Int) s w (with_number (with_image w new) a (pos code))
   refused answer code code_is same row blocks =
@@ -313,7 +314,7 @@ module _ {others : List Root} {types : Table} {constants : List Constant} {first
       (subst (λ z. Acts others types constants first allocator i answer (slice_set ks a RegisterType.Int) s w (with_number (with_image w z) a (pos (answer_number answer)))) (sym same)
       (refuses_with others types constants first allocator ks s w h i answer true a within free row blocks))
 
--- ---- an object that goes
+-- ---- an object is destroyed
 
 module _ {others : List Root} {types : Table} {constants : List Constant} {first : Option (List ℕ)} {allocator : ℕ} {ks : RegisterTypes} {s : State} {w : World} (right : AreRight types constants)
     (h : Shows others types constants first allocator ks s w) (a k T : ℕ) (bytes : List ℕ) (by : IsNamedBy (slice_get constants k) bytes) (within : a < 16)
@@ -352,7 +353,7 @@ module _ {others : List Root} {types : Table} {constants : List Constant} {first
       (shows_number others types constants first allocator (ended (sharing class) ks) state_after (with_image w new) shows a (pos 1) within free)
       (frame_number others types constants first allocator _ state_after (with_image w new) shows a _ _ _ (frame_but_class h one class paths_end _ _ state_after new goes.later goes.keeps m.front known_now _ _ goes.stays))
 
-  -- there was none: references end all the same
+  -- there was no such object; references end nevertheless
   pub not_lost : outcome constants i true s ≡ give_count a 0 s → ChangesBlocks constants i h.pictured success w.image
       → Acts others types constants first allocator i success (slice_set (ended (sharing class) ks) a RegisterType.Int) s w (with_number w a (pos 0))
   not_lost row blocks =
@@ -377,7 +378,7 @@ module _ (allocator : ℕ) (constants : List Constant) (role : Role) (a b c : �
   abbrev k : ℕ
   k = constant_operand number
 
-  -- how many values a new object is to have
+  -- how many values a new object will have
   abbrev wanted : ℤ
   wanted = number_for (pos 1) c (number_in w c)
 
@@ -389,7 +390,7 @@ module _ (allocator : ℕ) (constants : List Constant) (role : Role) (a b c : �
       choose true f g = ap (λ t. if t then Some (pos 1) else integer_at s c) f ∙ sym (ap (λ t. Some (if t then pos 1 else number_in w c)) f)
       choose false f g = ap (λ t. if t then Some (pos 1) else integer_at s c) f ∙ number_shown others types constants first allocator ks s w h c u g ∙ sym (ap (λ t. Some (if t then pos 1 else number_in w c)) f)
 
-  -- what is asked for where there is no object of the name
+  -- the requests if there is no object of the name
   asks_are : (operation : Operation) (s : State) (n : ℕ) → name_operand constants (on operation) s ≡ Some bytes → new_count operation (on operation) s ≡ Some n → s.names bytes ≡ None → type_operand number ≡ T
       → object_asks w.image s.types T n bytes ≡ named_asks constants (on operation) s w.image
   asks_are operation s n name_is count_is none type_is =
@@ -398,7 +399,7 @@ module _ (allocator : ℕ) (constants : List Constant) (role : Role) (a b c : �
       ∙ ap (λ o. if_absent o (object_asks w.image s.types (type_operand number) n bytes)) none
       ∙ ap (λ t. object_asks w.image s.types t n bytes) type_is)
 
-  -- nothing is asked for where there is one
+  -- there are no requests if there is one
   asks_none : (operation : Operation) (s : State) (n : ℕ) (o : Object) → name_operand constants (on operation) s ≡ Some bytes → new_count operation (on operation) s ≡ Some n → s.names bytes ≡ Some o
       → [] ≡ named_asks constants (on operation) s w.image
   asks_none operation s n o name_is count_is there =
@@ -448,7 +449,7 @@ module _ (allocator : ℕ) (constants : List Constant) (role : Role) (a b c : �
       subst (λ z. Acts others types constants first allocator i success z s w (with_place (with_image w new) a (record { at = at; type = T }))) (sym (g.1 ∙ ap (λ n. slice_set ks a (RegisterType.Reference (Class.Name k) n)) n.type_is))
       (made right h a k T bytes n.by n.below valid.a g.0 i new m.values at m.some m.missing its row blocks))
 
-  -- there was none to be, or there was one, or no room
+  -- the count was wrong, there was such an object, or there was no room
   abbrev pub RefusesToMake : (code : ℕ) (picture : Picture) (index_blocks new : List ℕ) → Type 0
   RefusesToMake code picture index_blocks new =
       ((code ≡ answer_number out_of_range) × (new ≡ w.image) × (((n : ℕ) → 1 ≤ n → n ≤ 65535 → wanted ≢ pos n)
@@ -511,7 +512,7 @@ module _ (allocator : ℕ) (constants : List Constant) (role : Role) (a b c : �
   find_or_row s room name_is type_is =
       ap (λ (o : Option (List ℕ)). o >>= λ name. find_or_add a name (type_operand number) (s.names name) room s) name_is ∙ ap (λ t. find_or_add a bytes t (s.names bytes) room s) type_is
 
-  -- it was there, or one of one value was made
+  -- the object existed, or one with one value was made
   abbrev pub FindsOrMakesHere : (picture : Picture) (index_blocks new : List ℕ) (at : ℕ) → Type 0
   FindsOrMakesHere picture index_blocks new at =
       ((root : Root) × (root_named picture.names bytes ≡ Some root) × (root.type ≡ T) × (root.at ≡ at) × (new ≡ w.image))
@@ -567,7 +568,7 @@ module _ (allocator : ℕ) (constants : List Constant) (role : Role) (a b c : �
             (made right h a k T bytes n.by n.below valid.a g.0 i new 1 at (omega arith) f.0 its (row ∙ ap (λ (o : Option Object). find_or_add a bytes T o true s) none) blocks)
       ])
 
-  -- it has another type, or there was no room; or the bytes are no name
+  -- it has another type, there was no room, or the bytes are no name
   abbrev pub RefusesToFind : (code : ℕ) (picture : Picture) (index_blocks new : List ℕ) → Type 0
   RefusesToFind code picture index_blocks new =
       (IsName bytes → ⊥)
@@ -617,7 +618,7 @@ module _ (allocator : ℕ) (constants : List Constant) (role : Role) (a b c : �
   kill_row s name_is type_is =
       ap (λ (o : Option (List ℕ)). o >>= λ name. destroy_object a name (type_operand number) (s.names name) s) name_is ∙ ap (λ t. destroy_object a bytes t (s.names bytes) s) type_is
 
-  -- what is given back
+  -- the blocks that are freed
   given_back : (operation : Operation) {others : List Root} {s : State} (pictured : Pictures others s w.image) → name_operand constants (on operation) s ≡ Some bytes → type_operand number ≡ T → (o : Option Root)
       → killed (root_named pictured.picture.names bytes) T ≡ o → (gives : List ℕ) → NamedGoes constants (on operation) pictured o gives
       → NamedGoes constants (on operation) pictured (name_operand constants (on operation) s >>= λ name. killed (root_named pictured.picture.names name) (type_operand number)) gives

@@ -1,4 +1,5 @@
--- A named object comes or goes: the image pictures the state with the name more or less, and paths from all other roots lead on.
+-- Adding and removing a named object: the image pictures the state with or without the name, and
+-- paths from all other roots refer to the same places.
 use Rattle.std.proofs.Common.{◌≡◌, ℕ, ◌⊎◌, inl, inr, Bool, true, false, List, [], ◌∷◌, ◌++◌, map, Option, Some, None, refl, sym, ◌∙◌, ap, subst, arith, append_assoc}
 use Rattle.std.specs.Prelude.{if◌then◌else◌, option_map}
 use Rattle.std.specs.List.{AllByRecursion}
@@ -59,7 +60,7 @@ precedes_later : (a : List ℕ) (before : List Root) (root : Root) (after : List
 precedes_later a [] root after h = h.0
 precedes_later a (r ∷ before) root after h = precedes_later a before root after (ascending_skips a r (before ++ root ∷ after) h)
 
--- so no other root has the name of one
+-- so no other root has the same name
 none_after : (a : List ℕ) (roots : List Root) → AreAscending (a ∷ names_in_order roots) → first_of (is_named a) roots ≡ None
 none_after a [] h = refl
 none_after a (r ∷ roots) h =
@@ -77,7 +78,7 @@ none_behind : (before : List Root) (root : Root) (after : List Root) → AreAsce
 none_behind [] root after h = none_after root.name after h
 none_behind (r ∷ before) root after h = none_behind before root after (ascending_rest r.name (before ++ root ∷ after) h)
 
--- where neither part has one, the whole has none; and back
+-- neither part has such a root, exactly if the whole has none
 none_joined : (test : Root → Bool) (before after : List Root) → first_of test before ≡ None → first_of test after ≡ None → first_of test (before ++ after) ≡ None
 none_joined test [] after e f = f
 none_joined test (r ∷ before) after e f = choose (test r) (none_joined test before after) e
@@ -95,7 +96,7 @@ none_in_front test (r ∷ before) after e = choose (test r) (none_in_front test 
     choose true again g = cc
     choose false again g = again g
 
--- ---- where paths begin
+-- ---- roots of paths
 
 -- at an owner
 pub origin_among : {others : List Root} {s : State} {bytes : List ℕ} (pictured : Pictures others s bytes) (o : Origin) (r : Root) (i : ℕ) → root_at pictured o ≡ Some (r, i) → Among (owners_in pictured.picture) r
@@ -149,7 +150,7 @@ module _ {others : List Root} {s : State} {old : List ℕ} (pictured : Pictures 
     };
   }
 
--- ---- a name comes
+-- ---- a name is added
 
 module _ {others : List Root} {s : State} {old : List ℕ} (pictured : Pictures others s old) (new : List ℕ) (before : List Root) (root : Root) (after : List Root) (names_are : pictured.picture.names ≡ before ++ after)
     (free : root_named pictured.picture.names root.name ≡ None) where
@@ -217,7 +218,7 @@ module _ {others : List Root} {s : State} {old : List ℕ} (pictured : Pictures 
       begins = ap (named_place 0) name_there;
     }
 
--- ---- a name goes
+-- ---- a name is removed
 
 module _ {others : List Root} {s : State} {old : List ℕ} (pictured : Pictures others s old) (new : List ℕ) (before : List Root) (root : Root) (after : List Root) (names_are : pictured.picture.names ≡ before ++ root ∷ after)
     (name : List ℕ) (root_is : root_named pictured.picture.names name ≡ Some root) where

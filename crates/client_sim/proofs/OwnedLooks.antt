@@ -1,4 +1,5 @@
--- An object that a register owns goes from what an image pictures, or comes: the roots then, and where paths begin.
+-- Adding an object of a register to a picture, and removing one: the roots afterwards, and the
+-- roots of paths.
 use Rattle.std.proofs.Common.{◌≡◌, ℕ, ◌<◌, ◌⊎◌, inl, inr, List, ◌∷◌, ◌++◌, length, Some, None, refl, sym, ◌∙◌, ap, subst, append_assoc}
 use Rattle.std.proofs.lemmas.Bool.{cases_eq}
 use Rattle.std.proofs.lemmas.List.{set-get_or}
@@ -33,9 +34,9 @@ found_in {s = s} looks later Ends names uniques owned (Origin.Owned q) r i e =
     elim (owned q r p.0) [ inl f ↦ inl f | inr f ↦ inr (ap (option_map {T = Root} {U = Root × ℕ} (λ root. (root, 0))) f ∙ ap (λ n. Some (r, n)) p.1) ]
 
 module _ {others : List Root} {s : State} (looks : Looks others s) where
-  -- ---- one goes
+  -- ---- one is removed
 
-  -- the register owns nothing, and each path from elsewhere begins where it began
+  -- the register owns nothing, and each path from elsewhere has the same root
   pub record Without (c : ℕ) (root : Root) : Type 0 where
     pub left : List Root
     pub right : List Root
@@ -82,9 +83,9 @@ module _ {others : List Root} {s : State} (looks : Looks others s) where
         ]);
       }
 
-  -- ---- one comes
+  -- ---- one is added
 
-  -- the register owns an object, and each path begins where it began
+  -- the register owns an object, and each path has the same root
   pub record With (a : ℕ) (v : Value) (t : ℕ) (root : Root) : Type 0 where
     pub left : List Root
     pub right : List Root

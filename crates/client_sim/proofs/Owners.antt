@@ -1,4 +1,4 @@
--- NEW and DROP: a register comes to own a new object, and what a register owns goes.
+-- NEW and DROP: a register gets a new object, and a register's object is destroyed.
 use Rattle.std.proofs.Common.{◌≡◌, ℕ, ◌+◌, ◌<◌, inl, inr, ℤ, pos, List, [], ◌∷◌, ◌++◌, length, Bool, true, false, Option, Some, refl, sym, ◌∙◌, ap, subst, arith}
 use Rattle.std.specs.Prelude.{◌*◌, ◌%◌, nat_abs, slice_set}
 use Rattle.std.specs.List.{AllByRecursion}
@@ -55,7 +55,7 @@ use Rattle.client_sim.proofs.Finding.{OfPicture, of_picture, first_place}
 use Rattle.client_sim.proofs.Owning.{OwnedComes, owned_comes, OwnedGoes, owned_goes}
 use Rattle.client_sim.proofs.Ended.{LeavesPicture, type_known, ended_shown}
 
--- the world where a register owns what stands at a place, or nothing any more, and the image is another
+-- the world with another image, in which a register owns the object at a place, or nothing
 abbrev pub with_owner : World → List ℕ → ℕ → Place → World
 with_owner w new a place = record w { image = new; positions = slice_set w.positions a place.at; type_ids = slice_set w.type_ids a place.type; owns = slice_set w.owns a true }
 
@@ -130,7 +130,7 @@ module _ {others : List Root} {types : Table} {constants : List Constant} (one :
           owns_is = set_beside w.owns a r true false far;
         })
 
-  -- ---- it owns it no more
+  -- ---- it no longer owns it
 
   module _ (b : ℕ) (within : b < 16) (new : List ℕ) (c : OwnedGoes h.pictured b new) (front : KeepsFront w.image new) where
     abbrev released : World
@@ -166,7 +166,7 @@ module _ {others : List Root} {types : Table} {constants : List Constant} (one :
         let far = owner_apart h b T r is o in
         record { register_is = set_beside s.registers b r Register.Undefined Register.Undefined far; place_is = refl; owns_is = set_beside w.owns b r false false far })
 
-  -- where the object of a register stands, as a path into it leads there
+  -- the root of a register's object, from a path into it
   pub owned_root : (b : ℕ) (place : Place) → LeadsInImage h.pictured (path_from (Origin.Owned b)) place → (root : Root) × (root_of_register s.registers h.pictured.owned b ≡ Some root) × (root.at ≡ place.at)
   owned_root b place led =
       let p = root_of_pair (root_of_register s.registers h.pictured.owned b) 0 led.root led.item led.begins in
@@ -179,12 +179,13 @@ module _ {others : List Root} {types : Table} {constants : List Constant} (one :
 
 -- ---- the rows
 
--- a new object joins the loose ones, anywhere among them
+-- a new object is added to the loose ones, at any index
 pub record JoinsLoose (allocator : ℕ) (old new : List ℕ) (table : Table) (picture : Picture) (T at : ℕ) : Type 0 where
   pub spends : spent allocator (live old) (length old) (block_for (size table T) ∷ []) [] ≡ Some (live new)
   pub joins : (before after : List Root) → picture.loose ≡ before ++ after → LeavesPicture old new (with_roots picture Listed.loose (before ++ new_object table T at ∷ after)) []
 
--- a root goes with its blocks, and with the frozen objects that it named last; the picture is another one
+-- a root was freed with its blocks, and with the frozen objects that only it shared; the picture is
+-- `other`
 pub record LeavesWithout (old new : List ℕ) (table : Table) (root : Root) (other : Picture) : Type 0 where
   pub blocks : List ℕ
   pub holds_it : HoldsRoot old table root blocks
@@ -194,12 +195,12 @@ pub record LeavesWithout (old new : List ℕ) (table : Table) (root : Root) (oth
   pub becomes : LeavesPicture old new (without_cells (names_each root.values) other) (blocks ++ blocks_by theirs other.frozen)
   pub live_is : live new ≡ after_gives (live old) (blocks ++ blocks_by theirs (freed (names_each root.values) other.frozen))
 
--- the object at this position leaves the loose ones
+-- the object at this position is removed from the loose ones
 abbrev pub LeavesLoose : List ℕ → List ℕ → Table → ℕ → Picture → Type 0
 LeavesLoose old new table at picture = (before : List Root) (root : Root) (after : List Root) → picture.loose ≡ before ++ root ∷ after → root.at ≡ at
     → LeavesWithout old new table root (with_roots picture Listed.loose (before ++ after))
 
--- paths from the other roots lead where they led
+-- paths from the other roots refer to the same places
 module _ {others : List Root} {types : Table} {constants : List Constant} {first : Option (List ℕ)} {allocator : ℕ} {ks : RegisterTypes} {s : State} {w : World} (h : Shows others types constants first allocator ks s w) where
   pub table_same : w.table ≡ h.pictured.picture.table
   table_same = h.table_is ∙ sym h.pictured.types
@@ -207,14 +208,14 @@ module _ {others : List Root} {types : Table} {constants : List Constant} {first
   pub holds_same : (root : Root) (blocks : List ℕ) → HoldsRoot w.image w.table root blocks → HoldsRoot w.image h.pictured.picture.table root blocks
   holds_same root blocks holds = subst (λ (t : Table). HoldsRoot w.image t root blocks) table_same holds
 
-  -- where one comes
+  -- after one was added
   pub paths_with : {other : Picture} (new : List ℕ) → LeavesPicture w.image new other [] → AllByRecursion (KeepsPaths w.image new h.pictured.picture.table) (owners_in h.pictured.picture)
   paths_with new c = all_paths w.image new h.pictured.picture h.pictured.held [] c.kept (λ n. omega arith)
 
   pub frozen_with : {other : Picture} (new : List ℕ) → LeavesPicture w.image new other [] → KeepsFrozenPaths w.image new h.pictured.picture.table h.pictured.picture.frozen
   frozen_with new c = all_frozen w.image new h.pictured.picture h.pictured.held [] c.kept (λ n. omega arith)
 
-  -- where one goes
+  -- after one was removed
   pub shared_same : (theirs : ℕ → List ℕ) (fs : List Frozen) → fs ≡ h.pictured.picture.frozen → HoldFrozen w.image w.table theirs fs → HoldFrozen w.image h.pictured.picture.table theirs h.pictured.picture.frozen
   shared_same theirs fs same holds = subst (HoldFrozen w.image h.pictured.picture.table theirs) same (subst (λ (t : Table). HoldFrozen w.image t theirs fs) table_same holds)
 
@@ -232,7 +233,7 @@ module _ {others : List Root} {types : Table} {constants : List Constant} {first
       frozen_left w.image new h.pictured.picture h.pictured.held c.theirs (shared_same c.theirs other.frozen same c.holds_shared) (names_each root.values)
       (subst (λ fs. KeepFrozen w.image new c.theirs (left (names_each root.values) fs)) same c.shared_kept)
 
-  -- what is given back with it
+  -- the blocks freed with it
   pub gone_with : {other : Picture} (new : List ℕ) (root : Root) → other.frozen ≡ h.pictured.picture.frozen → (c : LeavesWithout w.image new w.table root other)
       → FrozenGone w.image h.pictured.picture (names_each root.values) (blocks_by c.theirs (freed (names_each root.values) other.frozen))
   gone_with {other = other} new root same c = record {
@@ -245,7 +246,7 @@ module _ (allocator : ℕ) (constants : List Constant) (role : Role) (a b c : �
   abbrev of : Operation → Instruction
   of operation = record { operation = operation; a = a; b = b; c = c; number = number }
 
-  -- a register comes to own a new object
+  -- a register gets a new object
   pub new_acts : (T at : ℕ) → ((n : ℕ) → number ≡ pos n → T ≡ n % 256) → OfPicture allocator w (λ p. T < length w.table → JoinsLoose allocator w.image new w.table p T at)
       → ActsAs allocator constants role (of Operation.New) w (with_owner w new a (record { at = at; type = T }))
   unfolding rule effect
@@ -300,7 +301,7 @@ module _ (allocator : ℕ) (constants : List Constant) (role : Role) (a b c : �
             (refuses_with others types constants first allocator ks s w h i bad_alloc false a valid.a g.0 row blocks)),
       ))
 
-  -- what register b owns goes
+  -- the object of register b is destroyed
   pub drop_acts : OfPicture allocator w (LeavesLoose w.image new w.table (place_in w b).at) → ActsAs allocator constants role (of Operation.Drop) w (without_owner w new b)
   unfolding rule effect
   drop_acts says = lifted_acts refl (λ types others first ks good bad s right valid e h.

@@ -1,4 +1,5 @@
--- Objects that registers own come and go: the image pictures the state then, and paths that still begin somewhere lead where they led.
+-- Adding and removing objects of registers: the image pictures the state afterwards, and paths that
+-- still have a root refer to the same places.
 use Rattle.std.proofs.Common.{◌≡◌, ◌≢◌, ℕ, zero, suc, ◌<◌, ◌⊎◌, inl, inr, List, [], ◌∷◌, ◌++◌, length, Option, Some, None, refl, sym, ◌∙◌, ap, subst, arith, append_assoc}
 use Rattle.std.specs.Prelude.{slice_set, slice_index_or, option_map}
 use Rattle.std.specs.List.{AllByRecursion}
@@ -24,9 +25,9 @@ use Rattle.client_sim.proofs.Looks.{looks_of}
 use Rattle.client_sim.proofs.RootPuts.{root_of_pair, among_loose}
 use Rattle.client_sim.proofs.Rooted.{KeepsRoots}
 
--- ---- where the object of a register stands among those of all
+-- ---- the root of a register's object, among those of all
 
--- what the others own stands before and after, whether the register owns something or not
+-- the roots of the registers before and after this one
 pub record IsSeat (rs : List Register) (a : ℕ) (before after : List Root) : Type 0 where
   pub empty : (x : Register) → owned_by x ≡ None → AreOwned (slice_set rs a x) (before ++ after)
   pub filled : (v : Value) (t : ℕ) (root : Root) → root.type ≡ t → root.values ≡ cons v nil → AreOwned (slice_set rs a (Register.Owner v t)) (before ++ root ∷ after)
@@ -81,7 +82,7 @@ seat_after_owner w u o rs a before after type_is values_are m = record {
     beside zero far x e v t root = refl
     beside (suc q) far x e v t root = m.beside q (λ f. far (ap suc f)) x e v t root
 
--- the seat of a register that owns nothing
+-- a register that owns nothing
 pub record FreeSeat (rs : List Register) (owned : List Root) (a : ℕ) : Type 0 where
   pub before : List Root
   pub after : List Root
@@ -105,7 +106,7 @@ free_seat (Register.Undefined ∷ rs) owned (suc a) h less none = free_after Reg
 free_seat (Register.Int k ∷ rs) owned (suc a) h less none = free_after (Register.Int k) rs owned a refl (free_seat rs owned a h (omega (arith, less)) none)
 free_seat (Register.Reference p ∷ rs) owned (suc a) h less none = free_after (Register.Reference p) rs owned a refl (free_seat rs owned a h (omega (arith, less)) none)
 
--- that of one that owns a root
+-- a register that owns the object of this root
 pub record TakenSeat (rs : List Register) (owned : List Root) (a : ℕ) (root : Root) : Type 0 where
   pub before : List Root
   pub after : List Root
@@ -148,10 +149,10 @@ taken_seat (Register.Undefined ∷ rs) owned (suc a) root h e = taken_after Regi
 taken_seat (Register.Int k ∷ rs) owned (suc a) root h e = taken_after (Register.Int k) rs owned a root refl (taken_seat rs owned a root h e)
 taken_seat (Register.Reference p ∷ rs) owned (suc a) root h e = taken_after (Register.Reference p) rs owned a root refl (taken_seat rs owned a root h e)
 
--- ---- what pictures the state then
+-- ---- the picture afterwards
 
 module _ {others : List Root} {s : State} {old : List ℕ} (pictured : Pictures others s old) where
-  -- where a path begins there is a root of the image
+  -- the root of a path is a root of the image
   pub root_among : (o : Origin) (root : Root) (item : ℕ) → root_at pictured o ≡ Some (root, item) → Among (owners_in pictured.picture) root
   root_among (Origin.Name name i) root item e =
       let picture = pictured.picture in
@@ -166,7 +167,7 @@ module _ {others : List Root} {s : State} {old : List ℕ} (pictured : Pictures 
       let p = root_of_pair (root_of_register s.registers pictured.owned r) 0 root item e in
       among_right picture.names (picture.uniques ++ picture.loose) root (among_right picture.uniques picture.loose root (among_loose (looks_of pictured) r root p.0))
 
-  -- the roots where paths begin are found again
+  -- the roots of paths are still there
   pub found_again : {s' : State} {new : List ℕ} (later : Pictures others s' new) (Ends : Origin → Type 0)
       → ((name : List ℕ) (i : ℕ) (root : Root) → root_named pictured.picture.names name ≡ Some root → Ends (Origin.Name name i) ⊎ (root_named later.picture.names name ≡ Some root))
       → ((T : ℕ) (root : Root) → root_of_type pictured.picture.uniques T ≡ Some root → Ends (Origin.Unique T) ⊎ (root_of_type later.picture.uniques T ≡ Some root))
@@ -182,7 +183,7 @@ module _ {others : List Root} {s : State} {old : List ℕ} (pictured : Pictures 
       let p = root_of_pair (root_of_register s.registers pictured.owned r) 0 root item e in
       elim (owned r root p.0) [ inl f ↦ inl f | inr f ↦ inr (ap (option_map {T = Root} {U = Root × ℕ} (λ root. (root, 0))) f ∙ ap (λ n. Some (root, n)) p.1) ]
 
--- where one comes, or where one goes
+-- after one is added, or removed
 pub keeps_all : {others : List Root} {s s' : State} {old new : List ℕ} (pictured : Pictures others s old) (later : Pictures others s' new) (Ends : Origin → Type 0) → later.picture.table ≡ pictured.picture.table
     → ((o : Origin) (root : Root) (item : ℕ) → root_at pictured o ≡ Some (root, item) → Ends o ⊎ (root_at later o ≡ Some (root, item)))
     → AllByRecursion (KeepsPaths old new pictured.picture.table) (owners_in pictured.picture) → KeepsRoots pictured later Ends
@@ -205,12 +206,12 @@ keeps_others {old = old} {new = new} pictured later Ends table begins paths = re
   ];
 }
 
--- the bytes hold the picture, and count its frozen objects
+-- the bytes have the picture, and its frozen objects are counted
 abbrev pub IsHeldCounted : List ℕ → Picture → Type 0
 IsHeldCounted bytes picture = IsHeld bytes picture × AreCounted (word bytes next_word) picture
 
 module _ {others : List Root} {s : State} {old : List ℕ} (pictured : Pictures others s old) where
-  -- ---- a register comes to own an object
+  -- ---- a register gets an object
 
   pub record OwnedComes (a : ℕ) (v : Value) (t : ℕ) (root : Root) (new : List ℕ) : Type 0 where
     pub later : Pictures others (set_register s a (Register.Owner v t)) new
@@ -249,14 +250,14 @@ module _ {others : List Root} {s : State} {old : List ℕ} (pictured : Pictures 
       vacant : (r : Root) → root_of_register s.registers pictured.owned a ≡ Some r → ⊥
       vacant r e = let o = owned_split s.registers pictured.owned a r pictured.are_owned e in (let f : ◌≡◌ {A = Option (Value × ℕ)} None (Some (o.value, r.type)) = sym none ∙ ap owned_by o.is in cc)
 
-  -- ---- a register owns an object no more
+  -- ---- a register loses its object
 
   pub record OwnedGoes (b : ℕ) (new : List ℕ) : Type 0 where
     pub later : Pictures others (set_register s b Register.Undefined) new
     pub keeps : KeepsRoots pictured later (λ o. o ≡ Origin.Owned b)
     pub stays : KeepsFrozen old new pictured.picture.table pictured.picture.frozen later.picture.frozen
 
-  -- where the object stands among the loose ones, and how it goes
+  -- the loose roots before and after this one, and the consequence of its removal
   pub record OwnedAmong (b : ℕ) (root : Root) : Type 0 where
     pub before : List Root
     pub after : List Root

@@ -1,4 +1,4 @@
--- PUT: an own takes the object that a register owns, and what it held goes.
+-- PUT: an own takes the object of a register, and its old object is destroyed.
 use Rattle.std.proofs.Common.{◌≡◌, ◌≢◌, ℕ, ℤ, List, [], ◌∷◌, ◌++◌, length, Bool, true, false, inl, inr, Option, Some, None, refl, sym, ◌∙◌, ap, subst, arith}
 use Rattle.std.specs.Prelude.{not, ◌&&◌, ◌==◌, slice_set}
 use Rattle.std.proofs.lemmas.Bool.{eqb-true, eq-eqb}
@@ -79,8 +79,8 @@ module _ (allocator : ℕ) (constants : List Constant) (role : Role) (a b c : �
       ∙ ap (λ o. o >>= λ _. last p U (new_value, U)) content
       ∙ ap (λ t. provided t (proceed (set_register (put_at s p (Full new_value)) c Register.Undefined))) test
 
-  -- what the call makes of an own that stands at register b's place, with the object that stands at that of register c, beside
-  -- whichever frozen objects
+  -- the call's contract for an own at register b's place and the object of register c, whatever
+  -- frozen objects there are
   abbrev pub PutsOwn : Table → Type 0
   PutsOwn table =
       (U : ℕ) (v x : Value) (blocks inside : List ℕ) → form_at table (place_in w b).type ≡ Some (Form.own U) → (stands : Stands allocator w.image table (place_in w b) v blocks)

@@ -1,4 +1,5 @@
--- Objects come and go: each path that still begins somewhere leads where it led, and a world that stood for the state stands for the one with the object more or less.
+-- Adding and removing objects: each path that still has a root refers to the same place, and a
+-- world that represented the state represents the one with or without the object.
 use Rattle.std.proofs.Common.{◌≡◌, ℕ, ◌≤◌, ◌+◌, ◌⊎◌, inl, inr, List, [], ◌∷◌, ◌++◌, length, drop, Option, Some, refl, sym, ◌∙◌, ap, subst, arith}
 use Rattle.std.specs.List.{AllByRecursion}
 use Rattle.seg_bytes.specs.Bytes.{word}
@@ -42,9 +43,9 @@ use Rattle.client_sim.proofs.Placed.{item_within}
 
 -- ---- paths
 
--- each live block but for those that are gone is kept
+-- each allocated block that isn't in `gone` is unchanged
 module _ (old new : List ℕ) (picture : Picture) (held : IsHeld old picture) (gone : List ℕ) (kept : (h : ℕ) → 1 ≤ times h (positions (live old)) → times h gone ≡ 0 → KeepsBlock old new h) where
-  -- of the roots' none is
+  -- no block of a root is in `gone`
   all_roots : ((h : ℕ) → times h gone ≤ times h held.index_blocks) → AllByRecursion (KeepsPaths old new picture.table) (owners_in picture ++ frozen_roots picture)
   all_roots few = subst (AllByRecursion (KeepsPaths old new picture.table)) (roots_split picture)
       (roots_paths old new picture.table held.laid_out.is_table held.roots (each_there (KeepsBlock old new) held.root_blocks (λ h some.
@@ -58,7 +59,7 @@ module _ (old new : List ℕ) (picture : Picture) (held : IsHeld old picture) (g
   pub all_frozen : ((h : ℕ) → times h gone ≤ times h held.index_blocks) → KeepsFrozenPaths old new picture.table picture.frozen
   all_frozen few = frozen_of_roots old new picture (each_right (KeepsPaths old new picture.table) (owners_in picture) (frozen_roots picture) (all_roots few))
 
-  -- one root's may be, and those of frozen objects
+  -- blocks of one root may be, and blocks of frozen objects
   pub other_paths : (which : Listed) (before : List Root) (root : Root) (after : List Root) → roots_in picture which ≡ before ++ root ∷ after → (objects : List ℕ) → HoldsRoot old picture.table root objects
       → (theirs : ℕ → List ℕ) → HoldFrozen old picture.table theirs picture.frozen → ((h : ℕ) → times h gone ≤ times h objects + times h held.index_blocks + times h (blocks_by theirs picture.frozen))
       → AllByRecursion (KeepsPaths old new picture.table) (roots_before picture which before ++ owners_after picture which after)
@@ -81,7 +82,8 @@ module _ (old new : List ℕ) (picture : Picture) (held : IsHeld old picture) (g
       (roots_paths old new picture.table held.laid_out.is_table a.holds_before (each_there (KeepsBlock old new) a.left (λ h some. stay h (omega (arith, some)))))
       (roots_paths old new picture.table held.laid_out.is_table b.lefts (each_there (KeepsBlock old new) b.left (λ h some. stay h (omega (arith, some)))))
 
--- where paths begin finds its root where it was, but for those that end, and paths from there lead where they led
+-- origins have the same roots, except for those that end, and paths from there refer to the same
+-- places
 pub record KeepsRoots {others : List Root} {s s' : State} {old new : List ℕ} (pictured : Pictures others s old) (later : Pictures others s' new) (Ends : Origin → Type 0) : Type 0 where
   pub table : later.picture.table ≡ pictured.picture.table
   pub begins : (o : Origin) (root : Root) (item : ℕ) → root_at pictured o ≡ Some (root, item) → Ends o ⊎ ((root_at later o ≡ Some (root, item)) × KeepsPaths old new pictured.picture.table root)
@@ -100,14 +102,14 @@ leads_on {new = new} pictured later Ends k path place x there led = elim (k.begi
 
 -- ---- worlds
 
--- what is known of a register says where the paths begin that lead on from it
+-- the origins of paths that are known to continue from a register
 abbrev pub BeginsFrom : List Constant → ℕ → RegisterType → Origin → Type 0
 BeginsFrom constants r RegisterType.Undefined o = ⊥
 BeginsFrom constants r RegisterType.Int o = ⊥
 BeginsFrom constants r (RegisterType.Reference class T) o = InClass constants class o
 BeginsFrom constants r (RegisterType.Owner T) o = o ≡ Origin.Owned r
 
--- a register holds what it held, of which the same is known, and no path from it ends
+-- a register is unchanged, the same is known of it, and no path from it ends
 pub record Remains (constants : List Constant) (Ends : Origin → Type 0) (ks ks' : RegisterTypes) (s s' : State) (w w' : World) (r : ℕ) : Type 0 where
   pub known_is : known ks' r ≡ known ks r
   pub register_is : register s' r ≡ register s r

@@ -1,4 +1,5 @@
--- SHARE: a cell comes to name what another one names, and what it named before is released.
+-- SHARE: a cell shares the object of another cell, and the object that it shared before is
+-- released.
 use Rattle.std.proofs.Common.{◌≡◌, ℕ, ℤ, List, [], ◌++◌, true, false, inl, inr, Option, Some, refl, sym, ◌∙◌, ap, subst}
 use Rattle.std.specs.Prelude.{◌==◌, Ok}
 use Rattle.std.specs.List.{AllByRecursion}
@@ -60,7 +61,7 @@ use Rattle.client_sim.proofs.SeeingGives.{in_words}
 use Rattle.client_sim.proofs.SeeingLaws.{named_at, read_led}
 use Rattle.client_sim.proofs.StillAnchored.{still_anchored}
 
--- ---- a register that leads to a cell
+-- ---- a register that refers to a cell
 
 module _ {others : List Root} {types : Table} {constants : List Constant} {first : Option (List ℕ)} {allocator : ℕ} {ks : RegisterTypes} {t : State} {w : World} (h : Sees others types constants first allocator ks t w) where
   abbrev next : ℕ
@@ -72,7 +73,7 @@ module _ {others : List Root} {types : Table} {constants : List Constant} {first
   abbrev m : ℕ → Value
   m = meaning_in next h.shows.pictured.picture
 
-  -- where it leads, whether through cells or not, and what the trees have there
+  -- the register's place, whether through shared cells or not, and the value in the unfolded state
   pub record CellSeen (r T : ℕ) : Type 0 where
     pub path : Path
     pub path_is : register t r ≡ Register.Reference path
@@ -232,7 +233,7 @@ module _ (allocator : ℕ) (constants : List Constant) (role : Role) (a b c : �
       same_types : t.types ≡ h.plain.types
       same_types = ap (λ (z : State). z.types) h.trees
 
-      -- the types of both places share the same
+      -- the types of both places share objects of one type
       form_here : (r T : ℕ) → (place_in w r).type ≡ T → form_at t.types T ≡ Some (Form.shared f.held) → form_at table (place_in w r).type ≡ Some (Form.shared f.held)
       form_here r T type_is g = ap (form_at table) type_is ∙ ap (λ (ts : Table). form_at ts T) (pictured.types ∙ sym same_types) ∙ g
 
@@ -260,7 +261,7 @@ module _ (allocator : ℕ) (constants : List Constant) (role : Role) (a b c : �
       put : PlacePut pictured l.in_image l.value (put_at h.plain l.path value) new
       put = place_shared pictured l.in_image l.value l.found new value from.named s.theirs s.holds [] s.clears
 
-      -- the cell may name what the other one does
+      -- the cell may share the other cell's object
       fits : HasShape h.plain.types f.type value
       fits =
           let form = Form.shared f.held in
@@ -287,7 +288,7 @@ module _ (allocator : ℕ) (constants : List Constant) (role : Role) (a b c : �
       shows : Shows others types constants first allocator (bare after) state world
       shows = in_words (bare_others f.class b ks) plainly
 
-      -- what the trees have
+      -- the unfolded state
       then_is : put_at t l.path (replaced (m h) value) ≡ trees_of put.later
       then_is =
           ap (λ z. put_at z l.path (replaced (m h) value)) h.trees ∙ sym (put_same (m h) h.plain l.path value l.value l.there)
@@ -309,7 +310,7 @@ module _ (allocator : ℕ) (constants : List Constant) (role : Role) (a b c : �
           subst (λ zs. IsAsKnown types constants zs (put_at t l.path (replaced (m h) value))) (sym f.good_is)
           (keeps.good t (put_at t l.path (replaced (m h) value)) (h.as_known, of_state) (inl (true, row))).0
 
-      -- ---- registers that are only read
+      -- ---- references that are only read
 
       frame : Frame (others_ended f.class b (bare ks)) w world pictured plainly.pictured
       unfolding plainly

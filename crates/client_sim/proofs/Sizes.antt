@@ -1,4 +1,4 @@
--- What clients leave is as long as the image that they were given.
+-- The images after clients have the length of the image that the first client was given.
 use Rattle.std.proofs.Common.{◌≡◌, List, [], ◌∷◌, length, refl, ◌∙◌}
 use Rattle.client_spec.specs.Syntax.{Client}
 use Rattle.client_spec.specs.Run.{Ending, finished, stopped, stuck}

@@ -1,4 +1,5 @@
--- A register that is only read stays anchored over a row that keeps it and the cells of its class, where frozen objects that are named stay.
+-- A register that is only read stays anchored over a row that keeps the register and the cells of
+-- its class, if frozen objects that are shared stay.
 use Rattle.std.proofs.Common.{◌≡◌, ℕ, ◌+◌, List, Option, Some, sym, ◌∙◌, ap, subst, arith}
 use Rattle.seg_bytes.specs.Bytes.{word}
 use Rattle.seg_spec.specs.Header.{next_word}
@@ -17,11 +18,11 @@ use Rattle.client_sim.specs.Seeing.{LeadsFrozen, Anchored, Sees}
 use Rattle.client_sim.proofs.FrozenKept.{StayNamed, NamedStill, leads_still}
 use Rattle.client_sim.proofs.SeeingLaws.{cell_named, cell_within}
 
--- the row's own pictures may be others than those that the worlds are seen by
+-- the row's own pictures may differ from those by which the worlds represent states
 module _ {others : List Root} {types : Table} {constants : List Constant} {first : Option (List ℕ)} {allocator : ℕ} {ks : RegisterTypes} {t : State} {w : World} (h : Sees others types constants first allocator ks t w)
     {s' : State} (new : World) (before : Pictures others h.plain w.image) (after later : Pictures others s' new.image)
     (stays : StayNamed w.image new.image before.picture.table before.picture.frozen after.picture.frozen) where
-  -- what a cell names before and after is named in each picture of both images
+  -- an object that a cell shares before and after is shared in each picture of both images
   named_still : (types_stay : s'.types ≡ h.plain.types) (cell : Path) (U at : ℕ) → path_value h.plain cell ≡ Some (node (Label.shared U at) nil) → path_value s' cell ≡ Some (node (Label.shared U at) nil)
       → NamedStill h.shows.pictured before after later stays types_stay (record { at = at; type = U })
   named_still types_stay cell U at names named =

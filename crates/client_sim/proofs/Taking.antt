@@ -1,4 +1,4 @@
--- TAKE: a register comes to own what an own held, or gets a code where it held nothing.
+-- TAKE: a register gets the object of an own, or a code if the own is empty.
 use Rattle.std.proofs.Common.{◌≡◌, ◌≢◌, ℕ, zero, suc, ◌<◌, ℤ, pos, List, [], ◌∷◌, ◌++◌, length, Bool, true, false, inl, inr, Option, Some, None, refl, sym, ◌∙◌, ap, subst, arith}
 use Rattle.std.specs.Prelude.{slice_set, slice_index_or}
 use Rattle.std.proofs.lemmas.List.{length-map}
@@ -47,7 +47,7 @@ use Rattle.client_sim.proofs.MovingShows.{with_owning, shows_moved, stays_put, f
 use Rattle.client_sim.proofs.OwnedObjects.{root_of, root_of_loose}
 use Rattle.client_sim.proofs.Putting.{own_is}
 
--- the world where register a gets a code, and owns nothing
+-- the world in which register a has an error code, and owns nothing
 abbrev pub with_code : World → List ℕ → ℕ → ℕ → World
 with_code w new a code = record w { image = new; owns = slice_set w.owns a false; numbers = slice_set w.numbers a (pos code) }
 
@@ -61,7 +61,7 @@ empty_is (node Label.opt nil) e = refl
 empty_is (node Label.opt (cons w nil)) e = cc
 empty_is v e = cc
 
--- the empty path leads from a root to itself
+-- the empty path from a root ends at the root
 leads_itself : (bytes : List ℕ) (table : Table) (root : Root) → Leads bytes table (item_of table root 0) [] (record { at = root.at; type = root.type })
 leads_itself bytes table root =
     let first : root.at ≡ (item_of table root 0).at = omega arith in
@@ -81,7 +81,7 @@ module _ (allocator : ℕ) (constants : List Constant) (role : Role) (a b c : �
       ∙ ap (λ o. (o >>= content_in) >>= λ inside. effects.take_content a p U inside s) there
       ∙ ap (λ o. o >>= λ inside. effects.take_content a p U inside s) content
 
-  -- what the call takes out of an own that stands at register b's place: an object that stands at this position, of this type
+  -- the call takes an object of this type, at this position, out of an own at register b's place
   abbrev pub TakesFrom : ℕ → ℕ → Table → Type 0
   TakesFrom at T table =
       (U : ℕ) (blocks : List ℕ) → form_at table (place_in w b).type ≡ Some (Form.own U) →
@@ -90,7 +90,7 @@ module _ (allocator : ℕ) (constants : List Constant) (role : Role) (a b c : �
       → (T ≡ U) × (inside : List ℕ) × (blocks ≡ block_of at ∷ inside) × IsLoose new table (record { at = at; type = U }) v inside
       × ChangesPlace w.image new table (place_in w b) Empty [] (live w.image) blocks blocks)
 
-  -- where it holds nothing, and nothing changes
+  -- the own is empty, and nothing changes
   abbrev pub FindsEmpty : ℕ → Table → Type 0
   FindsEmpty code table =
       (U : ℕ) (blocks : List ℕ) → form_at table (place_in w b).type ≡ Some (Form.own U) →

@@ -1,4 +1,4 @@
--- UMAKE, UFINDOR and UKILL: the unique object of a type comes, is found, or goes.
+-- UMAKE, UFINDOR and UKILL: the unique object of a type is made, found or destroyed.
 use Rattle.std.proofs.Common.{◌≡◌, ℕ, ◌<◌, ◌⊎◌, inl, inr, ℤ, pos, List, [], ◌∷◌, ◌++◌, length, Bool, true, false, Option, Some, None, refl, sym, ◌∙◌, ap, subst, arith}
 use Rattle.std.specs.Prelude.{Ok, ◌%◌, nat_abs, is_some, if◌then◌else◌, slice_set, option_map}
 use Rattle.std.proofs.lemmas.List.{length-map}
@@ -48,7 +48,7 @@ use Rattle.client_sim.proofs.Ended.{LeavesPicture, type_known, ended_shown}
 use Rattle.client_sim.proofs.Owners.{new_object, LeavesWithout, paths_with, frozen_with, paths_without, frozen_without, gone_with}
 use Rattle.client_sim.proofs.Uniques.{UniqueComes, unique_comes, UniqueGoes, unique_goes}
 
--- there is none of the type, and a new one joins the others
+-- there is none of the type, and a new one is added
 pub record JoinsUniques (allocator : ℕ) (old new : List ℕ) (table : Table) (picture : Picture) (T at : ℕ) : Type 0 where
   pub none : root_of_type picture.uniques T ≡ None
   pub spends : spent allocator (live old) (length old) (block_for (size table T) ∷ []) [] ≡ Some (live new)
@@ -57,7 +57,7 @@ pub record JoinsUniques (allocator : ℕ) (old new : List ℕ) (table : Table) (
   pub uniques_are : picture.uniques ≡ before ++ after
   pub becomes : LeavesPicture old new (with_roots picture Listed.by_type (before ++ new_object table T at ∷ after)) []
 
--- that of the type leaves the others
+-- the one of the type is removed
 pub record LeavesUniques (old new : List ℕ) (table : Table) (picture : Picture) (T : ℕ) : Type 0 where
   pub before : List Root
   pub root : Root
@@ -66,7 +66,7 @@ pub record LeavesUniques (old new : List ℕ) (table : Table) (picture : Picture
   pub root_is : root_of_type picture.uniques T ≡ Some root
   pub loses : LeavesWithout old new table root (with_roots picture Listed.by_type (before ++ after))
 
--- there was room for none
+-- there was no room for one
 abbrev pub FindsNoRoomFor : ℕ → List ℕ → List ℕ → Table → ℕ → ℕ → Picture → Type 0
 FindsNoRoomFor allocator old new table T code picture = (code ≡ answer_number bad_alloc) × (begins_unique picture T ≡ None) × Refuses allocator old new (block_for (size table T) ∷ [])
 
@@ -79,14 +79,14 @@ FindsOneOrNoRoom allocator old new table T code picture =
 abbrev pub IsFoundOrJoins : ℕ → List ℕ → List ℕ → Table → ℕ → ℕ → Picture → Type 0
 IsFoundOrJoins allocator old new table T at picture = ((begins_unique picture T ≡ Some at) × (new ≡ old)) ⊎ JoinsUniques allocator old new table picture T at
 
--- it goes, or there was none
+-- it is destroyed, or there was none
 abbrev pub LeavesOrLacks : List ℕ → List ℕ → Table → ℕ → Bool → Picture → Type 0
 LeavesOrLacks old new table T true picture = LeavesUniques old new table picture T
 LeavesOrLacks old new table T false picture = (begins_unique picture T ≡ None) × (new ≡ old)
 
 module _ {others : List Root} {types : Table} {constants : List Constant} (one : OneEach constants) {first : Option (List ℕ)} {allocator : ℕ} {ks : RegisterTypes} {s : State} {w : World}
     (h : Shows others types constants first allocator ks s w) where
-  -- ---- it comes
+  -- ---- it is made
 
   module _ (T : ℕ) (v : Value) (fits : HasShape s.types T v) (none : s.uniques T ≡ None) (root : Root) (new : List ℕ) (c : UniqueComes h.pictured T v root new) (front : KeepsFront w.image new) where
     abbrev s_more : State
@@ -109,7 +109,7 @@ module _ {others : List Root} {types : Table} {constants : List Constant} (one :
         ap (λ (p : Pictures others s_more new). begins_unique p.picture T) (pictured_rooted h ks s_more (with_image w new) c.later (λ o. ⊥) c.keeps front _ _ _ _ _)
         ∙ ap (λ (o : Option Root). option_map {T = Root} {U = ℕ} (λ r. r.at) o) c.here
 
-  -- ---- it goes
+  -- ---- it is destroyed
 
   module _ (T : ℕ) (new : List ℕ) (c : UniqueGoes h.pictured T new) (front : KeepsFront w.image new) where
     abbrev s_less : State
@@ -161,7 +161,7 @@ module _ (allocator : ℕ) (constants : List Constant) (role : Role) (a b c : �
   abbrev ks_then : RegisterTypes → RegisterTypes
   ks_then ks = slice_set ks a (RegisterType.Reference (Class.Unique T) T)
 
-  -- what the world stands for, and what the rule knows
+  -- the states that the world represents, and what the rule knows
   module _ {types : Table} {others : List Root} {first : Option (List ℕ)} {ks good bad : RegisterTypes} {s : State} (right : AreRight types constants) (valid : IsNumber types constants b Number.TypeId number) (within : a < 16)
       (e : opens a (RegisterType.Reference (Class.Unique (nat_abs number)) (nat_abs number)) ks ≡ Ok (good, bad)) (h : Shows others types constants first allocator ks s w) where
     its : (is_owner (known ks a) ≡ false) × (good ≡ slice_set ks a (RegisterType.Reference (Class.Unique (nat_abs number)) (nat_abs number))) × (bad ≡ slice_set ks a RegisterType.Int)
@@ -202,7 +202,7 @@ module _ (allocator : ℕ) (constants : List Constant) (role : Role) (a b c : �
         (row ∙ answer_is types constants ks s' more.as_known success a (Register.Reference path_is) its.0) (changes blocks) call.becomes.length_kept call.becomes.front_kept refl shows
         (frame_reference others types constants first allocator ks s' (with_image w new) more a _ _ _ _ _ _ _ _ _ _ (frame_more one h T d fits none root new come call.becomes.front_kept)))
 
-    -- the one that is there, for a row that finds it
+    -- the existing one, for a row that finds it
     found : (operation : Operation) (at : ℕ) → begins_unique h.pictured.picture T ≡ Some at → new ≡ w.image → ((v : Value) → s.uniques T ≡ Some v → GrantsAsks constants (of operation) h.pictured w.image)
         → (GrantsAsks constants (of operation) h.pictured w.image → ChangesBlocks constants (of operation) h.pictured success w.image)
         → ((v : Value) → s.uniques T ≡ Some v → outcome constants (of operation) true s ≡ refer a path_is s)
@@ -218,7 +218,7 @@ module _ (allocator : ℕ) (constants : List Constant) (role : Role) (a b c : �
         (row u.plain.value u.there ∙ answer_is types constants ks s h.as_known success a (Register.Reference path_is) its.0) (changes (granted u.plain.value u.there)) refl refl refl shows
         (frame_reference others types constants first allocator ks s w h a _ _ _ _ _ _ _ _ _ _ (frame_same _ _ _))))
 
-    -- none, with a code
+    -- none, with an error code
     refused : (operation : Operation) (answer : Answer) (room : Bool) (code : ℕ) → code ≡ answer_number answer → new ≡ w.image → ChangesBlocks constants (of operation) h.pictured answer w.image
         → outcome constants (of operation) room s ≡ fail a answer s
         → Acts others types constants first allocator (of operation) answer bad s w (with_number (with_image w new) a (pos code))
@@ -229,7 +229,7 @@ module _ (allocator : ℕ) (constants : List Constant) (role : Role) (a b c : �
         (subst (λ (n : ℕ). Acts others types constants first allocator i answer (slice_set ks a RegisterType.Int) s w (with_number w a (pos n))) (sym code_is)
         (refuses_with others types constants first allocator ks s w h i answer room a within its.0 row blocks)))
 
-    -- what a row asks for, by what there is
+    -- the requests of a row, whether or not there is one
     asks_none : (v : Value) → s.uniques T ≡ Some v → [] ≡ if_absent (s.uniques (nat_abs number)) (block_for (size s.types (nat_abs number)) ∷ [])
     asks_none v there = sym (ap (λ n. if_absent (s.uniques n) (block_for (size s.types n) ∷ [])) known_type.0 ∙ ap (λ (o : Option Value). if_absent o (asks_one s.types)) there)
 
@@ -238,7 +238,7 @@ module _ (allocator : ℕ) (constants : List Constant) (role : Role) (a b c : �
         ap asks_one h.table_is
         ∙ sym (ap (λ n. if_absent (s.uniques n) (block_for (size s.types n) ∷ [])) known_type.0 ∙ ap (λ (o : Option Value). if_absent o (asks_one s.types)) (none_unique h T none))
 
-    -- the row, by what there is
+    -- the row, whether or not there is one
     row_there : (f g : ℕ → Outcome) (v : Value) → s.uniques T ≡ Some v → (if is_some (s.uniques (nat_abs number)) then f (nat_abs number) else g (nat_abs number)) ≡ f T
     row_there f g v there = ap (λ n. if is_some (s.uniques n) then f n else g n) known_type.0 ∙ ap (λ (o : Option Value). if is_some o then f T else g T) there
 
@@ -312,7 +312,7 @@ module _ (allocator : ℕ) (constants : List Constant) (role : Role) (a b c : �
             (row_none right valid.number valid.a e h (λ n. refer a (path_from (Origin.Unique n)) s) (λ n. add_unique a n false s) r.1),
       ))
 
-  -- it goes, or there is none
+  -- it is destroyed, or there is none
   pub kill_unique_acts : (gone : Bool) → OfPicture allocator w (λ p. T < 32 → LeavesOrLacks w.image new w.table T gone p) → ActsAs allocator constants role (of Operation.KillUnique) w (with_number (with_image w new) a (truth gone))
   unfolding rule effect
   kill_unique_acts gone says = lifted_acts refl (λ types others first ks good bad s right valid e h.

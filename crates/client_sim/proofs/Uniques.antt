@@ -1,4 +1,5 @@
--- Unique objects come and go: the image pictures the state then, and paths that still begin somewhere lead where they led.
+-- Adding and removing unique objects: the image pictures the state afterwards, and paths that still
+-- have a root refer to the same places.
 use Rattle.std.proofs.Common.{◌≡◌, ℕ, suc, ◌≤◌, ◌⊎◌, inl, inr, Bool, true, false, List, [], ◌∷◌, ◌++◌, eqb, Option, Some, None, refl, sym, ◌∙◌, ap, subst, arith}
 use Rattle.std.specs.Prelude.{◌==◌, if◌then◌else◌, option_and_then}
 use Rattle.std.specs.List.{AllByRecursion}
@@ -21,7 +22,7 @@ use Rattle.client_sim.proofs.Owning.{IsHeldCounted, found_again, keeps_all, keep
 
 -- ---- the roots of types
 
--- none of some, as there is none of more
+-- if no root of all passes a test, none of the first ones does
 none_among_first : (test : Root → Bool) (xs ys : List Root) → first_of test (xs ++ ys) ≡ None → first_of test xs ≡ None
 none_among_first test [] ys e = refl
 none_among_first test (x ∷ xs) ys e = choose (test x) (none_among_first test xs ys) e
@@ -34,7 +35,7 @@ above : (U : ℕ) (before : List Root) (root : Root) (after : List Root) → Are
 above U [] root after r = r.0
 above U (b ∷ before) root after r = let m = above (suc b.type) before root after r.2 in let n = r.0 in omega (arith, m, n)
 
--- a type has one root at most
+-- a type has at most one root
 none_beside : (U : ℕ) (before : List Root) (root : Root) (after : List Root) → AreRising U (before ++ root ∷ after) → root_of_type (before ++ after) root.type ≡ None
 none_beside U [] root after r = none_root after root.type (none_below (suc root.type) root.type after r.2 (omega arith))
 none_beside U (b ∷ before) root after r =
@@ -55,13 +56,13 @@ module _ (before : List Root) (root : Root) (after : List Root) (T : ℕ) (type_
   joined_beside : (U : ℕ) → (U == T) ≡ false → root_of_type (before ++ root ∷ after) U ≡ root_of_type (before ++ after) U
   joined_beside U g = typed_first (before ++ root ∷ after) U ∙ first_beside (is_of_type U) before after root (test_not U g) ∙ sym (typed_first (before ++ after) U)
 
--- ---- what pictures the state then
+-- ---- the picture afterwards
 
 module _ {others : List Root} {s : State} {old : List ℕ} (pictured : Pictures others s old) where
   abbrev first_value : Option Root → Option Value
   first_value o = option_and_then (λ (x : Root). nth x.values 0) o
 
-  -- the unique objects, but for that of one type
+  -- the unique objects, with another one for one type
   uniques_with : (T : ℕ) (v : Option Value) (roots : List Root) → first_value (root_of_type roots T) ≡ v → ((U : ℕ) → (U == T) ≡ false → root_of_type roots U ≡ root_of_type pictured.picture.uniques U)
       → (U : ℕ) → with_unique s.uniques T v U ≡ first_value (root_of_type roots U)
   uniques_with T v roots is beside U = choose (U == T) refl
@@ -70,7 +71,7 @@ module _ {others : List Root} {s : State} {old : List ℕ} (pictured : Pictures 
       choose true g = ap (λ b. if b then v else s.uniques U) g ∙ sym is ∙ ap (λ n. first_value (root_of_type roots n)) (sym (eqb-true U T g))
       choose false g = ap (λ b. if b then v else s.uniques U) g ∙ pictured.uniques U ∙ ap first_value (sym (beside U g))
 
-  -- ---- the unique object of a type comes
+  -- ---- the unique object of a type is made
 
   pub record UniqueComes (T : ℕ) (v : Value) (root : Root) (new : List ℕ) : Type 0 where
     pub later : Pictures others (record s { uniques = with_unique s.uniques T (Some v) }) new
@@ -107,7 +108,7 @@ module _ {others : List Root} {s : State} {old : List ℕ} (pictured : Pictures 
       again U r e true g = absurd (let f : None ≡ Some r = sym none ∙ ap (root_of_type pictured.picture.uniques) (sym (eqb-true U T g)) ∙ e in cc)
       again U r e false g = joined_beside before root after T type_is U g ∙ ap (λ xs. root_of_type xs U) (sym parts) ∙ e
 
-  -- ---- it goes
+  -- ---- it is destroyed
 
   pub record UniqueGoes (T : ℕ) (new : List ℕ) : Type 0 where
     pub later : Pictures others (record s { uniques = with_unique s.uniques T None }) new

@@ -1,13 +1,14 @@
--- What calls make of an image that have a cell name a frozen object, whatever others there are.
+-- Calls on an image that make a shared cell refer to a frozen object, whatever other frozen objects
+-- there are.
 --     SharesCell allocator old new table p q
---                                        the cell at p comes to name what the one at q names
+--                                        the cell at p now refers to the object of the cell at q
 --     OnCell allocator old table p object claim
---                                        this holds of the cell at p, which goes with the object,
---                                        where a number is left for that
+--                                        the claim is true of the cell at p, which has the object's
+--                                        type, if a number is left for a frozen object
 --     FreezesObject allocator old new table p object
---                                        the object becomes frozen, and the cell at p names it
+--                                        the object becomes frozen, and the cell at p refers to it
 --     FindsNoRoom allocator old new table p object
---                                        nothing is free that the object could move to
+--                                        no free block is large enough for the object to move to
 use Rattle.std.specs.Prelude.{◌≡◌, ℕ, suc, ◌+◌, ◌<◌, ◌≤◌, ◌^◌, List, [], ◌∷◌, ◌++◌, length, Some}
 use Rattle.std.specs.List.{AllByRecursion}
 use Rattle.seg_spec.specs.Block.{block_of}
@@ -24,7 +25,7 @@ use Rattle.seg_spec.specs.Sharing.{FrozenBeside, Freezes}
 use Rattle.seg_spec.specs.Types.{Form, Table, form_at, size}
 use Rattle.seg_spec.specs.Value.{Value}
 
--- both cells share objects of one type; what the cell named before is released
+-- both cells share objects of one type; the object that p shared before is released
 abbrev pub SharesCell : ℕ → List ℕ → List ℕ → Table → Place → Place → Type 0
 SharesCell allocator old new table p q =
     (T next : ℕ) (v x : Value) (blocks others : List ℕ) (theirs : ℕ → List ℕ)
@@ -39,8 +40,8 @@ SharesCell allocator old new table p q =
     ClearsPlace old new table p x blocks [] theirs now
     (left (names_in v) (raised_by (names_in x) now))
 
--- what may hold of the type of the object, the values of the cell and the object, the blocks that
--- they own and those of the frozen objects, and these
+-- a property of the type of the object, the values of the cell and the object, the blocks that they
+-- own, and the frozen objects with their blocks
 abbrev pub CellClaim : Type 1
 CellClaim =
     (T : ℕ) (v x : Value) (blocks inside : List ℕ) (theirs : ℕ → List ℕ) (now : List Frozen) →
@@ -58,13 +59,13 @@ OnCell allocator old table p object claim =
     suc (word old next_word) < 2 ^ 32 →
     claim T v x blocks inside theirs now
 
--- what the cell named before is released
+-- the object that the cell shared before is released
 abbrev pub FreezesObject : ℕ → List ℕ → List ℕ → Table → Place → ℕ → Type 0
 FreezesObject allocator old new table p object =
     OnCell allocator old table p object (λ T v x blocks inside theirs now.
     Freezes allocator old new table p T object x inside blocks (names_in v) theirs now)
 
--- nothing changed then
+-- out of memory: nothing changes
 abbrev pub FindsNoRoom : ℕ → List ℕ → List ℕ → Table → Place → ℕ → Type 0
 FindsNoRoom allocator old new table p object =
     OnCell allocator old table p object (λ T v x blocks inside theirs now.

@@ -1,4 +1,5 @@
--- What is known without what is only read: the rules of operations that leave frozen objects alone find the same there, and let no reference that is only read begin.
+-- Knowledge without references that are only read: the rules of operations without frozen objects
+-- give the same result there, and create no such reference.
 use Rattle.std.proofs.Common.{◌≡◌, ℕ, zero, suc, ℤ, List, [], ◌∷◌, Option, Some, None, refl, sym, ◌∙◌, ap, subst, inl, inr, true, false, Bool}
 use Rattle.std.specs.Prelude.{⊤, Ok, Err, not, ◌==◌, nat_abs, slice_get, slice_set, option_and_then, if◌then◌else◌}
 use Rattle.seg_spec.specs.Types.{Form, Table, form_at}
@@ -60,9 +61,9 @@ bare_owner (RegisterType.Reference x t) = choose (is_frozen x)
     choose true = refl
     choose false = refl
 
--- ---- what is known to be only read
+-- ---- references that are only read
 
--- what is only read then was only read before, by the same reference
+-- a reference that is only read afterwards was there before, and was only read
 abbrev pub FrozenFrom : RegisterTypes → RegisterTypes → Type 0
 FrozenFrom before after = (r : ℕ) (x : Class) (t : ℕ) → known after r ≡ RegisterType.Reference (Class.Frozen x) t → known before r ≡ RegisterType.Reference (Class.Frozen x) t
 
@@ -79,7 +80,7 @@ frozen_ended class (RegisterType.Reference y u) x t e = choose (same_class class
 pub from_ended : (class : Class) (before ks : RegisterTypes) → FrozenFrom before ks → FrozenFrom before (ended class ks)
 from_ended class before ks f r x t e = f r x t (frozen_ended class (known ks r) x t (sym (known_ended class ks r) ∙ e))
 
--- what a register may come to hold
+-- anything but a reference that is only read
 abbrev pub IsBare : RegisterType → Type 0
 IsBare k = bare_one k ≡ k
 
@@ -97,7 +98,8 @@ from_others class b before ks bare_b f = from_set b (known ks b) before (ended (
 
 -- ---- rules
 
--- Where the one finds what is known then, the other finds the same without what is only read, of which none has begun.
+-- If the first rule gives a result, the second gives the same without references that are only
+-- read, of which none is new.
 pub record Bares (before : RegisterTypes) (r bared : Rule) : Type 0 where
   pub same : (good bad : RegisterTypes) → r ≡ Ok (good, bad) → (bared ≡ Ok (bare good, bare bad)) × FrozenFrom before good × FrozenFrom before bad
 
@@ -209,7 +211,7 @@ name_bare (Some (Constant.Text bytes)) k u e = cc
 name_bare (Some (Constant.Name name)) k u e = e
 name_bare (Some (Constant.Family prefix)) k u e = integer_bare k u e
 
--- where the operation leads on from what b is known to be, b isn't only read
+-- if the operation uses register b, b isn't only read
 abbrev pub BareThere : Operation → RegisterType → Type 0
 BareThere Operation.Mov k = IsBare k
 BareThere Operation.OutStr k = IsBare k
@@ -253,14 +255,14 @@ module _ (types : Table) (constants : List Constant) (ks : RegisterTypes) (b : �
   opens_here : (a : ℕ) (k : RegisterType) → IsBare k → After (opens a k ks) (opens a k (bare ks))
   opens_here a k i = opens_bare ks a k ks i itself
 
-  -- where the class's other references have ended
+  -- after the class's other references have ended
   opens_others : IsBare (known ks b) → (a : ℕ) (k : RegisterType) (class : Class) → IsBare k → After (opens a k (others_ended class b ks)) (opens a k (others_ended class b (bare ks)))
   opens_others b_is a k class i = subst (λ es. After (opens a k (others_ended class b ks)) (opens a k es)) (bare_others class b ks) (opens_bare ks a k (others_ended class b ks) i (others_from b_is class))
 
   gives_others : IsBare (known ks b) → (a : ℕ) (k : RegisterType) (class : Class) → IsBare k → After (gives a k (others_ended class b ks)) (gives a k (others_ended class b (bare ks)))
   gives_others b_is a k class i = subst (λ es. After (gives a k (others_ended class b ks)) (gives a k es)) (bare_others class b ks) (gives_bare ks a k (others_ended class b ks) i (others_from b_is class))
 
-  -- what is needed
+  -- the tests of registers
   needs_integer : (r : ℕ) (f g : Rule) → After f g → After (typed.◌>>=◌ (integer_needed (known ks r)) (λ _. f)) (typed.◌>>=◌ (integer_needed (known (bare ks) r)) (λ _. g))
   needs_integer r f g h = binds ks (integer_needed (known ks r)) (integer_needed (known (bare ks) r)) (λ _. f) (λ _. g) (λ u e. (ap integer_needed (known_bare ks r) ∙ integer_bare (known ks r) u e, h))
 
@@ -295,7 +297,7 @@ module _ (types : Table) (constants : List Constant) (ks : RegisterTypes) (b : �
   known_here : After (known_after ks) (known_after (bare ks))
   known_here = after_bares ks ks itself
 
-  -- where references of a class have ended
+  -- after the references of a class have ended
   ended_from : (class : Class) → FrozenFrom ks (ended class ks)
   ended_from class = from_ended class ks ks itself
 

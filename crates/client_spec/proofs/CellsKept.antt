@@ -1,4 +1,5 @@
--- Cells that share: a row leaves them as long as it ends no reference of their class, so what is only read through them stays known.
+-- Shared cells: a row that ends no reference of their class leaves them unchanged, so references
+-- through them stay valid.
 use Rattle.std.proofs.Common.{◌≡◌, ℕ, ℤ, pos, List, [], ◌∷◌, ◌++◌, length, Bool, true, false, Option, Some, None, refl, sym, ◌∙◌, ap, subst, inl, inr}
 use Rattle.std.specs.Prelude.{⊤, ◌⊎◌, Ok, Err, not, slice_get, slice_set, slice_index, nat_abs, is_some, option_and_then, ◌==◌, if◌then◌else◌}
 use Rattle.std.specs.Option.{option_map_or}
@@ -29,7 +30,7 @@ use Rattle.client_spec.proofs.Classes.{OneEach, origins_apart, known_ended, stil
 use Rattle.client_spec.proofs.FirstRows.{bind_ok}
 use Rattle.client_spec.proofs.Cases.{reference_is}
 
--- paths of the class that lead to shared cells lead to the same ones then
+-- paths of the class that refer to shared cells refer to equal cells afterwards
 pub record CellsKept (constants : List Constant) (class : Class) (s s' : State) : Type 0 where
   pub types : s'.types ≡ s.types
   pub cells : (q : Path) (U p : ℕ) → InClass constants class q.origin → path_value s q ≡ Some (node (Label.shared U p) nil) → path_value s' q ≡ Some (node (Label.shared U p) nil)
@@ -40,7 +41,7 @@ shared_none U p (Selector.field i) w e = cc
 shared_none U p (Selector.key k) w e = cc
 shared_none U p Selector.content w e = cc
 
--- a leaf is replaced beside it
+-- a leaf outside the cell is replaced
 leaf_beside : (xs ys : List Selector) (v old new : Value) (U p : ℕ) → IsLeaf old → ((V q : ℕ) → old ≡ node (Label.shared V q) nil → ⊥) → values.value_at v xs ≡ Some old → values.value_at v ys ≡ Some (node (Label.shared U p) nil)
     → values.value_at (values.with_value_at xs new v) ys ≡ Some (node (Label.shared U p) nil)
 leaf_beside [] [] v old new U p leaf other e f = absurd (other U p (Some_inj (sym e ∙ f)))
@@ -77,7 +78,7 @@ module _ (constants : List Constant) (one : OneEach constants) (class : Class) w
         ap (λ (o : Option (Value × ℕ)). o >>= λ found. values.value_at found.0 q.selectors) (f q.origin a.0 w a.1) ∙ a.2;
   }
 
-  -- a register that owns nothing gets something
+  -- a register that owns nothing gets a value
   by_register : (s : State) (a : ℕ) (x : Register) → owned_by (register s a) ≡ None → Kept s (set_register s a x)
   by_register s a x free = by_origins s (set_register s a x) refl (λ o y w e. kept o y e)
     where
@@ -89,7 +90,7 @@ module _ (constants : List Constant) (one : OneEach constants) (class : Class) w
         | inr p ↦ ap owned_by p ∙ e
       ]
 
-  -- one that owns an object of another class is let go
+  -- a register that owns an object of another class is emptied
   pub by_release : (s : State) (a : ℕ) (x : Register) → same_class (Class.Register a) (sharing class) ≡ false → Kept s (set_register s a x)
   by_release s a x far = by_origins s (set_register s a x) refl kept
     where
@@ -152,7 +153,7 @@ module _ (constants : List Constant) (one : OneEach constants) (class : Class) w
         | inr p ↦ ap (λ (x : Option Object). x >>= λ z. values.nth z.values i >>= λ v. Some (v, z.type)) p ∙ e
       ]
 
-  -- one of another class loses its object
+  -- a name of another class loses its object
   by_name_gone : (s : State) (name : List ℕ) (k : ℕ) → IsNamedBy (slice_get constants k) name → same_class (Class.Name k) (sharing class) ≡ false → Kept s (record s { names = with_name s.names name None })
   by_name_gone s name k by far = by_origins s (record s { names = with_name s.names name None }) refl kept
     where
@@ -164,7 +165,7 @@ module _ (constants : List Constant) (one : OneEach constants) (class : Class) w
         | inr p ↦ ap (λ (x : Option Object). x >>= λ z. values.nth z.values i >>= λ v. Some (v, z.type)) p ∙ e
       ]
 
-  -- the same of unique objects
+  -- the same for unique objects
   by_new_unique : (s : State) (t : ℕ) (v : Option Value) → s.uniques t ≡ None → Kept s (record s { uniques = with_unique s.uniques t v })
   by_new_unique s t v free = by_origins s (record s { uniques = with_unique s.uniques t v }) refl (λ r y w e. kept r y e)
     where
@@ -216,7 +217,7 @@ module _ (constants : List Constant) (one : OneEach constants) (class : Class) w
   shown s true o f = f
   shown s false o f = none s
 
-  -- register a gets something, where it owns nothing
+  -- register a, which owns nothing, gets a value
   answered : (s t : State) (code : Answer) (a : ℕ) (x : Register) → Kept s t → Keeps s (answer code a x t)
   answered s t code a x h =
       either s (λ _. None) (owned_by (register t a)) (Some (code, set_register t a x)) (λ _ _. none s) (λ free. some s code _ (onward s t (set_register t a x) h (by_register t a x free)))
@@ -299,7 +300,7 @@ module _ (constants : List Constant) (one : OneEach constants) (class : Class) w
   sees s a p None = given s _ a _
   sees s a p (Some v) = given s success a _
 
-  -- what is put is of another class
+  -- the place of a put is in another class
   module _ (s : State) (p : Path) (old : Value) (there : path_value s p ≡ Some old) (d : Class) (within : InClass constants d p.origin) (far : same_class (sharing d) (sharing class) ≡ false) where
     put : (new : Value) → Kept s (put_at s p new)
     put new = by_put s p old new d there within far
@@ -326,7 +327,7 @@ module _ (constants : List Constant) (one : OneEach constants) (class : Class) w
     takes a t None = given s _ a _
     takes a t (Some v) = given_put a _ _
 
-  -- a number or a text is put where one was
+  -- a number or a text replaces one
   number_of : (v : Value) (k : ℤ) → number_in v ≡ Some k → v ≡ Int k
   number_of (node (Label.int l) nil) k e = ap Int (Some_inj e)
   number_of v k e = cc
@@ -359,10 +360,10 @@ module _ (constants : List Constant) (one : OneEach constants) (class : Class) w
       let k = bind_some (integer_in x) (λ k. Some (prefix ++ 35 ∷ signed_decimal k)) name e in
       (k.0, sym (Some_inj k.2))
 
-  -- ---- rows, by what their rules say
+  -- ---- rows, from their rules
 
   module _ (types : Table) (ks : RegisterTypes) (s : State) (h : IsAsKnown types constants ks s) (b : ℕ) where
-    -- b's class is another one
+    -- register b has another class
     abbrev IsFar : Type 0
     IsFar = (x : Class) (t : ℕ) → known ks b ≡ RegisterType.Reference x t → same_class (sharing x) (sharing class) ≡ false
 
@@ -382,7 +383,7 @@ module _ (constants : List Constant) (one : OneEach constants) (class : Class) w
     Spared Operation.DeleteKey c number = IsFar
     Spared operation c number = ⊤
 
-    -- what a rule needs of b
+    -- what a rule needs of register b
     record Far (p : Path) : Type 0 where
       its : Class
       within : InClass constants its p.origin
@@ -466,7 +467,7 @@ module _ (constants : List Constant) (one : OneEach constants) (class : Class) w
     cells_kept Operation.NextKey a c number room good bad e far = bound s (path_of s b) _ (λ p _. bound s (integer_at s c) _ (λ k _. bound s (path_value s p >>= entries_in) _ (λ es _. key s a _)))
     cells_kept op a c number room good bad e far = absurd (let f : Err typed.Reason.WrongOperand ≡ Ok (good, bad) = e in cc)
 
--- ---- what stays known to be only read is of no class that a row ends
+-- ---- references that stay valid have no class that a row ends
 
 left_of : (E : Class) (ks : RegisterTypes) (r : ℕ) (x : Class) (T : ℕ) → known (ended E ks) r ≡ RegisterType.Reference (Class.Frozen x) T → same_class E (sharing (Class.Frozen x)) ≡ false
 left_of E ks r x T e = (still_known E (Class.Frozen x) (known ks r) T (sym (known_ended E ks r) ∙ e)).1
@@ -475,7 +476,7 @@ itself : (ks : RegisterTypes) → FrozenFrom ks ks
 itself ks r x t e = e
 
 module _ (types : Table) (constants : List Constant) (ks : RegisterTypes) (b : ℕ) (class : Class) where
-  -- one of both is still known so
+  -- a reference that is only read is still known in one of the two parts
   abbrev pub StillRead : RegisterTypes → RegisterTypes → Type 0
   StillRead good bad = (r : ℕ) × (T : ℕ) × ((known good r ≡ RegisterType.Reference (Class.Frozen class) T) ⊎ (known bad r ≡ RegisterType.Reference (Class.Frozen class) T))
 
@@ -483,7 +484,7 @@ module _ (types : Table) (constants : List Constant) (ks : RegisterTypes) (b : �
   read_in es good bad f g (r, T, inl e) = (r, T, f r class T e)
   read_in es good bad f g (r, T, inr e) = (r, T, g r class T e)
 
-  -- where a class ended
+  -- after a class has ended
   not_ended : (E : Class) (es good bad : RegisterTypes) → FrozenFrom (ended E es) good → FrozenFrom (ended E es) bad → StillRead good bad → same_class E (sharing (Class.Frozen class)) ≡ false
   not_ended E es good bad f g still = let k = read_in (ended E es) good bad f g still in left_of E es k.0 class k.1 k.2
 
@@ -496,7 +497,7 @@ module _ (types : Table) (constants : List Constant) (ks : RegisterTypes) (b : �
   after_from : (es good bad : RegisterTypes) → known_after es ≡ Ok (good, bad) → FrozenFrom es good × FrozenFrom es bad
   after_from es good bad e = let q = (after_bares es es (itself es)).same good bad e in (q.1, q.2)
 
-  -- the class of b ended but for b
+  -- after the class of b has ended, except for b
   far_of : (x : Class × ℕ) (good bad : RegisterTypes) → IsBare (known ks b) → reference_needed (known ks b) ≡ Ok x → FrozenFrom (others_ended x.0 b ks) good → FrozenFrom (others_ended x.0 b ks) bad → StillRead good bad
       → (y : Class) (t : ℕ) → known (bare ks) b ≡ RegisterType.Reference y t → same_class (sharing y) (sharing (Class.Frozen class)) ≡ false
   far_of x good bad b_is e f g still y t is =
@@ -511,7 +512,7 @@ module _ (types : Table) (constants : List Constant) (ks : RegisterTypes) (b : �
     abbrev IsSpared : Operation → ℕ → ℤ → Type 0
     IsSpared = Spared constants one (Class.Frozen class) types (bare ks) s h b
 
-    -- where b's class ends but for b, and register a gets something
+    -- after b's class has ended, and register a has a value
     opens_far : {A : Type 0} (f : Form → Option A) (rest : Class × ℕ → A → Rule) (good bad : RegisterTypes) → IsBare (known ks b)
         → ((x : Class × ℕ) (y : A) → reference_needed (known ks b) ≡ Ok x → rest x y ≡ Ok (good, bad) → FrozenFrom (others_ended x.0 b ks) good × FrozenFrom (others_ended x.0 b ks) bad)
         → typed.◌>>=◌ (reference_needed (known ks b)) (λ x. typed.◌>>=◌ (form_needed f types x.1) (rest x)) ≡ Ok (good, bad) → StillRead good bad

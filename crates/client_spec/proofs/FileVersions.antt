@@ -1,4 +1,4 @@
--- The version of a client's file is the first that images with its types may have.
+-- The version of a client's file is the first version of images that may have its types.
 use Rattle.std.proofs.Common.{◌≡◌, ℕ, ◌≤◌, zero, suc, [], ◌∷◌, ap, refl, arith}
 use Rattle.std.specs.Prelude.{Some}
 use Rattle.seg_spec.specs.Header.{sharing_version}
@@ -26,7 +26,7 @@ of_its_version [] T form at = cc
 of_its_version (first ∷ forms) zero form at = let same = ap version_of (Some_inj at) in omega arith
 of_its_version (first ∷ forms) (suc T) form at = let here = of_its_version forms T form at in omega arith
 
--- no version before it will do
+-- no earlier version has all of them
 pub first_version : (version : ℕ) (table : Table) → 1 ≤ version → AreOfVersion version table → file_version table ≤ version
 first_version version [] some are = some
 first_version version (first ∷ forms) some are =
@@ -34,6 +34,6 @@ first_version version (first ∷ forms) some are =
     let all = first_version version forms some (record { each = λ T form at. are.each (suc T) form at }) in
     omega arith
 
--- images that may have frozen objects may have any types
+-- images with frozen objects may have any types
 pub of_sharing : (table : Table) → AreOfVersion sharing_version table
 of_sharing table = record { each = λ T form at. (a_version form).1 }

@@ -1,4 +1,4 @@
--- What a place holds has the shape of its type, whatever numbers its bytes are.
+-- The value in a place has the shape of its type, whatever numbers its bytes are.
 use Rattle.std.proofs.Common.{◌≡◌, ℕ, ◌+◌, List, length, map, Option, Some, None, arith, refl, ap, sym, ◌∙◌, subst}
 use Rattle.std.proofs.lemmas.List.{length-map}
 use Rattle.seg_spec.specs.Pointer.{target}
@@ -10,7 +10,7 @@ use Rattle.seg_spec.proofs.Fits.{length-spaced, types_of, types_of-fields, lengt
 use Rattle.seg_spec.proofs.Paths.{count_is}
 use Rattle.client_spec.specs.Shape.{IsLabel, HasShape, HaveShapes}
 
--- the label is one of the form, and the places inside have the types of the values inside
+-- the label belongs to the form, and the places inside have the types of the values inside
 record OpensShaped (form : Form) (opened : Opened) : Type 0 where
   label : IsLabel form opened.label (length opened.parts)
   types : types_of opened.parts ≡ types_inside form (length opened.parts)

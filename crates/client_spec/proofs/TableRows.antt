@@ -1,9 +1,9 @@
 -- The instruction table: each operation has its own row, number and word.
 --     own_row                        the row of an operation is its own
---     same_by_number, same_by_word   operations of one number, or of one word, are the same
+--     same_by_number, same_by_word   operations with the same number, or the same mnemonic, are equal
 --     number_range                   the numbers are those of the rows, from 1 on
---     entry_at, at_number            an entry of the table, where the program has it
---     entry_own                      an entry of the table is that of its operation
+--     entry_at, at_number            an entry of the table, in the program's array
+--     entry_own                      an entry of the table is its operation's
 use Rattle.std.proofs.Common.{◌≡◌, ℕ, zero, suc, ◌+◌, ◌-◌, ◌<◌, ◌≤◌, List, [], ◌∷◌, length, map, refl, sym, ap, ◌∙◌, arith}
 use Rattle.std.specs.Prelude.{slice_index_or, if◌then◌else◌}
 use Rattle.std.proofs.lemmas.List.{get_or_default, length-map}
@@ -24,7 +24,7 @@ pub same_by_number : (a b : Operation) → opcode a ≡ opcode b → a ≡ b
 unfolding operation_at
 same_by_number a b e = sym (own_row a) ∙ ap operation_at e ∙ own_row b
 
--- the operation of a word, by a search of the table
+-- the operation with a mnemonic, by a search of the table
 operation_in : List Entry → List ℕ → Operation
 operation_in [] word = no_entry.1.operation
 operation_in (entry ∷ rest) word = if same_name entry.0 word then entry.1.operation else operation_in rest word
@@ -41,7 +41,7 @@ pub number_range : (o : Operation) → (1 ≤ opcode o) × (opcode o ≤ 52)
 number_range Operation.Const = (omega arith, omega arith)
 number_range o = (omega arith, omega arith)
 
--- ---- the table where the program has it
+-- ---- the table in the program
 
 index_map : {A B : Type 0} (f : A → B) (xs : List A) (k : ℕ) (d : A) → slice_index_or (map f xs) k (f d) ≡ f (slice_index_or xs k d)
 index_map f [] k d = refl
@@ -59,7 +59,7 @@ at_number view rows same o n d e =
     let range = number_range o in
     entry_at view rows same (n - 1) d (omega arith) ∙ ap (λ m. slice_index_or entries (m - 1) no_entry) e
 
--- numbers that count up
+-- ascending numbers
 counted : ℕ → ℕ → List ℕ
 counted n zero = []
 counted n (suc m) = n ∷ counted (suc n) m
@@ -90,7 +90,7 @@ entry_own k h =
     let place : opcode (slice_index_or entries k no_entry).1.operation - 1 ≡ k = omega arith in
     ap (λ i. slice_index_or entries i no_entry) place
 
--- the operation of an entry has its number, and its word
+-- the operation of an entry has its number and its mnemonic
 pub operation_number : {A : Type 0} (view : A → Entry) (rows : List A) → map view rows ≡ entries → (k : ℕ) (d : A) → k < 52 → opcode (view (slice_index_or rows k d)).1.operation ≡ k + 1
 operation_number view rows same k d h = ap (λ entry. opcode entry.1.operation) (entry_at view rows same k d h) ∙ number_at k h
 
@@ -99,7 +99,7 @@ operation_word view rows same k d h =
     let here = entry_at view rows same k d h in
     ap (λ entry. mnemonic entry.1.operation) here ∙ ap (λ entry. entry.0) (entry_own k h) ∙ sym (ap (λ entry. entry.0) here)
 
--- a word that no row has is that of no operation
+-- a word in no row is no operation's mnemonic
 pub no_word : {A : Type 0} (view : A → Entry) (rows : List A) → map view rows ≡ entries → (word : List ℕ) → ((d : A) (k : ℕ) → k < 52 → (view (slice_index_or rows k d)).0 ≡ word → ⊥) → (o : Operation) → mnemonic o ≡ word → ⊥
 no_word view [] same word none o e = cc
 no_word view (row ∷ rows) same word none o e =

@@ -1,4 +1,5 @@
--- Outcomes of rows from a plain state and from its trees: what rows are made of gives the same answer and the trees of the same state.
+-- Outcomes of rows from a state and from its unfolded state: the parts of rows give the same
+-- answer, and the unfolded next state.
 use Rattle.std.proofs.Common.{◌≡◌, ℕ, ℤ, pos, List, Bool, true, false, Option, Some, None, refl, sym, ◌∙◌, ap, subst}
 use Rattle.std.specs.Prelude.{⊤, option_map, if◌then◌else◌}
 use Rattle.std.specs.Option.{option_map_or}
@@ -11,7 +12,7 @@ use Rattle.client_spec.specs.Answer.{Answer, Outcome, success, bad_alloc, answer
 use Rattle.client_spec.specs.Trees.{unfolded_register, unfolded_state}
 use Rattle.client_spec.proofs.UnfoldedStates.{set_register_same, unfolded_owned, owned_same, integer_same, path_same, value_same, form_same, put_same, name_same}
 
--- where one finds something, the other finds the same, as g makes it
+-- if the first has a value, the second has its image under g
 abbrev pub Finds : {A B : Type 0} → (A → B) → Option A → Option B → Type 0
 Finds g None y = ⊤
 Finds g (Some a) y = y ≡ Some (g a)
@@ -30,7 +31,7 @@ finds_then g h None y f k e rest = tt
 finds_then g h (Some a) y f k e rest = subst (λ z. Finds h (f a) (z >>= k)) (sym e) (rest a refl)
 
 module _ (m : ℕ → Value) where
-  -- where there is a row from the plain state, there is the same from the trees
+  -- if there is a row from the state, there is the same row from the unfolded state
   abbrev pub Same : Outcome → Outcome → Type 0
   Same None o = ⊤
   Same (Some r) o = o ≡ Some (r.0, unfolded_state m r.1)
@@ -39,14 +40,14 @@ module _ (m : ℕ → Value) where
   same_is None y e a t f = cc
   same_is (Some r) y e a t f = e ∙ ap (option_map (λ (z : Answer × State). (z.0, unfolded_state m z.1))) f
 
-  -- ---- ways that rows take
+  -- ---- control flow in rows
 
   pub bind_same : {A B : Type 0} (g : A → B) (x : Option A) (y : Option B) (f : A → Outcome) (k : B → Outcome)
       → Finds g x y → ((a : A) → x ≡ Some a → Same (f a) (k (g a))) → Same (x >>= f) (y >>= k)
   bind_same g None y f k e rest = tt
   bind_same g (Some a) y f k e rest = subst (λ z. Same (f a) (z >>= k)) (sym e) (rest a refl)
 
-  -- both find the same
+  -- both give the same
   pub along : {A : Type 0} (x y : Option A) (f k : A → Outcome) → y ≡ x → ((a : A) → Same (f a) (k a)) → Same (x >>= f) (y >>= k)
   along x y f k e rest = bind_same (λ a. a) x y f k (finds_equal x y e) (λ a _. rest a)
 
@@ -75,7 +76,7 @@ module _ (m : ℕ → Value) where
       subst (λ o. Same (answer code a x s) (option_map_or (λ _. None) o (Some (code, set_register (unfolded_state m s) a (unfolded_register m x)))))
       (sym (owned_same m s a)) (answer_by code a x s (owned_by (register s a)))
 
-  -- from a state that is the trees of the other
+  -- from a state that is the unfolded one
   pub give_same : (a : ℕ) (x : Register) (s t : State) → t ≡ unfolded_state m s → Same (give a x s) (give a (unfolded_register m x) t)
   give_same a x s t e = subst (λ z. Same (give a x s) (give a (unfolded_register m x) z)) (sym e) (answer_same success a x s)
 
@@ -98,7 +99,7 @@ module _ (m : ℕ → Value) where
   room_same true a s x y e = e
   room_same false a s x y e = fail_same a bad_alloc s
 
-  -- ---- what rows begin with
+  -- ---- the beginnings of rows
 
   module _ (s : State) where
     abbrev trees : State
@@ -119,7 +120,7 @@ module _ (m : ℕ → Value) where
         → Same ((o >>= λ c. constant_name c (register s r)) >>= f) ((o >>= λ c. constant_name c (register trees r)) >>= k)
     from_name o r f k rest = along (o >>= λ c. constant_name c (register s r)) (o >>= λ c. constant_name c (register trees r)) f k (name_same m s r o) rest
 
-    -- a number that the form of what a path leads to gives
+    -- a value computed from the form at a path
     pub from_form : {A : Type 0} (p : Path) (g : Form → Option A) (f k : A → Outcome) → ((x : A) → Same (f x) (k x)) → Same ((path_form s p >>= g) >>= f) ((path_form trees p >>= g) >>= k)
     from_form p g f k rest = along (path_form s p >>= g) (path_form trees p >>= g) f k (ap (λ o. o >>= g) (form_same m s p)) rest
 
@@ -130,7 +131,7 @@ module _ (m : ℕ → Value) where
     pub from_value : (p : Path) (f k : Value → Outcome) → ((v : Value) → path_value s p ≡ Some v → Same (f v) (k (replaced m v))) → Same (path_value s p >>= f) (path_value trees p >>= k)
     from_value p f k rest = bind_same (replaced m) (path_value s p) (path_value trees p) f k (value_finds p (path_value s p) refl) rest
 
-    -- what such a value holds
+    -- a part of such a value
     pub from_part : {A B : Type 0} (g : A → B) (p : Path) (part : Value → Option A) (its : Value → Option B) (f : A → Outcome) (k : B → Outcome)
         → ((v : Value) → Finds g (part v) (its (replaced m v))) → ((x : A) (v : Value) → path_value s p ≡ Some v → part v ≡ Some x → Same (f x) (k (g x)))
         → Same ((path_value s p >>= part) >>= f) ((path_value trees p >>= its) >>= k)
@@ -141,6 +142,6 @@ module _ (m : ℕ → Value) where
         by_value (Some v) e =
             subst (λ o. Same (part v >>= f) ((o >>= its) >>= k)) (sym (value_same m s p v e)) (bind_same g (part v) (its (replaced m v)) f k (each v) (λ x there. rest x v e there))
 
-    -- what is put where a path leads
+    -- a put at a path
     pub put_then : (p : Path) (v u w : Value) → path_value s p ≡ Some u → replaced m v ≡ w → put_at trees p w ≡ unfolded_state m (put_at s p v)
     put_then p v u w e f = ap (put_at trees p) (sym f) ∙ sym (put_same m s p v u e)

@@ -1,4 +1,4 @@
--- What values hold: where a value holds something, so does its tree.
+-- Parts of values: if a value has one, so has its unfolded value.
 use Rattle.std.proofs.Common.{ℕ, ℤ, List, Some, refl, ap}
 use Rattle.std.specs.Prelude.{option_map}
 use Rattle.seg_spec.specs.Value.{Label, Value, node, Values, nil, cons}

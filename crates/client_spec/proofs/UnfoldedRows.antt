@@ -1,4 +1,5 @@
--- Rows of operations on registers, input and output, names, unique objects and owners, from a plain state and from its trees.
+-- Rows of operations on registers, input and output, names, unique objects and owners, from a state
+-- and from its unfolded state.
 use Rattle.std.proofs.Common.{◌≡◌, ℕ, ℤ, pos, List, [], ◌∷◌, ◌++◌, Bool, Option, Some, None, refl, sym, ◌∙◌, ap, subst}
 use Rattle.std.specs.Prelude.{option_map, is_some, slice_get, nat_abs, int_lt, ◌==◌, if◌then◌else◌}
 use Rattle.std.specs.Int.{w64, int_wrapping_add, int_wrapping_sub, int_wrapping_mul}

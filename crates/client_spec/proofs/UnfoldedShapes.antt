@@ -1,4 +1,5 @@
--- Trees of values have the shapes of the values, and meanings that agree on what a state names give the same trees.
+-- Unfolded values have the shapes of the values, and copies that agree on a state's cells give the
+-- same unfolded state.
 use Rattle.std.proofs.Common.{◌≡◌, ℕ, suc, List, [], ◌∷◌, map, replicate, Option, Some, None, refl, sym, ◌∙◌, ap, subst, inl, inr, arith}
 use Rattle.std.specs.Prelude.{◌⊎◌, option_map, slice_index_or}
 use Rattle.std.specs.List.{AllByRecursion}
@@ -17,7 +18,7 @@ use Rattle.client_spec.proofs.UnfoldedStates.{unfolds_is, is_unfolds}
 -- ---- shapes
 
 module _ (m : ℕ → Value) (types : Table) where
-  -- what a name means is nothing, or a value of the type owned
+  -- the copy for a cell is nothing, or an owned value of the cell's type
   abbrev pub MeansShape : Place → Type 0
   MeansShape q = (m q.at ≡ Empty) ⊎ ((u : Value) × (m q.at ≡ Full u) × HasShape types q.type u)
 
@@ -37,7 +38,7 @@ module _ (m : ℕ → Value) (types : Table) where
   cell_shape T U e v (inl h) = subst (HasShape types T) (sym h) (Form.shared U, e, omega arith, tt)
   cell_shape T U e v (inr h) = subst (HasShape types T) (sym h.1) (Form.shared U, e, omega arith, (h.2, tt))
 
-  -- the label is one of the form, for as many values
+  -- the label belongs to the form, with that many values inside
   rebuilt : (T : ℕ) (label : Label) (vs : Values) (form : Form) → form_at types T ≡ Some form → IsLabel form label (count vs)
       → HaveShapes types (types_inside form (count vs)) (replaced_each m vs) → HasShape types T (node label (replaced_each m vs))
   unfolding HasShape
@@ -68,13 +69,13 @@ module _ (m : ℕ → Value) (types : Table) where
   pub all_shapes_unfolded : (T : ℕ) (vs : Values) → HaveShapes types (replicate (count vs) T) vs → AllByRecursion MeansShape (names_each vs) → HaveShapes types (replicate (count (replaced_each m vs)) T) (replaced_each m vs)
   all_shapes_unfolded T vs h a = subst (λ n. HaveShapes types (replicate n T) (replaced_each m vs)) (sym (count_replaced m vs)) (shapes_unfolded (replicate (count vs) T) vs h a)
 
--- ---- another meaning of what the state names
+-- ---- other copies for the state's cells
 
 module _ (m m' : ℕ → Value) (plain : State) where
   abbrev pub MeanSame : Place → Type 0
   MeanSame q = m q.at ≡ m' q.at
 
-  -- they agree on the names in all values of the state
+  -- they agree on the cells in all values of the state
   pub record AgreeThere : Type 0 where
     pub names : (name : List ℕ) (o : Object) → plain.names name ≡ Some o → AllByRecursion MeanSame (names_each o.values)
     pub uniques : (T : ℕ) (v : Value) → plain.uniques T ≡ Some v → AllByRecursion MeanSame (names_in v)

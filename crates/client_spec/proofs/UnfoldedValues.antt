@@ -1,4 +1,4 @@
--- Values and lists of values, with what positions mean in the place of shared cells.
+-- Values and lists of values, with copies in place of shared cells.
 use Rattle.std.proofs.Common.{◌≡◌, ℕ, zero, suc, ℤ, List, [], ◌∷◌, ◌++◌, Option, Some, None, refl, sym, ◌∙◌, ap}
 use Rattle.std.specs.Prelude.{option_map, option_and_then, insert, remove}
 use Rattle.seg_spec.specs.Types.{Table}
@@ -7,7 +7,7 @@ use Rattle.seg_spec.specs.Items.{without_last, insert_nth, remove_nth, with_entr
 use Rattle.seg_spec.specs.Shared.{names_in, names_each, replaced, replaced_each}
 use Rattle.seg_spec.proofs.CountedParts.{default_names}
 
--- nothing of two lists, so nothing of either
+-- two lists are empty if their concatenation is
 pub nothing_left : {A : Type 0} (xs ys : List A) → xs ++ ys ≡ [] → xs ≡ []
 nothing_left [] ys e = refl
 nothing_left (x ∷ xs) ys e = cc
@@ -17,7 +17,7 @@ nothing_right [] ys e = e
 nothing_right (x ∷ xs) ys e = cc
 
 module _ (m : ℕ → Value) where
-  -- ---- values that name nothing
+  -- ---- values without shared cells
 
   mutual
     unfolding replaced names_in
@@ -96,7 +96,7 @@ module _ (m : ℕ → Value) where
   change_replaced (Some zero) w (cons v vs) = refl
   change_replaced (Some (suc i)) w (cons v vs) = ap (cons (replaced m v)) (change_replaced (Some i) w vs)
 
-  -- where one is changed, the change is asked of that one alone
+  -- a change of one value needs to be known for that value alone
   pub change_one : (i : ℕ) (f g : Value → Value) (vs : Values) → ((u : Value) → nth vs i ≡ Some u → replaced m (f u) ≡ g (replaced m u))
       → replaced_each m (change_nth (Some i) f vs) ≡ change_nth (Some i) g (replaced_each m vs)
   unfolding replaced
@@ -104,7 +104,7 @@ module _ (m : ℕ → Value) where
   change_one zero f g (cons v vs) e = ap (λ u. cons u (replaced_each m vs)) (e v refl)
   change_one (suc i) f g (cons v vs) e = ap (cons (replaced m v)) (change_one i f g vs e)
 
-  -- ---- a value that a selector leads into names nothing by itself
+  -- ---- a value with parts is no shared cell
 
   pub node_replaced : (label : Label) (vs : Values) (x : Selector) (i : ℕ) → index_of label x ≡ Some i → replaced m (node label vs) ≡ node label (replaced_each m vs)
   unfolding replaced

@@ -1,5 +1,6 @@
--- What is known of registers without what is only read:
---     bare_one, bare    of one register, and of all: a reference that is only read isn't known
+-- The verifier's knowledge of registers without references that are only read (references into
+-- frozen objects).
+--     bare_one, bare    of one register, and of all: such a reference is forgotten
 use Rattle.std.specs.Prelude.{if◌then◌else◌, map}
 use Rattle.client_spec.specs.Typed.{RegisterType, RegisterTypes, is_frozen}
 

@@ -1,9 +1,12 @@
--- Clients on an image, as a whole: what comes of them, or why none of them runs.
---     CanRun image texts room base moves                  the clients are accepted on a sound
---                                                         image that has a place
---     IsOutcome image texts input room base moves lefts   so they are, and ran
---     IsRefusalOf image texts room base moves refusal     why they weren't, where all that is
---                                                         looked at before it is right
+-- What a list of clients does to an image, or why none of them runs. These are the statements about
+-- the whole library.
+--     CanRun image texts room base moves                  the image is sound and has a place, the
+--                                                         moves are allowed, and the clients are
+--                                                         accepted
+--     IsOutcome image texts input room base moves lefts   the clients can run, and these are their
+--                                                         results
+--     IsRefusalOf image texts room base moves refusal     why no client runs; everything that is
+--                                                         tested earlier is right
 use Rattle.std.specs.Prelude.{◌≡◌, ⊤, ℕ, ◌^◌, ◌≤◌, List, [], length, take, Some, slice_get}
 use Rattle.seg_spec.specs.Window.{IsPlace}
 use Rattle.seg_spec.specs.Images.{IsSound, upgraded}
@@ -13,24 +16,24 @@ use Rattle.client_spec.specs.Grammar.{SpellsClient}
 use Rattle.client_spec.specs.OnImages.{Move, Given, Left}
 use Rattle.client_spec.specs.Clients.{IsVerified, AreAccepted, RunClients, table_after, AreMoves, IsFirstBadMove}
 
--- the image has a place in the room
+-- the room has a place for the image at this base
 pub record CanLie (image : List ℕ) (room base : ℕ) : Type 0 where
   pub size : IsImageLength (length image)
   pub room_fits : room ≤ 2 ^ 31
   pub placed : IsPlace room base (length image)
 
--- and the moves have
+-- the moves are allowed
 pub record CanMove (image : List ℕ) (room base : ℕ) (moves : List Move) : Type 0 where
   pub lies : CanLie image room base
   pub fit : AreMoves room (length image) 0 moves
 
--- what the first client is given, where the image has no loose objects
+-- what the first client is given; the image has no loose objects
 abbrev pub given_first : List ℕ → List ℕ → List ℕ → ℕ → List Move → Given
 given_first image host input base moves =
     record { others = []; moves = moves; image = image; host = host; base = base; input = input }
 
--- The clients that the texts spell are accepted, one after the other, on a sound image, which has a
--- place, and the moves have.
+-- The image is sound and has a place, the moves are allowed, and each text is a client that is
+-- accepted after the ones before it.
 pub record CanRun (image : List ℕ) (texts : List (List ℕ)) (room base : ℕ) (moves : List Move) :
     Type 0 where
   pub can_move : CanMove image room base moves
@@ -38,7 +41,7 @@ pub record CanRun (image : List ℕ) (texts : List (List ℕ)) (room base : ℕ)
   pub clients : List Client
   pub accepted : AreAccepted sound.picture.table texts clients
 
--- So they are, and ran on it as it was opened.
+-- The clients can run, and these are their results on the opened image.
 pub record IsOutcome (image : List ℕ) (texts : List (List ℕ)) (input : List ℕ) (room base : ℕ)
     (moves : List Move) (lefts : List Left) : Type 0 where
   pub can_run : CanRun image texts room base moves
@@ -47,7 +50,7 @@ pub record IsOutcome (image : List ℕ) (texts : List (List ℕ)) (input : List 
   pub runs : RunClients can_run.clients
       (given_first (upgraded image) host input base moves) lefts
 
--- why no client runs, in the order in which it is looked for
+-- why no client runs, in the order of the tests
 pub data Refusal : Type 0 where
   no_memory : Refusal
   bad_size : Refusal
@@ -57,7 +60,7 @@ pub data Refusal : Type 0 where
   bad_text : (client : ℕ) → Refusal
   bad_client : (client : ℕ) → Refusal
 
--- text k, where those before it were accepted on a sound image
+-- text k is reached: the image is sound, and the texts before it are accepted
 pub record IsTurnOf (image : List ℕ) (texts : List (List ℕ)) (k : ℕ) (text : List ℕ) : Type 0 where
   pub sound : IsSound image
   pub clients : List Client

@@ -1,9 +1,9 @@
-//! The instruction table: the operations, and what each is. Definitions and code both read it.
+//! The instruction table: the operations and their properties. The program and the definitions both read it.
 
 ghost use Rattle.std.specs.Prelude.{◌≡◌, ◌≢◌, map, IfSome, IfNone};
 ghost use Rattle.client_spec.specs.Operations.{opcode, entries, mnemonic, row_of};
 
-/// What an instruction does. The discriminant is the number that stands for it in a client file.
+/// What an instruction does. The discriminant is the operation's number in a client file.
 #[derive(Debug, Clone, Copy, PartialEq, Eq)]
 pub enum Operation {
     Const = 1,
@@ -63,65 +63,66 @@ pub enum Operation {
 /// The role of an operation in the nesting of code.
 #[derive(Debug, Clone, Copy, PartialEq, Eq)]
 pub enum Role {
-    /// It stands by itself.
+    /// An instruction without parts.
     Plain,
-    /// It opens a success part, which `ELSE`, an else part and `END` follow.
+    /// Opens a success part, which is followed by `ELSE`, an else part and `END`.
     Opener,
-    /// It opens a body, which `END` follows.
+    /// Opens a body, which is followed by `END`.
     Loop,
-    /// It stands between two parts.
+    /// Separates a success part from its else part.
     Else,
-    /// It ends a part.
+    /// Ends an else part or a body.
     End,
 }
 
-/// What an operand is.
+/// What an operand may be.
 #[derive(Debug, Clone, Copy, PartialEq, Eq)]
 pub enum Operand {
     Unused,
     Register,
-    /// A register, or none.
+    /// A register, or 16 for none.
     Optional,
 }
 
-/// What the number of an instruction is.
+/// What an instruction's number means.
 #[derive(Debug, Clone, Copy, PartialEq, Eq)]
 pub enum Number {
     Unused,
-    /// Any number of 32 bits with a sign.
+    /// Any signed number of 32 bits.
     Any,
-    /// The most turns of a loop.
+    /// The most iterations of a loop.
     Turns,
-    /// A type of the client.
+    /// The number of a type of the client.
     TypeId,
-    /// A text of the client.
+    /// The number of a text constant of the client.
     Text,
-    /// A type and a name: `256 * type + constant`. Register b holds the number of a family's name; an exact name has none.
+    /// A type and a name: `256 * type + constant`. The number of a family's member is in register b; for an exact name b is 16
+    /// (none).
     TypedName,
 }
 
-/// What register b or c has to hold.
+/// What register b or c must contain.
 #[derive(Debug, Clone, Copy, PartialEq, Eq)]
 pub enum Need {
     Nothing,
     Int,
-    /// A number, or no register at all.
+    /// A number, or the operand is 16 (none).
     IntOrNone,
     /// A number or a reference.
     Copyable,
     /// An object that the register owns.
     Owner,
-    /// An owned object of the type that register b's `own` or `shared` holds.
+    /// An owned object of the type in register b's `own` or `shared`.
     Content,
     /// A reference to a value of a type of these kinds.
     Reference(Kinds),
-    /// The same, into what may be changed: not into a frozen object.
+    /// The same, but not into a frozen object.
     Changeable(Kinds),
-    /// A reference to a `shared` of the type that register b's holds.
+    /// A reference to a `shared` of the same type as register b's.
     Alike,
 }
 
-/// Kinds of types that an operation works on.
+/// The kinds of types that an operation works on.
 #[derive(Debug, Clone, Copy, PartialEq, Eq)]
 pub enum Kinds {
     Any,
@@ -132,7 +133,7 @@ pub enum Kinds {
     Shared,
     /// `own` or `shared`.
     Holder,
-    /// A struct that has the field of the instruction's number.
+    /// A struct that has a field with the instruction's number.
     Struct,
     /// `vec` or `list`.
     Sequence,
@@ -153,39 +154,40 @@ pub enum Gives {
     Nothing,
     /// A number.
     Int,
-    /// What is known of register b.
+    /// The same as register b.
     Copy,
     /// A reference to an object of the name.
     Named,
-    /// A reference to the unique instance of the type.
+    /// A reference to the type's unique object.
     Unique,
     /// A new object of the type.
     Owner,
     /// A reference to the object that register b owns.
     Owned,
-    /// The object that register b's `own` held.
+    /// The object that was in register b's `own`.
     Content,
-    /// A reference to a part of what register b leads to, or the byte of a text. Behind a `shared` it is one into a frozen object.
+    /// A reference to a part of the value that register b refers to, or the byte of a text. Through a `shared` it is a reference
+    /// into a frozen object.
     Part,
-    /// Nothing, and of register b nothing any more.
+    /// Nothing, and register b becomes undefined.
     Forgotten,
 }
 
-/// Which references end, before register a is set.
+/// The references that end, before register a is set.
 #[derive(Debug, Clone, Copy, PartialEq, Eq)]
 pub enum Ends {
     Nothing,
-    /// Those of register b's class, but for the one in b.
+    /// Those of register b's class, except the one in b.
     Others,
     /// Those to objects of the name.
     Name,
-    /// Those to the unique instance of the type.
+    /// Those to the type's unique object.
     Unique,
-    /// Those into the object of register b, which the register owns no more.
+    /// Those into the object of register b, which b no longer owns.
     Dropped,
-    /// As `Others`, and those into the object of register c, which the register owns no more.
+    /// As `Others`, and those into the object of register c, which c no longer owns.
     Moved,
-    /// As `Moved`, but in the else part register c owns its object still.
+    /// As `Moved`, but in the else part register c still owns its object.
     Frozen,
 }
 
@@ -193,7 +195,7 @@ pub enum Ends {
 #[derive(Debug, Clone, Copy, PartialEq, Eq)]
 pub struct Row {
     pub operation: Operation,
-    /// The first version of client files that has it.
+    /// The first version of client files that has the operation.
     pub version: u32,
     pub role: Role,
     pub a: Operand,
@@ -206,7 +208,7 @@ pub struct Row {
     pub ends: Ends,
 }
 
-// operation, word, version, role; a, b, c, number; what b and c hold; what a holds afterwards, which references end
+// operation, word, version, role; a, b, c, number; what b and c must contain; what a contains afterwards, which references end
 macro_rules! row {
     ($operation:ident, $word:literal, $version:literal, $role:ident; $a:ident, $b:ident, $c:ident, $number:ident;
      $needs_b:ident $(($kinds:ident))?, $needs_c:ident; $gives:ident, $ends:ident) => {
@@ -232,7 +234,7 @@ macro_rules! row {
 /// The number of operations.
 pub const OPERATIONS: usize = 52;
 
-/// The instruction table, in the order of the operations' numbers: each operation's word in the assembler text, and its row.
+/// The instruction table, in the order of the operations' numbers: each operation's mnemonic and its row.
 pub static ROWS: [(&str, Row); OPERATIONS] = [
     row!(Const, "CONST", 1, Plain; Register, Unused, Unused, Any; Nothing, Nothing; Int, Nothing),
     row!(Mov, "MOV", 1, Plain; Register, Register, Unused, Unused; Copyable, Nothing; Copy, Nothing),
@@ -288,7 +290,6 @@ pub static ROWS: [(&str, Row); OPERATIONS] = [
     row!(Share, "SHARE", 2, Plain; Unused, Register, Register, Unused; Changeable(Shared), Alike; Nothing, Others),
 ];
 
-/// The instruction table.
 fn rows() -> &'static [(&'static str, Row); OPERATIONS]
     ensures { map (λ entry. (entry.0.now, entry.1)) result.now ≡ entries }
 {
@@ -296,14 +297,14 @@ fn rows() -> &'static [(&'static str, Row); OPERATIONS]
 }
 
 impl Operation {
-    /// The number that stands for the operation in a client file, from 1 on.
+    /// The operation's number in a client file, from 1 on.
     pub fn number(self) -> u8
         ensures { result ≡ opcode self }
     {
         self as u8
     }
 
-    /// The operation's word in the assembler text.
+    /// The operation's mnemonic in the assembler text.
     pub fn word(self) -> &'static str
         ensures { result.now ≡ mnemonic self }
     {
@@ -318,7 +319,7 @@ impl Operation {
         rows()[usize::from(self.number()) - 1].1
     }
 
-    /// The operation of a number.
+    /// The operation with a number, or `None` if no operation has it.
     pub fn from_number(number: u8) -> Option<Operation>
         ensures found { IfSome result (λ operation. opcode operation ≡ number) }
         ensures none { IfNone result ((operation : Operation) → opcode operation ≢ number) }
@@ -328,7 +329,7 @@ impl Operation {
         Some(row.operation)
     }
 
-    /// The operation of a word of the assembler text.
+    /// The operation with a mnemonic, or `None` if no operation has it.
     pub fn from_word(word: &[u8]) -> Option<Operation>
         ensures found { IfSome result (λ operation. mnemonic operation ≡ word.now) }
         ensures none { IfNone result ((operation : Operation) → mnemonic operation ≢ word.now) }

@@ -1,4 +1,4 @@
--- A text, and the file that is made of what its lines say.
+-- A text, and the file that is built from its lines.
 use Rattle.std.proofs.Common.{◌≡◌, ℕ, Bool, true, false, List, refl, sym, ap, ◌∙◌, subst}
 use Rattle.std.specs.Prelude.{IsTrue, IsFalse}
 use Rattle.client_spec.specs.Syntax.{Client}
@@ -10,13 +10,13 @@ use Rattle.client_spec.proofs.OneClient.{one_file, spelling_file}
 use Rattle.client_spec.proofs.OneText.{one_pieces, one_text, says}
 use Rattle.client_spec.proofs.TextLaws.{canonical}
 
--- where the file is a client's, the text spells it
+-- if the file is a client's, the text spells that client
 pub text_spells : (text file : List ℕ) (pieces : Pieces) (tree : Client) → Says text pieces → file ≡ file_of pieces → SpellsClient file tree → SpellsInText text tree
 text_spells text file pieces tree said e spells =
     let same = one_file pieces (pieces_of tree) said.each (of_client tree spells.valid) (sym e ∙ spells.spelled ∙ spelling_file tree) in
     record { valid = spells.valid; lines = subst (λ p. EachSpells (meant text) (all_items p)) same said.lines }
 
--- where the text spells a client, the file is its
+-- if the text spells a client, the file is that client's
 pub file_spells : (text file : List ℕ) (pieces : Pieces) (tree : Client) → Says text pieces → file ≡ file_of pieces → SpellsInText text tree → SpellsClient file tree
 file_spells text file pieces tree said e spells =
     record { valid = spells.valid; spelled = e ∙ ap file_of (one_pieces text pieces (pieces_of tree) said (says text tree spells)) ∙ sym (spelling_file tree) }
@@ -26,7 +26,7 @@ pub canonical_file : (text file : List ℕ) (tree client : Client) → SpellsCli
 canonical_file text file tree client spells said valid e =
     spells.spelled ∙ ap client_bytes (one_text text tree client said (subst (λ t. SpellsInText t client) (sym e) (canonical client valid)))
 
--- no client, where the file isn't one's or lacks lines
+-- a file that is wrong or incomplete comes from a text that spells no client
 pub no_client : (is_whole : Bool) (text file : List ℕ) → (IsTrue is_whole → (pieces : Pieces) × Says text pieces × (file ≡ file_of pieces)) → (IsFalse is_whole → (tree : Client) → SpellsInText text tree → ⊥)
     → (IsTrue is_whole → (tree : Client) → SpellsClient file tree → ⊥) → (tree : Client) → SpellsInText text tree → ⊥
 no_client true text file whole cut wrong tree spells = let (pieces, said, e) = whole refl in wrong refl tree (file_spells text file pieces tree said e spells)

@@ -1,4 +1,4 @@
--- The first word of a line tells its section.
+-- The first word of a line determines its section.
 use Rattle.std.proofs.Common.{◌≡◌, ◌⊎◌, ℕ, ◌≤◌, Bool, true, nat_eq, List, ◌∷◌, get_or, refl, sym, ap, ◌∙◌, arith, inl, inr}
 use Rattle.std.specs.Prelude.{codes}
 use Rattle.std.proofs.lemmas.Slice.Eq.{slice_eq-Decides}
@@ -13,7 +13,7 @@ use Rattle.client_text.specs.Outlines.{section_of}
 begins : (line word : List ℕ) (rest : Words) (item : Item) → words_of line ≡ word ∷ rest → SpellsItem line item → word ≡ first_word item
 begins line word rest item e spells = ap first_in (sym e) ∙ first_is line item spells
 
--- the word of an operation begins with an upper case letter
+-- the mnemonic of an operation begins with an upper case letter
 upper : (o : Operation) → get_or (mnemonic o) 0 0 ≤ 90
 upper Operation.Const = omega arith
 upper o = omega arith

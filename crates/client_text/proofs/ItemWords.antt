@@ -1,4 +1,4 @@
--- The words that a line begins with.
+-- The first words of a line.
 use Rattle.std.proofs.Common.{◌≡◌, ◌≢◌, ℕ, Bool, true, false, nat_eq, List, [], ◌∷◌, length, take, drop, ◌++◌, ◌≤◌, refl, sym, ap, ◌∙◌, subst, arith}
 use Rattle.std.specs.Prelude.{codes, ◌<◌, All}
 use Rattle.std.proofs.lemmas.List.{take-append-drop}
@@ -17,7 +17,7 @@ use Rattle.client_text.specs.Items.{IsWords, IsWritten, IsInSomeClient}
 pub other_word : (word slice text : List ℕ) (r : Bool) → r ≡ lib.Pointwise.pointwise nat_eq word slice → slice ≡ text → r ≡ false → word ≢ text
 other_word word slice text r e same f is = not_from_Decides r (slice_eq-Decides Decides-eqb word slice r e) f (is ∙ sym same)
 
--- the forms of one part have five words
+-- no form with one part has another word than these five
 pub no_container : (word : List ℕ) → word ≢ codes "vec" → word ≢ codes "list" → word ≢ codes "flat_map" → word ≢ codes "map" → word ≢ codes "own" → word ≢ codes "shared" → word ≢ codes "struct"
     → (form : Form) (part : ℕ) → type_words form ≡ word ∷ type_word part ∷ [] → ⊥
 no_container word v l f m o h s Form.i64 part e = let l = ap length e in omega arith
@@ -30,7 +30,7 @@ no_container word v l f m o h s (Form.own U) part e = o (sym (tail_of _ _ _ _ e)
 no_container word v l f m o h s (Form.shared U) part e = h (sym (tail_of _ _ _ _ e).0)
 no_container word v l f m o h s (Form.struct Us) part e = s (sym (tail_of _ _ _ _ e).0)
 
--- a line that begins with `type` and goes on with no type
+-- a line that begins with `type` and continues with no valid type
 pub no_type : (line word : List ℕ) (left : Words) → words_of line ≡ word ∷ left → word ≡ codes "type" → ((form : Form) → left ≢ type_words form)
     → (item : Item) → IsWords item → SpellsItem line item → ⊥
 no_type line word left e t none (type_item form) w spells = none form (tail_of word (codes "type") left (type_words form) (sym e ∙ spells)).1
@@ -42,7 +42,7 @@ no_type line word left e t none (constant_item (Constant.Family prefix)) w spell
 no_type line word left e t none (instruction_item i) w spells =
     not_type i.operation (sym (tail_of word (mnemonic i.operation) left _ (sym e ∙ spells)).0 ∙ t)
 
--- a line that begins with `name` and goes on with no name
+-- a line that begins with `name` and continues with no valid name
 pub no_name : (line word : List ℕ) (left : Words) → words_of line ≡ word ∷ left → word ≡ codes "name" → ((name : List ℕ) → length name ≤ 255 → left ≢ name ∷ [])
     → (item : Item) → IsWords item → IsWritten item → SpellsItem line item → ⊥
 no_name line word left e n none (type_item form) w valid spells =
@@ -55,7 +55,7 @@ no_name line word left e n none (constant_item (Constant.Family prefix)) w valid
 no_name line word left e n none (instruction_item i) w valid spells =
     not_name i.operation (sym (tail_of word (mnemonic i.operation) left _ (sym e ∙ spells)).0 ∙ n)
 
--- a line that begins with `family` and goes on with no name
+-- a line that begins with `family` and continues with no valid name
 pub no_family : (line word : List ℕ) (left : Words) → words_of line ≡ word ∷ left → word ≡ codes "family" → ((name : List ℕ) → length name ≤ 255 → left ≢ name ∷ [])
     → (item : Item) → IsWords item → IsWritten item → SpellsItem line item → ⊥
 no_family line word left e f none (type_item form) w valid spells =
@@ -68,7 +68,7 @@ no_family line word left e f none (constant_item (Constant.Family prefix)) w val
 no_family line word left e f none (instruction_item i) w valid spells =
     not_family i.operation (sym (tail_of word (mnemonic i.operation) left _ (sym e ∙ spells)).0 ∙ f)
 
--- a line that begins with an operation's word and goes on as none of its instructions
+-- a line that begins with a mnemonic and continues with no valid operands
 pub no_instruction : (line word : List ℕ) (left : Words) (o : Operation) → words_of line ≡ word ∷ left → word ≢ codes "type" → word ≢ codes "name" → word ≢ codes "family" → mnemonic o ≡ word
     → ((i : code.Instruction) → i.operation ≡ o → IsInSomeClient i → mnemonic o ∷ left ≢ instruction_words i)
     → (item : Item) → IsWords item → IsWritten item → SpellsItem line item → ⊥
@@ -80,7 +80,7 @@ no_instruction line word left o e t n f same none (instruction_item i) w valid s
     let first = (tail_of word (mnemonic i.operation) left _ (sym e ∙ spells)).0 in
     none i (same_by_word i.operation o (sym first ∙ sym same)) valid (ap (λ x. x ∷ left) same ∙ sym e ∙ spells)
 
--- a line that begins with `text ` and goes on with no text
+-- a line that begins with `text ` and continues with no valid text
 text_first : (spelling : List ℕ) → words_of (codes "text " ++ spelling) ≡ codes "text" ∷ words_of spelling
 text_first spelling = refl
 
@@ -99,7 +99,7 @@ no_text line spelling e none (constant_item (Constant.Family prefix)) valid spel
     let z = (tail_of 116 102 _ _ (begins line spelling (codes "family") (prefix ∷ []) e spells)).0 in absurd (omega arith)
 no_text line spelling e none (instruction_item i) valid spells = not_text i.operation (sym (begins line spelling (mnemonic i.operation) _ e spells))
 
--- what is left after a prefix
+-- the rest after a prefix
 pub prefixed : (line prefix rest text : List ℕ) → prefix ≡ text → lib.Pointwise.pointwise nat_eq (take (length prefix) line) prefix ≡ true → rest ≡ drop (length prefix) line → line ≡ text ++ rest
 prefixed line prefix rest text same test left =
     sym (take-append-drop (length prefix) line) ∙ ap (λ xs. xs ++ drop (length prefix) line) ((slice_eq-Decides Decides-eqb _ _ _ refl).0 test ∙ same) ∙ ap (λ xs. text ++ xs) (sym left)

@@ -18,7 +18,7 @@ same_test false false = refl
 at_first : (s t : Bool) (b : ℕ) (line : List ℕ) → (if b == 32 then s else not s) ≡ t → before_space s (b ∷ line) ≡ (if t then 0 else suc (before_space s line))
 at_first s t b line e = ap (λ test. if test then 0 else suc (before_space s line)) e
 
--- where the loop ends, and where it goes on
+-- where the loop ends, and where it continues
 pub stops : (s : Bool) (line : List ℕ) (i : ℕ) → i < length line → before_space s line ≡ i + before_space s (drop i line) → beq (nat_eq (get_or line i 0) 32) s ≡ true → i ≡ before_space s line
 stops s line i within so_far test =
     let here = at_drop_more (before_space s) line i 0 within ∙ at_first s true (get_or line i 0) (drop (i + 1) line) (sym (same_test (nat_eq (get_or line i 0) 32) s) ∙ test) in
@@ -36,7 +36,7 @@ ends s line i following so_far =
 
 -- ---- words
 
--- spaces in front say nothing
+-- spaces before a word don't matter
 skip : (t : Bool) (b : ℕ) (line : List ℕ) → (b == 32) ≡ t → words_of line ≡ words_of (drop (before_space false line) line)
     → words_of (b ∷ line) ≡ words_of (drop (if (if t then false else true) then 0 else suc (before_space false line)) (b ∷ line))
 skip true b line e rest = ap (λ test. if test then words_from [] line else words_from (b ∷ []) line) e ∙ rest
@@ -58,7 +58,7 @@ pub word_goes_on : (c : ℕ) (word line : List ℕ) → words_from (c ∷ word) 
 word_goes_on c word [] = ap (λ w. (c ∷ w) ∷ []) (sym (append-nil word))
 word_goes_on c word (b ∷ line) = word_step (b == 32) c word b line (before_space true line) refl (word_goes_on c (word ++ b ∷ []) line)
 
--- a word and what is after it
+-- a word and the rest after it
 abbrev pub BeginsWithWord : List ℕ → Type 0
 BeginsWithWord line = words_of line ≡ take (before_space true line) line ∷ words_of (drop (before_space true line) line)
 
@@ -78,7 +78,7 @@ pub word_next : (line : List ℕ) → 0 < length (drop (before_space false line)
 word_next [] some = absurd (omega arith)
 word_next (b ∷ line) some = word_after (b == 32) b line refl (word_next line) some
 
--- what is left of a line from a position on
+-- the rest of a line from a position on
 pub rest_from : (line : List ℕ) (n : ℕ) → take (length line - n) (drop n line) ≡ drop n line
 rest_from line n = take_all (length line - n) (drop n line) (let l = length-drop n line in omega arith)
 
@@ -98,14 +98,14 @@ joined a b c n w0 w1 w2 w3 w4 e0 e1 e2 e3 =
     e0 ∙ ap (λ ws. a ++ ws) (e1 ∙ ap (λ ws. b ++ ws) (e2 ∙ ap (λ ws. c ++ ws) e3))
     ∙ sym (append_assoc ((a ++ b) ++ c) n w4 ∙ append_assoc (a ++ b) c (n ++ w4) ∙ append_assoc a b (c ++ (n ++ w4)))
 
--- the words of a struct's types: one that is no type's word isn't among them
+-- a word that is no type's isn't among the words of a struct's types
 pub not_types : (fields types : List ℕ) (word : List ℕ) (rest : Words) → All (λ t. t < 256) types → ((t : ℕ) → t < 256 → word ≡ type_word t → ⊥) → map type_word fields ++ word ∷ rest ≡ map type_word types → ⊥
 not_types [] [] word rest small none e = cc
 not_types [] (t ∷ types) word rest small none e = none t (All-head (λ t. t < 256) t types small) (tail_of word (type_word t) rest (map type_word types) e).0
 not_types (f ∷ fields) [] word rest small none e = cc
 not_types (f ∷ fields) (t ∷ types) word rest small none e = not_types fields types word rest (All-tail (λ t. t < 256) t types small) none (tail_of (type_word f) (type_word t) (map type_word fields ++ word ∷ rest) (map type_word types) e).1
 
--- fields that are few, of types with numbers of a byte
+-- a short list of fields, whose types have numbers that fit in a byte
 pub few_small : (A : Type 0) (types : List ℕ) (fields : Option (List ℕ)) → MatchOption fields A (λ found. found ≡ types) → IfSome fields (λ found. (1 ≤ length found) × (length found ≤ 8)) → All (λ U. U < 256) types
     → IfSome fields (λ found. (1 ≤ length found) × (length found ≤ 8) × All (λ U. U < 256) found)
 few_small A types None same few small = tt

@@ -1,4 +1,4 @@
--- Numbers in a text, as they are printed.
+-- Numbers in a text, in the form in which they are printed.
 use Rattle.std.proofs.Common.{◌≡◌, ℕ, ℤ, pos, negsuc, ◌<◌, ◌^◌, FitsSigned, arith, sym, ◌∷◌, ◌-◌, length, take, drop, subst, List, Some, None, Result, Ok, Err, MatchResult, Bor}
 use Rattle.std.specs.Int.{w32}
 use Rattle.std.specs.Int.Signed.{mag}
@@ -6,7 +6,7 @@ use Rattle.std.specs.Result.{result_ok}
 use Rattle.std.proofs.lemmas.List.{take_all}
 use Rattle.std.specs.Str.{IsUtf8}
 
--- bytes are a text or they aren't
+-- bytes are either UTF-8 or not
 pub is_text : {E : Type 0} (W : E → Type 0) (r : Result (Bor (List ℕ)) E) (x : Bor (List ℕ)) (bytes : List ℕ) → MatchResult r (λ s. (s.now ≡ bytes) × IsUtf8 bytes) W → result_ok r ≡ Some x → x.now ≡ bytes
 is_text W (Ok y) x bytes m some = let a = m.0 in cc
 is_text W (Err e) x bytes m some = cc

@@ -5,9 +5,9 @@ use Rattle.client_text.specs.declared.outline.Section.{Section}
 use Rattle.client_text.specs.declared.outline.Section.TheVariants as section
 use Rattle.client_text.specs.Outlines.{outlined, IsOutline}
 
--- ---- what may stand after lines in order
+-- ---- the sections that may follow lines in order
 
--- the section may stand after so many instructions, of which there are more
+-- a section that follows i of n instructions is an instruction, and i is less than n
 last_next : (i : ℕ) (s : Section) (following : List Section) (n : ℕ) → replicate i section.Instructions ++ s ∷ following ≡ replicate n section.Instructions → (s ≡ section.Instructions) × (i < n)
 last_next zero s following zero e = cc
 last_next zero s following (suc n) e = ((tail_of s section.Instructions following _ e).0, omega arith)
@@ -57,7 +57,7 @@ pub next_of : (t c i : ℕ) (s : Section) (following : List Section) (l m n : �
 next_of t c i s following l m n e =
     next_in t c i s following l m n (sym (regroup (replicate t section.Types) (replicate c section.Constants) (replicate i section.Instructions) (s ∷ following)) ∙ e)
 
--- a type is refused after a constant or code, and after 32 types
+-- a type can't follow a constant or code, or 32 types
 pub no_type : (t c i : ℕ) → (1 ≤ i) ⊎ ((1 ≤ c) ⊎ (32 ≤ t)) → (s : Section) → s ≡ section.Types → (following : List Section) → IsOutline (outlined t c i ++ s ∷ following) → ⊥
 no_type t c i refused s is following outline = here (next_of t c i s following outline.types outline.constants outline.instructions outline.in_order) refused
   where
@@ -68,7 +68,7 @@ no_type t c i refused s is following outline = here (next_of t c i s following o
     here (inr (same, none, no_code, more)) (inr (inl r)) = omega arith
     here (inr (same, none, no_code, more)) (inr (inr r)) = let few = outline.few_types in omega arith
 
--- a constant is refused after code, and after 256 constants
+-- a constant can't follow code, or 256 constants
 pub no_constant : (t c i : ℕ) → (1 ≤ i) ⊎ (256 ≤ c) → (s : Section) → s ≡ section.Constants → (following : List Section) → IsOutline (outlined t c i ++ s ∷ following) → ⊥
 no_constant t c i refused s is following outline = here (next_of t c i s following outline.types outline.constants outline.instructions outline.in_order) refused
   where
@@ -78,7 +78,7 @@ no_constant t c i refused s is following outline = here (next_of t c i s followi
     here (inl (inr (same, none, more))) (inr r) = let few = outline.few_constants in omega arith
     here (inr (same, none, no_code, more)) r = cc
 
--- an instruction is refused after 4096
+-- an instruction can't follow 4096 instructions
 pub no_instruction : (t c i : ℕ) → 4096 ≤ i → (s : Section) → s ≡ section.Instructions → (following : List Section) → IsOutline (outlined t c i ++ s ∷ following) → ⊥
 no_instruction t c i full s is following outline = here (next_of t c i s following outline.types outline.constants outline.instructions outline.in_order)
   where

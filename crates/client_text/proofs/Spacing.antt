@@ -1,4 +1,4 @@
--- The canonical lines of a client's text, from the pieces that are printed.
+-- The canonical lines of a client's text, built from the printed pieces.
 use Rattle.std.proofs.Common.{◌≡◌, ℕ, zero, suc, ◌+◌, ◌<◌, List, [], ◌∷◌, ◌++◌, length, map, take, get_or, refl, sym, ap, ◌∙◌, subst, arith, append_assoc, append-nil, Some, Ok, Err}
 use Rattle.std.specs.Prelude.{codes, flat_map, All, slice_get, Result, OnOk, is_ok, if◌then◌else◌}
 use Rattle.std.proofs.lemmas.List.{take_more, map_push, flat_map_more, length-map, get_or-map}
@@ -20,7 +20,7 @@ pub spaces_two : (xs ys : Words) → with_spaces (xs ++ ys) ≡ with_spaces xs +
 spaces_two [] ys = refl
 spaces_two (x ∷ xs) ys = ap (λ zs. (32 ∷ x) ++ zs) (spaces_two xs ys) ∙ sym (append_assoc (32 ∷ x) (with_spaces xs) (with_spaces ys))
 
--- a line of a word and four groups of words after it
+-- a line from a word and four groups of words
 pub line_is : (word : List ℕ) (a b c n : Words) (old t0 t1 t2 t3 t4 new : List ℕ) → t0 ≡ old ++ word → t1 ≡ t0 ++ with_spaces a → t2 ≡ t1 ++ with_spaces b
     → t3 ≡ t2 ++ with_spaces c → t4 ≡ t3 ++ with_spaces n → new ≡ t4 ++ 10 ∷ [] → new ≡ old ++ (spaced_words ((((word ∷ a) ++ b) ++ c) ++ n) ++ 10 ∷ [])
 line_is word a b c n old t0 t1 t2 t3 t4 new e0 e1 e2 e3 e4 e =
@@ -44,7 +44,7 @@ struct_line words old t0 t1 new e0 e1 e =
     e ∙ ap (λ xs. xs ++ 10 ∷ []) (e1 ∙ ap (λ xs. xs ++ with_spaces words) e0 ∙ append_assoc old (codes "type struct") (with_spaces words) ∙ ap (λ xs. old ++ (codes "type " ++ xs)) (sym (spaced_is (codes "struct") words)))
     ∙ append_assoc old (spaced_words (codes "type" ∷ codes "struct" ∷ words)) (10 ∷ [])
 
--- what a push that succeeds leaves
+-- the text after a push that succeeds
 pub pushed : {T E : Type 0} (r : Result T E) (old more new : List ℕ) → new ≡ (if is_ok r then old ++ more else old) → OnOk r (new ≡ old ++ more)
 pushed (Ok x) old more new e = e
 pushed (Err x) old more new e = tt

@@ -74,7 +74,7 @@ one_version : (items : List Item) (item : Item) → items_version (items ++ item
 one_version [] item = omega arith
 one_version (first ∷ items) item = let more = one_version items item in omega arith
 
--- with the item of the next line
+-- one more line
 pub version_more : (lines left : List (List ℕ)) (items : List Item) (n : ℕ) (line : List ℕ) (before here : ℕ) → EachSpells lines items → drop n lines ≡ line ∷ left
     → before ≡ items_version (take n items) → ((item : Item) → SpellsItem line item → here ≡ item_version item) → max before here ≡ items_version (take (n + 1) items)
 version_more lines left items n line before here spells e so_far is =

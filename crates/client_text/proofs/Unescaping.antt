@@ -16,7 +16,7 @@ not_empty : (b : ℕ) (following s : List ℕ) → SpellsByte b following s → 
 not_empty b following s (inl (f, e)) none = let z : [] ≡ b ∷ following = sym none ∙ e in cc
 not_empty b following s (inr e) none = let z : [] ≡ escaped b ++ following = sym none ∙ e in cc
 
--- what a text is from here on: these bytes, and a tail that the rest spells
+-- the bytes read so far, and a tail that the rest spells
 pub record Reads (spelling bytes rest : List ℕ) : Type 0 where
   pub small : All (λ b. b < 256) bytes
   pub forth : (tail : List ℕ) → SpellsText tail rest → SpellsText (bytes ++ tail) spelling
@@ -40,7 +40,7 @@ further spelling bytes rest b following small reads here = record {
         let one = byte_one b c following left rest small (All-head (λ x. x < 256) c tail below) here there in
         (tail, e ∙ ap (λ x. bytes ++ x ∷ tail) (sym one.0) ∙ sym (append_assoc bytes (b ∷ []) tail), All-tail (λ x. x < 256) c tail below, subst (SpellsText tail) (sym one.1) spells)
 
--- where no byte can be read there is no text
+-- if no byte can be read, the line spells no text
 pub stuck : (spelling bytes rest : List ℕ) → Reads spelling bytes rest → (length rest ≡ 0 → ⊥) → ((b : ℕ) (following : List ℕ) → b < 256 → SpellsByte b following rest → ⊥)
     → (all : List ℕ) → All (λ b. b < 256) all → SpellsText all spelling → ⊥
 stuck spelling bytes rest reads some none all bounded spells = let (tail, e, below, left) = reads.back all bounded spells in ends tail below left
@@ -49,7 +49,7 @@ stuck spelling bytes rest reads some none all bounded spells = let (tail, e, bel
     ends [] below left = some (ap length left)
     ends (b ∷ tail) below (following, left, here) = none b following (All-head (λ x. x < 256) b tail below) here
 
--- a text with more bytes than there is room for
+-- a text with more bytes than a constant may have
 pub too_long : (spelling bytes rest : List ℕ) → Reads spelling bytes rest → (length rest ≡ 0 → ⊥) → 255 ≤ length bytes
     → (all : List ℕ) → length all ≤ 255 → All (λ b. b < 256) all → SpellsText all spelling → ⊥
 too_long spelling bytes rest reads some full all few bounded spells = let (tail, e, below, left) = reads.back all bounded spells in ends tail e left

@@ -1,4 +1,4 @@
--- The items of a valid client may stand in a text, and are in order.
+-- The items of a valid client can be written in a text, and are in order.
 use Rattle.std.proofs.Common.{◌≡◌, ℕ, ◌<◌, List, [], ◌∷◌, ◌++◌, length, map, drop, suc, replicate, get_or, refl, ap, ◌∙◌, subst, arith, append_assoc, All}
 use Rattle.std.proofs.lemmas.List.{map-append}
 use Rattle.std.proofs.lemmas.List.Elements.{All-map, All-append, All-drop, All-head, All-from_recursion}
@@ -97,7 +97,7 @@ in_order client valid = record {
 -- ---- the lines of a valid client
 
 module _ (text : List ℕ) (client : Client) (spells : SpellsInText text client) where
-  -- each line says something of a client
+  -- each line is an item of the client
   pub line_says : (n : ℕ) → n < length (meant text) → ((line : List ℕ) (rest : List (List ℕ)) (item : Item) → drop n (meant text) ≡ line ∷ rest → IsWritten item → SpellsItem line item → ⊥) → ⊥
   line_says n h none =
       let lines = meant text in
@@ -106,7 +106,7 @@ module _ (text : List ℕ) (client : Client) (spells : SpellsInText text client)
       let written = All-head IsWritten next.item next.rest (subst (All IsWritten) next.here (All-drop IsWritten n (items_of client) (all_written client spells.valid))) in
       none (get_or lines n []) (drop (suc n) lines) next.item here written next.spells
 
-  -- no line stands after those that a header counts
+  -- no line comes after the ones that a header counts
   pub none_after : (n : ℕ) (line : List ℕ) (rest : List (List ℕ)) → drop n (meant text) ≡ line ∷ rest → ((items : List Item) → EachSpells (meant text) items → IsOutline (map section_of items) → length items ≡ n) → ⊥
   none_after n line rest here counted =
       let long = not_past (meant text) rest n line here in

@@ -1,4 +1,4 @@
--- The words of an instruction, group by group: each operand's, then the number's.
+-- The words of an instruction in groups: one for each operand, then one for the number.
 use Rattle.std.proofs.Common.{◌≡◌, ℕ, ℤ, pos, negsuc, ◌<◌, ◌≤◌, ◌/◌, ◌%◌, Option, Some, None, IfNone, FitsSigned, List, [], ◌∷◌, ◌++◌, length, sym, ap, ◌∙◌, subst, arith, append_assoc, append-nil}
 use Rattle.std.specs.Prelude.{is_some}
 use Rattle.std.specs.Int.{w32}
@@ -15,13 +15,13 @@ use Rattle.client_spec.specs.Grammar.{IsNumber}
 use Rattle.client_spec.specs.Text.{Words, operand_words, number_words, instruction_words, type_word, constant_word}
 use Rattle.client_spec.proofs.TextWords.{tail_of}
 
--- what a call without a result says, where another result is there as often
+-- what a call without a result implies, if another call has a result equally often
 pub none_given : {A B : Type 0} (r : Option A) (s : Option B) (P Q : Type 0) → is_some s ≡ is_some r → IfNone r P → (P → Q) → IfNone s Q
 none_given r (Some y) P Q same none f = tt
 none_given None None P Q same none f = f none
 none_given (Some x) None P Q same none f = cc
 
--- words that don't begin with a type's and a name's spell no number of both
+-- words that don't begin with a type's and a name's word are no number of both
 pub no_typed_name : (kind : Number) → kind ≡ number.TypedName → (words : Words) → ((t k : ℕ) (rest : Words) → t < 256 → k < 256 → words ≡ type_word t ∷ constant_word k ∷ rest → ⊥)
     → (types : Table) (constants : List Constant) (b : ℕ) (n : ℤ) (rest : Words) → length types ≤ 32 → length constants ≤ 256 → FitsSigned w32 n → IsNumber types constants b kind n
     → words ≡ number_words kind n ++ rest → ⊥
@@ -33,7 +33,7 @@ no_typed_name number.Turns is words none types constants b n rest few names fits
 no_typed_name number.TypeId is words none types constants b n rest few names fits right same = cc
 no_typed_name number.Text is words none types constants b n rest few names fits right same = cc
 
--- two readings of a group leave the same
+-- two readings of a group have the same rest
 pub past_operand : (form : Operand) (m n : ℕ) (u v : Words) → operand_words form m ++ u ≡ operand_words form n ++ v → u ≡ v
 past_operand operand.Unused m n u v e = e
 past_operand operand.Register m n u v e = (tail_of _ _ u v e).1
@@ -47,7 +47,7 @@ past_number number.TypeId m n u v e = (tail_of _ _ u v e).1
 past_number number.Text m n u v e = (tail_of _ _ u v e).1
 past_number number.TypedName m n u v e = (tail_of _ _ u v (tail_of _ _ _ _ e).1).1
 
--- the groups of an instruction by a row, and what stands after them
+-- the groups of an instruction by a row, and the words after them
 abbrev pub groups : Row → Instruction → Words → Words
 groups row i rest = operand_words row.a i.a ++ (operand_words row.b i.b ++ (operand_words row.c i.c ++ (number_words row.number i.number ++ rest)))
 
@@ -65,6 +65,6 @@ grouped o row is words rest i by e =
 pub grouped_alone : (o : Operation) (row : Row) → row ≡ row_of o → (words : Words) (i : Instruction) → i.operation ≡ o → mnemonic o ∷ words ≡ instruction_words i → words ≡ groups row i []
 grouped_alone o row is words i by e = grouped o row is words [] i by (e ∙ sym (append-nil (instruction_words i)))
 
--- the row that an instruction is right by
+-- an instruction is valid by its operation's row
 pub by_row : (o : Operation) (row : Row) → row ≡ row_of o → (i : Instruction) → i.operation ≡ o → row_of i.operation ≡ row
 by_row o row is i by = ap row_of by ∙ sym is

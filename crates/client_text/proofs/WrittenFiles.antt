@@ -1,4 +1,4 @@
--- The file that is made of what a text says, item by item.
+-- The file that is built from a text, item by item.
 use Rattle.std.proofs.Common.{◌≡◌, ℕ, ◌+◌, ◌≤◌, max, zero, suc, List, [], ◌∷◌, ◌++◌, length, map, take, drop, replicate, refl, sym, ap, ◌∙◌, subst, arith, append_assoc, append-nil, All}
 use Rattle.std.specs.Prelude.{flat_map}
 use Rattle.std.proofs.lemmas.List.{flat_map_more, take_all}
@@ -18,7 +18,7 @@ use Rattle.client_text.specs.Outlines.{section_of, items_version, outlined}
 use Rattle.client_spec.specs.Pieces.{IsReadable, meant, Pieces, all_items, file_of, Says}
 use Rattle.client_text.proofs.SpelledLines.{same_count, all_taken, one_more}
 
--- the items of the first lines stand after the start of a file
+-- the file is its start and then the items of the first lines
 pub record Written (lines : List (List ℕ)) (start file : List ℕ) (n : ℕ) : Type 0 where
   pub items : List Item
   pub spelled : EachSpells (take n lines) items
@@ -45,7 +45,7 @@ further lines left start file n line item now written e spells readable bytes = 
 
 -- ---- items in order are pieces
 
--- the first items belong to a section, and are all of one kind
+-- the first items are all of one section
 record First {A : Type 0} (f : A → Item) (n : ℕ) (following : List Section) (items : List Item) : Type 0 where
   pub list : List A
   pub rest : List Item
@@ -130,7 +130,7 @@ bytes_in pieces =
 regroup : (old header types constants code : List ℕ) → (old ++ header) ++ ((types ++ constants) ++ code) ≡ old ++ (((header ++ types) ++ constants) ++ code)
 regroup old header types constants code = simp append_assoc
 
--- the types that stand in front decide the version
+-- the types determine the version
 version_is : (types : Table) (rest : List Item) → items_version (take (length types) (map type_item types ++ rest)) ≡ file_version types
 version_is [] rest = refl
 version_is (form ∷ types) rest = ap (max (version_of form)) (version_is types rest)
@@ -149,7 +149,7 @@ file_is old start v t c i items all e of_types =
     ∙ ap (λ xs. (old ++ header_in pieces) ++ xs) (bytes_in pieces)
     ∙ regroup old (header_in pieces) (flat_map form_bytes pieces.types) (flat_map constant_bytes pieces.constants) (flat_map instruction_bytes pieces.instructions)
 
--- after the last line the file is that of the pieces
+-- after the last line the file is the file of the pieces
 pub ends : (text old start file : List ℕ) (v t c i n : ℕ) → Written (meant text) start file n → drop n (meant text) ≡ [] → n ≤ length (meant text) → start ≡ old ++ header_bytes v t c i → t ≤ 32 → c ≤ 256 → i ≤ 4096
     → ((items : List Item) → EachSpells (meant text) items → v ≡ items_version (take t items))
     → ((items : List Item) → EachSpells (meant text) items → map section_of (take n items) ≡ outlined t c i) → (pieces : Pieces) × Says text pieces × (file ≡ old ++ file_of pieces)

@@ -1,4 +1,5 @@
--- The bytes of the header that says a version, and how many types, constants and instructions follow.
+-- The bytes of a client file's header: magic, version, and the numbers of types, constants and
+-- instructions.
 use Rattle.std.specs.Prelude.{ℕ, List, ◌++◌, codes}
 use Rattle.client_spec.specs.Grammar.{word_bytes}
 

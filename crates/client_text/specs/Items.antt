@@ -1,9 +1,8 @@
--- What a line of a text says.
---     text_item item        an item of the program as the definitions know it
---     IsWritten item        an item that may stand in a client, as far as it is
---                           known without the others
+-- The items of the assembler's lines: types, constants, instructions and marks.
+--     text_item item        the definitions' item for an item of the program
+--     IsWritten item        the item is valid by itself, so some client may have it
 --     item_bytes item       its bytes in a client file
---     IsWords item          its line is words parted by spaces
+--     IsWords item          its line consists of words with spaces between them
 use Rattle.std.specs.Prelude.{⊤, ◌≤◌, ℕ, List, length, FitsSigned}
 use Rattle.std.specs.Int.{w32}
 use Rattle.seg_spec.specs.Types.{Table, IsForm, form_bytes}
@@ -21,7 +20,7 @@ text_item (item.«Type» type) = text.type_item (form_of type)
 text_item (item.Constant kind bytes) = text.constant_item (constant_by kind bytes.items)
 text_item (item.Instruction i) = text.instruction_item (instruction_of i)
 
--- operands and number are right in some client
+-- operands and number are valid in some client
 pub record IsInSomeClient (i : code.Instruction) : Type 0 where
   pub types : Table
   pub constants : List code.Constant
@@ -43,7 +42,6 @@ item_bytes (text.type_item form) = form_bytes form
 item_bytes (text.constant_item constant) = constant_bytes constant
 item_bytes (text.instruction_item i) = instruction_bytes i
 
--- an item whose line is words
 abbrev pub IsWords : text.Item → Type 0
 IsWords (text.constant_item (code.Constant.Text bytes)) = ⊥
 IsWords item = ⊤

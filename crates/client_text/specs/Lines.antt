@@ -1,5 +1,5 @@
 -- The lines of a text.
---     line_length text     how many bytes the first line has
+--     line_length text     the length of the first line in bytes, without its end
 use Rattle.std.specs.Prelude.{ℕ, suc, ◌==◌, if◌then◌else◌, List, [], ◌∷◌}
 
 abbrev pub line_length : List ℕ → ℕ

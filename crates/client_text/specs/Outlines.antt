@@ -1,10 +1,10 @@
--- The sections of a client: how many types, constants and instructions stand in order.
+-- The order of a client's items: first all types, then all constants, then all instructions.
 --     section_of item        the section that an item belongs to
---     items_version items    the version of a file that has these items
---     outlined t c i         so many types, constants and instructions, in order
---     IsOutline sections     they are in order, and as few as a client has
---     outline_of header      what a header counts
---     entry_total header     how many that are
+--     items_version items    the version that a file with these items has
+--     outlined t c i         the sections of t types, c constants and i instructions
+--     IsOutline sections     the sections are in order, with no more items than a client may have
+--     outline_of header      the sections that a header counts
+--     entry_total header     the number of items that a header counts
 use Rattle.std.specs.Prelude.{◌≡◌, ℕ, ◌+◌, ◌≤◌, max, List, [], ◌∷◌, ◌++◌, replicate}
 use Rattle.seg_spec.specs.Types.{version_of}
 use Rattle.client_spec.specs.Text.{Item, type_item, constant_item, instruction_item}
@@ -17,7 +17,7 @@ section_of (type_item form) = section.Types
 section_of (constant_item constant) = section.Constants
 section_of (instruction_item i) = section.Instructions
 
--- the first version of files that may have an item
+-- the first version of files that has the item
 abbrev pub item_version : Item → ℕ
 item_version (type_item form) = version_of form
 item_version _ = 1

@@ -10,8 +10,9 @@ use client_code::{TYPES_AT, parse};
 use seg_raw::Fault;
 use std::alloc::Allocator;
 
-/// The client file that a text spells, or `BadLine` with the first line, counted from 1, that is outside the grammar or against
-/// the rules of the file. Where an `END` is missing that is the line after the last. `Memory` where memory was refused.
+/// Assembles a text into a client file. Fails with `BadLine` and the first line, counted from 1, that is outside the grammar or
+/// against the rules of the file; if an `END` is missing, that is the line after the last. Fails with `Memory` if the host is out
+/// of memory.
 pub fn assemble<A: Allocator>(alloc: A, text: &[u8]) -> Result<Vec<u8, A>, Fault>
     ensures found { IfOk result (λ file. (tree : syntax.Client) × SpellsClient file.items tree
         × SpellsInText text.now tree) }
@@ -30,8 +31,8 @@ pub fn assemble<A: Allocator>(alloc: A, text: &[u8]) -> Result<Vec<u8, A>, Fault
     }
 }
 
-/// The position of the first field of a file that isn't a client's, or the file's end where lines lack. `None` where it is a
-/// client's file and has all lines.
+/// The position of the first wrong field of a file that is no client's, or the file's end if lines are missing. `None` if the
+/// file is a client's and complete.
 fn wrong_place(file: &[u8], is_whole: bool) -> Option<u32>
     ensures right { IfNone result (IsTrue is_whole
         × (tree : syntax.Client) × SpellsClient file.now tree) }
@@ -46,7 +47,7 @@ fn wrong_place(file: &[u8], is_whole: bool) -> Option<u32>
     }
 }
 
-/// The line whose item begins at a position of the file, or would; the line after the last where there is none.
+/// The line whose item is, or would be, at a position of the file. The line after the last if there is no such line.
 fn line_at(text: &[u8], at: u32) -> u32 {
     let mut place = TYPES_AT as usize;
     let mut number = 1u32;

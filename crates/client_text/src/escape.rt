@@ -8,7 +8,7 @@ use client_code::LONGEST;
 /// The bytes of a constant.
 pub type Bytes = ArrayVec<u8, LONGEST>;
 
-/// Whether a byte of a text may stand for itself.
+/// Whether a byte of a text spells itself.
 pub fn is_plain(byte: u8) -> bool
     ensures test { result ≡ is_plain byte }
     ensures ascii { IsTrue result → byte < 128 }
@@ -41,7 +41,7 @@ fn hex(digit: u8) -> Option<u8>
     }
 }
 
-/// The first byte that a spelling of a text stands for, and the rest of the spelling.
+/// The first byte of a text with this spelling, and the rest of the spelling.
 fn first(spelling: &[u8]) -> Option<(u8, &[u8])>
     ensures shorter { IfSome result (λ found. length found.1.now < length spelling.now) }
     ensures small { IfSome result (λ found. found.0 < 256) }
@@ -56,7 +56,7 @@ fn first(spelling: &[u8]) -> Option<(u8, &[u8])>
     }
 }
 
-/// The bytes that a spelling of a text stands for, if they aren't too many.
+/// The bytes of a text with this spelling, or `None` if it spells none or too many.
 pub fn unescaped(spelling: &[u8]) -> Option<Bytes>
     ensures found { IfSome result (λ bytes. SpellsText bytes.items spelling.now) }
     ensures bytes { IfSome result (λ bytes. All (λ b. b < 256) bytes.items) }

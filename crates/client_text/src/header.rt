@@ -5,14 +5,13 @@ ghost use Rattle.client_text.specs.Headers.{header_bytes};
 use client_code::{Header, MAGIC};
 use std::alloc::{AllocError, Allocator};
 
-/// Adds the bytes of a word to a file.
 fn append_word<A: Allocator>(file: &mut Vec<u8, A>, word: u32) -> Result<(), AllocError>
     ensures { OnOk result (file.new.items ≡ file.old.items ++ spelling 4 word) }
 {
     file.extend_from_slice(&word.to_le_bytes())
 }
 
-/// Adds a header's bytes to a file of a version.
+/// Adds the bytes of a header with a file version.
 pub fn append_header<A: Allocator>(
     header: Header,
     version: u32,
@@ -28,7 +27,7 @@ pub fn append_header<A: Allocator>(
     append_word(file, header.instructions)
 }
 
-/// The number of types, constants and instructions together.
+/// How many types, constants and instructions there are together.
 pub fn entries(header: Header) -> u32
     ensures { result ≡ header.types + header.constants + header.instructions }
 {

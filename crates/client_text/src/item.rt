@@ -21,7 +21,7 @@ use client_spec::table::{Number, Operand, Operation};
 use seg_layout::{Fields, Type, TypeId};
 use std::alloc::{AllocError, Allocator};
 
-/// What a line of the assembler text says.
+/// The content of a line of the assembler text.
 #[derive(Debug, Drop)]
 pub enum Item {
     Type(Type),
@@ -30,7 +30,7 @@ pub enum Item {
 }
 
 impl Item {
-    /// What a line says. `None` where no line of a client's text is so.
+    /// The item in a line, or `None` if the line is no valid item.
     pub fn read(line: &[u8]) -> Option<Item>
         ensures found { IfSome result (λ item. SpellsItem line.now (text_item item)) }
         ensures readable { IfSome result (λ item. IsReadable (text_item item)) }
@@ -43,7 +43,7 @@ impl Item {
         }
     }
 
-    /// What a line of words says.
+    /// The item in a line that consists of words.
     fn read_words(line: &[u8]) -> Option<Item>
         ensures found { IfSome result (λ item. SpellsItem line.now (text_item item)) }
         ensures readable { IfSome result (λ item. IsReadable (text_item item)) }
@@ -67,7 +67,7 @@ impl Item {
         }
     }
 
-    /// The number of bytes that spell it in a client file.
+    /// The length of the item in a client file, in bytes.
     pub fn len(&self) -> usize
         ensures short { result ≤ 257 }
         ensures len { result ≡ length (item_bytes (text_item self.now)) }
@@ -79,7 +79,7 @@ impl Item {
         }
     }
 
-    /// Adds its bytes to a client file.
+    /// Adds the item's bytes to a client file.
     pub fn append<A: Allocator>(&self, file: &mut Vec<u8, A>) -> Result<(), AllocError>
         ensures { OnOk result (file.new.items ≡ file.old.items ++ item_bytes (text_item self.now)) }
     {
@@ -126,7 +126,7 @@ fn read_type(words: &mut Words) -> Option<Type>
     }
 }
 
-/// The type of what holds values of another type, by its word.
+/// The type of a container, an own or a shared, by its word and the type of its values.
 fn container(word: &[u8], item: TypeId) -> Option<Type>
     ensures found { IfSome result (λ t. type_words (form_of t) ≡ word.now ∷ type_word item ∷ []) }
     ensures readable { IfSome result (λ t. IsForm 256 256 (form_of t)) }
@@ -244,7 +244,7 @@ fn read_number(number: Number, words: &mut Words) -> Option<i32>
     }
 }
 
-/// The number of a type and of a name, in the next two words: 256 times the first and the second.
+/// The numbers of a type and of a name, in the next two words: 256 times the first, plus the second.
 fn read_typed_name(words: &mut Words) -> Option<u16>
     ensures found { IfSome result (λ n. words_of words.old.line.now
         ≡ type_word (n / 256) ∷ constant_word (n % 256) ∷ words_of words.new.line.now) }

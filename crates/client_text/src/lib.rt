@@ -1,4 +1,5 @@
-//! Clients as text: the assembler, which makes a client's file of a text, and the printer of its canonical text.
+//! Clients as text: the assembler, which turns a text into a client file, and the printer, which writes the canonical text of a
+//! client.
 #![tactic(auto)]
 
 mod assembler;

@@ -5,14 +5,14 @@ ghost use Rattle.client_spec.specs.Pieces.{meant};
 
 use crate::words::Words;
 
-/// Whether a line of the text says nothing.
+/// Whether a line is empty or a comment.
 pub fn is_skipped(line: &[u8]) -> bool
     ensures { result ≡ not (is_meant line.now) }
 {
     line.first() == Some(&b';') || Words::new(line).next().is_none()
 }
 
-/// How many bytes of a text stand before the end of its first line.
+/// The length of a text's first line in bytes, without its end.
 fn line_len(text: &[u8]) -> usize
     ensures count { result ≡ line_length text.now }
     ensures within { result ≤ length text.now }
@@ -55,7 +55,7 @@ impl<'a> Lines<'a> {
         Some(line)
     }
 
-    /// The next line that says something.
+    /// The next line that isn't skipped.
     pub fn next_meant(&mut self) -> Option<&'a [u8]>
         ensures found { IfSome result (λ line. meant self.old.text.now
             ≡ line.now ∷ meant self.new.text.now) }

@@ -46,7 +46,7 @@ impl Section {
     }
 }
 
-/// The header that counts the lines of a text, up to the first that stands after a later section or is one too many.
+/// The header with the counts of a text's lines, up to the first line that is out of order or one too many.
 pub fn header_of(text: &[u8]) -> Header
     ensures within { entry_total result ≤ length (meant text.now) }
     ensures counted { (items : List Item) → EachSpells (meant text.now) items →
@@ -68,7 +68,7 @@ pub fn header_of(text: &[u8]) -> Header
     header
 }
 
-/// Counts a line, if it may stand after the others.
+/// Counts a line, or returns false if it is out of order or one too many.
 fn add(header: &mut Header, section: Section) -> bool
     ensures counted { IsTrue result → outline_of header.new
         ≡ outline_of header.old ++ section ∷ [] }
@@ -90,7 +90,7 @@ fn add(header: &mut Header, section: Section) -> bool
     true
 }
 
-/// Takes the next word, and says whether it is this one.
+/// Takes the next word, and returns whether it is this one.
 fn is_next(words: &mut Words, word: &[u8]) -> bool
     ensures found { IsTrue result → words_of words.old.line.now
         ≡ word.now ∷ words_of words.new.line.now }
@@ -103,7 +103,7 @@ fn is_next(words: &mut Words, word: &[u8]) -> bool
     }
 }
 
-/// The version of the files that a line belongs in, by its first words.
+/// The file version that a line needs, by its first words.
 fn line_version(line: &[u8]) -> u32
     ensures { (item : Item) → SpellsItem line.now item → result ≡ item_version item }
 {
@@ -115,7 +115,7 @@ fn line_version(line: &[u8]) -> u32
     }
 }
 
-/// The version of the file of a text, whose first lines, so many, say its types.
+/// The file version of a text whose first `types` lines are its types.
 pub fn version_in(text: &[u8], types: u32) -> u32
     ensures { (items : List Item) → EachSpells (meant text.now) items →
         result ≡ items_version (take types items) }

@@ -16,7 +16,7 @@ use seg_raw::Fault;
 use std::alloc::{AllocError, Allocator};
 use std::fmt::Write;
 
-/// The canonical text of a client. `Memory` where memory was refused.
+/// The canonical text of a client. Fails with `Memory` if the host is out of memory.
 pub fn print<A: Allocator>(alloc: A, client: &Client) -> Result<Vec<u8, A>, Fault>
     ensures text { IfOk result (λ text. OfTree client.now (λ tree. text.items ≡ text_of tree)) }
     ensures fault { IfErr result (λ fault. fault ≡ Fault.Memory) }

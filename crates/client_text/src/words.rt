@@ -2,7 +2,7 @@ ghost use Rattle.std.specs.Prelude.{◌≡◌, ◌∷◌, [], ◌<◌, ◌≤◌
 ghost use Rattle.client_spec.specs.Text.{words_of};
 ghost use Rattle.client_text.specs.Texts.{before_space};
 
-/// How many bytes of a line stand before the first that is a space, or that is none.
+/// How many bytes come before the first space (`is_space`), or before the first other byte.
 fn before_space(line: &[u8], is_space: bool) -> usize
     ensures count { result ≡ before_space is_space line.now }
     ensures within { result ≤ length line.now }
@@ -15,7 +15,7 @@ fn before_space(line: &[u8], is_space: bool) -> usize
     line.len()
 }
 
-/// The words of a line, which are parted by spaces.
+/// The words of a line, which are separated by spaces.
 #[derive(Debug, Clone, Copy)]
 pub struct Words<'a> {
     line: &'a [u8],

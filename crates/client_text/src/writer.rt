@@ -11,7 +11,7 @@ use crate::lines::Lines;
 use crate::outline::{header_of, version_in};
 use std::alloc::{AllocError, Allocator};
 
-/// What the next line says that isn't skipped. `None` where there is none, or where no line of a client's text is so.
+/// The item in the next line that isn't skipped. `None` if there is no such line, or it is no valid item.
 fn next_item(lines: &mut Lines) -> Option<Item>
     ensures found { IfSome result (λ item. (line : List ℕ)
         × (meant lines.old.text.now ≡ line ∷ meant lines.new.text.now)
@@ -23,8 +23,8 @@ fn next_item(lines: &mut Lines) -> Option<Item>
     Item::read(lines.next_meant()?)
 }
 
-/// Writes a file: the header of its lines, and what its lines say, up to the first that says nothing of a client. True where
-/// the file has all lines.
+/// Writes a file: the header of its lines, and their items, up to the first line that is no item. Returns true if the file has
+/// all lines.
 pub fn write<A: Allocator>(file: &mut Vec<u8, A>, text: &[u8]) -> Result<bool, AllocError>
     ensures whole { IfOk result (λ whole. IsTrue whole → (pieces : Pieces) × Says text.now pieces
         × (file.new.items ≡ file.old.items ++ file_of pieces)) }

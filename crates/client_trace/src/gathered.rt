@@ -5,10 +5,10 @@ use client_output::Sink;
 use std::alloc::AllocError;
 use std::fmt::Write;
 
-/// The most bytes of a step's output that a trace tells.
+/// How many bytes of a step's output a trace shows.
 const MOST_BYTES: usize = 60;
 
-/// What a client prints in a step: the first bytes, and how many there are.
+/// A client's output in one step: its first bytes, and its length.
 #[derive(Drop)]
 pub(crate) struct Gathered {
     first: ArrayVec<u8, MOST_BYTES>,
@@ -23,8 +23,8 @@ impl Gathered {
         }
     }
 
-    /// Adds the line of the output, where there is any: its first bytes in quotation marks, those that aren't visible as
-    /// escapes, and how many there are where some aren't told.
+    /// Adds the line for the output, if there is any: its first bytes in quotation marks, with escapes for bytes that aren't
+    /// visible, and its length if not all bytes are shown.
     pub(crate) fn add_to(&self, text: &mut String) -> Result<(), AllocError> {
         if self.len == 0 {
             return Ok(());
@@ -47,7 +47,7 @@ fn push_escaped(text: &mut String, bytes: &[u8]) -> Result<(), AllocError> {
     Ok(())
 }
 
-/// It takes all, and never fails.
+/// Takes everything, and never fails.
 impl Sink for Gathered {
     ghost has_failed = { λ _. false };
 

@@ -2,7 +2,7 @@ use client_code::{Client, Instruction, Role};
 use client_verify::{Registers, Verifier};
 use std::alloc::{AllocError, Global};
 
-/// What the verifier knows of the registers in front of each instruction of a client, and at the end of its code.
+/// What the verifier knows of the registers before each instruction of a client, and at the end of its code.
 #[derive(Drop)]
 pub(crate) struct Known {
     in_front: Vec<Registers>,
@@ -21,10 +21,10 @@ impl Known {
         Ok(Known { in_front })
     }
 
-    /// What is known after the instruction at an index, from which a run goes on at `next`.
+    /// What is known after the instruction at an index, if the run continues at `next`.
     pub(crate) fn after(&self, instruction: Instruction, at: u16, next: u16) -> Registers {
         match instruction.operation.row().role {
-            // a loop leads to its END, in front of which is known what stands there after the body
+            // a loop continues at its END, and what is recorded there is what is known after the body
             Role::Loop => self.in_front_of(at),
             Role::Plain | Role::Opener | Role::Else | Role::End => self.in_front_of(next),
         }
@@ -38,7 +38,7 @@ impl Known {
     }
 }
 
-/// Lets the verifier go past the instruction at an index. A verified client has none that is refused.
+/// Passes the instruction at an index to the verifier. A client was verified before, so none is refused.
 fn pass(verifier: &mut Verifier, client: &Client, at: u32) {
     if let Some(instruction) = client.instruction(at) {
         let _ = verifier.pass(instruction);

@@ -1,4 +1,4 @@
-//! Traces of clients: each step of a run with its instruction, and what the registers hold after it.
+//! Traces of clients: one line for each instruction of a run, with the registers' contents after it.
 #![tactic(auto)]
 
 mod gathered;

@@ -8,7 +8,7 @@ use client_verify::{RegisterType, Registers};
 use std::alloc::{AllocError, Global};
 use std::fmt::Write;
 
-/// The lines of one instruction after the other.
+/// The output lines of one instruction at a time.
 #[derive(Drop)]
 pub(crate) struct Lines {
     listing: Listing,
@@ -32,7 +32,7 @@ impl Lines {
         self.text.as_bytes()
     }
 
-    /// Begins the lines of an instruction: the number of the step, that of the instruction, and its text.
+    /// Begins the lines of an instruction: the step's number, the instruction's number, and its text.
     pub(crate) fn begin(&mut self, stepped: Stepped) -> Result<(), AllocError> {
         let Stepped {
             instruction,
@@ -44,7 +44,7 @@ impl Lines {
         push_bytes(&mut self.text, self.listing.line(instruction))
     }
 
-    /// Adds the number of the next step, or what stands for one that is none.
+    /// Adds the number of the next step, or `-` if the instruction is no step.
     fn add_step(&mut self, is_step: bool) -> Result<(), AllocError> {
         if !is_step {
             return self.text.push_str("     -");
@@ -54,7 +54,7 @@ impl Lines {
         write!(self.text, "{steps:>6}")
     }
 
-    /// Adds the registers of which something is known after an instruction, with what they hold.
+    /// Adds each register of which something is known after an instruction, with its contents.
     pub(crate) fn add_registers(
         &mut self,
         stepped: Stepped,
@@ -75,13 +75,13 @@ impl Lines {
         Ok(())
     }
 
-    /// Ends the line of an instruction. What it printed is a line of its own.
+    /// Ends the line of an instruction, and adds a line for its output.
     pub(crate) fn end(&mut self, printed: &Gathered) -> Result<(), AllocError> {
         self.text.push('\n')?;
         printed.add_to(&mut self.text)
     }
 
-    /// Adds spaces after an instruction, as many as the longest one leaves.
+    /// Pads an instruction's text to the length of the longest one.
     fn add_gap(&mut self, instruction: u16) -> Result<(), AllocError> {
         let len = self.listing.line(instruction).len();
         for _ in len..self.listing.width() {
@@ -90,7 +90,7 @@ impl Lines {
         Ok(())
     }
 
-    /// Adds a register after a mark, with what it holds. It isn't added where nothing is known of it.
+    /// Adds a separator and a register with its contents, unless nothing is known of it.
     fn add_register(
         &mut self,
         mark: &str,
@@ -107,7 +107,7 @@ impl Lines {
         Ok(true)
     }
 
-    /// Adds what a register holds.
+    /// Adds a register's contents.
     fn add_held(
         &mut self,
         register: u8,

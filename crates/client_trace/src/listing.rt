@@ -6,11 +6,11 @@ use std::alloc::{AllocError, Global};
 #[derive(Drop)]
 pub(crate) struct Listing {
     text: Vec<u8>,
-    /// Where each line ends, those of types and constants first.
+    /// The end of each line. The lines of types and constants come first.
     ends: Vec<usize>,
-    /// How many lines stand in front of the instructions.
+    /// The number of lines before the instructions.
     header: usize,
-    /// The bytes of the longest instruction.
+    /// The length of the longest instruction, in bytes.
     width: usize,
 }
 
@@ -42,7 +42,6 @@ impl Listing {
             .unwrap_or_default()
     }
 
-    /// The bytes of the longest instruction.
     pub(crate) fn width(&self) -> usize {
         self.width
     }

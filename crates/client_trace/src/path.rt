@@ -3,40 +3,40 @@ use seg_layout::TypeId;
 use std::alloc::AllocError;
 use std::fmt::{self, Write};
 
-/// The most parts of a path that are told: its last ones.
+/// How many parts of a path are shown: the last ones.
 const MOST_PARTS: usize = 8;
 
 /// The object at which a path begins.
 #[derive(Clone, Copy)]
 pub(crate) enum Root {
-    /// That of a constant's exact name, or of its family's name with this number.
+    /// A named object: the constant's exact name, or the member of its family with this number.
     Named { constant: u8, number: i64 },
-    /// The unique one of a type.
+    /// The unique object of a type.
     Unique(TypeId),
-    /// That which a register owns.
+    /// The object that a register owns.
     Owned(u8),
 }
 
-/// How a value is reached from the one that it stands in.
+/// A step from a value to a part of it.
 #[derive(Clone, Copy)]
 pub(crate) enum Part {
-    /// The value of an array that has a name, from 0.
+    /// The value with this index in a named array, from 0.
     Value(i64),
-    /// The item of a vector or a list, from 0.
+    /// The item of a vector or a list with this index, from 0.
     Item(i64),
-    /// The value of a map's key.
+    /// The value of this key in a map.
     Key(i64),
-    /// The field of a struct, from 0.
+    /// The field of a struct with this index, from 0.
     Field(i32),
-    /// What an own holds, or a cell shares.
+    /// The value that an own or a shared cell points to.
     Content,
 }
 
-/// How a value is reached from an object.
+/// The path from an object to a value.
 #[derive(Clone, Copy)]
 pub(crate) struct Path {
     root: Root,
-    /// The last parts: part n at index n modulo their number.
+    /// The last parts: part n is at index n modulo `MOST_PARTS`.
     parts: [Part; MOST_PARTS],
     /// How many parts there are.
     len: usize,
@@ -58,7 +58,7 @@ impl Path {
         self
     }
 
-    /// Adds the object and the parts; of a long path the last ones, after the number of those that are left out.
+    /// Adds the object and the parts. Of a long path only the last parts are added, after the number of parts that are left out.
     pub(crate) fn add_to(
         &self,
         text: &mut String,
@@ -72,7 +72,7 @@ impl Path {
         self.add_parts(text, left_out)
     }
 
-    /// Adds the parts from one on.
+    /// Adds the parts from index `from` on.
     fn add_parts(&self, text: &mut String, from: usize) -> Result<(), AllocError> {
         for n in from..self.len {
             let part = self.parts[n % MOST_PARTS];
@@ -95,7 +95,7 @@ impl Root {
     }
 }
 
-/// Adds bytes that are visible.
+/// Adds bytes, all of which must be visible characters.
 pub(crate) fn push_bytes(text: &mut String, bytes: &[u8]) -> Result<(), AllocError> {
     for byte in bytes {
         text.push(char::from(*byte))?;

@@ -31,8 +31,8 @@ impl<'a> Paths<'a> {
         self.paths[usize::from(register) % COUNT]
     }
 
-    /// Goes past the instruction that a run is about to perform: the register that is to refer to a value gets the path to it.
-    /// Where the instruction is refused, that register holds a code, and its path means nothing.
+    /// Updates the paths for the instruction that the run performs next: a register that will refer to a value gets the path to
+    /// it. If the instruction fails, the register has a code, and its path means nothing.
     pub(crate) fn pass<F: Fit>(
         &mut self,
         instruction: Instruction,
@@ -44,7 +44,7 @@ impl<'a> Paths<'a> {
         }
     }
 
-    /// The path to the value that register a is to refer to, where the operation gives a reference.
+    /// The path to the value that register a will refer to, or `None` if the operation gives no reference.
     fn given<F: Fit>(
         &self,
         i: Instruction,
@@ -110,7 +110,7 @@ impl<'a> Paths<'a> {
     }
 }
 
-/// The path to the object of the name that an instruction gives.
+/// The path to the object that an instruction names.
 fn named(i: Instruction, run: &Stepper<Global>) -> Path {
     Path::new(Root::Named {
         constant: i.constant(),
@@ -118,7 +118,7 @@ fn named(i: Instruction, run: &Stepper<Global>) -> Path {
     })
 }
 
-/// The path to the value that register c counts in a named array, or to the first where there is no such register.
+/// The path to the value with the index in register c, in a named array; the first value if operand c is 16.
 fn value(i: Instruction, run: &Stepper<Global>) -> Path {
     let first = named(i, run);
     if i.c == Instruction::NONE {

@@ -12,15 +12,18 @@ use seg_block::Fit;
 use seg_manager::Segment;
 use std::alloc::{AllocError, Global};
 
-/// Runs a client on a segment, and writes a line for each instruction that it performs: the step's number, from 1, or `-` for
-/// the `END` at which a loop ends, which is no step; the instruction's number, from 0; its canonical text; and after `;` the
-/// registers of which something is known where the run goes on, with what they hold: `r1 = 41` a number,
-/// `r2 -> vector[3].field 1` a reference to the value that is reached so, `r4 reads cell.content` one into a frozen object, by
-/// which nothing changes, `r3 owns t2` an object of type 2. What the instruction prints stands after it, as a line
-/// `out "42\n"`.
+/// Runs a client on a segment, and writes a line for each instruction that it performs:
 ///
-/// The client's types must fit the segment's, to which they are added. Objects that registers still own are destroyed at the
-/// end. The memory for it doesn't grow with the steps.
+/// - the step's number, from 1, or `-` for the `END` at which a loop ends, which is no step;
+/// - the instruction's number, from 0, and its canonical text;
+/// - after `;` the registers of which something is known after it: `r1 = 41` is a number, `r2 -> vector[3].field 1` a reference
+///   to the value at this path, `r4 reads cell.content` a reference into a frozen object, which can't be changed, and
+///   `r3 owns t2` an object of type 2.
+///
+/// The instruction's output follows as a line of its own: `out "42\n"`.
+///
+/// The client's types must agree with the segment's, to which they are added. Objects that registers still own are destroyed at
+/// the end. The memory that a trace needs doesn't depend on the number of steps.
 pub fn trace<F: Fit, W: Sink>(
     alloc: Global,
     segment: &mut Segment<F, Global>,
@@ -39,7 +42,7 @@ pub fn trace<F: Fit, W: Sink>(
     ended
 }
 
-/// What the lines of a client's run are made of, beside the run.
+/// The parts of a trace's lines, apart from the run.
 #[derive(Drop)]
 struct Tracer<'a> {
     client: Client<'a>,
@@ -58,7 +61,7 @@ impl<'a> Tracer<'a> {
         })
     }
 
-    /// Writes the lines of a run to the end of the code, which it comes to within twice the client's bound.
+    /// Writes the lines of a run to the end of the code. It performs at most twice the client's bound of lines.
     fn to_end<F: Fit, W: Sink>(
         &mut self,
         run: &mut Stepper<Global>,
@@ -78,7 +81,7 @@ impl<'a> Tracer<'a> {
         Ok(())
     }
 
-    /// Performs an instruction, and makes its lines. There is none at the end of the code.
+    /// Performs an instruction, and makes its lines. At the end of the code it does nothing.
     fn step<F: Fit>(
         &mut self,
         run: &mut Stepper<Global>,

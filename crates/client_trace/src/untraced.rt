@@ -8,7 +8,7 @@ use std::alloc::AllocError;
 /// Why a trace ended before its run did.
 #[derive(Clone, Copy, PartialEq, Eq)]
 pub enum Untraced {
-    /// Host memory was refused.
+    /// The host is out of memory.
     Memory,
     /// The output failed.
     OutputFailed,

@@ -1,4 +1,5 @@
--- How far a verifier came in a client, and what the rules and the bound say where it is refused and where it ends.
+-- How far a verifier is in a client, and what follows for the rules and the bound when it refuses
+-- an instruction or reaches the end.
 use Rattle.std.proofs.Common.{◌≡◌, ℕ, zero, suc, ◌+◌, ◌<◌, ◌≤◌, List, [], ◌∷◌, ◌++◌, length, take, drop, refl, sym, ap, ◌∙◌, subst, arith, add-one, zero-add, inl, inr, Some, None, Ok, Err, append-nil}
 use Rattle.std.specs.Prelude.{replicate, slice_get}
 use Rattle.std.specs.List.{AllByRecursion}
@@ -23,7 +24,7 @@ use Rattle.client_verify.proofs.Walking.{followed, walked}
 
 -- ---- instructions
 
--- right where it stands
+-- valid, and of the right role for its place
 abbrev pub Right : Table → List Constant → Instruction → Type 0
 Right types constants i = IsInstruction types constants (row_of i.operation).role i
 
@@ -61,7 +62,7 @@ module _ (types : Table) (constants : List Constant) where
 
 -- ---- a client
 
--- after the code, where the rules accept it
+-- the progress after the code, if the rules accept it
 abbrev Ended : Checked RegisterTypes → ℕ → Checked Progress
 Ended known n = known >>= λ after. Ok (record { known = after; steps = n; parts = [] })
 
@@ -84,11 +85,11 @@ module _ (tree : Client) (valid : IsClient tree) where
       ∙ walked tree.types tree.constants tree.code valid.code (replicate 16 RegisterType.Undefined) 0 [] [] (let d = valid.shallow in omega arith) (omega arith)
       ∙ ap (λ n. Ended (known_in_parts tree) (at_most n)) (zero-add (bound tree.code))
 
-  -- the instruction at the place i is right there
+  -- instruction i is valid at its place
   right_at : (i : ℕ) (x : Instruction) → slice_get (listing tree.code) i ≡ Some x → Right tree.types tree.constants x
   right_at i x e = one_of (Right tree.types tree.constants) (listing tree.code) i x (all_right tree valid) e
 
-  -- past one more instruction, or refused there
+  -- the progress after one more instruction, or its refusal
   pub goes_on : (types : Table) → types ≡ tree.types → (i : ℕ) (p : Progress) (x : Instruction) (r : Checked Progress) → slice_get (listing tree.code) i ≡ Some x → WalksTo tree i (Ok p)
       → (Right types tree.constants x → passes types tree.constants p x ≡ r) → WalksTo tree (i + 1) (r >>= λ q. Ok q)
   goes_on types same i p x r e to here =
@@ -98,7 +99,7 @@ module _ (tree : Client) (valid : IsClient tree) where
       ∙ ap (λ now. now >>= λ q. passes_all tree.types tree.constants q (x ∷ [])) to
       ∙ ap (λ now. now >>= λ q. Ok q) (right_here (right_at i x e))
 
-  -- refused at a place, and so as a whole
+  -- a client that is refused at one instruction is refused
   pub rejected : (i : ℕ) (reason : Reason) → WalksTo tree i (Err reason) → IsRejected tree reason
   rejected i reason to =
       refused (known_in_parts tree) (at_most (bound tree.code)) reason (

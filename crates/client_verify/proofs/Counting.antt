@@ -1,10 +1,10 @@
--- Steps are counted up to a largest number, and that is all the same as to cap their count at the end.
+-- Capping the number of steps while counting gives the same as capping it at the end.
 use Rattle.std.proofs.Common.{◌≡◌, ℕ, ◌+◌, ◌-◌, ◌*◌, ◌^◌, ◌<◌, ◌≤◌, arith, ap, ◌∙◌}
 use Rattle.std.proofs.Math.Nat.{le-mul_of_pos_right}
 use Rattle.std.specs.Prelude.{min, max}
 use Rattle.client_verify.specs.Passing.{at_most}
 
--- the numbers up to any largest one
+-- capping at any number `most`
 capped_sum : (most x y : ℕ) → min (min x most + y) most ≡ min (x + y) most
 capped_sum most x y = omega arith
 

@@ -1,5 +1,6 @@
--- The kinds of types that a column names, and the forms that a rule needs: the same, and so are the types of their parts.
---     AreForms number kinds f     the kinds are the forms of which f is something
+-- The kinds of types in a column of the table are the forms that a rule needs, and their parts have
+-- the same types.
+--     AreForms number kinds f     the kinds are the forms for which f has a value
 use Rattle.std.proofs.Common.{◌≡◌, ℕ, length, refl, sym, ap, ◌∙◌, Bool, true, false, Option, Some, None}
 use Rattle.std.specs.Prelude.{ℤ, pos, negsuc, List, if◌then◌else◌, slice_get, nat_lt}
 use Rattle.std.specs.Option.{is_some, option_and_then}
@@ -12,7 +13,6 @@ use Rattle.client_spec.specs.declared.table.Kinds.{Kinds}
 use Rattle.client_spec.specs.declared.table.Kinds.TheVariants as kinds
 use Rattle.client_verify.specs.Checking.{field_at, part_of, part_at, part_given, is_kind, is_kind_at}
 
--- the kinds of a column are the forms that a rule needs
 abbrev pub AreForms : {A : Type 0} → ℤ → Kinds → (Form → Option A) → Type 0
 AreForms number kinds f = ((form : Form) → is_some (f form) ≡ is_kind number kinds form) × (is_kind_at number kinds None ≡ false)
 
@@ -175,7 +175,7 @@ module _ (number : ℤ) (x : Class) where
   item_part (Some (Form.list t)) k e = cc
   item_part o k e = cc
 
-  -- what is shared is only read
+  -- a shared value is only read
   pub content_part : (o : Option Form) (k : RegisterType) → option_and_then (content_known x) o ≡ Some k → part_at number o x ≡ k
   content_part (Some (Form.own t)) k e = cc
   content_part (Some (Form.shared t)) k e = cc

@@ -1,8 +1,9 @@
--- What an instruction needs of its registers, by the columns of the instruction table and by its rule: the same.
+-- What an instruction needs of its registers is the same by the columns of the instruction table
+-- and by its rule.
 --     integer_same, name_same, text_same     a number, the number of a name, a text
 --     reference_same, alike_same             a reference to a value of a kind, or to a shared of a type
---     changeable_same, any_changeable_same   one into what may be changed, to a value of a kind, or of any
---     owner_same, content_same, copy_same    an owner, one of an object of a type, and what may be copied
+--     changeable_same, any_changeable_same   a reference that allows changes, to a value of a kind or of any
+--     owner_same, content_same, copy_same    an owner, an owner of an object of a type, and what may be copied
 use Rattle.std.proofs.Common.{◌≡◌, ℕ, refl, sym, ap, ◌∙◌, arith, Bool, true, false, Option, Some, None, Ok, Err}
 use Rattle.std.specs.Prelude.{⊤, ℤ, ◌==◌, if◌then◌else◌}
 use Rattle.std.specs.Option.{is_some, option_and_then}
@@ -68,7 +69,7 @@ reference_same types number kinds f RegisterType.Int following rest are same = r
 reference_same types number kinds f (RegisterType.Reference x t) following rest are same = form_same number kinds (f x) (form_at types t) (following (RegisterType.Reference x t)) (rest (x, t)) (are x) (same x t)
 reference_same types number kinds f (RegisterType.Owner t) following rest are same = refl
 
--- what may be changed is of its own class
+-- a class that isn't frozen is its own sharing class
 own_class : (x : Class) → is_frozen x ≡ false → sharing x ≡ x
 own_class (Class.Frozen x) e = cc
 own_class x e = refl

@@ -1,4 +1,5 @@
--- The type and the constant that the number of an instruction names, and the bytes of the number: the same.
+-- The type and the constant in the number of an instruction, by the definitions and by the number's
+-- bytes.
 use Rattle.std.proofs.Common.{◌≡◌, ◌≢◌, ◌≤◌, ◌/◌, ◌%◌, ℕ, List, length, refl, arith}
 use Rattle.std.specs.Prelude.{⊤, ℤ, pos, negsuc, nat_abs}
 use Rattle.seg_spec.specs.Types.{Table}
@@ -7,13 +8,13 @@ use Rattle.client_spec.specs.declared.table.Number.{Number}
 use Rattle.client_spec.specs.Grammar.{IsNumber}
 use Rattle.client_spec.specs.Answer.{type_operand, constant_operand}
 
--- the type and the constant that a number names
+-- the type and the constant in a number
 abbrev pub AreNamed : Number → ℤ → (type_id constant : ℕ) → Type 0
 AreNamed Number.TypedName number t k = (t ≡ type_operand number) × (k ≡ constant_operand number)
 AreNamed Number.TypeId number t k = t ≡ nat_abs number
 AreNamed form number t k = ⊤
 
--- a table is short, so a byte of the number is the whole type
+-- a table has at most 32 types, so one byte of the number is the whole type
 pub are_named : (types : Table) (constants : List Constant) (b t k : ℕ) (form : Number) (number : ℤ) → length types ≤ 32 → IsNumber types constants b form number
     → (form ≡ Number.TypedName → (n : ℕ) → number ≡ pos n → t ≡ n / 256 % 256) → (form ≢ Number.TypedName → (n : ℕ) → number ≡ pos n → t ≡ n % 256) → ((n : ℕ) → number ≡ pos n → k ≡ n % 256)
     → AreNamed form number t k

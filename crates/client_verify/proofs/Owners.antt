@@ -1,4 +1,4 @@
--- No register begins or ends to own an object where references end.
+-- Ending references doesn't change which registers own an object.
 use Rattle.std.proofs.Common.{◌≡◌, ℕ, get_or, refl, sym, ap, ◌∙◌, Bool, true, false}
 use Rattle.std.specs.Prelude.{if◌then◌else◌, slice_set}
 use Rattle.std.proofs.Math.ListN.{get_or-map}

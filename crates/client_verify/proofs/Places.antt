@@ -1,15 +1,15 @@
--- Lists that a loop changes or asks place by place.
---     map_more                             a map, one place more
---     JoinedTo, joined_more, joined_all    what is known at two ends, up to a place, one place more, and at all places
---     joined_stays, joined_lost            one place more where nothing is known at the second end
---     KeptTo, kept_more, kept_all          what a body kept: the same
+-- Lists that a loop changes or tests item by item.
+--     map_more                             a map, one item more
+--     JoinedTo, joined_more, joined_all    what is known at two ends, up to an item, one item more, and for all items
+--     joined_stays, joined_lost            one item more, if nothing is known at the second end
+--     KeptTo, kept_more, kept_all          the same for what a body kept
 use Rattle.std.proofs.Common.{◌≡◌, ℕ, ◌+◌, ◌<◌, ◌≤◌, List, [], ◌∷◌, ◌++◌, length, map, take, drop, get_or, set, refl, sym, ap, ◌∙◌, arith, drop-cons, add-one, suc, append_assoc, append-nil, subst, true, false, rules, Ok, Err}
 use Rattle.std.specs.Prelude.{⊤}
 use Rattle.std.proofs.lemmas.List.{map-set, length-map, get_or-map, set-get_or, take_more_set, take_all, drop_all, map-append}
 use Rattle.std.proofs.lemmas.List.Edits.{map_over_more}
 use Rattle.client_spec.specs.Typed.{Reason, Checked, ◌>>=◌, RegisterType, RegisterTypes, is_owner, joined_one, joined, kept_one, kept}
 
--- a map over a list of another's images, one place more
+-- a map of a map, one item more
 pub map_more : {X Y : Type 0} (view : X → Y) (f : Y → Y) (xs : List X) (ys : List Y) (i : ℕ) (d y : X) → i < length xs → length ys ≡ length xs
     → map view xs ≡ map f (take i ys) ++ drop i ys → view y ≡ f (view (get_or xs i d)) → map view (set xs i y) ≡ map f (take (i + 1) ys) ++ drop (i + 1) ys
 map_more view f xs ys i d y near long so_far new =
@@ -17,9 +17,9 @@ map_more view f xs ys i d y near long so_far new =
     map-set view xs i y ∙ ap (set (map view xs) i) new
     ∙ map_over_more f ys (map view xs) i (view x) (omega arith) so_far (sym (get_or-map view xs i d (view x) near))
 
--- ---- from a place on
+-- ---- from an item on
 
--- the images from a place on
+-- the images from an item on
 from_here : {X : Type 0} (view : X → RegisterType) (xs : List X) (i : ℕ) (d : X) → i < length xs → drop i (map view xs) ≡ view (get_or xs i d) ∷ drop (i + 1) (map view xs)
 from_here view xs i d near =
     let long = length-map xs view in
@@ -29,7 +29,7 @@ from_here view xs i d near =
 
 -- ---- what is known at both ends
 
--- what is known after the places of a list, before the list of the others
+-- what is known after these items, before what is known of the others
 abbrev pub after : RegisterTypes → Checked RegisterTypes → Checked RegisterTypes
 after front r = r >>= λ ks. Ok (front ++ ks)
 
@@ -60,7 +60,7 @@ after_none (Ok ks) = refl
 after_none (Err e) = refl
 
 module _ {X : Type 0} (view : X → RegisterType) where
-  -- the places before i are joined
+  -- the items before i are joined
   abbrev pub JoinedTo : List X → List X → List X → ℕ → Type 0
   JoinedTo xs ys both i = joined (map view xs) (map view ys) ≡ after (map view (take i both)) (joined (drop i (map view xs)) (drop i (map view ys)))
 
@@ -112,7 +112,7 @@ module _ {X : Type 0} (view : X → RegisterType) where
 
   -- ---- what a body kept
 
-  -- the places before i are kept
+  -- the items before i are kept
   abbrev pub KeptTo : List X → List X → ℕ → Type 0
   KeptTo xs ys i = kept (map view xs) (map view ys) ≡ kept (drop i (map view xs)) (drop i (map view ys))
 

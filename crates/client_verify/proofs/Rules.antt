@@ -1,5 +1,5 @@
--- The rule of each operation, and the rule by its columns: the same.
---     rule_same     where the columns are those of the operation
+-- The rule of each operation is the rule by its columns.
+--     rule_same     for the columns of an operation's row
 use Rattle.std.proofs.Common.{◌≡◌, ◌%◌, ℕ, refl, sym, ap, ◌∙◌, List}
 use Rattle.std.specs.Prelude.{ℤ, ◌==◌, pos, negsuc, nat_abs, not, slice_get, slice_set}
 use Rattle.seg_spec.specs.Types.{Table, form_at}
@@ -32,7 +32,7 @@ module _ (types : Table) (constants : List Constant) (a b c t k : ℕ) (ks : Reg
   abbrev IsSame : Operation → ℤ → Type 0
   IsSame operation number = from_first (step operation number) ≡ rule_at types constants (instruction operation number) ks
 
-  -- register a gets this, and in the else part that, unless it owns an object
+  -- register a gets `good`, and in the else part `bad`; it is refused if a owns an object
   abbrev gets : RegisterTypes → (good bad : RegisterType) → Rule
   gets es good bad = unless_lost (is_owner (known ks a)) (slice_set es a good, slice_set es a bad)
 
@@ -45,7 +45,7 @@ module _ (types : Table) (constants : List Constant) (a b c t k : ℕ) (ks : Reg
   combines_same : (required (is_integer (known ks b)) Reason.WrongOperand >>= λ _. required (is_integer (known ks c)) Reason.WrongOperand >>= λ _. gets ks RegisterType.Int RegisterType.Int) ≡ combines a b c ks
   combines_same = integer_same (known ks b) _ _ (integer_same (known ks c) _ _ gives_int)
 
-  -- a register gets a reference by name, and one to a unique instance
+  -- a register gets a reference by name, or to a unique object
   opens_named : (number : ℤ) → AreNamed Number.TypedName number t k → gets ks (RegisterType.Reference (Class.Name k) t) RegisterType.Int ≡ opens a (RegisterType.Reference (Class.Name (constant_operand number)) (type_operand number)) ks
   opens_named number named =
       opens_same a (RegisterType.Reference (Class.Name k) t) ks ks refl
@@ -159,7 +159,7 @@ module _ (types : Table) (constants : List Constant) (a b c t k : ℕ) (ks : Reg
   same op.SetStr (negsuc n) right named = absurd right.number
   same op.AddStr (negsuc n) right named = absurd right.number
 
--- the columns of an operation say its rule
+-- the columns of an operation give its rule
 pub rule_same : (s : Step) (constants : List Constant) (operation : Operation) → s.row ≡ row_of operation
     → IsInstruction s.types constants (row_of operation).role (record { operation = operation; a = s.a; b = s.b; c = s.c; number = s.number })
     → AreNamed (row_of operation).number s.number s.type_id s.constant

@@ -1,6 +1,6 @@
--- The rule by the columns, check for check, and what both say of the register that changes.
---     following s led held, in_turn     what comes of an instruction after the need of register b
---     gives_same, opens_same     a register gets a value, and with it in the else part the code
+-- The rule by the columns, test by test, and the register that it changes.
+--     following s led held, in_turn     the result for an instruction after the test of register b
+--     gives_same, opens_same     a register gets a value, and in the else part the code
 --     freezes_same               a register gets a number, and another is emptied in the success part
 use Rattle.std.proofs.Common.{◌≡◌, ℕ, zero, suc, [], ◌∷◌, refl, sym, ap, ◌∙◌, Bool, true, false, Option, Ok, Err}
 use Rattle.std.specs.Prelude.{not, if◌then◌else◌, slice_set}
@@ -15,12 +15,12 @@ four_in_turn true false inside lost r = refl
 four_in_turn true true false lost r = refl
 four_in_turn true true true lost r = refl
 
--- an owner there would be lost, and else this is known
+-- refused if an owner would be lost; else this is known
 abbrev pub unless_lost : Bool → RegisterTypes × RegisterTypes → Rule
 unless_lost lost r = required (not lost) Reason.OwnerLost >>= λ _. Ok r
 
 module _ (s : Step) where
-  -- where this is held in register b, which leads there
+  -- the result, if register b has this class and this is known of it
   abbrev pub following : Option (Class × ℕ) → RegisterType → Rule
   following x h = do
     _ ← required (meets_by s.types s.number h s.row.needs_c s.c (known s.before s.c)) Reason.WrongOperand

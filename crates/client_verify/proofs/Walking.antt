@@ -1,5 +1,5 @@
--- What a verifier that goes past the instructions of code, one by one, makes of it: what the rules make of the tree, and as many
--- steps as its bound, or the largest number.
+-- A verifier that passes the instructions of code one by one has the result of the rules on the
+-- tree, and counts the tree's bound, capped at the highest number.
 use Rattle.std.proofs.Common.{◌≡◌, ℕ, ◌+◌, ◌-◌, ◌*◌, ◌^◌, ◌<◌, ◌≤◌, true, List, [], ◌∷◌, ◌++◌, length, refl, sym, ap, ◌∙◌, arith, rules, append_assoc, Ok, Err}
 use Rattle.std.specs.Prelude.{max, nat_lt, nat_abs, if◌then◌else◌}
 use Rattle.seg_spec.specs.Types.{Table}
@@ -20,7 +20,7 @@ pub followed : {A B C : Type 0} (r : Checked A) (f : A → Checked B) (g : A →
 followed (Ok x) f g h same = same x
 followed (Err e) f g h same = refl
 
--- what is made of a result as it is
+-- applying a function to an unchanged result
 given : {A B C : Type 0} (r : Checked A) (q : A → B) (g : B → Checked C) (h : A → Checked C) → ((x : A) → g (q x) ≡ h x) → ((r >>= λ x. Ok (q x)) >>= g) ≡ (r >>= h)
 given (Ok x) q g h same = same x
 given (Err e) q g h same = refl
@@ -94,7 +94,8 @@ module _ (types : Table) (constants : List Constant) where
   abbrev Rules : Type 0
   Rules = RegisterTypes → Checked RegisterTypes
 
-  -- from anywhere with room for so many parts, past these instructions: what the rules say is known then, and so many steps more
+  -- after these instructions, from any place with room for this many parts: what the rules give,
+  -- and the steps
   abbrev Walks : List Instruction → Rules → (steps deep : ℕ) → Type 0
   Walks is rules steps deep =
       (ks : RegisterTypes) (n : ℕ) (parts : List Open) (rest : List Instruction) → length parts + deep ≤ 8 → n ≤ 2 ^ 64 - 1

@@ -1,8 +1,8 @@
--- What the verifier's rule changes, as the definitions know it.
+-- The definitions' values for the changes that the verifier's rule returns.
 --     ended_after after ks        what is known once references have ended
---     success_after after ks      what is known then in the success part
---     otherwise_after after ks    and in the else part
---     known_by ks after           what is known in both parts, from what was in front of them
+--     success_after after ks      what is then known in the success part
+--     otherwise_after after ks    what is then known in the else part
+--     known_by ks after           what is known in both parts, if ks was known before
 use Rattle.std.specs.Prelude.{ℕ, Option}
 use Rattle.std.specs.Option.{option_map}
 use Rattle.client_spec.specs.Typed as typed

@@ -1,9 +1,11 @@
--- What the verifier makes of an instruction by the columns of the instruction table.
---     Step     what it reads: the row, the operands, and what is known in front of the instruction
---     meets, given, ended_in     whether a register holds what is needed, what a register gets,
+-- The verifier's rule as the program computes it, from the columns of the instruction table. The
+-- proofs show that it agrees with Typed.
+--     Step     what the rule reads: the row, the operands, and what is known before the
+--              instruction
+--     meets, given, ended_in     whether a register contains what is needed, what a register gets,
 --                                what is known once references have ended
---     checked_first, known_in_parts, applied     the first reason to refuse the instruction, what is
---                                              known after it in both parts, or either
+--     checked_first, known_in_parts, applied     the first reason to refuse the instruction, what
+--                                                is known after it in both parts, or either
 use Rattle.std.specs.Prelude.{⊤, ℕ, ℤ, pos, negsuc, List, Bool, true, false, not, ◌==◌, if◌then◌else◌, Option, Some, None, Ok, slice_get, slice_set}
 use Rattle.std.specs.Option.{is_some, option_and_then}
 use Rattle.seg_spec.specs.Types.{Form, Table, form_at}
@@ -19,8 +21,8 @@ use Rattle.client_spec.specs.declared.table.Gives.TheVariants as gives
 use Rattle.client_spec.specs.declared.table.Ends.{Ends}
 use Rattle.client_spec.specs.declared.table.Ends.TheVariants as ends
 
--- an instruction, with the type and the constant that its number names, and
--- what is known in front of it
+-- an instruction with its row, the type and the constant that its number refers to, and what is
+-- known before it
 pub record Step : Type 0 where
   pub types : Table
   pub before : RegisterTypes
@@ -32,9 +34,9 @@ pub record Step : Type 0 where
   pub type_id : ℕ
   pub constant : ℕ
 
--- ---- what register b leads to
+-- ---- what register b refers to
 
--- what shares it, where it is only read, and its type
+-- the class of the reference, or the class that shares it, and the type
 abbrev pub referred : RegisterType → Option (Class × ℕ)
 referred RegisterType.Undefined = None
 referred RegisterType.Int = None
@@ -45,7 +47,7 @@ abbrev pub field_at : ℤ → List ℕ → Option ℕ
 field_at (pos n) fields = slice_get fields n
 field_at (negsuc n) fields = None
 
--- the type of an item, a map's value, an object, or the field of this number
+-- the type of an item, a map's value, an object, or field `number`
 abbrev pub part_of : ℤ → Form → Option ℕ
 part_of number Form.i64 = None
 part_of number Form.str = None
@@ -57,7 +59,7 @@ part_of number (Form.own t) = Some t
 part_of number (Form.struct fields) = field_at number fields
 part_of number (Form.shared t) = Some t
 
--- the type of a part of what a reference leads to
+-- the type of a part of the value that a reference refers to
 abbrev pub part_in : Table → ℤ → RegisterType → Option ℕ
 part_in types number RegisterType.Undefined = None
 part_in types number RegisterType.Int = None
@@ -65,7 +67,7 @@ part_in types number (RegisterType.Reference x t) =
     option_and_then (part_of number) (form_at types t)
 part_in types number (RegisterType.Owner t) = None
 
--- ---- what a register has to hold
+-- ---- what a register must contain
 
 abbrev pub is_kind : ℤ → Kinds → Form → Bool
 is_kind number kinds.Any k = true
@@ -94,7 +96,7 @@ is_kind number kinds.Sized (Form.shared t) = false
 is_kind number kinds.Sized k = true
 is_kind number kinds k = false
 
--- any type, also one that the table doesn't have, or one of these kinds
+-- a type of one of these kinds. A number that is no type's passes only as `Any`.
 abbrev pub is_kind_at : ℤ → Kinds → Option Form → Bool
 is_kind_at number kinds (Some form) = is_kind number kinds form
 is_kind_at number kinds.Any None = true
@@ -122,7 +124,7 @@ abbrev pub leads_to : Table → ℤ → Kinds → RegisterType → Bool
 leads_to types number kinds (RegisterType.Reference x t) = is_kind_at number kinds (form_at types t)
 leads_to types number kinds k = false
 
--- the same, into what may be changed
+-- the same, but not into a frozen object
 abbrev pub may_change : Table → ℤ → Kinds → RegisterType → Bool
 may_change types number kinds (RegisterType.Reference x t) =
     if is_frozen x then false else is_kind_at number kinds (form_at types t)
@@ -137,7 +139,7 @@ abbrev pub is_alike : Table → Option ℕ → RegisterType → Bool
 is_alike types part_held (RegisterType.Reference x t) = shares part_held (form_at types t)
 is_alike types part_held k = false
 
--- what is held in register b, and in this one
+-- whether a register meets a need; `held` is what is known of register b
 abbrev pub meets_by : Table → ℤ → RegisterType → Need → ℕ → RegisterType → Bool
 meets_by types number held need.Nothing r k = true
 meets_by types number held need.Int r k = is_integer k
@@ -159,7 +161,7 @@ abbrev pub content_of : Option ℕ → RegisterType
 content_of None = RegisterType.Undefined
 content_of (Some t) = RegisterType.Owner t
 
--- what is behind a shared is only read
+-- a reference through a shared cell is only read
 abbrev pub part_class : Class → Form → Class
 part_class x (Form.shared t) = frozen x
 part_class x form = x
@@ -187,7 +189,7 @@ part_known types number RegisterType.Int = RegisterType.Int
 part_known types number (RegisterType.Reference x t) = part_at number (form_at types t) x
 part_known types number (RegisterType.Owner t) = RegisterType.Int
 
--- in the else part the register holds the code
+-- in the else part the register has the code
 abbrev pub otherwise_by : Role → RegisterType → RegisterType
 otherwise_by Role.Opener k = RegisterType.Int
 otherwise_by role k = k
@@ -200,7 +202,7 @@ abbrev pub changed_by : Role → Option (ℕ × RegisterType) → RegisterTypes 
 changed_by role None ks = ks
 changed_by role (Some x) ks = slice_set ks x.0 (otherwise_by role x.1)
 
--- an owner would be lost
+-- an owner would be overwritten
 abbrev pub is_lost : Option (ℕ × RegisterType) → RegisterTypes → Bool
 is_lost None ks = false
 is_lost (Some x) ks = is_owner (known ks x.0)
@@ -220,7 +222,7 @@ is_inside ends.Moved (Some x) c = same_class (sharing x.0) (Class.Register c)
 is_inside ends.Frozen (Some x) c = same_class (sharing x.0) (Class.Register c)
 is_inside ends x c = false
 
--- where register b leads there
+-- what is known after the references have ended; x is what register b refers to
 abbrev pub ended_with : (b c constant type_id : ℕ) → Option (Class × ℕ) → Ends → RegisterTypes
     → RegisterTypes
 ended_with b c constant type_id x ends.Nothing ks = ks
@@ -231,7 +233,7 @@ ended_with b c constant type_id x ends.Dropped ks = emptied b ks
 ended_with b c constant type_id x ends.Moved ks = emptied c (others x b ks)
 ended_with b c constant type_id x ends.Frozen ks = ended (Class.Register c) (others x b ks)
 
--- in the success part register c owns its object no more
+-- in the success part register c no longer owns its object
 abbrev pub frozen_from : Ends → ℕ → RegisterTypes → RegisterTypes
 frozen_from ends.Frozen c ks = slice_set ks c RegisterType.Undefined
 frozen_from ends c ks = ks
@@ -248,7 +250,7 @@ module _ (s : Step) where
   abbrev pub part_held : Option ℕ
   part_held = part_in s.types s.number held
 
-  -- the register that changes, and what it gets, where this is held in register b
+  -- the register that changes and what it gets; h is what is known of register b
   abbrev pub given_by : RegisterType → Gives → Option (ℕ × RegisterType)
   given_by h gives.Nothing = None
   given_by h gives.Int = Some (s.a, RegisterType.Int)
@@ -264,14 +266,15 @@ module _ (s : Step) where
   abbrev pub given : Option (ℕ × RegisterType)
   given = given_by held s.row.gives
 
-  -- where register b leads there
+  -- what is known after the references have ended; x is what register b refers to
   abbrev pub ended_by : Option (Class × ℕ) → Ends → RegisterTypes
   ended_by x ends = ended_with s.b s.c s.constant s.type_id x ends s.before
 
   abbrev pub ended_in : RegisterTypes
   ended_in = ended_by (referred held) s.row.ends
 
-  -- where register b leads there, and this register gets that
+  -- the first reason to refuse: x is what register b refers to, and the other argument what a
+  -- register gets
   abbrev pub checked_by : Option (Class × ℕ) → Option (ℕ × RegisterType) → Checked (⊤)
   checked_by x changes = do
     _ ← required (meets s.row.needs_b s.b) Reason.WrongOperand

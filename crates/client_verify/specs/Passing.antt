@@ -1,11 +1,12 @@
--- The verifier at a place of the code, and what it makes of each instruction.
---     Progress                           what is known there
+-- The verifier's progress through the code: what it knows at a place, and how each instruction
+-- changes that.
+--     Progress                           what is known at a place
 --     passes types constants p i         after an instruction, or the reason to refuse it
 --     passes_all types constants p is    after several
---     initial_progress                   in front of the code
---     rule_at types constants i ks       what is known after an instruction by itself, or in
---                                        front of each of its parts
---     at_most n                          n, or the most steps that the verifier counts
+--     initial_progress                   before the code
+--     rule_at types constants i ks       what is known after an instruction by itself, or at the
+--                                        beginning of each of its parts
+--     at_most n                          n, or the highest number of steps that the verifier counts
 use Rattle.std.specs.Prelude.{ℕ, ◌+◌, ◌*◌, ◌^◌, ◌-◌, min, max, nat_abs, List, [], ◌∷◌, length, replicate, nat_lt, if◌then◌else◌, Ok}
 use Rattle.seg_spec.specs.Types.{Table}
 use Rattle.client_spec.specs.Syntax.{Constant, Instruction}
@@ -13,16 +14,17 @@ use Rattle.client_spec.specs.declared.table.Role.{Role}
 use Rattle.client_spec.specs.Operations.{row_of}
 use Rattle.client_spec.specs.Typed.{Checked, ◌>>=◌, RegisterType, RegisterTypes, Rule, known, known_after, integer_needed, rule_of, joined, kept}
 
--- a part of the code that is open, and what its end needs: what was known where its other part
--- begins or ended, the steps of that part, or what was known in front of a loop and its turns; and
--- the steps of the code in front of it
+-- An open part of the code, with what its end needs. A success part has what its else part begins
+-- with; an else part has what was known at the end of the success part, and that part's steps; a
+-- body has what was known before the loop, and the most iterations. `before` is the steps before
+-- the part.
 pub data Open : Type 0 where
   in_success : (otherwise : RegisterTypes) (before : ℕ) → Open
   in_else : (success : RegisterTypes) (steps before : ℕ) → Open
   in_body : (found : RegisterTypes) (turns before : ℕ) → Open
 
--- what is known of the registers, the steps of the innermost part so far, and the open
--- parts, the innermost first
+-- what is known of the registers, the steps in the innermost part so far, and the open parts, the
+-- innermost first
 pub record Progress : Type 0 where
   pub known : RegisterTypes
   pub steps : ℕ
@@ -34,20 +36,20 @@ initial_progress = record { known = replicate 16 RegisterType.Undefined; steps =
 abbrev pub at_most : ℕ → ℕ
 at_most n = min n (2 ^ 64 - 1)
 
--- a part is opened where there is room
+-- opens a part, if fewer than eight are open
 abbrev pub with_part : Open → List Open → List Open
 with_part part parts = if nat_lt (length parts) 8 then part ∷ parts else parts
 
--- inside a new part
+-- at the beginning of a new part
 abbrev pub inside : RegisterTypes → Open → List Open → Progress
 inside ks part parts = record { known = ks; steps = 0; parts = with_part part parts }
 
--- after an END, with the steps of what it ends
+-- after an END; `steps` is the number of steps of the part that it ended
 abbrev pub following : RegisterTypes → (before steps : ℕ) → List Open → Progress
 following ks before steps parts =
     record { known = ks; steps = at_most (before + steps); parts = parts }
 
--- from the success part to the else part
+-- from the success part to its else part
 abbrev pub turned : Progress → List Open → Progress
 turned p (in_success otherwise before ∷ parts) =
     inside otherwise (in_else p.known p.steps before) parts

@@ -1,6 +1,7 @@
--- What the verifier's rule reads, as the definitions know it.
---     step_by rule                     of an instruction
---     types_of, before_of, instruction_in     the types, what is known in front of it, and itself
+-- The definitions' values for what the verifier's rule reads.
+--     step_by rule                     the step of an instruction
+--     types_of, before_of, instruction_in     the types, what is known before it, and the
+--                                             instruction
 use Rattle.seg_spec.specs.Types.{Table}
 use Rattle.client_code.specs.declared.instruction.Instruction.{Instruction}
 use Rattle.client_verify.specs.declared.registers.Registers.{Registers}

@@ -1,8 +1,10 @@
--- The files of several clients, each looked at where a segment has the types of those before it.
+-- The files of several clients. Each is verified in a segment that has the types of the files
+-- before it.
 --     texts_of programs                   the files of verified clients
---     IsWrongText table text fault        the file is no client's, or the types refuse its client
---     IsWrongAt table texts k fault       file k has this fault, and those before it were accepted
---     AreWrong table texts refused        a file has it, or memory was refused
+--     IsWrongText table text fault        the file is no client, or the client is refused
+--     IsWrongAt table texts k fault       file k has this fault, and the files before it are
+--                                         accepted
+--     AreWrong table texts refused        a file has a fault, or the program ran out of memory
 use Rattle.std.specs.Prelude.{◌≡◌, ℕ, List, map, take, Option, Some, None, slice_get}
 use Rattle.seg_spec.specs.Types.{Table}
 use Rattle.seg_raw.specs.declared.fault.Fault.{Fault}

@@ -1,6 +1,6 @@
--- The verifier's state as the definitions know it.
---     progress_of verifier                        where it stands
---     PassesBy role old instruction new result   what an instruction of this role makes of it
+-- The definitions' values for the verifier's state.
+--     progress_of verifier                        its progress
+--     PassesBy role old instruction new result   how an instruction of this role changes it
 use Rattle.std.specs.Prelude.{◌≡◌, ⊤, ℕ, List, map, reverse, Result}
 use Rattle.client_spec.specs.Syntax.{Constant}
 use Rattle.client_spec.specs.declared.table.Role.{Role}

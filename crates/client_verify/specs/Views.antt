@@ -1,4 +1,4 @@
--- The verifier's values as the definitions know them.
+-- The definitions' values for values of the verifier.
 --     class_of, known_of, reason_of     a class, what is known of a register, a reason
 --     registers_of                      what is known of each register
 --     checked                           a result, or the reason

@@ -1,4 +1,4 @@
--- Why no client runs: the faults of an image and of clients as the reasons of the definitions.
+-- Why no client runs: from the faults of an image and of clients to the reasons of the definitions.
 use Rattle.std.proofs.Common.{◌≡◌, ℕ, zero, suc, ◌+◌, ◌-◌, ◌≤◌, List, ◌++◌, length, Option, Some, None, Result, Ok, Err, refl, sym, ap, ◌∙◌, subst, inr, arith, length-append}
 use Rattle.std.specs.Result.{IsErrAnd, MatchResult}
 use Rattle.std.specs.Prelude.{replicate, IfOk, IfErr}
@@ -100,18 +100,18 @@ module _ (image : List ℕ) (texts : List (List ℕ)) (room base : ℕ) (moves :
   why None f h = of_call f h
   why (Some k) f h = of_client k f h.0 h.1
 
--- ---- where the image lies
+-- ---- the image's place
 
 slice_whole : (image : List ℕ) → slice image 0 (length image) ≡ image
 unfolding slice
 slice_whole image = take-length image
 
--- what a window of its size shows there
+-- a window of the image's length shows the image at its place
 pub shows : (w : Placement) (host : List ℕ) (base len : ℕ) (image : List ℕ) → region_of w ≡ host → length w.before ≡ base → length w.bytes ≡ len → len ≡ length image → IsPlaced host base image → w.bytes ≡ image
 shows w host base len image is at size same placed =
     sym (region-placed w.before w.bytes w.after) ∙ ap (λ r. slice r (length w.before) (length w.bytes)) is ∙ ap (λ b. slice host b (length w.bytes)) at ∙ ap (slice host base) (size ∙ same) ∙ placed
 
--- the window that a place gives
+-- the window at a place
 pub placed_there : {E : Type 0} (Q : E → Type 0) (result : Result Placement E) (w : Placement) (host : List ℕ) (base len : ℕ) → result ≡ Ok w
     → MatchResult result (λ v. (region_of v ≡ host) × (length v.before ≡ base) × (length v.bytes ≡ len)) Q → (region_of w ≡ host) × (length w.before ≡ base) × (length w.bytes ≡ len)
 placed_there Q result w host base len is h = MatchResult-at_ok _ Q w is h
@@ -135,13 +135,13 @@ whole_region image host is = subst (λ (h : List ℕ). IsPlaced h 0 image) (sym 
 
 -- ---- what calls return
 
--- an image that names an allocator which isn't the second names the first
+-- an allocator that isn't the second is the first
 pub other_allocator : (n : ℕ) → n ≤ 1 → (n ≡ 1 → ⊥) → n ≡ 0
 other_allocator zero small isnt = refl
 other_allocator (suc zero) small isnt = absurd (isnt refl)
 other_allocator (suc (suc n)) small isnt = absurd (omega (arith, small))
 
--- a value of which all is known
+-- a result whose value is known
 pub ok_is : {A E : Type 0} (result : Result A E) (x : A) (P : A → Type 0) → P x → IfOk result (λ y. y ≡ x) → IfOk result P
 ok_is (Ok a) x P p is = subst P (sym is) p
 ok_is (Err e) x P p is = tt

@@ -6,7 +6,7 @@ use Rattle.client_verify.proofs.TextsLaws.{mapped_front}
 use Rattle.client_output.specs.declared.report.Report.{Report}
 use Rattle.client_vm.specs.Reports.{IsReportOf, AreReportsOf}
 
--- one report more
+-- one more report
 one_report : (texts : List (List ℕ)) (reports : List Report) (text : List ℕ) (report : Report) → length texts ≡ length reports → AreReportsOf texts reports → IsReportOf text report
     → AreReportsOf (texts ++ text ∷ []) (reports ++ report ∷ [])
 one_report [] [] text report e h is = (is, tt)

@@ -1,4 +1,4 @@
--- Clients one after the other: what those that ran have left, and that the next one goes on from there.
+-- Clients one after the other: the result of those that ran, from which the next one continues.
 use Rattle.std.proofs.Common.{◌≡◌, ◌≢◌, ℕ, ◌↔◌, Bool, true, false, List, [], ◌∷◌, ◌++◌, length, drop, Option, Some, None, Result, Ok, Err, refl, sym, ap, ◌∙◌, subst, append_assoc, arith}
 use Rattle.std.specs.Prelude.{if◌then◌else◌, IfOk, OnOk}
 use Rattle.seg_bytes.specs.Bytes.{word}
@@ -24,7 +24,7 @@ use Rattle.seg_spec.specs.Images.{upgraded}
 use Rattle.seg_spec.proofs.Upgrading.{upgrade_changes, same_word, upgraded_version, upgraded_held, upgraded_counted}
 use Rattle.client_vm.specs.Together.{opened, ending_if, HaveRun, HaveRunOn}
 
--- ---- what is left together, with one more
+-- ---- the result with one more client
 
 outputs_more : (lefts : List Left) (left : Left) → outputs (lefts ++ left ∷ []) ≡ outputs lefts ++ left.output
 outputs_more [] left = append-nil left.output
@@ -48,13 +48,14 @@ reports_more (r ∷ reports) (l ∷ lefts) report left h steps read ending = (h.
 
 -- ---- midway
 
--- what is still to run, where no output has failed
+-- the runs that remain, if no output has failed
 abbrev GoOn : Bool → List Client → Given → List Left → Type 0
 GoOn true rest given more = more ≡ []
 GoOn false rest given more = RunClients rest given more
 
 module _ (allocator : ℕ) (clients : List Client) (moves : List Move) (input : List ℕ) (old : Placement) (taken : Option (List ℕ)) where
-  -- some have run, on the segment that is now this one, and these are left with their input
+  -- some clients have run on the segment, which is now this one, and these clients remain with
+  -- their input
   pub record Midway (texts : List (List ℕ)) (left : List ℕ) (now : Placement) (table : Table) (taken_now : Option (List ℕ)) (reports : List Report) (failed : Bool) : Type 0 where
     pub lefts : List Left
     pub rest : List Client
@@ -206,7 +207,7 @@ opened_ready window table moves allocator is named may = record {
       (subst (λ n. AreMoves (length (region_of window)) n 0 moves) (sym (upgrade_changes window.bytes).length_kept) may);
 }
 
--- on a sound image, with its types
+-- the result on a sound image, with its types
 pub ran_on : (texts : List (List ℕ)) (moves : List Move) (input : List ℕ) (window : Placement) (taken : Option (List ℕ)) (saved : List ℕ) (taken_then : Option (List ℕ)) (reports : List Report) (ending : Ending)
     (table : Table) (allocator : ℕ) → IsImageOf window.bytes table → word window.bytes allocator_word ≡ allocator → (clients : List Client) → AreAccepted table texts clients
     → ((clients : List Client) → AreAccepted table texts clients → IsReady allocator [] (opened window) table moves → HaveRun clients moves input (opened window) taken saved taken_then reports ending)

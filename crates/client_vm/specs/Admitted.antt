@@ -1,6 +1,6 @@
--- Clients that may run on an image, and what is wrong where none may.
---     AreAcceptedOn image texts           the image is sound, and accepts the clients one by one
---     IsWrong image texts refused         the image has the fault, or a client of a sound one has
+-- Whether clients may run on an image, and what is wrong if they may not.
+--     AreAcceptedOn image texts       the image is sound, and the clients are accepted one by one
+--     IsWrong image texts refused     the image has the fault, or it is sound and a client has it
 use Rattle.std.specs.Prelude.{ℕ, List, Option, Some, None}
 use Rattle.seg_spec.specs.Images.{IsSound}
 use Rattle.seg_raw.specs.declared.fault.Fault.{Fault}

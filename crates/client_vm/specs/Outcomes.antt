@@ -1,8 +1,9 @@
--- Clients on an image, from bytes to bytes: what the caller gets.
---     AreReports reports lefts    what the reports say of the runs
---     AreLeftByRuns ..            the saved image, the reports, the ending and what the output took
---                                 are those of runs
---     HasOutcome ..               the clients were accepted, and what they left is so
+-- What a caller gets who runs clients on an image, from bytes to bytes: the contracts of the public
+-- calls.
+--     AreReports reports lefts    the reports are those of the runs
+--     AreLeftByRuns ..            the saved image, the reports, the ending and the output are those
+--                                 of runs of the abstract machine
+--     HasOutcome ..               the clients were accepted, and that is their result
 --     IsRefusedFor .. refused     why no client ran, fault by fault
 use Rattle.std.specs.Prelude.{◌≡◌, ◌⊎◌, ⊤, ℕ, ◌-◌, ◌^◌, min, List, [], ◌∷◌, Option, Some, None}
 use Rattle.seg_spec.specs.Images.{IsSound, upgraded}
@@ -23,20 +24,19 @@ use Rattle.client_run.specs.Runs.{ending_of}
 
 -- ---- the clients ran
 
--- what a report says of a run
 pub record IsReport (report : Report) (left : Left) : Type 0 where
   pub steps : report.steps ≡ left.steps
   pub read : report.read ≡ left.read
   pub ending : ending_of report.ended ≡ left.ending
 
--- a report for each run, in order
+-- one report for each run, in order
 abbrev pub AreReports : List Report → List Left → Type 0
 AreReports [] [] = ⊤
 AreReports [] (left ∷ lefts) = ⊥
 AreReports (report ∷ reports) [] = ⊥
 AreReports (report ∷ reports) (left ∷ lefts) = IsReport report left × AreReports reports lefts
 
--- The clients ran, each within its bound, and this is what they left. It is a sound image again.
+-- The clients ran, each within its bound, with this result. The saved image is sound.
 pub record AreLeftByRuns (image : List ℕ) (texts : List (List ℕ)) (input : List ℕ)
     (room base : ℕ) (moves : List Move) (taken taken_then : Option (List ℕ))
     (saved : List ℕ) (reports : List Report) (ended : Ended) : Type 0 where
@@ -49,23 +49,23 @@ pub record AreLeftByRuns (image : List ℕ) (texts : List (List ℕ)) (input : L
   pub saved_is : saved ≡ image_after (upgraded image) lefts
   pub sound : IsSound saved
 
--- The clients were accepted, one after the other, on a sound image, and runs of the abstract
--- machine left the rest.
+-- The clients were accepted, one after the other, on a sound image, and the rest is the result of
+-- runs of the abstract machine.
 pub record HasOutcome (image : List ℕ) (texts : List (List ℕ)) (input : List ℕ)
     (room base : ℕ) (moves : List Move) (taken taken_then : Option (List ℕ))
     (saved : List ℕ) (reports : List Report) (ended : Ended) : Type 0 where
   pub can_run : CanRun image texts room base moves
   pub left : AreLeftByRuns image texts input room base moves taken taken_then saved reports ended
 
--- ---- none of them ran
+-- ---- no client ran
 
--- the image has this fault, where it has a place and the moves have
+-- the image has this fault; it has a place, and the moves are allowed
 pub record IsBadImage (image : List ℕ) (texts : List (List ℕ)) (room base : ℕ)
     (moves : List Move) (f : Fault) : Type 0 where
   pub refusal : IsRefusalOf image texts room base moves Refusal.bad_image
   pub fault : IsFaultOf image f
 
--- client k has this fault, where the image is sound and those before it were accepted
+-- client k has this fault; the image is sound, and the clients before it were accepted
 pub record IsBadClient (image : List ℕ) (texts : List (List ℕ)) (room base : ℕ)
     (moves : List Move) (k : ℕ) (f : Fault) : Type 0 where
   pub refusal : IsRefusalOf image texts room base moves (Refusal.bad_client k)
@@ -76,13 +76,13 @@ pub record IsBadClient (image : List ℕ) (texts : List (List ℕ)) (room base :
   pub fault : IsRefused (table_after turn.sound.picture.table turn.clients) client f
 
 module _ (image : List ℕ) (texts : List (List ℕ)) (room base : ℕ) (moves : List Move) where
-  -- the move with this index is the first that may not be made; one past 32 bits is told as the
-  -- largest number
+  -- This is the index of the first move that isn't allowed. An index above 32 bits is reported as
+  -- the highest u32.
   abbrev pub IsBadMove : ℕ → Type 0
   IsBadMove told = (i : ℕ) × (told ≡ min i (2 ^ 32 - 1)) ×
       IsRefusalOf image texts room base moves (Refusal.bad_move i)
 
-  -- a fault that is no client's
+  -- a fault of the image, its place or the moves
   abbrev pub IsFaultOfCall : Fault → Type 0
   IsFaultOfCall fault.Memory = IsRefusalOf image texts room base moves Refusal.no_memory
   IsFaultOfCall fault.Misplaced = IsRefusalOf image texts room base moves Refusal.misplaced
@@ -136,6 +136,6 @@ module _ (image : List ℕ) (texts : List (List ℕ)) (room base : ℕ) (moves :
   IsFault None f = IsFaultOfCall f
   IsFault (Some k) f = IsFaultOfClient k f
 
-  -- why no client ran: the fault, and the client that has it, where one has
+  -- why no client ran: the fault, and the client that has it, if it is a client's
   abbrev pub IsRefusedFor : Refused → Type 0
   IsRefusedFor refused = IsFault refused.client refused.fault

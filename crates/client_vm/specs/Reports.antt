@@ -1,8 +1,8 @@
--- What the reports of several clients say, whatever image they ran on.
+-- What the reports of several clients promise about any image.
 --     IsReportOf text report          the steps and the ending are those of a run of the client's
 --                                     code, within its bound
---     AreReportsOf texts reports      the same of each client that ran, in order
---     HasReportsOf texts reports ended    and all ran where no output failed
+--     AreReportsOf texts reports      the same for each client that ran, in order
+--     HasReportsOf texts reports ended    and all ran if no output failed
 use Rattle.std.specs.Prelude.{◌≡◌, ⊤, ℕ, ◌≤◌, List, [], ◌∷◌, length}
 use Rattle.client_spec.specs.Syntax.{Client}
 use Rattle.client_spec.specs.Grammar.{SpellsClient}
@@ -17,7 +17,7 @@ pub record IsReportOf (text : List ℕ) (report : Report) : Type 0 where
       IsPath client.code report.steps (ending_of report.ended)
   pub within : (client : Client) → SpellsClient text client → report.steps ≤ bound client.code
 
--- those after a failed output didn't run
+-- clients after a failed output didn't run
 abbrev pub AreReportsOf : List (List ℕ) → List Report → Type 0
 AreReportsOf texts [] = ⊤
 AreReportsOf [] (report ∷ reports) = ⊥

@@ -1,8 +1,8 @@
 -- Several clients on a segment, one after the other.
---     HaveRun ..       what they leave together, where the segment was one that clients run on
---     ending_if failed         how the last one ended
---     opened window    the image in a window as it is opened
---     HaveRunOn ..     so it is on a sound image in a window, where the moves may be made
+--     HaveRun ..       their result, on a segment that clients may run on
+--     ending_if failed         how the last client ended
+--     opened window    the image in a window after it was opened
+--     HaveRunOn ..     the same on a sound image in a window, if the moves are allowed
 use Rattle.std.specs.Prelude.{◌≡◌, ℕ, List, [], length, Bool, Option, if◌then◌else◌}
 use Rattle.seg_spec.specs.Window.{Placement, region_of, with_bytes}
 use Rattle.seg_spec.specs.Images.{IsSound, upgraded}
@@ -19,7 +19,7 @@ use Rattle.client_vm.specs.Outcomes.{AreReports}
 abbrev pub ending_if : Bool → Ending
 ending_if failed = if failed then stopped else finished
 
--- the clients ran until an output failed, and the saved image, which the last one left, is sound
+-- The clients ran until an output failed. The last one's image was saved, and is sound.
 pub record HaveRun (clients : List Client) (moves : List Move) (input : List ℕ)
     (old : Placement) (taken : Option (List ℕ)) (saved : List ℕ) (taken_then : Option (List ℕ))
     (reports : List Report) (ending : Ending) : Type 0 where
@@ -32,11 +32,12 @@ pub record HaveRun (clients : List Client) (moves : List Move) (input : List ℕ
   pub saved_is : saved ≡ image_after old.bytes lefts
   pub sound : IsSound saved
 
--- the image in a window as it is opened
+-- the image in a window after it was opened
 abbrev pub opened : Placement → Placement
 opened window = with_bytes window (upgraded window.bytes)
 
--- the texts' clients were accepted on the sound image of a window, and ran on it as it was opened
+-- the texts' clients were accepted on the sound image of a window, and ran on it after it was
+-- opened
 pub record HaveRunOn (texts : List (List ℕ)) (moves : List Move) (input : List ℕ)
     (window : Placement) (taken : Option (List ℕ)) (saved : List ℕ)
     (taken_then : Option (List ℕ)) (reports : List Report) (ending : Ending) : Type 0 where

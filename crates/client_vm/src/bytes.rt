@@ -31,14 +31,14 @@ use seg_raw::{Fault, Region};
 use seg_seqfit::SeqFit;
 use std::alloc::{AllocError, Allocator};
 
-/// The most bytes of a region.
+/// The most bytes of a region (2 GiB).
 const MAX_ROOM: u32 = 1 << 31;
 
-/// Checks an image, verifies the clients, runs one after the other on it, and gives the saved image.
+/// Checks an image, verifies the clients, runs them on a copy of it in order, and returns the saved image and their reports.
 ///
-/// Refused for the image's length, its base, a move, the image's first fault, or a client's, in this order; then nothing
-/// was written. All memory is taken before the first step. Each client makes the moves anew and reads the input that the
-/// ones before it left. After an output that failed no further client runs.
+/// Fails for the image's length, its base, a move, the image's first fault, or a client's fault, tested in this order; then
+/// nothing was written. All memory is allocated before the first step. Each client makes the moves again, and reads the input
+/// that the clients before it left. After a failed output no further client runs.
 pub fn run_bytes<A: Allocator + Copy, W: Sink>(
     alloc: A,
     image: &[u8],
@@ -71,8 +71,8 @@ pub fn run_bytes<A: Allocator + Copy, W: Sink>(
     )
 }
 
-/// As [`run_bytes`], on bytes of the caller's, which come back as they were where it is refused. They aren't copied where the
-/// segment is the whole region, or where there are no moves.
+/// Like [`run_bytes`], on bytes that the caller gives away. A failure returns them unchanged. They are copied only if there are
+/// moves and the region is larger than the segment.
 pub fn run_image<A: Allocator + Copy, W: Sink>(
     alloc: A,
     image: Vec<u8, A>,
@@ -117,7 +117,7 @@ pub fn run_image<A: Allocator + Copy, W: Sink>(
     }
 }
 
-/// The schedule in the least region that serves as well: without moves a run is the same wherever the image lies.
+/// The schedule in the smallest region. Without moves a run doesn't depend on the image's place, so the region can be the image.
 fn least_room<'a>(schedule: &Schedule<'a>, len: u32) -> Schedule<'a>
     ensures moves { result.moves.now ≡ schedule.now.moves.now }
     ensures place { ((result.room ≡ schedule.now.room) × (result.base ≡ schedule.now.base)) ⊎
@@ -165,7 +165,7 @@ fn run_copy<A: Allocator + Copy, W: Sink>(
     }
 }
 
-/// Runs clients on the image of `len` bytes in its own memory, which is the whole region.
+/// Runs clients on the image of `len` bytes in the caller's memory, which is the whole region.
 fn run_own<A: Allocator + Copy, W: Sink>(
     alloc: A,
     image: Vec<u8, A>,
@@ -200,7 +200,7 @@ fn run_own<A: Allocator + Copy, W: Sink>(
     }
 }
 
-/// Runs clients on the image in a window, which comes back as it was where they are refused.
+/// Runs clients on the image in a window. A failure returns the image unchanged.
 fn run_in<A: Allocator + Copy, W: Sink>(
     alloc: A,
     window: Window<A>,
@@ -228,7 +228,7 @@ fn run_in<A: Allocator + Copy, W: Sink>(
     }
 }
 
-/// What is found and made before anything runs: the types of a sound image, its clients, and room for the report of each.
+/// Everything that is prepared before a client runs: the types of a sound image, the clients, and memory for the report of each.
 #[derive(Drop)]
 struct Admitted<'a, A: Allocator> {
     types: TypeTable,
@@ -236,7 +236,7 @@ struct Admitted<'a, A: Allocator> {
     reports: Vec<Report, A>,
 }
 
-/// Checks the image in a window, and verifies the clients and makes them ready.
+/// Checks the image in a window, and verifies and prepares the clients.
 fn admit<'a, A: Allocator + Copy>(
     alloc: A,
     window: &Window<A>,
@@ -260,7 +260,7 @@ fn admit<'a, A: Allocator + Copy>(
     })
 }
 
-/// Runs the clients that an image admits, with the allocator that it names.
+/// Runs the admitted clients, with the image's allocator.
 fn run_admitted<A: Allocator, W: Sink>(
     window: Window<A>,
     admitted: Admitted<A>,
@@ -287,7 +287,7 @@ fn run_admitted<A: Allocator, W: Sink>(
     }
 }
 
-/// Opens the image in a window, and runs the clients that it admits.
+/// Opens the image in a window, and runs the admitted clients.
 fn run_on<F: Fit, A: Allocator, W: Sink>(
     mut window: Window<A>,
     admitted: Admitted<A>,
@@ -318,7 +318,7 @@ fn run_on<F: Fit, A: Allocator, W: Sink>(
     run_verified(segment, programs, input, moves, reports, out)
 }
 
-/// The clients, verified and made ready, and room for the report of each.
+/// The clients, verified and prepared, and memory for the report of each.
 fn prepared<'a, A: Allocator + Copy>(
     alloc: A,
     clients: &[&'a [u8]],
@@ -339,7 +339,7 @@ fn prepared<'a, A: Allocator + Copy>(
     Ok((programs, reports))
 }
 
-/// Verified clients, each made ready.
+/// Prepares each verified client.
 fn all_ready<'a, A: Allocator + Copy>(
     alloc: A,
     clients: Vec<Verified<'a>, A>,
@@ -354,7 +354,7 @@ fn all_ready<'a, A: Allocator + Copy>(
     Ok(programs)
 }
 
-/// Runs clients on an open segment, and saves it; the reports have room for each.
+/// Runs clients on an open segment, and saves it. `reports` has room for one report each.
 fn run_verified<F: Fit, A: Allocator, W: Sink>(
     mut segment: Segment<F, A>,
     programs: Vec<Ready<A>, A>,
@@ -389,7 +389,7 @@ fn run_verified<F: Fit, A: Allocator, W: Sink>(
     }
 }
 
-/// A window on a copy of the image of `len` bytes, at its base in a region of zeros.
+/// A window on a copy of the image of `len` bytes, at its base. The rest of the region is zeros.
 fn copied<A: Allocator>(
     alloc: A,
     image: &[u8],
@@ -408,7 +408,7 @@ fn copied<A: Allocator>(
     Ok(Window::place(region, schedule.base, len).unwrap())
 }
 
-/// The length of an image that may lie at a place and make the moves.
+/// The length of an image that may be at this place and make the moves.
 fn fitting(image: &[u8], schedule: &Schedule) -> Result<u32, Fault>
     ensures len { IfOk result (λ n. n ≡ length image.now) }
     ensures fits { OnOk result (CanMove image.now schedule.now.room schedule.now.base
@@ -426,7 +426,7 @@ fn fitting(image: &[u8], schedule: &Schedule) -> Result<u32, Fault>
     Ok(len)
 }
 
-/// The length of an image, if it is one that a segment may have.
+/// The length of an image, if a segment may have it.
 fn image_len(image: &[u8]) -> Result<u32, Fault>
     ensures len { IfOk result (λ n. n ≡ length image.now) }
     ensures fits { OnOk result (IsImageLength (length image.now)) }
@@ -439,7 +439,7 @@ fn image_len(image: &[u8]) -> Result<u32, Fault>
     }
 }
 
-/// Runs the clients until the output fails, and adds the report of each that ran.
+/// Runs the clients until an output fails, and adds the report of each that ran.
 fn run_all<F: Fit, A: Allocator, B: Allocator, W: Sink>(
     segment: &mut Segment<F, A>,
     programs: &[Ready<B>],
@@ -468,12 +468,12 @@ fn run_all<F: Fit, A: Allocator, B: Allocator, W: Sink>(
         }
         let report = run(segment, program, left, moves, out);
         left = rest(left, report.read);
-        // there is room for it
+        // `reports` has room for it
         let _ = reports.push(report);
     }
 }
 
-/// What an input has after its first bytes.
+/// The input after its first `read` bytes.
 fn rest(input: &[u8], read: usize) -> &[u8]
     ensures { result.now ≡ drop read input.now }
 {

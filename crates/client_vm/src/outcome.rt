@@ -4,8 +4,8 @@ use client_output::{Ended, Refused, Report};
 use client_run::Move;
 use std::alloc::Allocator;
 
-/// Where the segment lies and when it moves: the bytes of the region, the segment's base in it, and the moves, which each client
-/// makes anew.
+/// The region that clients run in: its length `room` and the segment's `base`, in bytes, and the moves, which each client makes
+/// again. A base is a multiple of 16, and the segment must end within the region.
 #[derive(Debug, Clone, Copy)]
 pub struct Schedule<'a> {
     pub room: u32,
@@ -21,7 +21,7 @@ pub struct Outcome<A: Allocator> {
     pub ended: Ended,
 }
 
-/// Why no client ran, and the caller's bytes as they were. `?` makes it the reason alone.
+/// Why no client ran, and the caller's bytes, unchanged. `?` turns it into the reason alone.
 #[derive(Drop)]
 pub struct Unrun<A: Allocator> {
     pub refused: Refused,

@@ -1,4 +1,4 @@
-//! Clients, which run one after the other on an open image.
+//! Runs of clients on an open image, one after the other.
 
 ghost use Rattle.std.specs.Prelude.{◌≡◌, ◌↔◌, ◌≤◌, ℕ, List, [], true, false, IsOk, IfOk, IfErr, OnErr};
 ghost use Rattle.seg_spec.specs.Index.{Root};
@@ -22,8 +22,8 @@ use seg_image::Image;
 use seg_raw::Fault;
 use std::alloc::Allocator;
 
-/// The client of a file, verified against an image's types. `BadCode` with the first field that is wrong or cut, and the
-/// faults of the verifier: `TypeMismatch`, `Rejected`, `TooLong`.
+/// Reads a client file, and verifies the client against an image's types. Fails with `BadCode` and the position of the first
+/// field that is wrong or cut off, or with a fault of the verifier: `TypeMismatch`, `Rejected` or `TooLong`.
 pub fn verify<'c, A: Allocator>(image: &Image<A>, client: &'c [u8]) -> Result<Verified<'c>, Fault>
     ensures text { IfOk result (λ verified. bytes_of (client_of verified) ≡ client.now) }
     ensures accepted { IfOk result (λ _. (tree : syntax.Client) ×
@@ -33,9 +33,9 @@ pub fn verify<'c, A: Allocator>(image: &Image<A>, client: &'c [u8]) -> Result<Ve
     verify_typed(parse_typed(client)?, image.types())
 }
 
-/// Adds a client's types to an image, and runs the client on it: to its end, or to an output that fails. It takes
-/// [`Verified::bound`] steps at most, and no host memory; clients run one after the other, each any number of times. `TypeMismatch` where the client was verified against
-/// other types; then it doesn't run, and nothing changes.
+/// Adds a client's types to an image, and runs the client on it, to the end of its code or to an output that fails. A run takes
+/// at most [`Verified::bound`] steps, and no host memory. Clients can run one after the other, each any number of times. Fails
+/// with `TypeMismatch` if the client was verified against other types; then nothing changes.
 pub fn run<A: Allocator, B: Allocator, W: Sink>(
     image: &mut Image<A>,
     client: &Ready<B>,

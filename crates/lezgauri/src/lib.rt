@@ -1,8 +1,8 @@
-//! Lezgauri for the host that embeds it: an image is opened where it is sound, on whichever allocator it names, then read and
-//! changed by the host's own calls and by verified clients, grown, and saved.
+//! Lezgauri for a host that embeds it. A sound image is opened, on the allocator that its header asks for. Then the host's own
+//! calls and verified clients read and change it; it can grow, and it is saved.
 //!
-//! [`Image`] is where to begin; [`verify`] and [`run`] put clients to work on it, and [`run_image`] runs several from bytes
-//! to bytes.
+//! Begin with [`Image`]. [`verify`] and [`run`] run clients on an open image, and [`run_image`] runs several clients from the
+//! bytes of an image to the bytes of the saved one.
 #![tactic(auto)]
 
 mod clients;

@@ -1,6 +1,6 @@
 /*
- * The calls of lezgauri.h. Each tests the caller's pointers and lengths, and passes them on to an export of the library, which takes
- * slices, so it may be given no null pointer, and no memory twice that it writes.
+ * The calls of lezgauri.h. Each tests the caller's pointers and lengths, and passes them on to an export of the library. The exports
+ * take slices, so pointers must not be null, and memory that is written must not overlap other memory of the call.
  */
 #include "lezgauri.h"
 
@@ -9,17 +9,15 @@
 #include <stdlib.h>
 #include <string.h>
 
-/* Memory that a call lends to the library: where it begins, how many of its bytes are in use, and how many it has. It is Lent of
- * the crate seg_lent. The library uses the memory where it lies, and gives it back with as many bytes in use as there are then; it
- * doesn't move, and an image's length stays. */
+/* Memory that a call lends to the library: its start, the number of bytes in use, and its capacity in bytes. It is `Lent` of the
+ * crate seg_lent. The library uses the memory in place, and sets the number of bytes in use; an image's length doesn't change. */
 typedef struct lent {
     uint8_t *at;
     size_t len;
     size_t room;
 } lent;
 
-/* A client that the library keeps for a caller, or none. It is Prepared of the crate lezgauri_c: where `at` leads, only the library
- * reads and writes. */
+/* A prepared client, or none. It is `Prepared` of the crate lezgauri_c. Only the library reads and writes what `at` points to. */
 typedef struct kept {
     void *at;
     bool is_there;
@@ -44,15 +42,15 @@ void lezgauri_raw_client_close(kept *prepared);
 /* The most bytes of an image. */
 #define MOST_IMAGE ((size_t)1 << 30)
 
-/* ---- memory of a call */
+/* ---- the memory of a call */
 
-/* Memory of the caller's: `len` bytes. */
+/* Memory of the caller's: a pointer and a length in bytes. */
 typedef struct span {
     const void *at;
     size_t len;
 } span;
 
-/* All memory of a call but a list of clients. The first places are written, the fault's among them. */
+/* All memory of a call except the files in a list of clients. The first `written` spans are written to. */
 typedef struct memory {
     const span *spans;
     size_t count;
@@ -61,7 +59,7 @@ typedef struct memory {
 
 #define MEMORY(spans, written) ((memory){(spans), sizeof(spans) / sizeof *(spans), (written)})
 
-/* Where an empty slice is that the caller gave as null: aligned for each type of the calls. */
+/* In place of a null pointer with length 0. Aligned for each type of the calls. */
 static const uint64_t empty_place[4] = {0};
 static uint64_t empty_room[4];
 
@@ -75,7 +73,7 @@ static void *or_room(void *at)
     return at != NULL ? at : empty_room;
 }
 
-/* Whether `len` items of a size and an alignment may be at a pointer. */
+/* Whether a pointer to `len` items of this size and alignment is allowed. */
 static bool may_be(const void *at, size_t len, size_t size, size_t align)
 {
     return len <= PTRDIFF_MAX / size && (uintptr_t)at % align == 0 && (at != NULL || len == 0);
@@ -86,19 +84,19 @@ static bool may_be_bytes(const void *at, size_t len)
     return may_be(at, len, 1, 1);
 }
 
-/* Whether a pointer that may be null is one to a value of an alignment. */
+/* Whether a pointer is null or has this alignment. */
 static bool may_tell(const void *at, size_t align)
 {
     return (uintptr_t)at % align == 0;
 }
 
-/* The memory of one value, or none if the pointer is null. */
+/* The span of `size` bytes, or an empty one if the pointer is null. */
 static span one(const void *at, size_t size)
 {
     return (span){at, at != NULL ? size : 0};
 }
 
-/* The memory of an image. Of a length that is no image's the call reads nothing. */
+/* The span of an image. A call reads nothing of an image that is too long. */
 static span image_at(const void *at, size_t len)
 {
     return one(at, len < MOST_IMAGE ? len : MOST_IMAGE);
@@ -111,7 +109,7 @@ static bool overlap(span a, span b)
     return a.len > 0 && b.len > 0 && (start < other ? other - start < a.len : start - other < b.len);
 }
 
-/* Whether memory overlaps none of a call's, itself left out. */
+/* Whether a span overlaps no span of a call. `itself` is its own index there. */
 static bool is_apart(span part, memory of, size_t itself)
 {
     for (size_t i = 0; i < of.count; i++) {
@@ -122,7 +120,7 @@ static bool is_apart(span part, memory of, size_t itself)
     return true;
 }
 
-/* Whether each place that a call writes is apart from all its other memory. */
+/* Whether each span that a call writes to overlaps no other span. */
 static bool are_apart(memory of)
 {
     for (size_t i = 0; i < of.written; i++) {
@@ -133,7 +131,7 @@ static bool are_apart(memory of)
     return true;
 }
 
-/* Whether the places that a call writes are apart from some memory that it reads besides. */
+/* Whether the spans that a call writes to don't overlap another span, which it reads. */
 static bool are_apart_from(memory of, span read)
 {
     return is_apart(read, (memory){of.spans, of.written, 0}, SIZE_MAX);
@@ -141,8 +139,8 @@ static bool are_apart_from(memory of, span read)
 
 /* ---- refusals */
 
-/* The number of a call that looked at no image and no client. Its fault is told if that spoils no other memory of the call. The
- * fault's place is the first of the call's memory. */
+/* Returns the number of a refusal before any image or client was read. Writes the fault too, unless it overlaps other memory of the
+ * call. Span 0 of the call is the fault. */
 static uint32_t refuse(uint32_t number, lezgauri_fault *fault, memory of)
 {
     if (fault != NULL && may_tell(fault, _Alignof(lezgauri_fault)) && is_apart(of.spans[0], of, 0)) {
@@ -204,7 +202,7 @@ uint32_t lezgauri_verify(const void *image, size_t len, const void *client, size
     return status;
 }
 
-/* Whether the library may read each client while it writes elsewhere. */
+/* Whether each client is readable, and overlaps no span that the call writes to. */
 static bool may_read_clients(const lezgauri_bytes *clients, size_t count, memory of)
 {
     for (size_t i = 0; i < count; i++) {
@@ -216,7 +214,7 @@ static bool may_read_clients(const lezgauri_bytes *clients, size_t count, memory
     return true;
 }
 
-/* As refuse, for a call that has a list of clients too. */
+/* Like refuse, for a call with a list of clients. */
 static uint32_t refuse_run(uint32_t number, lezgauri_fault *fault, memory of, const lezgauri_bytes *clients, size_t count)
 {
     for (size_t i = 0; i < count; i++) {
@@ -281,7 +279,7 @@ static span segment_at(const lezgauri_handle *handle)
     return (span){handle, handle != NULL ? sizeof *handle + handle->len : 0};
 }
 
-/* Whether a segment or a client was free; then it is the call's until it is released. */
+/* Marks a segment or a client as busy. Returns false if another call uses it. */
 static bool acquire(atomic_flag *busy)
 {
     return !atomic_flag_test_and_set_explicit(busy, memory_order_acquire);
@@ -313,7 +311,7 @@ uint32_t lezgauri_open(const void *image, size_t len, lezgauri_handle **handle, 
     if (opened == NULL) {
         return refuse(LEZGAURI_MEMORY, fault, of);
     }
-    /* the copy is checked, and not the caller's bytes, which another process may write */
+    /* check the copy, because another process may write the caller's bytes */
     memcpy(opened->image, or_empty(image), len);
     lezgauri_fault told;
     uint32_t status = lezgauri_raw_check(opened->image, len, &told);
@@ -328,7 +326,7 @@ uint32_t lezgauri_open(const void *image, size_t len, lezgauri_handle **handle, 
     return status;
 }
 
-/* A client that is kept, with its bytes, to which what the library keeps refers. */
+/* A prepared client, and its bytes, which the prepared client refers to. */
 struct lezgauri_client {
     kept prepared;
     size_t len;
@@ -354,7 +352,7 @@ uint32_t lezgauri_prepare(const lezgauri_handle *handle, const void *client, siz
         !are_apart(of)) {
         return refuse(LEZGAURI_BAD_ARGUMENT, fault, of);
     }
-    /* to a caller that may only read the segment, its flag is no part of it, and the library writes nothing of the image */
+    /* const to the caller all the same: the library doesn't write to the image, and the flag isn't visible */
     lezgauri_handle *flagged = (lezgauri_handle *)handle;
     if (!acquire(&flagged->busy)) {
         return refuse(LEZGAURI_BUSY, fault, of);
@@ -381,15 +379,15 @@ uint32_t lezgauri_prepare(const lezgauri_handle *handle, const void *client, siz
     return status;
 }
 
-/* What runs. */
+/* The three calls that run one client. */
 typedef enum run_kind {
     RUN_ON,
     RUN_WHOLE,
     RUN_CLIENT
 } run_kind;
 
-/* What lezgauri_run_on, lezgauri_run_whole and lezgauri_run_client take. The client is `prepared` for the last of them. `length` is
- * where the output's length goes. */
+/* The arguments of lezgauri_run_on, lezgauri_run_whole and lezgauri_run_client. Only the last one has `prepared`, and the others
+ * `client`. The output's length is written to `length`. */
 typedef struct run_arguments {
     lezgauri_handle *handle;
     lezgauri_client *prepared;
@@ -404,7 +402,7 @@ typedef struct run_arguments {
     lezgauri_fault *fault;
 } run_arguments;
 
-/* Whether both were free. */
+/* Marks the segment and the client as busy. Returns false if another call uses one of them. */
 static bool acquire_both(const run_arguments *with)
 {
     if (!acquire(&with->handle->busy)) {
@@ -425,7 +423,7 @@ static void release_both(const run_arguments *with)
     release(&with->handle->busy);
 }
 
-/* Runs a client on an open segment: all or nothing if it is to run whole. */
+/* Runs a client on an open segment. RUN_WHOLE is all or nothing. */
 static uint32_t run_on(const run_arguments *with, run_kind kind)
 {
     span spans[] = {one(with->fault, sizeof *with->fault),
@@ -519,7 +517,7 @@ uint32_t lezgauri_save(const lezgauri_handle *handle, void *buffer, size_t capac
     if (capacity < handle->len) {
         return LEZGAURI_TOO_SMALL;
     }
-    /* to a caller that may only read the segment, its flag is no part of it */
+    /* const to the caller all the same: the flag isn't visible */
     lezgauri_handle *flagged = (lezgauri_handle *)handle;
     if (!acquire(&flagged->busy)) {
         return LEZGAURI_BUSY;

@@ -140,7 +140,7 @@ uint32_t lezgauri_open(const void *image, size_t len, lezgauri_handle **handle, 
 /*
  * Verifies a client and runs it on an open segment. The arguments are as for lezgauri_run; `report`, `written` and `fault` may be null.
  * After a fault nothing ran, and the segment is unchanged. After LEZGAURI_OUTPUT_FULL the client ran until the output had no room, and the
- * segment is as it was then.
+ * segment has its changes up to then.
  *
  * The client works in place: nothing of the image or of the output is copied, and malloc is only asked for the decoded client. If a
  * crash interrupts the run, the segment is half changed: save it before, or use lezgauri_run_whole.

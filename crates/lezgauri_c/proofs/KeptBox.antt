@@ -1,4 +1,4 @@
--- What keeps a client owns what a box of it owns.
+-- A `Kept` owns what a box with its client owns.
 use Rattle.std.proofs.Common.{◌≡◌, true, [], refl}
 use Rattle.std.specs.Prelude.{Option, Some, None, is_some}
 use mir.Syntax.{impl, tnil, dnil}
@@ -24,7 +24,7 @@ FromKept = plain (λ _. kept.the_row)
 abbrev pub Heap : Slot 0
 Heap = plain (λ _. heap.the_row)
 
--- what is there, where something is
+-- the value of an option that has one
 pub one_there : {T : Type 0} (o : Option T) → is_some o ≡ true → (x : T) × (o ≡ Some x)
 one_there (Some x) there = (x, refl)
 one_there None there = cc

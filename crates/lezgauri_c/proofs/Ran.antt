@@ -1,4 +1,5 @@
--- What a run says of an image and an output that are as those that it was given.
+-- The statements about a run are the same for an image and an output that are equal to the given
+-- ones.
 use Rattle.std.proofs.Common.{◌≡◌, ℕ, List, [], ◌∷◌, length, Some, subst, sym}
 use Rattle.seg_spec.specs.Images.{IsSound}
 use Rattle.client_output.specs.declared.report.Report.{Report}
@@ -10,7 +11,7 @@ use Rattle.client_vm.proofs.Refusing.{why}
 use Rattle.lezgauri_c.specs.Calls.{IsRun}
 use Rattle.lezgauri_c.proofs.OneClient.{can_move}
 
--- a run on them
+-- the statement of a run
 pub same_run : (text input image from output started output_then written saved left : List ℕ) (told : Report) (ended : Ended)
     → from ≡ image → started ≡ output → output_then ≡ written → saved ≡ left → told.ended ≡ ended
     → (IsSound from → HasOutcome from (text ∷ []) input (length from) 0 [] (Some started) (Some written) left (told ∷ []) told.ended)
@@ -22,7 +23,7 @@ same_run text input image from output started output_then written saved left tol
     (subst (λ (o : List ℕ). IsRun image (text ∷ []) input o written left (told ∷ []) told.ended) started_is
     (subst (λ (i : List ℕ). IsSound i → IsRun i (text ∷ []) input started written left (told ∷ []) told.ended) from_is run sound))))
 
--- and a refusal
+-- the statement of a refusal
 pub same_refusal : (text image from : List ℕ) (refused : Refused) → from ≡ image → (IsSound from → IsWrong from (text ∷ []) refused)
     → IsSound image → IsRefusedFor image (text ∷ []) (length image) 0 [] refused
 same_refusal text image from refused from_is wrong sound =

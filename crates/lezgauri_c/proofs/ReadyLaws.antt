@@ -1,4 +1,5 @@
--- A client that is ready was accepted, so it is verified wherever its types agree with a table.
+-- A prepared client was accepted, so it is verified for each table of types that its types agree
+-- with.
 use Rattle.std.proofs.Common.{◌≡◌, ◌≤◌, ℕ, ◌^◌, List, [], ◌∷◌, replicate, refl, sym, ◌∙◌, arith}
 use Rattle.std.specs.Prelude.{Ok, Err, Result, Some, IfErr}
 use Rattle.std.specs.Global.{Global}
@@ -20,7 +21,7 @@ use Rattle.client_vm.proofs.Refusing.{if_wrong}
 use Rattle.lezgauri_c.specs.Prepared.{text_of}
 use Rattle.lezgauri_c.proofs.OneClient.{only_wrong}
 
--- the rules tell what is known after a client, so one that can't but be accepted is
+-- acceptance is decidable, so a double negation of it can be dropped
 accepted_so : (client : Client) → ((IsAccepted client → ⊥) → ⊥) → IsAccepted client
 accepted_so client some = go (types_after client.types client.constants client.code (replicate 16 RegisterType.Undefined)) refl
   where
@@ -40,7 +41,7 @@ module _ (ready : Ready Global) (client : Client) (spells : SpellsClient (text_o
         bounded = omega (arith, few, is, most);
       }
 
-  -- where they don't, the first type that differs is the fault
+  -- if the types don't agree, the fault is the first type that differs
   pub differs_on : (image : List ℕ) → IsImageOf image table → (k : ℕ) → IsFirstDifference table client.types k
       → IsWrong image (text_of ready ∷ []) (record { client = Some 0; fault = fault.TypeMismatch k })
   differs_on image is k first =
@@ -48,6 +49,6 @@ module _ (ready : Ready Global) (client : Client) (spells : SpellsClient (text_o
       let result : Result (Unit {0}) Refused = Err refused in
       if_wrong image (text_of ready ∷ []) table is result (only_wrong table (text_of ready) (fault.TypeMismatch k) (client, spells, first))
 
--- the client that is kept is one
+-- at most one client is kept
 pub one_kept : (x y : Ready Global) → Some x ≡ Some y → x ≡ y
 one_kept x y is = cc

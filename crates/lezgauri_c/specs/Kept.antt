@@ -1,7 +1,7 @@
--- What a client that C keeps owns.
---     kept_row               a client that is ready to run, whose bytes stay for good
+-- The ownership of a client that C keeps a pointer to.
+--     kept_row               a prepared client, whose bytes are never freed
 --     c_heap                 the heap of the C library, which has one handle
---     may_own at client      where there is one, the box of it
+--     may_own at client      ownership of the client's box, if there is a client
 use Rattle.std.specs.Prelude.{Option, Some, None}
 use base.Fml.{Fml, ftrue}
 use denote.RattleType.{RattleType}

@@ -1,9 +1,9 @@
--- Clients that C keeps.
---     in_hand prepared            the client, where there is one
+-- A prepared client that C keeps, or none.
+--     in_hand prepared            the client, if there is one
 --     text_of ready               its file
 --     IsReadyOn image text ready  it was verified against the types of an image
---     HoldsClient image text prepared     and C keeps it
---     OfClient prepared P         where C keeps one, P holds of its file
+--     HoldsClient image text prepared     C keeps such a client
+--     OfClient prepared P         if C keeps a client, P is true of its file
 use Rattle.std.specs.Prelude.{◌≡◌, ℕ, List, Option, Some}
 use Rattle.std.specs.Global.{Global}
 use Rattle.seg_spec.specs.Types.{Table}
@@ -22,7 +22,7 @@ in_hand prepared = prepared.kept.value
 abbrev pub text_of : Ready Global → List ℕ
 text_of ready = bytes_of (client_in ready)
 
--- The client of a text, which the types of an image accept: those of a sound one are its table.
+-- The client in a file, which an image's types accept. The types of a sound image are its table.
 pub record IsReadyOn (image text : List ℕ) (ready : Ready Global) : Type 0 where
   pub text_is : text_of ready ≡ text
   pub table : Table
@@ -35,7 +35,7 @@ abbrev pub HoldsClient : List ℕ → List ℕ → Prepared → Type 0
 HoldsClient image text prepared =
     (ready : Ready Global) × (in_hand prepared ≡ Some ready) × IsReadyOn image text ready
 
--- where C keeps a client, this holds of its text, which spells one
+-- if C keeps a client, P is true of its file
 abbrev pub OfClient : Prepared → (List ℕ → Type 0) → Type 0
 OfClient prepared P = (ready : Ready Global) → in_hand prepared ≡ Some ready →
     (client : Client) → SpellsClient (text_of ready) client → P (text_of ready)

@@ -10,7 +10,7 @@ use client_vm::Refused;
 use lezgauri::check;
 use std::alloc::Global;
 
-/// Whether an image is sound: `OK`, or the number of its first fault.
+/// Checks an image. Returns `OK` if it is sound, or else the number of its first fault.
 #[tactic(auto, using(crate::proofs::Numbers::number_above))]
 #[unsafe(no_mangle)]
 pub extern "C" fn lezgauri_raw_check(alloc: Global, image: &[u8], fault: &mut Fault) -> u32
@@ -31,8 +31,8 @@ pub extern "C" fn lezgauri_raw_check(alloc: Global, image: &[u8], fault: &mut Fa
     }
 }
 
-/// Whether a client is accepted on an image, and then how many steps it takes at most: 0, or the number of the first fault, the
-/// image's or the client's.
+/// Verifies a client on an image. Returns `OK` and the bound of the client's steps, or the number of the first fault, the image's
+/// or the client's, and a bound of 0.
 #[tactic(auto, using(crate::proofs::Numbers::number_above))]
 #[unsafe(no_mangle)]
 pub extern "C" fn lezgauri_raw_verify(
@@ -61,7 +61,7 @@ pub extern "C" fn lezgauri_raw_verify(
     }
 }
 
-/// The steps that a client takes at most on an image.
+/// The bound of a client's steps on an image.
 fn bound_of(alloc: Global, image: &[u8], client: &[u8]) -> Result<u64, Refused>
     ensures accepted { IfOk result (AcceptsClient image.now client.now) }
     ensures wrong { IfErr result (IsWrong image.now (client.now ∷ [])) }

@@ -8,9 +8,9 @@ use std::alloc::Global;
 use std::marker::Model;
 use std::ptr::null_mut;
 
-/// A client that C keeps, ready to run, or none: where it lies.
+/// The pointer to a prepared client that C keeps, or none.
 ///
-/// It isn't `Drop`, so code that loses the client is refused.
+/// It isn't `Drop`, so the compiler refuses code that loses the client.
 #[repr(C)]
 pub struct Kept {
     at: *mut u8,
@@ -26,14 +26,13 @@ impl Model for Kept {
 unsafe impl Send for Kept {}
 
 impl Kept {
-    /// No client.
     pub(crate) fn none() -> Kept
         ensures { result.value ≡ None }
     {
         Kept { at: null_mut() }
     }
 
-    /// Takes no client apart.
+    /// Drops a `Kept` without a client.
     pub(crate) fn let_go(self)
         requires { self.value ≡ None }
     {

@@ -1,4 +1,4 @@
-//! The library for C: each export passes the caller's memory on, as slices, and tells how it went as numbers.
+//! The library for C. Each export gets the caller's memory as slices, calls the library, and returns the result as numbers.
 #![tactic(auto)]
 
 mod accepting;

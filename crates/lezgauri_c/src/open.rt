@@ -12,11 +12,11 @@ use crate::running::status_of;
 use seg_lent::Lent;
 use std::alloc::Global;
 
-/// Runs a client on an image that an earlier call found sound, or left behind, without a check of the whole: `OK`, `OUTPUT_FULL`
-/// if the output had no room, or the number of the first fault, and then nothing ran. The image is changed where it lies, and what
-/// the client prints goes behind the bytes of the output that are in use.
+/// Runs a client on an image that an earlier call found sound, or changed, without checking the whole image again. Returns `OK`,
+/// `OUTPUT_FULL` if the output has no room, or the number of the first fault; then nothing ran. The image is changed in place,
+/// and the client's output is added after the bytes of `output` that are in use.
 ///
-/// On any other bytes it ends within the client's bound all the same, and reads and writes nothing else.
+/// On any other bytes the run also ends within the client's bound, and reads and writes nothing else.
 #[tactic(auto, using(crate::proofs::Numbers::numbers))]
 #[unsafe(no_mangle)]
 pub extern "C" fn lezgauri_raw_run_on(

@@ -21,7 +21,7 @@ impl Prepared {
         self.is_there
     }
 
-    /// Takes the client, and leaves none.
+    /// Takes the client out.
     pub(crate) fn take(&mut self, alloc: Global) -> Box<Ready<'static, Global>>
         requires { is_some self.old.kept.value ≡ true }
         ensures client { self.old.kept.value ≡ Some result.value }
@@ -31,7 +31,7 @@ impl Prepared {
         kept.into_box(alloc)
     }
 
-    /// Keeps a client. One that was kept goes back to the allocator.
+    /// Keeps a client. A client that was kept before is freed.
     pub(crate) fn keep(&mut self, alloc: Global, client: Box<Ready<'static, Global>>)
         ensures { self.new.kept.value ≡ Some client.entry.value }
     {
@@ -42,7 +42,7 @@ impl Prepared {
         close(alloc, replace(self, made));
     }
 
-    /// Gives the client back to the allocator, if there is one.
+    /// Frees the client, if there is one.
     pub(crate) fn close(&mut self, alloc: Global)
         ensures { self.new.kept.value ≡ None }
     {

@@ -20,11 +20,11 @@ use seg_ptr::Window;
 use seg_raw::Fault as Reason;
 use std::alloc::{Allocator, Global};
 
-/// Verifies a client against the types of an image that an earlier call found sound, or left behind, and makes it ready to run any
-/// number of times: `OK`, and `prepared` keeps it, or the number of the first fault, and `prepared` keeps none. Nothing is written
-/// to the image.
+/// Verifies a client against the types of an image that an earlier call found sound, or changed, and prepares it to run any
+/// number of times. Returns `OK` with the client in `prepared`, or the number of the first fault with no client in `prepared`.
+/// The image isn't written to.
 ///
-/// The client's bytes must stay as they are until it is closed, since what is kept refers to them.
+/// The client's bytes must not change until it is closed, because the prepared client refers to them.
 #[tactic(auto, using(crate::proofs::Numbers::number_above))]
 #[unsafe(no_mangle)]
 pub extern "C" fn lezgauri_raw_prepare(
@@ -58,10 +58,10 @@ pub extern "C" fn lezgauri_raw_prepare(
     }
 }
 
-/// Runs the client that is kept on an image that an earlier call found sound, or left behind, in the image's own memory, as
-/// `lezgauri_raw_run_on`, but that nothing is verified or decoded, and no memory is taken: `OK`, `OUTPUT_FULL`, or the number of
-/// the fault, `TYPE_MISMATCH` where the client's types and the image's differ, and then nothing ran. `BAD_ARGUMENT` where no
-/// client is kept.
+/// Runs the prepared client on an image that an earlier call found sound, or changed, in place. It is like `lezgauri_raw_run_on`,
+/// but verifies and decodes nothing, and allocates no memory. Returns `OK`, `OUTPUT_FULL`, or the number of the fault:
+/// `TYPE_MISMATCH` if the client's types and the image's differ, and then nothing ran. Returns `BAD_ARGUMENT` if there is no
+/// prepared client.
 #[tactic(auto, using(crate::proofs::Numbers::numbers))]
 #[unsafe(no_mangle)]
 pub extern "C" fn lezgauri_raw_run_client(
@@ -111,7 +111,7 @@ pub extern "C" fn lezgauri_raw_run_client(
     }
 }
 
-/// Gives the memory of the client that is kept back, if there is one.
+/// Frees the prepared client, if there is one.
 #[unsafe(no_mangle)]
 pub extern "C" fn lezgauri_raw_client_close(alloc: Global, prepared: &mut Prepared)
     ensures { in_hand prepared.new ≡ None }
@@ -119,7 +119,7 @@ pub extern "C" fn lezgauri_raw_client_close(alloc: Global, prepared: &mut Prepar
     prepared.close(alloc);
 }
 
-/// A client verified against the types of an image, and made ready in memory of its own; and the image's bytes.
+/// The client, verified against the types of an image and prepared in memory of its own, and the image's bytes.
 fn made_ready<A: Allocator>(
     alloc: Global,
     image: Vec<u8, A>,

@@ -27,8 +27,7 @@ use seg_raw::{Fault as Reason, Region};
 use seg_seqfit::SeqFit;
 use std::alloc::{Allocator, Global};
 
-/// Verifies a client and runs it on an image, in the image's own memory. If it is refused, nothing is written, and the bytes come
-/// back as they were.
+/// Verifies a client and runs it on an image in place. If it is refused, nothing is written, and the image is returned unchanged.
 pub(crate) fn verify_and_run<A: Allocator, W: Sink>(
     alloc: Global,
     image: Vec<u8, A>,
@@ -65,8 +64,8 @@ pub(crate) fn verify_and_run<A: Allocator, W: Sink>(
     }
 }
 
-/// Runs a client that is ready on an image, in the image's own memory. If its types and the image's differ, nothing is written, and
-/// the bytes come back as they were.
+/// Runs a prepared client on an image in place. If its types and the image's differ, nothing is written, and the image is
+/// returned unchanged.
 pub(crate) fn run_again<A: Allocator, W: Sink>(
     image: Vec<u8, A>,
     client: &Ready<Global>,
@@ -111,7 +110,7 @@ pub(crate) fn run_again<A: Allocator, W: Sink>(
     }
 }
 
-/// A window on an image, in the image's own memory. Bytes that are too many for a segment are no image, and come back.
+/// A window on an image in place. Bytes that are too long for a segment are returned.
 pub(crate) fn window_of<A: Allocator>(image: Vec<u8, A>) -> Result<Window<A>, Vec<u8, A>>
     ensures bytes { IfOk result (λ window. window.bytes ≡ image.items) }
     ensures region { IfOk result (λ window. region_of window ≡ image.items) }
@@ -133,7 +132,7 @@ pub(crate) fn types_of<A: Allocator>(window: &Window<A>) -> Result<TypeTable, Re
     read_types(window)
 }
 
-/// Runs a client on the segment in a window, with the allocator that the image names, and gives the image's memory back.
+/// Runs a client on the segment in a window, with the image's allocator, and returns the image's memory.
 pub(crate) fn run_ready<A: Allocator, W: Sink>(
     window: Window<A>,
     types: TypeTable,

@@ -16,11 +16,11 @@ use client_vm::{Refused, Report as Told, Sink};
 use seg_lent::Lent;
 use std::alloc::Global;
 
-/// Runs a client on an image all or nothing, without a check of the whole image: the client runs to its end on a copy, and only
-/// if the output has room for all that it prints the image becomes the saved one. Else `OUTPUT_FULL`, and nothing changes but
-/// that the output holds nothing. Either way `needed` is how many bytes the output takes.
+/// Runs a client on an image, all or nothing, without checking the whole image again. The client runs to its end on a copy. If
+/// the output has room for everything that it prints, the copy replaces the image. If not, `OUTPUT_FULL` is returned, the output
+/// is empty, and nothing else changes. Either way `needed` is the length of all its output in bytes.
 ///
-/// `TOO_SMALL` is returned for no sound image.
+/// For a sound image `TOO_SMALL` is never returned.
 #[tactic(auto, using(crate::proofs::Numbers::numbers))]
 #[unsafe(no_mangle)]
 pub extern "C" fn lezgauri_raw_run_whole(
@@ -81,14 +81,14 @@ pub extern "C" fn lezgauri_raw_run_whole(
     }
 }
 
-/// What a client's run on a copy of an image left: its report, and the image.
+/// The result of a client on a copy of an image: its report, and the copy.
 #[derive(Drop)]
 struct Ran {
     told: Told,
     image: Vec<u8>,
 }
 
-/// What a client does on a copy of an image.
+/// Runs a client on a copy of an image.
 fn run_on_copy<W: Sink>(
     alloc: Global,
     image: &[u8],

@@ -1,14 +1,14 @@
 use lezgauri::{AllocatorKind, Code, Error, Image, IndexKind, Place, Type, TypeId, type_table};
 use std::alloc::Global;
 
-/// The types of the cache, by their ids: numbers, numbers by a number, and a list of numbers.
+/// The types of the cache, by number: a number, a map of numbers, and a list of numbers.
 const NUMBER: TypeId = 0;
 
 const VALUES: TypeId = 1;
 
 const ORDER: TypeId = 2;
 
-/// A cache of numbers in an image that is open: when it is full, the key that came first goes.
+/// A cache of numbers in an open image. When it is full, its oldest key is dropped.
 #[derive(Drop)]
 pub struct Cache {
     image: Image<Global>,
@@ -18,14 +18,14 @@ pub struct Cache {
 }
 
 impl Cache {
-    /// A new cache of at most so many keys.
+    /// A new cache of at most `most` keys.
     pub fn new(alloc: Global, most: u32) -> Result<Cache, Error> {
         let mut image = Image::create(alloc, 4096, AllocatorKind::Best, IndexKind::Tree)?;
         image.add_types(&type_table(&[Type::I64, Type::Map(NUMBER), Type::List(NUMBER)])?)?;
         Cache::in_image(image, most)
     }
 
-    /// The cache of a saved image.
+    /// The cache in a saved image.
     pub fn open(alloc: Global, image: Vec<u8>, most: u32) -> Result<Cache, Error> {
         Cache::in_image(Image::open(alloc, image)?, most)
     }
@@ -41,12 +41,12 @@ impl Cache {
         })
     }
 
-    /// The number of a key. `Absent` where the cache doesn't have it.
+    /// The number of a key. Fails with `Absent` if the cache doesn't have the key.
     pub fn get(&self, key: i64) -> Result<i64, Code> {
         self.image.load(self.image.get(self.values, key)?)
     }
 
-    /// Enters a key that the cache doesn't have. The image grows where it has no room.
+    /// Enters a key that the cache doesn't have. The image grows if it is full.
     pub fn enter(&mut self, key: i64, number: i64) -> Result<(), Error> {
         if self.image.largest_gap() < 256 {
             self.image.grow(4096)?;
@@ -63,7 +63,7 @@ impl Cache {
         Ok(())
     }
 
-    /// The image of the cache, to be saved while it stays open.
+    /// A copy of the cache's image to save, while the cache stays open.
     pub fn save(&self, alloc: Global) -> Result<Vec<u8>, Error> {
         Ok(self.image.save(alloc)?)
     }

@@ -3,14 +3,14 @@ ghost use Rattle.std.specs.Prelude.{◌≡◌, false};
 use lezgauri::{AllocatorKind, Fault, Image, IndexKind, Sink, prepare, run, verify};
 use std::alloc::Global;
 
-/// An image with room for a counter, which the first client makes.
+/// An image with room for a counter. The first client makes the counter.
 pub fn new_counter(alloc: Global) -> Result<Vec<u8>, Fault> {
     let image = Image::create(alloc, 1024, AllocatorKind::Seq, IndexKind::Flat)?;
     Ok(image.into_bytes())
 }
 
-/// Runs a client so many times on an image, one run after the other, and returns the image that the last one left. Nothing is
-/// written where the image or the client is refused.
+/// Runs a client `times` times on an image, one run after the other, and returns the image after the last run. A failed output
+/// ends this early. Nothing is written if the image or the client is refused.
 pub fn count<W: Sink>(
     alloc: Global,
     image: Vec<u8>,

@@ -1,4 +1,4 @@
-//! Hosts that embed Lezgauri, each a small one: a counter that a client counts, a table of settings, and a cache.
+//! Small hosts that embed Lezgauri: a counter that a client counts, a table of settings, and a cache.
 #![tactic(auto)]
 
 mod cache;

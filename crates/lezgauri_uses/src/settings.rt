@@ -1,7 +1,7 @@
 use lezgauri::{AllocatorKind, Error, Fields, Image, IndexKind, Type, TypeId, type_table};
 use std::alloc::Global;
 
-/// The types of the table, by their ids: numbers, a text, numbers by a number, and a table with both.
+/// The types of the table, by number: a number, a text, a map of numbers, and a struct of a map and a text.
 const NUMBER: TypeId = 0;
 
 const TEXT: TypeId = 1;
@@ -15,7 +15,7 @@ const LIMIT: i64 = 1;
 
 const PORT: i64 = 2;
 
-/// What programs agree on.
+/// The settings that programs share.
 #[derive(Drop)]
 pub struct Settings {
     pub limit: i64,
@@ -23,7 +23,7 @@ pub struct Settings {
     pub greeting: Vec<u8>,
 }
 
-/// The image of a table of settings, no larger than it has to be.
+/// The image of a table of settings, as small as possible.
 pub fn write_settings(alloc: Global, settings: &Settings) -> Result<Vec<u8>, Error> {
     let mut image = Image::create(alloc, 8192, AllocatorKind::Best, IndexKind::Flat)?;
     let mut types = [Type::I64, Type::Str, Type::FlatMap(NUMBER), Type::I64];

@@ -1,5 +1,5 @@
-//! The program `segtool`: makes, checks and shows images of managed segments, and runs clients on them. Here the host's words,
-//! files and outputs are put after the commands.
+//! The program `segtool`: makes, checks and shows images of managed segments, and runs clients on them. This file connects the
+//! commands to the host's arguments, files and outputs.
 #![tactic(auto)]
 
 use cli_commands::command;

@@ -1,4 +1,4 @@
-//! Tests of the commands, on files in memory, with the words for refusals that they write.
+//! Tests of the commands on files in memory, with their explanations of refusals.
 #![tactic(auto)]
 
 #[cfg(test)]

@@ -1,4 +1,4 @@
--- The increment runs on the image of the number 41 named x, as it is opened.
+-- The increment client runs on an image in which x is the number 41.
 use Rattle.std.proofs.Common.{◌≡◌, ℕ, ◌+◌, true, false, List, [], ◌∷◌, length, replicate, codes, pos, Bool, Some, None, inl, refl, sym, ◌∙◌, ap, lit<, lit≤}
 use Rattle.std.specs.Prelude.{ℤ, option_map, slice_index_or, if◌then◌else◌}
 use Rattle.std.specs.Fmt.{digits}

@@ -1,4 +1,4 @@
--- A vec whose buffer is cut to its items, and paths into it.
+-- A vec whose buffer is cut to its items, and paths into the vec.
 use Rattle.std.proofs.Common.{◌≡◌, ℕ, zero, suc, ◌+◌, ◌*◌, ◌≤◌, ◌⊎◌, inl, inr, true, false, List, [], ◌∷◌, length, Some, refl, sym, ap, ◌∙◌, subst, lit<, lit≤, pos, arith}
 use Rattle.std.proofs.lemmas.Bool.{cases_eq}
 use Rattle.std.specs.Prelude.{slice_get}

@@ -1,4 +1,4 @@
--- A request that finds no gap, and one that finds one.
+-- A request without a large enough free block, and one with such a block.
 use Rattle.std.proofs.Common.{◌≡◌, ◌≤◌, List, [], ◌∷◌, ◌++◌, length, Some, refl, ap, subst, lit≤, arith}
 use Rattle.std.proofs.lemmas.List.{length-append}
 use Rattle.seg_spec.specs.Heap.{span}

@@ -1,4 +1,4 @@
--- What each row leaves: the types as they were, and what was written at the output's end.
+-- The effects of all rows: types don't change, and output is appended.
 use Rattle.std.proofs.Common.{◌≡◌, ℕ, List, [], ◌∷◌, ◌++◌, Bool, true, false, Option, Some, None, refl, sym, ap, ◌∙◌, subst}
 use Rattle.std.specs.Prelude.{ℤ, pos, nat_abs, if◌then◌else◌, length, slice_get, slice_index}
 use Rattle.std.specs.Option.{option_map_or}

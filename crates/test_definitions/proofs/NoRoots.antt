@@ -1,4 +1,4 @@
--- Without roots an image has no live block, and its heap is one gap.
+-- An image without roots has no allocated block, so its heap is one free block.
 use Rattle.std.proofs.Common.{◌≡◌, ℕ, zero, suc, ◌+◌, ◌-◌, ◌/◌, true, List, [], ◌∷◌, ◌++◌, length, map, cond, option_to_list, option_map, refl, sym, ap, ◌∙◌, arith}
 use Rattle.std.specs.Prelude.{nat_lt}
 use Rattle.std.proofs.lemmas.Bool.Decides.{nat_tests}

@@ -1,4 +1,4 @@
--- Parts of an image by themselves, and the image from its parts.
+-- Parts of an image, and an image built from its parts.
 use Rattle.std.proofs.Common.{◌≡◌, ℕ, ◌^◌, ◌≤◌, true, List, [], ◌∷◌, ◌++◌, length, get_or, refl, sym, ap, subst, lit<, lit≤, arith, inl, inr}
 use Rattle.std.proofs.lemmas.Bool.{cases_lt}
 use Rattle.std.specs.List.{AllByRecursion}

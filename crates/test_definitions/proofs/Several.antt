@@ -1,4 +1,5 @@
--- Several clients, one after the other: each stays within its bound, and the image after the last is one again.
+-- Several clients, one after the other: each stays within its bound, and the last one leaves an
+-- image.
 use Rattle.std.proofs.Common.{◌≡◌, ◌≢◌, ℕ, ◌≤◌, List, [], ◌∷◌, sym, ap, ◌∙◌, subst}
 use Rattle.seg_spec.specs.Types.{Table, Agree, longer}
 use Rattle.seg_bytes.specs.Bytes.{word}

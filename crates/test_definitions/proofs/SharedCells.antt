@@ -1,4 +1,5 @@
--- An image in which the first of two cells names a number that is frozen and the other one nothing, and a register owns another number.
+-- An image with two cells and a register: the first cell shares a frozen number, the second is
+-- empty, and the register owns another number.
 use Rattle.std.proofs.Common.{◌≡◌, ℕ, suc, ◌+◌, ◌*◌, ◌^◌, ◌<◌, ◌≤◌, inl, inr, true, Bool, List, [], ◌∷◌, ◌++◌, length, replicate, codes, Option, Some, None, pos, lit<, lit≤, refl, sym, ap, ◌∙◌, subst, arith}
 use Rattle.std.specs.Prelude.{flat_map, option_map, if◌then◌else◌, false}
 use Rattle.std.proofs.lemmas.List.Elements.{All-cons, All-nil}

@@ -1,4 +1,5 @@
--- An image of version 2 with an object that two cells share, and an image of version 1 as it is opened.
+-- An image of version 2 with an object that two cells share, and an image of version 1 after it is
+-- opened.
 use Rattle.std.proofs.Common.{◌≡◌, ℕ, zero, suc, ◌≤◌, true, inl, inr, List, [], ◌∷◌, length, refl, Some, pos, lit<, lit≤, arith, subst, sym}
 use Rattle.std.proofs.lemmas.List.Elements.{All-cons, All-nil}
 use Rattle.std.specs.List.{AllByRecursion}

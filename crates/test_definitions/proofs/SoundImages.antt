@@ -1,4 +1,4 @@
--- The small images that are sound, and what they hold.
+-- The small sound images, and their contents.
 use Rattle.std.proofs.Common.{◌≡◌, ◌≤◌, true, false, inl, List, [], ◌∷◌, length, refl, pos, lit<, lit≤, arith, subst, sym}
 use Rattle.std.proofs.lemmas.List.Elements.{All-cons, All-nil}
 use Rattle.std.specs.List.{AllByRecursion}

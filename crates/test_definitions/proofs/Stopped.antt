@@ -1,4 +1,4 @@
--- A run that is stopped is a front of a whole one: what it wrote is a proper front of what the whole one writes.
+-- The output of a run that is stopped is a proper prefix of the output of a whole run.
 use Rattle.std.proofs.Common.{◌≡◌, ◌≢◌, ℕ, zero, suc, ◌+◌, ◌<◌, List, [], ◌++◌, length, refl, sym, ap, ◌∙◌, subst, arith, inl, inr}
 use Rattle.std.specs.Prelude.{nat_abs, pos}
 use Rattle.std.proofs.lemmas.List.{append_assoc, length-append}

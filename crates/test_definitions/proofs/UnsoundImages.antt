@@ -1,4 +1,4 @@
--- The small images with a fault are not sound.
+-- The small images with a fault aren't sound.
 use Rattle.std.proofs.Common.{◌≡◌, ℕ, zero, suc, ◌+◌, ◌*◌, ◌%◌, ◌==◌, ◌≤◌, true, false, List, [], ◌∷◌, ◌++◌, length, map, get_or, cond, eqb, Some, None, refl, sym, ap, ◌∙◌, subst, lit≤, arith}
 use Rattle.std.specs.List.{AllByRecursion}
 use Rattle.seg_bytes.specs.Bytes.{slice, put, number, number_of, set_number, word, half}

@@ -1,4 +1,5 @@
--- Clients that ran left a sound image and stayed within their bounds, and nothing was there for which they are refused.
+-- If clients ran, the image after them is sound, each stayed within its bound, and there was no
+-- reason to refuse them.
 use Rattle.std.proofs.Common.{◌≡◌, ◌≢◌, ℕ, zero, suc, List, [], ◌∷◌, length, take, Some, refl, sym, ◌∙◌, subst}
 use Rattle.std.specs.Prelude.{slice_get}
 use Rattle.seg_spec.specs.Types.{Table, longer}

@@ -1,4 +1,5 @@
--- The increment is a client, and the image of the number 41 named x pictures the state that has just that.
+-- The increment is a client, and an image with only the number x = 41 pictures the state with only
+-- that object.
 use Rattle.std.proofs.Common.{◌≡◌, ℕ, ◌<◌, ◌≤◌, pos, Bool, true, false, List, [], Some, None, refl, lit≤, arith}
 use Rattle.std.specs.Prelude.{codes, option_map, if◌then◌else◌, FitsSigned}
 use Rattle.std.specs.Int.{w32}

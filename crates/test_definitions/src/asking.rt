@@ -1,4 +1,4 @@
-//! What calls ask of small heaps, worked out.
+//! Worked examples: the requests of calls on small heaps.
 
 ghost use Rattle.std.specs.Prelude.{◌≡◌, [], ◌∷◌, codes, Some, None};
 ghost use Rattle.seg_spec.specs.Types.{Form};

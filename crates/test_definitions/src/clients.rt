@@ -1,4 +1,4 @@
-//! Small clients, worked out.
+//! Worked examples: small clients.
 
 ghost use Rattle.std.specs.Prelude.{◌≡◌, ℕ, ◌^◌, ◌<◌, ◌++◌, pos, [], ◌∷◌, codes, replicate, Ok, Err};
 ghost use Rattle.client_spec.specs.Syntax.{Constant, Statements, no_more};

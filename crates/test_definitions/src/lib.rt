@@ -1,5 +1,5 @@
-//! The laws of the definitions, of the segment and of clients, and small examples of them. Each function of this crate does
-//! nothing: its clauses are the laws.
+//! Lemmas about the definitions of segments and of clients, and small examples. The functions of this crate do nothing: their
+//! `ensures` clauses are the lemmas.
 #![tactic(auto)]
 
 pub mod asking;

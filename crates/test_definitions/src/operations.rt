@@ -1,5 +1,5 @@
-//! Each operation on a small state, worked out by hand from the instruction table: x is a named object, register 1 leads to
-//! it, register 2 is a number, and register 3 owns the number 9.
+//! Each operation on a small state, worked out by hand from the instruction table: x is a named object, register 1 refers to it,
+//! register 2 is a number, and register 3 owns the number 9.
 
 ghost use Rattle.std.specs.Prelude.{◌≡◌, ◌^◌, ◌-◌, pos, negsuc, [], ◌∷◌, codes, true, false, Some, None};
 ghost use Rattle.seg_spec.specs.Value.{Int, Text, Seq, Map, Empty, Full, Struct, nil, cons, Selector};

@@ -1,4 +1,4 @@
-//! Rows of FREEZE and SHARE on a small image.
+//! The rows of FREEZE and SHARE on a small image.
 
 ghost use Rattle.std.specs.Prelude.{◌≡◌, ℕ, List, [], ◌∷◌, codes, pos, Some, None};
 ghost use Rattle.seg_spec.specs.Value.{Int, Empty, nil, cons, Selector, value_at};

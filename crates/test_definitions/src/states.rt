@@ -1,4 +1,4 @@
-//! States as clients see them: where an image has the position of an object that cells share, they have a copy of it.
+//! States as clients see them: a shared cell has a copy of its object, where the image has the object's position.
 
 ghost use Rattle.std.specs.Prelude.{◌≡◌, ◌⊎◌, ℕ, List, Bool, Some};
 ghost use Rattle.std.specs.List.{AllByRecursion};

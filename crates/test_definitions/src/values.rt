@@ -1,4 +1,4 @@
-//! Laws of values, and of the places that hold them.
+//! Lemmas about values and places.
 
 ghost use Rattle.std.specs.Prelude.{◌≡◌, ℕ, ◌+◌, ◌<◌, List, [], ◌++◌, length, Some, All};
 ghost use Rattle.seg_spec.specs.Cells.{EachCell, IsMoved};

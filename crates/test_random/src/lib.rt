@@ -1,4 +1,4 @@
-//! Random clients of all operations, run on segments and on a model of objects without bytes.
+//! Random clients with all operations. They run on segments and on a model of objects without bytes.
 #![tactic(auto)]
 
 #[cfg(test)]

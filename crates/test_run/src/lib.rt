@@ -1,4 +1,5 @@
-//! Tests of all that runs clients: the machine, over both allocators and both indexes, with its traces, and the front door.
+//! Tests of everything that runs clients: the interpreter, over both allocators and both indexes, with its traces, and the
+//! library's public calls.
 #![tactic(auto)]
 
 #[cfg(test)]

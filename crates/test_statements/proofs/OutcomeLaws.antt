@@ -1,4 +1,4 @@
--- The refusal that a fault stands for, and small outcomes and refusals.
+-- The refusal for each fault, and small outcomes and refusals.
 use Rattle.std.proofs.Common.{◌≡◌, ℕ, zero, suc, ◌-◌, ◌^◌, ◌<◌, min, List, [], ◌∷◌, length, replicate, codes, Option, Some, None, refl, sym, ap, ◌∙◌, subst, inl, inr, lit<, lit≤, arith}
 use Rattle.seg_spec.specs.Types.{Form, Table, form_at}
 use Rattle.seg_spec.specs.Images.{IsSound, upgraded}

@@ -1,4 +1,4 @@
-//! What the faults of images stand for.
+//! What the faults of images mean.
 
 ghost use Rattle.std.specs.Prelude.{◌≡◌, ℕ, List, [], ◌∷◌};
 ghost use Rattle.seg_spec.specs.Types.{Form, Table};

@@ -1,5 +1,5 @@
-//! Laws and small examples of what the calls of the checker and of the runs say by a fault or an outcome. Each function of
-//! this crate does nothing.
+//! Lemmas and small examples about the results of the checker and of runs. The functions of this crate do nothing: their
+//! `ensures` clauses are the lemmas.
 #![tactic(auto)]
 
 pub mod faults;

@@ -1,4 +1,4 @@
-//! What a run's outcome, and the fault of one that didn't begin, stand for.
+//! What a run's outcome means, and the fault of a run that didn't begin.
 
 ghost use Rattle.std.specs.Prelude.{◌≡◌, ℕ, List, [], ◌∷◌, codes, Option, Some, None};
 ghost use Rattle.seg_spec.specs.Fixtures.{counter, greeting, empty, lost_gap};

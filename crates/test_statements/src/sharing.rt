@@ -1,4 +1,4 @@
-//! What a run's outcome says of the objects that cells share.
+//! What a run's outcome implies for shared objects.
 
 ghost use Rattle.std.specs.Prelude.{◌≡◌, ◌≢◌, ℕ, ◌-◌, ◌/◌, ◌<◌, ◌≤◌, List, [], ◌∷◌, ◌++◌, length};
 ghost use Rattle.std.specs.List.{AllByRecursion};

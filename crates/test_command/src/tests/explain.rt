@@ -1,4 +1,4 @@
-//! The words for refusals.
+//! Explanations of refusals.
 
 mod files;
 mod images;

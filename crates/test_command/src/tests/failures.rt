@@ -1,4 +1,4 @@
-//! Commands on outputs and files that fail, and on an output that takes little at a time.
+//! Commands with outputs and files that fail, and with an output that takes few bytes at a time.
 
 use crate::tests::files::{counter_files, is, run, run_into};
 use std::process::Abort;

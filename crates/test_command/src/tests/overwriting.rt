@@ -1,4 +1,4 @@
-//! What commands don't write over, and what they do.
+//! Which files commands refuse to overwrite, and which they overwrite.
 
 use crate::tests::files::{Stored, counter_files, counter_where, follow};
 use std::alloc::Global;

@@ -1,4 +1,4 @@
-//! Files that can't be read or written: the line, and why.
+//! Files that can't be read or written: the printed line, and the reason.
 
 use crate::tests::files::{Stored, counter_files, follow};
 use cli_files::FileProblem;

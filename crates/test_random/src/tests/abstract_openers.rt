@@ -1,4 +1,4 @@
-//! Instructions that succeed or are refused, on objects without bytes.
+//! Instructions with an else part, on the model.
 
 use crate::tests::abstract_run::{AbstractRun, Register};
 use crate::tests::model::{Content, Object, Objects, Shape};

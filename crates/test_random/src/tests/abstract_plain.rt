@@ -1,4 +1,4 @@
-//! Instructions that stand by themselves, on objects without bytes.
+//! Instructions without parts, on the model.
 
 use crate::tests::abstract_run::{AbstractRun, Register};
 use crate::tests::model::{Content, Objects};

@@ -1,5 +1,5 @@
-//! A client's run on objects without bytes, beside what a real run printed. Want of room is taken from there: an opener that
-//! succeeds prints a mark first. All else must be as printed.
+//! A client's run on the model, next to the output of a real run. The model can't know when memory runs out, so it takes that
+//! from the output: an opener that succeeds prints a mark first. Everything else must be as printed.
 
 use crate::tests::model::Objects;
 use client_code::{Client, ConstantKind, Instruction, Role};

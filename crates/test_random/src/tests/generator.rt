@@ -1,4 +1,4 @@
-//! Random clients. Most of them are accepted: the generator knows which references are still good.
+//! Random clients. Most are accepted, because the generator knows which references are still valid.
 
 use crate::tests::model::{Shape, shape_of};
 use std::alloc::{AllocError, Global};

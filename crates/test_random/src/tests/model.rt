@@ -1,5 +1,5 @@
-//! The objects of a segment without its bytes: names and unique types to values. A value is named by its place in a list of
-//! all that were ever made.
+//! The model: the objects of a segment without its bytes. Names and unique types refer to values, and a value is known by its
+//! index in the list of all values ever made.
 
 use std::alloc::{AllocError, Global};
 use std::collections::BTreeMap;

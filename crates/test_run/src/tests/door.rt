@@ -1,5 +1,4 @@
-//! The front door as the tests see it: the calls of an image without their clauses, so that a test that makes many of them has
-//! a short proof.
+//! The calls on an image without their contracts, so that the proof of a test with many calls is short.
 
 use lezgauri::{
     AllocatorKind, Code, Fault, Image, IndexKind, Named, Numbers, Place, Ready, Report, Through,

@@ -1,4 +1,4 @@
-//! Calls of which host memory is refused: each answers so, and nothing was written then.
+//! Calls while the host is out of memory: each reports it, and then has written nothing.
 
 use client_code::parse;
 use client_text::{assemble, print};

@@ -1,4 +1,4 @@
-//! Where a segment lies in its host's memory, and how it moves.
+//! The places of a segment in its host's memory, and its moves.
 
 use crate::tests::containers::{FIVE_TEXTS, PRINT_TEXTS};
 use crate::tests::left::leaves;

@@ -1,15 +1,15 @@
-//! Clients, what they print, and what they leave, written as text: statements, each after a `>`, with lines below them.
+//! Clients with their output and the heap they leave, written as text: statements after a `>`, each with the lines below it.
 //!
-//!     > client add                      the text of a client, which is called `add`, each line without the spaces in front
+//!     > client add                      the text of a client with the name `add`; spaces at the start of a line don't count
 //!     ...
-//!     > on 1024 add add; free 240       clients run on a new segment of 1024 bytes, and leave this
-//!     1                                 what they print, likewise; `\` at the end of a line stands for no new line
+//!     > on 1024 add add; free 240       run clients on a new segment of 1024 bytes; afterwards this is true
+//!     1                                 their output; `\` at the end of a line means that no new line follows
 //!     2
-//!     > then add; named 1 largest 240   a client runs on the saved image
+//!     > then add; named 1 largest 240   run a client on the saved image
 //!     3
-//!     > flat on 768 add reads AB        only with a flat index, or `tree`, `seq`, `best`; the input is AB
+//!     > flat on 768 add reads AB        only with a flat index (or `tree`, `seq`, `best`); the input is AB
 //!
-//! Each run must end well, and its saved image be sound.
+//! Each run must finish, and its saved image must be sound.
 
 use client_vm::Ended;
 use seg_manager::IndexKind;

@@ -1,4 +1,4 @@
-//! Runs in a caller's bytes that are refused: these come back as they were.
+//! Refused runs on a caller's bytes, which are returned unchanged.
 
 use client_vm::{Move, Refused};
 use seg_raw::Fault;

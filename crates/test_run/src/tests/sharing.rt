@@ -1,5 +1,5 @@
-//! Clients that freeze objects, share them and read them. What is printed and left is worked out by hand: an empty segment of
-//! 1024 bytes has a heap of 320 at 704, in which a number, a cell and a frozen number take 32 bytes each.
+//! Clients that freeze, share and read objects. Outputs and heaps are worked out by hand: an empty segment of 1024 bytes has a
+//! heap of 320 bytes at 704, in which a number, a cell and a frozen number take 32 bytes each.
 
 use crate::tests::left::leaves;
 use crate::tests::plays::plays;

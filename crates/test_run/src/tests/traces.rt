@@ -1,4 +1,4 @@
-//! Traces, whose lines are worked out by hand from what instructions do.
+//! Traces, with lines worked out by hand from the instruction table.
 
 use client_trace::{Untraced, trace};
 use client_vm::Through;

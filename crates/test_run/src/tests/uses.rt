@@ -1,4 +1,4 @@
-//! Clients that share what they keep, and hosts that embed the library.
+//! Clients that share their objects, and hosts that embed the library.
 
 use crate::tests::plays::plays;
 use lezgauri::{Code, Fault, Through};

@@ -1,4 +1,4 @@
-//! Outputs that fail, and an output that takes little at a time.
+//! Outputs that fail, and an output that takes few bytes at a time.
 
 use crate::tests::containers::{FIVE_TEXTS, PRINT_TEXTS};
 use crate::tests::left::leaves;

@@ -1,4 +1,4 @@
-//! The checker on small images: each of their bytes changed to each other value, and each cut.
+//! The checker on small images: with each byte changed to each other value, and cut at each length.
 
 use crate::tests::image::Image;
 use seg_raw::Fault;

@@ -1,9 +1,9 @@
 //! Calls on segments, written as text:
 //!
-//!     new 784 in 1024; make x t0 1 => 720     a segment in a region that holds more, and a call with what it gives
-//!     grow 16 => 800; zeros 816 8 => 1        more calls; 1 stands for true, `ok` for anything that isn't refused
-//!     make x t0 1 => AlreadyExists            a call that is refused
-//!     new 1024 flat                           another segment, only where the index is flat; or `tree`, `seq`, `best`
+//!     new 784 in 1024; make x t0 1 => 720     a segment of 784 bytes in a region of 1024, and a call with its result
+//!     grow 16 => 800; zeros 816 8 => 1        more calls; 1 is true, and `ok` is any success
+//!     make x t0 1 => AlreadyExists            a call that fails
+//!     new 1024 flat                           another segment, only with a flat index (or `tree`, `seq`, `best`)
 //!
 //! Type 0 is a number, type 1 a pair of numbers, type 2 a map of numbers. After each call the segment must be sound.
 

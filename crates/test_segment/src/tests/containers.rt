@@ -1,4 +1,4 @@
-//! Each call on a list and on a map once, over both allocators, and those that are refused on values of other types.
+//! Each call on a list and on a map once, over both allocators, and calls that fail on values of other types.
 
 use crate::tests::heaps::calls_on;
 use seg_bestfit::BestFit;

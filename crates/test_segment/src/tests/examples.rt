@@ -1,4 +1,4 @@
-//! Calls on whole segments, worked out by hand, with the checker looking at the bytes.
+//! Calls on whole segments, worked out by hand; the checker tests the bytes.
 
 use crate::tests::calls::{are, calls};
 use crate::tests::support::{

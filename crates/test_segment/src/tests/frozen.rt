@@ -1,4 +1,4 @@
-//! The checker on frozen objects and the cells that share them.
+//! The checker on frozen objects and shared cells.
 
 use crate::tests::image::{Image, checks};
 use std::test::Fail;

@@ -1,10 +1,10 @@
 //! Calls on a value that is the root of a heap, written as text:
 //!
-//!     heap 1024 list               an empty heap of so many bytes, with the default of a type as its root
-//!     push 7 => 720; pop => ok     calls, and what they give; `ok` stands for anything that isn't refused
-//!     pop => Null                  a call that is refused
+//!     heap 1024 list               an empty heap of 1024 bytes, with the default of a type as its root
+//!     push 7 => 720; pop => ok     calls and their results; `ok` is any success
+//!     pop => Null                  a call that fails
 //!     items 1 2 3                  the numbers of the root; `keys 1 2` are the keys of a map
-//!     live 704:2 736:3             the live blocks and their units; none: the heap is one gap; `tags 1 5` are their tags
+//!     live 704:2 736:3             the allocated blocks and their units; none: the heap is one free block; `tags 1 5` are their tags
 //!     bytes 32 d0 02               the bytes from a position on, in hexadecimal
 //!
 //! The types are numbers, strings, and lists, vectors, maps, owns and pairs of numbers. `push` stores the number after it,

@@ -1,17 +1,17 @@
-//! Images and the faults that the checker must find in them, written as text. `;` begins a comment, and a line is one of these:
+//! Images, and the faults that the checker must find in them, written as text. `;` begins a comment. A line is one of these:
 //!
-//!     type vec t1             the next type: its kind, and the types that it is of
-//!     720 unique t0 2         the next block: where its payload must begin, what it is, of which type, and its units
+//!     type vec t1             the next type: its kind, and its parts
+//!     720 unique t0 2         the next block: the position of its payload, its kind, its type, and its units
 //!     752 gap 2               the next block, which is free
-//!     chain node 720 60       so many nodes of 3 units, each to the left of the one before; the pointer at 720 names the first
+//!     chain node 720 60       60 nodes of 3 units, each to the left of the one before; the pointer at 720 points to the first
 //!     720->752 724=20         changes that stay
-//!     724=33 => pointer 720   with these changes, which are undone, this is the first fault; `|` stands between several such
+//!     724=33 => pointer 720   with these changes, which are undone, this is the first fault; `|` separates several such lists
 //!
 //! A change is `at=word`, where the word may also be `low,high`, its halves, or `'ab'`, its bytes; `at:number` for a number of 64
-//! bits; `at->named` or `at->null` for a pointer. A block is `named`, an `object` (`unique` where its type's word for unique objects
-//! names it), a `buffer`, a `node`, of the names an `index` or an `index_node`, or `frozen`, an object that cells share. A fault is
-//! told by what is wrong, `header`, `type`, `block`, `free`, `index`, `pointer`, `twice` for two owners, `unowned` or `value`, and
-//! where; `sound` is none. An image is of version 1 but where 8=2 says otherwise.
+//! bits; `at->named` or `at->null` for a pointer. A block is `named`; an `object` (`unique` if its type's pointer for unique
+//! objects points to it); a `buffer`; a `node`; an `index` or an `index_node`, for names; or `frozen`, an object that cells
+//! share. A fault is written as what is wrong, and where: `header`, `type`, `block`, `free`, `index`, `pointer`, `twice` for two
+//! owners, `unowned` or `value`; `sound` is no fault. An image has version 1, unless 8=2 sets another.
 
 use crate::tests::support::{first_fault, window};
 use seg_ptr::Window;

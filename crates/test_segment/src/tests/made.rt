@@ -1,4 +1,4 @@
-//! Images as the library makes them are accepted, with both allocators and both indexes.
+//! Images that the library makes are accepted, with both allocators and both indexes.
 
 use crate::tests::support::{
     I64, INDEXES, STR, Spelled, first_fault, flat_map_of, list_of, map_of, own_of, place_of,

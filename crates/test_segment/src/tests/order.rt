@@ -1,4 +1,4 @@
-//! Of several faults, the checker tells the first.
+//! The checker reports the first of several faults.
 
 use crate::tests::image::checks;
 use std::test::Fail;

@@ -1,13 +1,13 @@
-//! Objects that cells share, written as text. The root is such a cell; what it names is a pair of a number and another one.
+//! Objects that cells share, written as text. The root is such a cell, and its object is a pair of a number and another cell.
 //!
-//!     heap 1024                    an empty heap of so many bytes
-//!     new => 720                   a new pair, which nothing holds
-//!     freeze 720                   the root comes to name it, frozen
-//!     freeze 720 => BadAlloc       a call that is refused
-//!     share 728 64                 a cell names what another one names
-//!     frozen 64 => 760             where the value stands that a cell names
-//!     word 752 => 2; set 28 7      a word of the segment, and another one there
-//!     clear; live 736:3            the root names nothing; the live blocks and their units
+//!     heap 1024                    an empty heap of 1024 bytes
+//!     new => 720                   a new pair without an owner
+//!     freeze 720                   the pair is frozen, and the root shares it
+//!     freeze 720 => BadAlloc       a call that fails
+//!     share 728 64                 the first cell shares the object of the second
+//!     frozen 64 => 760             the position of the value that a cell shares
+//!     word 752 => 2; set 28 7      a word of the segment, and a change of one
+//!     clear; live 736:3            the root is emptied; the allocated blocks and their units
 
 use crate::tests::heaps::{Answer, is_told};
 use crate::tests::rooted::{ROOT, Rooted, with_root};

@@ -5,6 +5,5 @@ use Rattle.client_code.specs.Parts.{open_parts}
 use Rattle.client_code.proofs.Instructions.{CodeTo}
 use Rattle.client_code.proofs.parser.check_code.Given as goal
 
--- for all constants of these kinds
 abbrev pub invariant-loop-i : goal.invariant-loop-i
 invariant-loop-i l = (constants : List Constant) → map kind_of constants ≡ l.kinds → CodeTo l.file l.at l.types constants l.i (open_parts l.nesting)

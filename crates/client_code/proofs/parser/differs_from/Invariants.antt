@@ -7,7 +7,7 @@ use Rattle.client_code.specs.Files.{AreConstants}
 use Rattle.client_code.proofs.Constants.{Walk}
 use Rattle.client_code.proofs.parser.differs_from.Given as goal
 
--- the constant differs from those that were read again
+-- the constant differs from those that were read a second time so far
 abbrev pub invariant-loop : goal.invariant-loop
 invariant-loop l = record {
   near : l.next ≤ l.at + 257 * l.counter;

@@ -4,7 +4,7 @@ use Rattle.client_code.specs.Views.{kind_of}
 use Rattle.client_code.specs.Files.{AreConstants}
 use Rattle.client_code.proofs.parser.find_constants.Given as goal
 
--- a constant has at most 257 bytes, and the kind of each found so far is in the list
+-- a constant has at most 257 bytes, and the list has the kind of each constant so far
 abbrev pub invariant-loop-i : goal.invariant-loop-i
 invariant-loop-i l = record {
   near : l.next ≤ l.at + 257 * l.i;

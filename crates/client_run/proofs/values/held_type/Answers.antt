@@ -5,7 +5,7 @@ use Rattle.seg_cells.specs.declared.content.Content.{Content}
 use Rattle.client_run.specs.Worlds.{held_in, shared_in}
 use Rattle.client_run.proofs.values.held_type.Goals as goal
 
--- what no cell of a type names, cells of the type share
+-- if a form has no owned content, the type of its values is the type that it shares
 shared_so : (table : Table) (t : ℕ) (form : Option Form) (T : ℕ) → ContentOf table t form None → held_in form ≡ Some T → shared_in form ≡ Some T
 shared_so table t (Some (Form.shared U)) T none e = e
 shared_so table t (Some Form.i64) T none e = cc

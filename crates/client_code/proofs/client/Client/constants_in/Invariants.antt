@@ -6,7 +6,7 @@ use Rattle.client_code.specs.Files.{code_place}
 use Rattle.client_code.proofs.Constants.{Walk}
 use Rattle.client_code.proofs.client.Client.constants_in.Given as goal
 
--- those found so far are the first of the tree's constants
+-- the constants so far are the first of the tree's
 abbrev pub invariant-loop : goal.invariant-loop
 invariant-loop g l = record {
   near : l.next ≤ 532 + 257 * l.counter;

@@ -12,7 +12,7 @@ use Rattle.client_run.specs.Worlds.{Opens, held_in}
 use Rattle.client_run.proofs.ItemLaws.{TellsPush, place_at, push_back_opens}
 use Rattle.client_run.proofs.machine.Machine.push_back.Goals as goal
 
--- an item that a vector had room for
+-- a push onto a vector that has room
 in_place : (allocator : ℕ) (before after : Stored) (place : Place) (p U : ℕ) → form_at before.types place.type ≡ Some (Form.vec U)
     → ((V : ℕ) (vs : Values) (blocks : List ℕ) → HasItems allocator before place V vs blocks → PushesBack allocator before after place V vs blocks p) → TellsPush allocator before after place (Ok p)
 in_place allocator before after place p U vector pushed = record {

@@ -1,4 +1,4 @@
--- A kept client goes to another thread as the box of it does.
+-- A kept client can be sent to another thread, as its box can.
 use mir.Raw.{raw}
 use base.Fml.{Fml}
 use base.Shift.{Keyless}

@@ -1,4 +1,4 @@
--- `into_parts` moves the pointer, and what lies there goes with it.
+-- `into_parts` moves the pointer, with the ownership of its target.
 use mathlib.Core.Path.{◌≡◌, refl, ap, ◌∙◌}
 use mathlib.Core.List.{List, [], ◌∷◌, ◌++◌}
 use seplogic.Ra.Ura.{Ura}

@@ -1,4 +1,4 @@
--- `none` makes a pointer that nobody follows.
+-- `none` makes a pointer that is never followed.
 use Rattle.std.proofs.Common.{List, [], ◌∷◌, refl, lit<}
 use seplogic.Ra.Ura.{Ura}
 use mir.Syntax.{w64}

@@ -1,4 +1,4 @@
--- `of_parts` moves the pointer, and what lies there goes with it.
+-- `of_parts` moves the pointer, with the ownership of its target.
 use mathlib.Core.Path.{refl, sym, subst}
 use mathlib.Core.List.{List, [], ◌∷◌, ◌++◌}
 use seplogic.Ra.Ura.{Ura}
