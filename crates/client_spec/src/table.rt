@@ -1,7 +1,8 @@
 //! The instruction table: the operations, and what each is. Definitions and code both read it.
 
-ghost use Rattle.std.specs.Prelude.{◌≡◌, ◌≢◌, map, IfSome, IfNone};
+ghost use Rattle.std.specs.Prelude.{◌≡◌, ◌≢◌, ◌≤◌, map, IfSome, IfNone};
 ghost use Rattle.client_spec.specs.Operations.{opcode, entries, mnemonic, row_of};
+ghost use Rattle.client_spec.specs.declared.table.TheConstants.{OPERATIONS};
 
 /// What an instruction does. The discriminant is the number that stands for it in a client file.
 #[derive(Debug, Clone, Copy, PartialEq, Eq)]
@@ -326,6 +327,15 @@ impl Operation {
         let index = usize::from(number).checked_sub(1)?;
         let (_, row) = rows().get(index)?;
         Some(row.operation)
+    }
+
+    /// The operation of a number that is known to be one's.
+    #[inline]
+    pub fn of_number(number: u8) -> Operation
+        requires { (1 ≤ number) × (number ≤ OPERATIONS) }
+        ensures { opcode result ≡ number }
+    {
+        rows()[usize::from(number) - 1].1.operation
     }
 
     /// The operation of a word of the assembler text.
