@@ -6,7 +6,6 @@ ghost use Rattle.client_code.specs.Files.{code_place};
 use crate::constant::Constant;
 use crate::header::{Header, MOST_INSTRUCTIONS};
 use crate::instruction::Instruction;
-use crate::parser::instruction_at;
 use crate::types::{MOST_TYPES, read_types};
 use arrayvec::ArrayVec;
 use seg_layout::TypeTable;
@@ -110,7 +109,8 @@ impl<'a> Client<'a> {
         if i >= self.header.instructions {
             return None;
         }
-        instruction_at(self.file, self.place_of(i))
+        let place = self.place_of(i) as usize;
+        Some(Instruction::of_bytes(&self.file[place..place + Instruction::SIZE]))
     }
 
     /// The position of an instruction, or of what follows the last one.

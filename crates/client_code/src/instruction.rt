@@ -1,4 +1,5 @@
-ghost use Rattle.std.specs.Prelude.{◌≡◌, ◌≢◌, ◌≤◌, ◌%◌, ◌/◌, ◌↔◌, ℕ, List, pos, length, map, IsTrue, IfSome, IfNone};
+ghost use Rattle.std.specs.Prelude.{◌≡◌, ◌≢◌, ◌≤◌, ◌%◌, ◌/◌, ◌↔◌, ℕ, List, pos, length, map, IsTrue, IfSome, IfNone, FitsSigned};
+ghost use Rattle.std.specs.Int.{w32};
 ghost use Rattle.seg_spec.specs.Types.{Table};
 ghost use Rattle.client_spec.specs.Syntax as syntax;
 ghost use Rattle.client_spec.specs.declared.table.Number.TheVariants as number;
@@ -40,7 +41,7 @@ fn is_operand(operand: Operand, n: u8) -> bool
 
 impl Instruction {
     ghost use Rattle.client_code.specs.Views.{kind_of, instruction_of};
-    ghost use Rattle.client_code.specs.Operands.{HasOperands};
+    ghost use Rattle.client_code.specs.Operands.{HasOperands, IsSpelling};
 
     /// The operand that stands for no register.
     pub const NONE: u8 = REGISTERS;
@@ -69,6 +70,22 @@ impl Instruction {
             c: *c,
             number,
         })
+    }
+
+    /// The instruction that 8 bytes spell, where they are known to spell one: nothing is tested.
+    #[inline]
+    pub(crate) fn of_bytes(bytes: &[u8]) -> Instruction
+        requires { IsSpelling bytes.now }
+        ensures spelled { bytes.now ≡ instruction_bytes (instruction_of result) }
+        ensures range { FitsSigned w32 result.number }
+    {
+        Instruction {
+            operation: Operation::of_number(bytes[0]),
+            a: bytes[1],
+            b: bytes[2],
+            c: bytes[3],
+            number: i32::from_le_bytes([bytes[4], bytes[5], bytes[6], bytes[7]]),
+        }
     }
 
     /// The 8 bytes that spell the instruction.

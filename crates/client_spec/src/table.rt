@@ -1,7 +1,8 @@
 //! The instruction table: the operations and their properties. The program and the definitions both read it.
 
-ghost use Rattle.std.specs.Prelude.{◌≡◌, ◌≢◌, map, IfSome, IfNone};
+ghost use Rattle.std.specs.Prelude.{◌≡◌, ◌≢◌, ◌≤◌, map, IfSome, IfNone};
 ghost use Rattle.client_spec.specs.Operations.{opcode, entries, mnemonic, row_of};
+ghost use Rattle.client_spec.specs.declared.table.TheConstants.{OPERATIONS};
 
 /// What an instruction does. The discriminant is the operation's number in a client file.
 #[derive(Debug, Clone, Copy, PartialEq, Eq)]
@@ -327,6 +328,15 @@ impl Operation {
         let index = usize::from(number).checked_sub(1)?;
         let (_, row) = rows().get(index)?;
         Some(row.operation)
+    }
+
+    /// The operation of a number that some operation has.
+    #[inline]
+    pub fn of_number(number: u8) -> Operation
+        requires { (1 ≤ number) × (number ≤ OPERATIONS) }
+        ensures { opcode result ≡ number }
+    {
+        rows()[usize::from(number) - 1].1.operation
     }
 
     /// The operation with a mnemonic, or `None` if no operation has it.
