@@ -5,6 +5,7 @@
 --     kept      cells that share are left, where no reference of their class ends
 --     spared    a class of which a reference is only read still is none that ends
 --     same      from the trees of a state there is the same row
+--     follows   the row keeps the types, and writes at the output's end alone
 use Rattle.std.proofs.Common.{◌≡◌, ℕ, ℤ, pos, negsuc, ◌<◌, List, length, Bool, refl, sym, ◌∙◌, ap, subst}
 use Rattle.std.specs.Prelude.{⊤, Ok, Err, not, slice_get, slice_set, nat_abs, ◌==◌}
 use Rattle.seg_spec.specs.Value.{Value, Full, count}
@@ -12,6 +13,7 @@ use Rattle.seg_spec.specs.Types.{Table}
 use Rattle.seg_spec.specs.Items.{key_place}
 use Rattle.client_spec.specs.declared.table.Operation.{Operation}
 use Rattle.client_spec.specs.declared.table.Number.{Number}
+use Rattle.client_spec.specs.declared.table.Gives.{Gives}
 use Rattle.client_spec.specs.declared.table.Role.{Role}
 use Rattle.client_spec.specs.Operations.{row_of}
 use Rattle.client_spec.specs.Grammar.{IsNumber}
@@ -19,9 +21,10 @@ use Rattle.client_spec.specs.Syntax.{Constant}
 use Rattle.client_spec.specs.Machine.{◌>>=◌, Register, State, register, set_register, owned_by, path_value, path_type, put_at}
 use Rattle.client_spec.specs.Answer.{success, copied, integer_at, path_of, index_below, object_count, byte_of, type_operand, constant_operand, integer_or, constant_name, constant_text}
 use Rattle.client_spec.specs.Answer.{number_in, bytes_in, items_in, entries_in, content_in, fields_in, length_in, vec_or_list_item, list_item, map_value, owned_type, path_form}
+use Rattle.client_spec.specs.Answer.{shared_type}
 use Rattle.client_spec.specs.Effect.{effect}
 use Rattle.client_spec.specs.Typed.{Class, RegisterType, Reason, RegisterTypes, known, same_class, sharing, ended, others_ended, reference_needed, integer_needed, owner_needed, copy_needed}
-use Rattle.client_spec.specs.Typed.{name_needed, text_needed, required, form_needed, is_i64, is_str, is_map, can_pop, has_length, can_shrink, item_known, field_type, known_after, gives, opens, rule}
+use Rattle.client_spec.specs.Typed.{name_needed, text_needed, required, form_needed, is_i64, is_str, is_map, can_pop, has_length, can_shrink, item_known, field_type, known_after, assigned, gives, opens, rule}
 use Rattle.client_spec.specs.Typed as typed
 use Rattle.client_spec.specs.Meaning.{IsAsKnown}
 use Rattle.client_spec.specs.Bare.{bare}
@@ -36,6 +39,8 @@ use Rattle.client_spec.proofs.Bare.{known_bare, bare_others, copy_bare, class_ba
 use Rattle.client_spec.proofs.Bare as bare
 use Rattle.client_spec.proofs.CellsKept.{Keeps, Spared, StillRead, spelled}
 use Rattle.client_spec.proofs.CellsKept as kept
+use Rattle.client_spec.proofs.Following.{Fine}
+use Rattle.client_spec.proofs.Following as follow
 use Rattle.client_spec.proofs.UnfoldedRows.{RowSame, const_same, mov_same, add_same, sub_same, mul_same, less_same, equal_same, branch_same, while_same, else_same, end_same}
 use Rattle.client_spec.proofs.UnfoldedRows.{out_number_same, out_text_same, out_constant_same, byte_same, make_same, find_same, find_or_make_same, count_row_same, kill_same}
 use Rattle.client_spec.proofs.UnfoldedRows.{make_unique_same, find_unique_same, find_or_make_unique_same, kill_unique_same, new_same, drop_same, ref_same}
@@ -69,6 +74,7 @@ pub record Laws (op : Operation) : Type 0 where
   pub spared : (types : Table) (constants : List Constant) (ks : RegisterTypes) (class : Class) (one : OneEach constants) (s : State) (h : IsAsKnown types constants (bare ks) s) (a b c : ℕ) (number : ℤ) (good bad : RegisterTypes)
       → rule types constants op a b c number ks ≡ Ok (good, bad) → BareThere op (known ks b) → StillRead types constants ks b class good bad → Spared constants one (Class.Frozen class) types (bare ks) s h b op c number
   pub same : (m : ℕ → Value) (constants : List Constant) (s : State) → RowSame m constants s op
+  pub follows : (constants : List Constant) (s : State) (a b c : ℕ) (number : ℤ) (room : Bool) → Fine s (effect constants op a b c number room s)
 
 pub laws : (op : Operation) → Laws op
 unfolding rule effect
@@ -79,6 +85,7 @@ laws Operation.Const = record {
   kept = λ types constants one ks s h class a b c number room good bad e far. kept.given s success a _;
   spared = λ types constants ks class one s h a b c number good bad e b_is still. tt;
   same = const_same;
+  follows = λ constants s a b c number room. follow.given success a _;
 }
 laws Operation.Mov = record {
   goes = λ types constants one ks s h a b c number m. mov_goes types constants one ks s h a b c number;
@@ -87,6 +94,7 @@ laws Operation.Mov = record {
   kept = λ types constants one ks s h class a b c number room good bad e far. kept.bound s (copied s (register s b)) _ (λ x _. kept.given s success a x);
   spared = λ types constants ks class one s h a b c number good bad e b_is still. tt;
   same = mov_same;
+  follows = λ constants s a b c number room. follow.bound (copied s (register s b)) _ (λ x. follow.given success a x);
 }
 laws Operation.Add = record {
   goes = λ types constants one ks s h a b c number m. add_goes types constants ks s h a b c number;
@@ -95,6 +103,7 @@ laws Operation.Add = record {
   kept = λ types constants one ks s h class a b c number room good bad e far. kept.combines s _ a b c;
   spared = λ types constants ks class one s h a b c number good bad e b_is still. tt;
   same = add_same;
+  follows = λ constants s a b c number room. follow.combines _ a b c;
 }
 laws Operation.Sub = record {
   goes = λ types constants one ks s h a b c number m. sub_goes types constants ks s h a b c number;
@@ -103,6 +112,7 @@ laws Operation.Sub = record {
   kept = λ types constants one ks s h class a b c number room good bad e far. kept.combines s _ a b c;
   spared = λ types constants ks class one s h a b c number good bad e b_is still. tt;
   same = sub_same;
+  follows = λ constants s a b c number room. follow.combines _ a b c;
 }
 laws Operation.Mul = record {
   goes = λ types constants one ks s h a b c number m. mul_goes types constants ks s h a b c number;
@@ -111,6 +121,7 @@ laws Operation.Mul = record {
   kept = λ types constants one ks s h class a b c number room good bad e far. kept.combines s _ a b c;
   spared = λ types constants ks class one s h a b c number good bad e b_is still. tt;
   same = mul_same;
+  follows = λ constants s a b c number room. follow.combines _ a b c;
 }
 laws Operation.Less = record {
   goes = λ types constants one ks s h a b c number m. lt_goes types constants ks s h a b c number;
@@ -119,6 +130,7 @@ laws Operation.Less = record {
   kept = λ types constants one ks s h class a b c number room good bad e far. kept.combines s _ a b c;
   spared = λ types constants ks class one s h a b c number good bad e b_is still. tt;
   same = less_same;
+  follows = λ constants s a b c number room. follow.combines _ a b c;
 }
 laws Operation.Equal = record {
   goes = λ types constants one ks s h a b c number m. eq_goes types constants ks s h a b c number;
@@ -127,6 +139,7 @@ laws Operation.Equal = record {
   kept = λ types constants one ks s h class a b c number room good bad e far. kept.combines s _ a b c;
   spared = λ types constants ks class one s h a b c number good bad e b_is still. tt;
   same = equal_same;
+  follows = λ constants s a b c number room. follow.combines _ a b c;
 }
 laws Operation.If = record {
   goes = λ types constants one ks s h a b c number m. branch_goes types constants ks s h a b c number;
@@ -135,6 +148,7 @@ laws Operation.If = record {
   kept = λ types constants one ks s h class a b c number room good bad e far. kept.bound s (integer_at s b) _ (λ x _. kept.some s _ s (kept.still constants one class s));
   spared = λ types constants ks class one s h a b c number good bad e b_is still. tt;
   same = branch_same;
+  follows = λ constants s a b c number room. follow.bound (integer_at s b) _ (λ x. follow.some _ s (follow.still s));
 }
 laws Operation.While = record {
   goes = λ types constants one ks s h a b c number m good bad room e. cc;
@@ -143,6 +157,7 @@ laws Operation.While = record {
   kept = λ types constants one ks s h class a b c number room good bad e far. absurd (let f : Err Reason.WrongOperand ≡ Ok (good, bad) = e in cc);
   spared = λ types constants ks class one s h a b c number good bad e b_is still. tt;
   same = while_same;
+  follows = λ constants s a b c number room. follow.none;
 }
 laws Operation.Else = record {
   goes = λ types constants one ks s h a b c number m good bad room e. cc;
@@ -151,6 +166,7 @@ laws Operation.Else = record {
   kept = λ types constants one ks s h class a b c number room good bad e far. absurd (let f : Err Reason.WrongOperand ≡ Ok (good, bad) = e in cc);
   spared = λ types constants ks class one s h a b c number good bad e b_is still. tt;
   same = else_same;
+  follows = λ constants s a b c number room. follow.none;
 }
 laws Operation.End = record {
   goes = λ types constants one ks s h a b c number m good bad room e. cc;
@@ -159,6 +175,7 @@ laws Operation.End = record {
   kept = λ types constants one ks s h class a b c number room good bad e far. absurd (let f : Err Reason.WrongOperand ≡ Ok (good, bad) = e in cc);
   spared = λ types constants ks class one s h a b c number good bad e b_is still. tt;
   same = end_same;
+  follows = λ constants s a b c number room. follow.none;
 }
 laws Operation.OutInt = record {
   goes = λ types constants one ks s h a b c number m. outi_goes types constants ks s h a b c number;
@@ -167,6 +184,7 @@ laws Operation.OutInt = record {
   kept = λ types constants one ks s h class a b c number room good bad e far. kept.bound s (integer_at s b) _ (λ x _. kept.writes s _);
   spared = λ types constants ks class one s h a b c number good bad e b_is still. tt;
   same = out_number_same;
+  follows = λ constants s a b c number room. follow.bound (integer_at s b) _ (λ x. follow.writes _);
 }
 laws Operation.OutStr = record {
   goes = λ types constants one ks s h a b c number m. outs_goes types constants one ks s h a b c number;
@@ -175,6 +193,7 @@ laws Operation.OutStr = record {
   kept = λ types constants one ks s h class a b c number room good bad e far. kept.bound s (path_of s b) _ (λ p _. kept.bound s (path_value s p >>= bytes_in) _ (λ bytes _. kept.writes s bytes));
   spared = λ types constants ks class one s h a b c number good bad e b_is still. tt;
   same = out_text_same;
+  follows = λ constants s a b c number room. follow.bound (path_of s b) _ (λ p. follow.bound (path_value s p >>= bytes_in) _ (λ bytes. follow.writes bytes));
 }
 laws Operation.OutConst = record {
   goes = λ types constants one ks s h a b c number m. outc_goes types constants one ks s h a b c number;
@@ -183,6 +202,7 @@ laws Operation.OutConst = record {
   kept = λ types constants one ks s h class a b c number room good bad e far. kept.bound s (slice_get constants (nat_abs number) >>= constant_text) _ (λ bytes _. kept.writes s bytes);
   spared = λ types constants ks class one s h a b c number good bad e b_is still. tt;
   same = out_constant_same;
+  follows = λ constants s a b c number room. follow.bound (slice_get constants (nat_abs number) >>= constant_text) _ (λ bytes. follow.writes bytes);
 }
 laws Operation.GetByte = record {
   goes = λ types constants one ks s h a b c number m. getb_goes types constants one ks s h a b c number;
@@ -191,6 +211,7 @@ laws Operation.GetByte = record {
   kept = λ types constants one ks s h class a b c number room good bad e far. kept.next s a s.input;
   spared = λ types constants ks class one s h a b c number good bad e b_is still. tt;
   same = byte_same;
+  follows = λ constants s a b c number room. follow.next a s.input;
 }
 laws Operation.Make = record {
   goes = λ types constants one ks s h a b c number m good bad room. make_goes types constants one ks s h a b c number good bad room (type_of_name types constants b number m);
@@ -200,6 +221,8 @@ laws Operation.Make = record {
       (object_count x) _ (λ n _. kept.adds s a name (type_operand number) (s.names name) n room refl) (λ _. kept.given s _ a _)));
   spared = λ types constants ks class one s h a b c number good bad e b_is still. tt;
   same = make_same;
+  follows = λ constants s a b c number room. follow.bound (slice_get constants (constant_operand number) >>= λ k. constant_name k (register s b)) _ (λ name. follow.bound (integer_or (pos 1) c s) _ (λ x. follow.either _
+      (object_count x) _ (λ n. follow.adds a name (type_operand number) (s.names name) n room) (follow.given _ a _)));
 }
 laws Operation.Find = record {
   goes = λ types constants one ks s h a b c number m. find_goes types constants ks s h a b c number;
@@ -209,6 +232,8 @@ laws Operation.Find = record {
       (λ x _. kept.item s a name (type_operand number) x (s.names name)));
   spared = λ types constants ks class one s h a b c number good bad e b_is still. tt;
   same = find_same;
+  follows = λ constants s a b c number room. follow.bound (slice_get constants (constant_operand number) >>= λ k. constant_name k (register s b)) _ (λ name. follow.bound (integer_or (pos 0) c s) _
+      (λ x. follow.item a name (type_operand number) x (s.names name)));
 }
 laws Operation.FindOrMake = record {
   goes = λ types constants one ks s h a b c number m good bad room. findor_goes types constants one ks s h a b c number good bad room (type_of_name types constants b number m);
@@ -217,6 +242,7 @@ laws Operation.FindOrMake = record {
   kept = λ types constants one ks s h class a b c number room good bad e far. kept.bound s (slice_get constants (constant_operand number) >>= λ k. constant_name k (register s b)) _ (λ name _. kept.finds s a name (type_operand number) (s.names name) room refl);
   spared = λ types constants ks class one s h a b c number good bad e b_is still. tt;
   same = find_or_make_same;
+  follows = λ constants s a b c number room. follow.bound (slice_get constants (constant_operand number) >>= λ k. constant_name k (register s b)) _ (λ name. follow.finds a name (type_operand number) (s.names name) room);
 }
 laws Operation.Count = record {
   goes = λ types constants one ks s h a b c number m. count_row types constants one ks s h a b c number;
@@ -225,6 +251,7 @@ laws Operation.Count = record {
   kept = λ types constants one ks s h class a b c number room good bad e far. kept.bound s (slice_get constants (constant_operand number) >>= λ k. constant_name k (register s b)) _ (λ name _. kept.counts s a (type_operand number) (s.names name));
   spared = λ types constants ks class one s h a b c number good bad e b_is still. tt;
   same = count_row_same;
+  follows = λ constants s a b c number room. follow.bound (slice_get constants (constant_operand number) >>= λ k. constant_name k (register s b)) _ (λ name. follow.counts a (type_operand number) (s.names name));
 }
 laws Operation.Kill = record {
   goes = λ types constants one ks s h a b c number m. kill_goes types constants one ks s h a b c number;
@@ -240,6 +267,7 @@ laws Operation.Kill = record {
       let g = kept.gives_from types constants ks b class (ended E ks) a RegisterType.Int good bad refl p.2 in
       kept.not_ended types constants ks b class E ks good bad g.0 g.1 still;
   same = kill_same;
+  follows = λ constants s a b c number room. follow.bound (slice_get constants (constant_operand number) >>= λ k. constant_name k (register s b)) _ (λ name. follow.destroys a name (type_operand number) (s.names name));
 }
 laws Operation.MakeUnique = record {
   goes = λ types constants one ks s h a b c number m good bad room. umake_goes types constants one ks s h a b c number good bad room (type_of_id types constants b number m);
@@ -248,6 +276,7 @@ laws Operation.MakeUnique = record {
   kept = λ types constants one ks s h class a b c number room good bad e far. kept.by_unique s (nat_abs number) _ _ (kept.given s _ a _) (λ free. kept.unique s a (nat_abs number) room free);
   spared = λ types constants ks class one s h a b c number good bad e b_is still. tt;
   same = make_unique_same;
+  follows = λ constants s a b c number room. follow.tested _ _ _ (follow.given _ a _) (follow.unique a (nat_abs number) room);
 }
 laws Operation.FindUnique = record {
   goes = λ types constants one ks s h a b c number m. ufind_goes types constants one ks s h a b c number;
@@ -256,6 +285,7 @@ laws Operation.FindUnique = record {
   kept = λ types constants one ks s h class a b c number room good bad e far. kept.by_unique s (nat_abs number) _ _ (kept.given s success a _) (λ _. kept.given s _ a _);
   spared = λ types constants ks class one s h a b c number good bad e b_is still. tt;
   same = find_unique_same;
+  follows = λ constants s a b c number room. follow.tested _ _ _ (follow.given success a _) (follow.given _ a _);
 }
 laws Operation.FindOrMakeUnique = record {
   goes = λ types constants one ks s h a b c number m good bad room. ufindor_goes types constants one ks s h a b c number good bad room (type_of_id types constants b number m);
@@ -264,6 +294,7 @@ laws Operation.FindOrMakeUnique = record {
   kept = λ types constants one ks s h class a b c number room good bad e far. kept.by_unique s (nat_abs number) _ _ (kept.given s success a _) (λ free. kept.unique s a (nat_abs number) room free);
   spared = λ types constants ks class one s h a b c number good bad e b_is still. tt;
   same = find_or_make_unique_same;
+  follows = λ constants s a b c number room. follow.tested _ _ _ (follow.given success a _) (follow.unique a (nat_abs number) room);
 }
 laws Operation.KillUnique = record {
   goes = λ types constants one ks s h a b c number m. ukill_goes types constants one ks s h a b c number;
@@ -275,6 +306,7 @@ laws Operation.KillUnique = record {
       let g = kept.gives_from types constants ks b class (ended E ks) a RegisterType.Int good bad refl e in
       kept.not_ended types constants ks b class E ks good bad g.0 g.1 still;
   same = kill_unique_same;
+  follows = λ constants s a b c number room. follow.tested _ _ _ (follow.answered success a _ _ (follow.alike s _ refl refl)) (follow.given success a _);
 }
 laws Operation.New = record {
   goes = λ types constants one ks s h a b c number m good bad room. new_goes types constants one ks s h a b c number good bad room (type_of_id types constants b number m);
@@ -283,6 +315,7 @@ laws Operation.New = record {
   kept = λ types constants one ks s h class a b c number room good bad e far. kept.roomy s room a _ (kept.given s success a _);
   spared = λ types constants ks class one s h a b c number good bad e b_is still. tt;
   same = new_same;
+  follows = λ constants s a b c number room. follow.roomy room a _ (follow.given success a _);
 }
 laws Operation.Drop = record {
   goes = λ types constants one ks s h a b c number m. drop_goes types constants one ks s h a b c number;
@@ -299,6 +332,7 @@ laws Operation.Drop = record {
       let back = from_set b RegisterType.Undefined (ended E ks) (ended E ks) refl (kept.itself (ended E ks)) in
       kept.not_ended types constants ks b class E ks good bad (λ r z u f. back r z u (g.0 r z u f)) (λ r z u f. back r z u (g.1 r z u f)) still;
   same = drop_same;
+  follows = λ constants s a b c number room. follow.bound (owned_by (register s b)) _ (λ o. follow.some success _ (follow.alike s _ refl refl));
 }
 laws Operation.Ref = record {
   goes = λ types constants one ks s h a b c number m. ref_goes types constants one ks s h a b c number;
@@ -307,6 +341,7 @@ laws Operation.Ref = record {
   kept = λ types constants one ks s h class a b c number room good bad e far. kept.bound s (owned_by (register s b)) _ (λ o _. kept.given s success a _);
   spared = λ types constants ks class one s h a b c number good bad e b_is still. tt;
   same = ref_same;
+  follows = λ constants s a b c number room. follow.bound (owned_by (register s b)) _ (λ o. follow.given success a _);
 }
 laws Operation.Put = record {
   goes = λ types constants one ks s h a b c number m. put_goes types constants one ks s h a b c number;
@@ -343,6 +378,8 @@ laws Operation.Put = record {
         kept.not_ended types constants ks b class (Class.Register c) others good bad first second still,
       );
   same = put_same;
+  follows = λ constants s a b c number room. follow.bound (path_of s b) _ (λ p. follow.bound (path_form s p >>= owned_type) _ (λ t. follow.bound (owned_by (register s c)) _ (λ new. follow.bound
+      (path_value s p >>= content_in) _ (λ o. follow.shown _ _ (follow.some success _ (follow.set_follows s _ c Register.Undefined (follow.put_follows p _)))))));
 }
 laws Operation.Take = record {
   goes = λ types constants one ks s h a b c number m. take_goes types constants one ks s h a b c number;
@@ -352,6 +389,7 @@ laws Operation.Take = record {
       (λ o there. let v = bind_some (path_value s p) content_in o there in kept.takes s p v.0 v.1 f.its f.within f.far a t o)));
   spared = λ types constants ks class one s h a b c number good bad e b_is still. kept.opened_far types constants ks b class one s h a owned_type (λ x t. RegisterType.Owner t) good bad b_is (λ x t _. refl) e still;
   same = take_same;
+  follows = λ constants s a b c number room. follow.bound (path_of s b) _ (λ p. follow.bound (path_form s p >>= owned_type) _ (λ t. follow.bound (path_value s p >>= content_in) _ (λ inside. follow.takes a p t inside)));
 }
 laws Operation.Content = record {
   goes = λ types constants one ks s h a b c number m. content_goes types constants one ks s h a b c number;
@@ -360,6 +398,7 @@ laws Operation.Content = record {
   kept = λ types constants one ks s h class a b c number room good bad e far. kept.bound s (path_of s b) _ (λ p _. kept.bound s (path_value s p >>= content_in) _ (λ o _. kept.sees s a p o));
   spared = λ types constants ks class one s h a b c number good bad e b_is still. tt;
   same = content_same;
+  follows = λ constants s a b c number room. follow.bound (path_of s b) _ (λ p. follow.bound (path_value s p >>= content_in) _ (λ inside. follow.sees a p inside));
 }
 laws Operation.Clear = record {
   goes = λ types constants one ks s h a b c number m. clear_goes types constants one ks s h a b c number;
@@ -372,6 +411,7 @@ laws Operation.Clear = record {
       let g = kept.after_from types constants ks b class (others_ended x.0.0 b ks) good bad x.2 in
       kept.far_of types constants ks b class x.0 good bad b_is x.1 g.0 g.1 still;
   same = clear_same;
+  follows = λ constants s a b c number room. follow.bound (path_of s b) _ (λ p. follow.bound (path_type s p) _ (λ t. follow.bound (path_value s p) _ (λ v. follow.put_some p _)));
 }
 laws Operation.Forget = record {
   goes = λ types constants one ks s h a b c number m. forget_goes types constants one ks s h a b c number;
@@ -380,6 +420,7 @@ laws Operation.Forget = record {
   kept = λ types constants one ks s h class a b c number room good bad e far. kept.either s _ (owned_by (register s b)) _ (λ o _. kept.none s) (λ free. kept.some s success _ (kept.by_register constants one class s b Register.Undefined free));
   spared = λ types constants ks class one s h a b c number good bad e b_is still. tt;
   same = forget_same;
+  follows = λ constants s a b c number room. follow.either _ (owned_by (register s b)) _ (λ o. follow.none) (follow.some success _ (follow.alike s _ refl refl));
 }
 laws Operation.Load = record {
   goes = λ types constants one ks s h a b c number m. load_goes types constants ks s h a b c number;
@@ -388,6 +429,7 @@ laws Operation.Load = record {
   kept = λ types constants one ks s h class a b c number room good bad e far. kept.bound s (path_of s b) _ (λ p _. kept.bound s (path_value s p >>= number_in) _ (λ k _. kept.given s success a _));
   spared = λ types constants ks class one s h a b c number good bad e b_is still. tt;
   same = load_same;
+  follows = λ constants s a b c number room. follow.bound (path_of s b) _ (λ p. follow.bound (path_value s p >>= number_in) _ (λ k. follow.given success a _));
 }
 laws Operation.Store = record {
   goes = λ types constants one ks s h a b c number m. store_goes types constants ks s h a b c number;
@@ -396,6 +438,7 @@ laws Operation.Store = record {
   kept = λ types constants one ks s h class a b c number room good bad e far. kept.bound s (path_of s b) _ (λ p _. kept.bound s (path_value s p >>= number_in) _ (λ k there. kept.bound s (integer_at s c) _ (λ x _. kept.some s success _ (kept.put_number constants one class s p k _ there))));
   spared = λ types constants ks class one s h a b c number good bad e b_is still. tt;
   same = store_same;
+  follows = λ constants s a b c number room. follow.bound (path_of s b) _ (λ p. follow.bound (path_value s p >>= number_in) _ (λ k. follow.bound (integer_at s c) _ (λ x. follow.put_some p _)));
 }
 laws Operation.Field = record {
   goes = λ types constants one ks s h a b c number m. field_goes types constants one ks s h a b c number;
@@ -404,6 +447,7 @@ laws Operation.Field = record {
   kept = λ types constants one ks s h class a b c number room good bad e far. kept.bound s (path_of s b) _ (λ p _. kept.bound s (path_value s p >>= fields_in) _ (λ vs _. kept.bound s (index_below (count vs) number) _ (λ i _. kept.given s success a _)));
   spared = λ types constants ks class one s h a b c number good bad e b_is still. tt;
   same = field_same;
+  follows = λ constants s a b c number room. follow.bound (path_of s b) _ (λ p. follow.bound (path_value s p >>= fields_in) _ (λ vs. follow.bound (index_below (count vs) number) _ (λ i. follow.given success a _)));
 }
 laws Operation.Len = record {
   goes = λ types constants one ks s h a b c number m. len_goes types constants one ks s h a b c number;
@@ -412,6 +456,7 @@ laws Operation.Len = record {
   kept = λ types constants one ks s h class a b c number room good bad e far. kept.bound s (path_of s b) _ (λ p _. kept.bound s (path_value s p >>= length_in) _ (λ n _. kept.given s success a _));
   spared = λ types constants ks class one s h a b c number good bad e b_is still. tt;
   same = len_same;
+  follows = λ constants s a b c number room. follow.bound (path_of s b) _ (λ p. follow.bound (path_value s p >>= length_in) _ (λ n. follow.given success a _));
 }
 laws Operation.At = record {
   goes = λ types constants one ks s h a b c number m. at_goes types constants one ks s h a b c number;
@@ -421,6 +466,7 @@ laws Operation.At = record {
   kept = λ types constants one ks s h class a b c number room good bad e far. kept.bound s (path_of s b) _ (λ p _. kept.bound s (integer_at s c) _ (λ x _. kept.bound s (path_value s p) _ (λ v _. kept.value_item s a p x v)));
   spared = λ types constants ks class one s h a b c number good bad e b_is still. tt;
   same = at_same;
+  follows = λ constants s a b c number room. follow.bound (path_of s b) _ (λ p. follow.bound (integer_at s c) _ (λ x. follow.bound (path_value s p) _ (λ v. follow.value_item a p x v)));
 }
 laws Operation.PushBack = record {
   goes = λ types constants one ks s h a b c number m. push_goes types constants one ks s h a b c number;
@@ -430,6 +476,7 @@ laws Operation.PushBack = record {
       (λ vs there. let v = bind_some (path_value s p) items_in vs there in kept.roomy s room a _ (kept.given_put s p v.0 v.1 f.its f.within f.far a _ _))));
   spared = λ types constants ks class one s h a b c number good bad e b_is still. kept.opened_far types constants ks b class one s h a vec_or_list_item (λ x t. RegisterType.Reference x.0 t) good bad b_is (λ x t n. class_bare (known ks b) x t b_is n) e still;
   same = push_back_same;
+  follows = λ constants s a b c number room. follow.bound (path_of s b) _ (λ p. follow.bound (path_form s p >>= vec_or_list_item) _ (λ t. follow.bound (path_value s p >>= items_in) _ (λ vs. follow.roomy room a _ (follow.given_put a _ p _))));
 }
 laws Operation.PushFront = record {
   goes = λ types constants one ks s h a b c number m. pushf_goes types constants one ks s h a b c number;
@@ -439,6 +486,7 @@ laws Operation.PushFront = record {
       (λ vs there. let v = bind_some (path_value s p) items_in vs there in kept.roomy s room a _ (kept.given_put s p v.0 v.1 f.its f.within f.far a _ _))));
   spared = λ types constants ks class one s h a b c number good bad e b_is still. kept.opened_far types constants ks b class one s h a list_item (λ x t. RegisterType.Reference x.0 t) good bad b_is (λ x t n. class_bare (known ks b) x t b_is n) e still;
   same = push_front_same;
+  follows = λ constants s a b c number room. follow.bound (path_of s b) _ (λ p. follow.bound (path_form s p >>= list_item) _ (λ t. follow.bound (path_value s p >>= items_in) _ (λ vs. follow.roomy room a _ (follow.given_put a _ p _))));
 }
 laws Operation.PopBack = record {
   goes = λ types constants one ks s h a b c number m. pop_goes types constants one ks s h a b c number;
@@ -448,6 +496,7 @@ laws Operation.PopBack = record {
       (λ bytes _. kept.bytes_pop s p v there f.its f.within f.far a bytes) (λ _. kept.bound s (items_in v) _ (λ vs _. kept.last_pop s p v there f.its f.within f.far a vs))));
   spared = λ types constants ks class one s h a b c number good bad e b_is still. kept.opened_far types constants ks b class one s h a can_pop (λ x y. RegisterType.Int) good bad b_is (λ x y _. refl) e still;
   same = pop_back_same;
+  follows = λ constants s a b c number room. follow.bound (path_of s b) _ (λ p. follow.bound (path_value s p) _ (λ v. follow.either _ (bytes_in v) _ (λ bytes. follow.bytes_pop a p bytes) (follow.bound (items_in v) _ (λ vs. follow.last_pop a p vs))));
 }
 laws Operation.PopFront = record {
   goes = λ types constants one ks s h a b c number m. popf_goes types constants one ks s h a b c number;
@@ -457,6 +506,7 @@ laws Operation.PopFront = record {
       (λ vs there. let v = bind_some (path_value s p) items_in vs there in kept.first_pop s p v.0 v.1 f.its f.within f.far a vs)));
   spared = λ types constants ks class one s h a b c number good bad e b_is still. kept.opened_far types constants ks b class one s h a list_item (λ x y. RegisterType.Int) good bad b_is (λ x y _. refl) e still;
   same = pop_front_same;
+  follows = λ constants s a b c number room. follow.bound (path_of s b) _ (λ p. follow.bound (path_form s p >>= list_item) _ (λ t. follow.bound (path_value s p >>= items_in) _ (λ vs. follow.first_pop a p vs)));
 }
 laws Operation.SetStr = record {
   goes = λ types constants one ks s h a b c number m. sets_goes types constants one ks s h a b c number;
@@ -466,6 +516,7 @@ laws Operation.SetStr = record {
       (λ p _. kept.bound s (path_value s p >>= bytes_in) _ (λ old there. kept.bound s (slice_get constants (nat_abs number) >>= constant_text) _ (λ new _. kept.text s a p old new room there)));
   spared = λ types constants ks class one s h a b c number good bad e b_is still. tt;
   same = set_text_same;
+  follows = λ constants s a b c number room. follow.bound (path_of s b) _ (λ p. follow.bound (path_value s p >>= bytes_in) _ (λ old. follow.bound (slice_get constants (nat_abs number) >>= constant_text) _ (λ new. follow.text a p new room)));
 }
 laws Operation.AddStr = record {
   goes = λ types constants one ks s h a b c number m. adds_goes types constants one ks s h a b c number;
@@ -475,6 +526,7 @@ laws Operation.AddStr = record {
       (λ p _. kept.bound s (path_value s p >>= bytes_in) _ (λ old there. kept.bound s (slice_get constants (nat_abs number) >>= constant_text) _ (λ more _. kept.text s a p old _ room there)));
   spared = λ types constants ks class one s h a b c number good bad e b_is still. tt;
   same = add_text_same;
+  follows = λ constants s a b c number room. follow.bound (path_of s b) _ (λ p. follow.bound (path_value s p >>= bytes_in) _ (λ old. follow.bound (slice_get constants (nat_abs number) >>= constant_text) _ (λ more. follow.text a p _ room)));
 }
 laws Operation.AddByte = record {
   goes = λ types constants one ks s h a b c number m. addb_goes types constants one ks s h a b c number;
@@ -485,6 +537,7 @@ laws Operation.AddByte = record {
       (λ _. kept.given s _ a _))));
   spared = λ types constants ks class one s h a b c number good bad e b_is still. tt;
   same = add_byte_same;
+  follows = λ constants s a b c number room. follow.bound (path_of s b) _ (λ p. follow.bound (path_value s p >>= bytes_in) _ (λ old. follow.bound (integer_at s c) _ (λ x. follow.either _ (byte_of x) _ (λ byte. follow.text a p _ room) (follow.given _ a _))));
 }
 laws Operation.Shrink = record {
   goes = λ types constants one ks s h a b c number m. shrink_goes types constants one ks s h a b c number;
@@ -493,6 +546,7 @@ laws Operation.Shrink = record {
   kept = λ types constants one ks s h class a b c number room good bad e far. kept.bound s (path_of s b) _ (λ p _. kept.bound s (path_form s p) _ (λ k _. kept.bound s (path_value s p) _ (λ v _. kept.shown s _ _ (kept.some s success s (kept.still constants one class s)))));
   spared = λ types constants ks class one s h a b c number good bad e b_is still. tt;
   same = shrink_same;
+  follows = λ constants s a b c number room. follow.bound (path_of s b) _ (λ p. follow.bound (path_form s p) _ (λ k. follow.bound (path_value s p) _ (λ v. follow.shown _ _ (follow.some success s (follow.still s)))));
 }
 laws Operation.GetKey = record {
   goes = λ types constants one ks s h a b c number m. getk_goes types constants one ks s h a b c number;
@@ -502,6 +556,7 @@ laws Operation.GetKey = record {
       (λ p _. kept.bound s (integer_at s c) _ (λ k _. kept.bound s (path_value s p >>= entries_in) _ (λ es _. kept.either s _ (key_place es.0 k) _ (λ i _. kept.given s success a _) (λ _. kept.given s _ a _))));
   spared = λ types constants ks class one s h a b c number good bad e b_is still. tt;
   same = get_key_same;
+  follows = λ constants s a b c number room. follow.bound (path_of s b) _ (λ p. follow.bound (integer_at s c) _ (λ k. follow.bound (path_value s p >>= entries_in) _ (λ es. follow.either _ (key_place es.0 k) _ (λ i. follow.given success a _) (follow.given _ a _))));
 }
 laws Operation.PutKey = record {
   goes = λ types constants one ks s h a b c number m. putk_goes types constants one ks s h a b c number;
@@ -515,6 +570,8 @@ laws Operation.PutKey = record {
       (λ x t n f. let m = bind_ok (integer_needed (known ks c)) (λ _. opens a (RegisterType.Reference x.0 t) (others_ended x.0 b ks)) (good, bad) f in
       kept.opens_from types constants ks b class (others_ended x.0 b ks) a (RegisterType.Reference x.0 t) good bad (class_bare (known ks b) x t b_is n) m.2) e still;
   same = put_key_same;
+  follows = λ constants s a b c number room. follow.bound (path_of s b) _ (λ p. follow.bound (integer_at s c) _ (λ k. follow.bound (path_form s p >>= map_value) _ (λ t. follow.bound (path_value s p >>= entries_in) _
+      (λ es. follow.either _ (key_place es.0 k) _ (λ i. follow.given success a _) (follow.roomy room a _ (follow.given_put a _ p _))))));
 }
 laws Operation.DeleteKey = record {
   goes = λ types constants one ks s h a b c number m. delk_goes types constants one ks s h a b c number;
@@ -529,6 +586,7 @@ laws Operation.DeleteKey = record {
       (λ x y n f. let m = bind_ok (integer_needed (known ks c)) (λ _. gives a RegisterType.Int (others_ended x.0 b ks)) (good, bad) f in
       kept.gives_from types constants ks b class (others_ended x.0 b ks) a RegisterType.Int good bad refl m.2) e still;
   same = delete_key_same;
+  follows = λ constants s a b c number room. follow.bound (path_of s b) _ (λ p. follow.bound (integer_at s c) _ (λ k. follow.bound (path_value s p >>= entries_in) _ (λ es. follow.either _ (key_place es.0 k) _ (λ i. follow.given_put a _ p _) (follow.given success a _))));
 }
 laws Operation.FirstKey = record {
   goes = λ types constants one ks s h a b c number m. firstk_goes types constants one ks s h a b c number;
@@ -537,6 +595,7 @@ laws Operation.FirstKey = record {
   kept = λ types constants one ks s h class a b c number room good bad e far. kept.bound s (path_of s b) _ (λ p _. kept.bound s (path_value s p >>= entries_in) _ (λ es _. kept.key s a es.0));
   spared = λ types constants ks class one s h a b c number good bad e b_is still. tt;
   same = first_key_same;
+  follows = λ constants s a b c number room. follow.bound (path_of s b) _ (λ p. follow.bound (path_value s p >>= entries_in) _ (λ es. follow.key a es.0));
 }
 laws Operation.NextKey = record {
   goes = λ types constants one ks s h a b c number m. nextk_goes types constants one ks s h a b c number;
@@ -545,6 +604,7 @@ laws Operation.NextKey = record {
   kept = λ types constants one ks s h class a b c number room good bad e far. kept.bound s (path_of s b) _ (λ p _. kept.bound s (integer_at s c) _ (λ k _. kept.bound s (path_value s p >>= entries_in) _ (λ es _. kept.key s a _)));
   spared = λ types constants ks class one s h a b c number good bad e b_is still. tt;
   same = next_key_same;
+  follows = λ constants s a b c number room. follow.bound (path_of s b) _ (λ p. follow.bound (integer_at s c) _ (λ k. follow.bound (path_value s p >>= entries_in) _ (λ es. follow.key a _)));
 }
 laws Operation.Freeze = record {
   goes = λ types constants one ks s h a b c number m good bad room e. cc;
@@ -553,6 +613,8 @@ laws Operation.Freeze = record {
   kept = λ types constants one ks s h class a b c number room good bad e far. absurd (let f : Err Reason.WrongOperand ≡ Ok (good, bad) = e in cc);
   spared = λ types constants ks class one s h a b c number good bad e b_is still. absurd (let f : Err Reason.WrongOperand ≡ Ok (good, bad) = e in cc);
   same = freeze_same;
+  follows = λ constants s a b c number room. follow.bound (path_of s b) _ (λ p. follow.bound (path_form s p >>= shared_type) _ (λ t. follow.bound (owned_by (register s c)) _ (λ own. follow.bound (path_value s p) _
+      (λ v. follow.shown _ _ (follow.roomy room a _ (follow.answered success a _ _ (follow.set_follows s _ c Register.Undefined (follow.put_follows p _))))))));
 }
 laws Operation.Share = record {
   goes = λ types constants one ks s h a b c number m good bad room e. cc;
@@ -561,6 +623,8 @@ laws Operation.Share = record {
   kept = λ types constants one ks s h class a b c number room good bad e far. absurd (let f : Err Reason.WrongOperand ≡ Ok (good, bad) = e in cc);
   spared = λ types constants ks class one s h a b c number good bad e b_is still. absurd (let f : Err Reason.WrongOperand ≡ Ok (good, bad) = e in cc);
   same = share_same;
+  follows = λ constants s a b c number room. follow.bound (path_of s b) _ (λ p. follow.bound (path_form s p >>= shared_type) _ (λ t. follow.bound (path_of s c) _ (λ q. follow.bound (path_form s q >>= shared_type) _
+      (λ u. follow.bound (path_value s p) _ (λ old. follow.bound (path_value s q) _ (λ v. follow.shown _ _ (follow.put_some p v)))))));
 }
 
 -- ---- over all operations
@@ -578,3 +642,13 @@ module _ (types : Table) (constants : List Constant) (ks : RegisterTypes) (b : �
   pub spared : (op : Operation) (a c : ℕ) (number : ℤ) (good bad : RegisterTypes) → rule types constants op a b c number ks ≡ Ok (good, bad) → BareThere op (known ks b) → StillRead types constants ks b class good bad
       → Spared constants one (Class.Frozen class) types (bare ks) s h b op c number
   spared op a c number = (laws op).spared types constants ks class one s h a b c number
+
+pub rows : (s : State) (constants : List Constant) (op : Operation) (a b c : ℕ) (number : ℤ) (room : Bool) → Fine s (effect constants op a b c number room s)
+rows s constants op = (laws op).follows constants s
+
+-- where nothing is known of b then, the rule is that alone
+pub forgotten_rule : (types : Table) (constants : List Constant) (op : Operation) (a b c : ℕ) (number : ℤ) (ks : RegisterTypes) → (row_of op).gives ≡ Gives.Forgotten
+    → rule types constants op a b c number ks ≡ typed.◌>>=◌ (assigned b RegisterType.Undefined ks) known_after
+unfolding rule
+forgotten_rule types constants Operation.Forget a b c number ks is = refl
+forgotten_rule types constants op a b c number ks is = cc
