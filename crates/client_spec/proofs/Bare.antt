@@ -1,16 +1,16 @@
--- Knowledge without references that are only read: the rules of operations without frozen objects
--- give the same result there, and create no such reference.
-use Rattle.std.proofs.Common.{◌≡◌, ℕ, zero, suc, ℤ, List, [], ◌∷◌, Option, Some, None, refl, sym, ◌∙◌, ap, subst, inl, inr, true, false, Bool}
-use Rattle.std.specs.Prelude.{⊤, Ok, Err, not, ◌==◌, nat_abs, slice_get, slice_set, option_and_then, if◌then◌else◌}
+-- What is known without what is only read: where the rules of operations that leave frozen objects alone find the same there, and let no reference that is only read begin.
+use Rattle.std.proofs.Common.{◌≡◌, ℕ, zero, suc, [], ◌∷◌, Option, Some, None, refl, sym, ◌∙◌, ap, subst, inl, inr, true, false, Bool}
+use Rattle.std.specs.Prelude.{⊤, Ok, Err, ◌==◌, slice_set, option_and_then, if◌then◌else◌}
 use Rattle.seg_spec.specs.Types.{Form, Table, form_at}
 use Rattle.client_spec.specs.declared.table.Operation.{Operation}
+use Rattle.client_spec.specs.declared.table.Need.{Need}
+use Rattle.client_spec.specs.Operations.{row_of}
 use Rattle.client_spec.specs.Syntax.{Constant}
-use Rattle.client_spec.specs.Answer.{owned_type, constant_operand, vec_or_list_item, list_item, map_value}
 use Rattle.client_spec.specs.Typed.{Class, RegisterType, Checked, Reason, RegisterTypes, Rule, known, is_owner, is_frozen, same_class, sharing, without_class, ended, others_ended}
-use Rattle.client_spec.specs.Typed.{integer_needed, reference_needed, owner_needed, copy_needed, name_needed, text_needed, integer_or_none, required, form_needed}
-use Rattle.client_spec.specs.Typed.{is_i64, is_str, is_map, can_pop, has_length, can_shrink, item_known, field_type}
+use Rattle.client_spec.specs.Typed.{integer_needed, reference_needed, owner_needed, copy_needed, name_needed, integer_or_none, form_needed}
+use Rattle.client_spec.specs.Typed.{item_known}
 use Rattle.client_spec.specs.Bare.{bare_one, bare}
-use Rattle.client_spec.specs.Typed.{known_after, assigned, gives, opens, combines, rule}
+use Rattle.client_spec.specs.Typed.{known_after, assigned, gives, opens, combines}
 use Rattle.client_spec.specs.Typed as typed
 use Rattle.client_spec.proofs.States.{slots}
 use Rattle.client_spec.proofs.Classes.{known_ended}
@@ -104,7 +104,7 @@ pub record Bares (before : RegisterTypes) (r bared : Rule) : Type 0 where
   pub same : (good bad : RegisterTypes) → r ≡ Ok (good, bad) → (bared ≡ Ok (bare good, bare bad)) × FrozenFrom before good × FrozenFrom before bad
 
 module _ (before : RegisterTypes) where
-  binds : {A : Type 0} (c d : Checked A) (f g : A → Rule) → ((x : A) → c ≡ Ok x → (d ≡ Ok x) × Bares before (f x) (g x)) → Bares before (typed.◌>>=◌ c f) (typed.◌>>=◌ d g)
+  pub binds : {A : Type 0} (c d : Checked A) (f g : A → Rule) → ((x : A) → c ≡ Ok x → (d ≡ Ok x) × Bares before (f x) (g x)) → Bares before (typed.◌>>=◌ c f) (typed.◌>>=◌ d g)
   binds c d f g each = record {
     same = λ good bad e.
         let p = bind_ok c f (good, bad) e in
@@ -172,7 +172,7 @@ owner_bare RegisterType.Int t e = cc
 owner_bare (RegisterType.Reference x u) t e = cc
 owner_bare (RegisterType.Owner u) t e = e
 
-copy_bare : (k l : RegisterType) → copy_needed k ≡ Ok l → k ≡ l
+pub copy_bare : (k l : RegisterType) → copy_needed k ≡ Ok l → k ≡ l
 copy_bare RegisterType.Undefined l e = cc
 copy_bare RegisterType.Int l e = Ok_inj e
 copy_bare (RegisterType.Reference x u) l e = Ok_inj e
@@ -188,13 +188,13 @@ class_bare k x t b e =
     by true f g = absurd (let h : RegisterType.Undefined ≡ RegisterType.Reference x.0 x.1 = sym (ap (λ c. if c then RegisterType.Undefined else RegisterType.Reference x.0 x.1) f) ∙ g in cc)
     by false f g = ap (λ c. if c then RegisterType.Undefined else RegisterType.Reference x.0 t) f
 
-item_bare : (x : Class) (form : Form) (k : RegisterType) → ((t : ℕ) → IsBare (RegisterType.Reference x t)) → item_known x form ≡ Some k → IsBare k
+pub item_bare : (x : Class) (form : Form) (k : RegisterType) → ((t : ℕ) → IsBare (RegisterType.Reference x t)) → item_known x form ≡ Some k → IsBare k
 item_bare x Form.str k b e = ap bare_one (sym (Some_inj e)) ∙ Some_inj e
 item_bare x (Form.vec t) k b e = ap bare_one (sym (Some_inj e)) ∙ b t ∙ Some_inj e
 item_bare x (Form.list t) k b e = ap bare_one (sym (Some_inj e)) ∙ b t ∙ Some_inj e
 item_bare x form k b e = cc
 
-some_form : {A : Type 0} (f : Form → Option A) (types : Table) (t : ℕ) (y : A) → form_needed f types t ≡ Ok y → (form : Form) × (f form ≡ Some y)
+pub some_form : {A : Type 0} (f : Form → Option A) (types : Table) (t : ℕ) (y : A) → form_needed f types t ≡ Ok y → (form : Form) × (f form ≡ Some y)
 some_form {A = A} f types t y e = of_entry (form_at types t) e
   where
     of_what : (o : Option A) → typed.some_needed o ≡ Ok y → o ≡ Some y
@@ -211,160 +211,83 @@ name_bare (Some (Constant.Text bytes)) k u e = cc
 name_bare (Some (Constant.Name name)) k u e = e
 name_bare (Some (Constant.Family prefix)) k u e = integer_bare k u e
 
--- if the operation uses register b, b isn't only read
+-- where an operation leads on from what b is known to be, b isn't only read: by what b has to hold
+abbrev pub IsBareFor : Need → RegisterType → Type 0
+IsBareFor Need.Copyable k = IsBare k
+IsBareFor (Need.Reference kinds) k = IsBare k
+IsBareFor (Need.Changeable kinds) k = IsBare k
+IsBareFor need k = ⊤
+
 abbrev pub BareThere : Operation → RegisterType → Type 0
-BareThere Operation.Mov k = IsBare k
-BareThere Operation.OutStr k = IsBare k
-BareThere Operation.Put k = IsBare k
-BareThere Operation.Take k = IsBare k
-BareThere Operation.Content k = IsBare k
-BareThere Operation.Clear k = IsBare k
-BareThere Operation.Load k = IsBare k
-BareThere Operation.Store k = IsBare k
-BareThere Operation.Field k = IsBare k
-BareThere Operation.Len k = IsBare k
-BareThere Operation.At k = IsBare k
-BareThere Operation.PushBack k = IsBare k
-BareThere Operation.PushFront k = IsBare k
-BareThere Operation.PopBack k = IsBare k
-BareThere Operation.PopFront k = IsBare k
-BareThere Operation.SetStr k = IsBare k
-BareThere Operation.AddStr k = IsBare k
-BareThere Operation.AddByte k = IsBare k
-BareThere Operation.Shrink k = IsBare k
-BareThere Operation.GetKey k = IsBare k
-BareThere Operation.PutKey k = IsBare k
-BareThere Operation.DeleteKey k = IsBare k
-BareThere Operation.FirstKey k = IsBare k
-BareThere Operation.NextKey k = IsBare k
-BareThere operation k = ⊤
+BareThere operation k = IsBareFor (row_of operation).needs_b k
 
-module _ (types : Table) (constants : List Constant) (ks : RegisterTypes) (b : ℕ) where
-  itself : FrozenFrom ks ks
-  itself r x t e = e
+pub itself : (ks : RegisterTypes) → FrozenFrom ks ks
+itself ks r x t e = e
 
-  abbrev After : Rule → Rule → Type 0
-  After = Bares ks
+pub others_from : (ks : RegisterTypes) (b : ℕ) → IsBare (known ks b) → (class : Class) → FrozenFrom ks (others_ended class b ks)
+others_from ks b b_is class = from_others class b ks ks b_is (itself ks)
 
-  others_from : IsBare (known ks b) → (class : Class) → FrozenFrom ks (others_ended class b ks)
-  others_from b_is class = from_others class b ks ks b_is itself
+-- where references of a class have ended
+pub ended_from : (ks : RegisterTypes) (class : Class) → FrozenFrom ks (ended class ks)
+ended_from ks class = from_ended class ks ks (itself ks)
 
-  gives_here : (a : ℕ) (k : RegisterType) → IsBare k → After (gives a k ks) (gives a k (bare ks))
-  gives_here a k i = gives_bare ks a k ks i itself
+module _ {ks : RegisterTypes} where
+  pub gives_here : (a : ℕ) (k : RegisterType) → IsBare k → Bares ks (gives a k ks) (gives a k (bare ks))
+  gives_here a k i = gives_bare ks a k ks i (itself ks)
 
-  opens_here : (a : ℕ) (k : RegisterType) → IsBare k → After (opens a k ks) (opens a k (bare ks))
-  opens_here a k i = opens_bare ks a k ks i itself
+  pub opens_here : (a : ℕ) (k : RegisterType) → IsBare k → Bares ks (opens a k ks) (opens a k (bare ks))
+  opens_here a k i = opens_bare ks a k ks i (itself ks)
 
-  -- after the class's other references have ended
-  opens_others : IsBare (known ks b) → (a : ℕ) (k : RegisterType) (class : Class) → IsBare k → After (opens a k (others_ended class b ks)) (opens a k (others_ended class b (bare ks)))
-  opens_others b_is a k class i = subst (λ es. After (opens a k (others_ended class b ks)) (opens a k es)) (bare_others class b ks) (opens_bare ks a k (others_ended class b ks) i (others_from b_is class))
+  -- where the class's other references have ended
+  pub opens_others : (b : ℕ) → IsBare (known ks b) → (a : ℕ) (k : RegisterType) (class : Class) → IsBare k → Bares ks (opens a k (others_ended class b ks)) (opens a k (others_ended class b (bare ks)))
+  opens_others b b_is a k class i = subst (λ es. Bares ks (opens a k (others_ended class b ks)) (opens a k es)) (bare_others class b ks) (opens_bare ks a k (others_ended class b ks) i (others_from ks b b_is class))
 
-  gives_others : IsBare (known ks b) → (a : ℕ) (k : RegisterType) (class : Class) → IsBare k → After (gives a k (others_ended class b ks)) (gives a k (others_ended class b (bare ks)))
-  gives_others b_is a k class i = subst (λ es. After (gives a k (others_ended class b ks)) (gives a k es)) (bare_others class b ks) (gives_bare ks a k (others_ended class b ks) i (others_from b_is class))
+  pub gives_others : (b : ℕ) → IsBare (known ks b) → (a : ℕ) (k : RegisterType) (class : Class) → IsBare k → Bares ks (gives a k (others_ended class b ks)) (gives a k (others_ended class b (bare ks)))
+  gives_others b b_is a k class i = subst (λ es. Bares ks (gives a k (others_ended class b ks)) (gives a k es)) (bare_others class b ks) (gives_bare ks a k (others_ended class b ks) i (others_from ks b b_is class))
 
-  -- the tests of registers
-  needs_integer : (r : ℕ) (f g : Rule) → After f g → After (typed.◌>>=◌ (integer_needed (known ks r)) (λ _. f)) (typed.◌>>=◌ (integer_needed (known (bare ks) r)) (λ _. g))
+  -- what is needed
+  pub needs_integer : (r : ℕ) (f g : Rule) → Bares ks f g → Bares ks (typed.◌>>=◌ (integer_needed (known ks r)) (λ _. f)) (typed.◌>>=◌ (integer_needed (known (bare ks) r)) (λ _. g))
   needs_integer r f g h = binds ks (integer_needed (known ks r)) (integer_needed (known (bare ks) r)) (λ _. f) (λ _. g) (λ u e. (ap integer_needed (known_bare ks r) ∙ integer_bare (known ks r) u e, h))
 
-  needs_reference : IsBare (known ks b) → (f g : Class × ℕ → Rule) → ((x : Class × ℕ) → ((t : ℕ) → IsBare (RegisterType.Reference x.0 t)) → After (f x) (g x))
-      → After (typed.◌>>=◌ (reference_needed (known ks b)) f) (typed.◌>>=◌ (reference_needed (known (bare ks) b)) g)
-  needs_reference b_is f g h = binds ks (reference_needed (known ks b)) (reference_needed (known (bare ks) b)) f g
+  pub needs_reference : (b : ℕ) → IsBare (known ks b) → (f g : Class × ℕ → Rule) → ((x : Class × ℕ) → ((t : ℕ) → IsBare (RegisterType.Reference x.0 t)) → Bares ks (f x) (g x))
+      → Bares ks (typed.◌>>=◌ (reference_needed (known ks b)) f) (typed.◌>>=◌ (reference_needed (known (bare ks) b)) g)
+  needs_reference b b_is f g h = binds ks (reference_needed (known ks b)) (reference_needed (known (bare ks) b)) f g
       (λ x e. (ap reference_needed (known_bare ks b ∙ b_is) ∙ e, h x (λ t. class_bare (known ks b) x t b_is e)))
 
-  same_needed : {A : Type 0} (c : Checked A) (f g : A → Rule) → ((x : A) → c ≡ Ok x → After (f x) (g x)) → After (typed.◌>>=◌ c f) (typed.◌>>=◌ c g)
+  pub same_needed : {A : Type 0} (c : Checked A) (f g : A → Rule) → ((x : A) → c ≡ Ok x → Bares ks (f x) (g x)) → Bares ks (typed.◌>>=◌ c f) (typed.◌>>=◌ c g)
   same_needed c f g h = binds ks c c f g (λ x e. (e, h x e))
 
-  needs_owner : (r : ℕ) (f g : ℕ → Rule) → ((t : ℕ) → After (f t) (g t)) → After (typed.◌>>=◌ (owner_needed (known ks r)) f) (typed.◌>>=◌ (owner_needed (known (bare ks) r)) g)
+  pub needs_owner : (r : ℕ) (f g : ℕ → Rule) → ((t : ℕ) → Bares ks (f t) (g t)) → Bares ks (typed.◌>>=◌ (owner_needed (known ks r)) f) (typed.◌>>=◌ (owner_needed (known (bare ks) r)) g)
   needs_owner r f g h = binds ks (owner_needed (known ks r)) (owner_needed (known (bare ks) r)) f g (λ t e. (ap owner_needed (known_bare ks r) ∙ owner_bare (known ks r) t e, h t))
 
-  needs_name : (o : Option Constant) (f g : Rule) → After f g → After (typed.◌>>=◌ (name_needed o (known ks b)) (λ _. f)) (typed.◌>>=◌ (name_needed o (known (bare ks) b)) (λ _. g))
-  needs_name o f g h = binds ks (name_needed o (known ks b)) (name_needed o (known (bare ks) b)) (λ _. f) (λ _. g) (λ u e. (ap (name_needed o) (known_bare ks b) ∙ name_bare o (known ks b) u e, h))
+  pub needs_name : (b : ℕ) (o : Option Constant) (f g : Rule) → Bares ks f g → Bares ks (typed.◌>>=◌ (name_needed o (known ks b)) (λ _. f)) (typed.◌>>=◌ (name_needed o (known (bare ks) b)) (λ _. g))
+  needs_name b o f g h = binds ks (name_needed o (known ks b)) (name_needed o (known (bare ks) b)) (λ _. f) (λ _. g) (λ u e. (ap (name_needed o) (known_bare ks b) ∙ name_bare o (known ks b) u e, h))
 
-  needs_some : (r : ℕ) (f g : Rule) → After f g → After (typed.◌>>=◌ (integer_or_none r ks) (λ _. f)) (typed.◌>>=◌ (integer_or_none r (bare ks)) (λ _. g))
+  pub needs_some : (r : ℕ) (f g : Rule) → Bares ks f g → Bares ks (typed.◌>>=◌ (integer_or_none r ks) (λ _. f)) (typed.◌>>=◌ (integer_or_none r (bare ks)) (λ _. g))
   needs_some r f g h = binds ks (integer_or_none r ks) (integer_or_none r (bare ks)) (λ _. f) (λ _. g) (λ u e. (by (r == 16) u e, h))
     where
       by : (c : Bool) (u : ⊤) → (if c then Ok tt else integer_needed (known ks r)) ≡ Ok u → (if c then Ok tt else integer_needed (known (bare ks) r)) ≡ Ok u
       by true u e = e
       by false u e = ap integer_needed (known_bare ks r) ∙ integer_bare (known ks r) u e
 
-  needs_form : {A : Type 0} → IsBare (known ks b) → (k : Form → Option A) (f g : Class × ℕ → A → Rule) → ((x : Class × ℕ) → ((t : ℕ) → IsBare (RegisterType.Reference x.0 t)) → (y : A) → After (f x y) (g x y))
-      → After (typed.◌>>=◌ (reference_needed (known ks b)) (λ x. typed.◌>>=◌ (form_needed k types x.1) (f x))) (typed.◌>>=◌ (reference_needed (known (bare ks) b)) (λ x. typed.◌>>=◌ (form_needed k types x.1) (g x)))
-  needs_form b_is k f g h = needs_reference b_is (λ x. typed.◌>>=◌ (form_needed k types x.1) (f x)) (λ x. typed.◌>>=◌ (form_needed k types x.1) (g x)) (λ x i. same_needed (form_needed k types x.1) (f x) (g x) (λ y _. h x i y))
+  pub needs_form : {A : Type 0} (types : Table) (b : ℕ) → IsBare (known ks b) → (k : Form → Option A) (f g : Class × ℕ → A → Rule) → ((x : Class × ℕ) → ((t : ℕ) → IsBare (RegisterType.Reference x.0 t)) → (y : A) → Bares ks (f x y) (g x y))
+      → Bares ks (typed.◌>>=◌ (reference_needed (known ks b)) (λ x. typed.◌>>=◌ (form_needed k types x.1) (f x))) (typed.◌>>=◌ (reference_needed (known (bare ks) b)) (λ x. typed.◌>>=◌ (form_needed k types x.1) (g x)))
+  needs_form types b b_is k f g h = needs_reference b b_is (λ x. typed.◌>>=◌ (form_needed k types x.1) (f x)) (λ x. typed.◌>>=◌ (form_needed k types x.1) (g x)) (λ x i. same_needed (form_needed k types x.1) (f x) (g x) (λ y _. h x i y))
 
-  combines_here : (a c : ℕ) → After (combines a b c ks) (combines a b c (bare ks))
-  combines_here a c = needs_integer b _ _ (needs_integer c _ _ (gives_here a RegisterType.Int refl))
+  pub combines_here : (b a c : ℕ) → Bares ks (combines a b c ks) (combines a b c (bare ks))
+  combines_here b a c = needs_integer b _ _ (needs_integer c _ _ (gives_here a RegisterType.Int refl))
 
-  known_here : After (known_after ks) (known_after (bare ks))
-  known_here = after_bares ks ks itself
+  pub known_here : Bares ks (known_after ks) (known_after (bare ks))
+  known_here = after_bares ks ks (itself ks)
 
-  -- after the references of a class have ended
-  ended_from : (class : Class) → FrozenFrom ks (ended class ks)
-  ended_from class = from_ended class ks ks itself
+  pub gives_ended : (a : ℕ) (class : Class) → Bares ks (gives a RegisterType.Int (ended class ks)) (gives a RegisterType.Int (ended class (bare ks)))
+  gives_ended a class = subst (λ es. Bares ks (gives a RegisterType.Int (ended class ks)) (gives a RegisterType.Int es)) (bare_ended class ks) (gives_bare ks a RegisterType.Int (ended class ks) refl (ended_from ks class))
 
-  gives_ended : (a : ℕ) (class : Class) → After (gives a RegisterType.Int (ended class ks)) (gives a RegisterType.Int (ended class (bare ks)))
-  gives_ended a class = subst (λ es. After (gives a RegisterType.Int (ended class ks)) (gives a RegisterType.Int es)) (bare_ended class ks) (gives_bare ks a RegisterType.Int (ended class ks) refl (ended_from class))
+  pub known_others : (b : ℕ) → IsBare (known ks b) → (class : Class) → Bares ks (known_after (others_ended class b ks)) (known_after (others_ended class b (bare ks)))
+  known_others b b_is class = subst (λ es. Bares ks (known_after (others_ended class b ks)) (known_after es)) (bare_others class b ks) (after_bares ks (others_ended class b ks) (others_from ks b b_is class))
 
-  known_others : IsBare (known ks b) → (class : Class) → After (known_after (others_ended class b ks)) (known_after (others_ended class b (bare ks)))
-  known_others b_is class = subst (λ es. After (known_after (others_ended class b ks)) (known_after es)) (bare_others class b ks) (after_bares ks (others_ended class b ks) (others_from b_is class))
-
-  emptied : (class : Class) (r : ℕ) (es : RegisterTypes) → FrozenFrom ks es
-      → After (known_after (slice_set (ended class es) r RegisterType.Undefined)) (known_after (slice_set (ended class (bare es)) r RegisterType.Undefined))
+  pub emptied : (class : Class) (r : ℕ) (es : RegisterTypes) → FrozenFrom ks es
+      → Bares ks (known_after (slice_set (ended class es) r RegisterType.Undefined)) (known_after (slice_set (ended class (bare es)) r RegisterType.Undefined))
   emptied class r es f =
-      subst (λ xs. After (known_after (slice_set (ended class es) r RegisterType.Undefined)) (known_after xs)) (bare_set (ended class es) r RegisterType.Undefined ∙ ap (λ xs. slice_set xs r RegisterType.Undefined) (bare_ended class es))
+      subst (λ xs. Bares ks (known_after (slice_set (ended class es) r RegisterType.Undefined)) (known_after xs)) (bare_set (ended class es) r RegisterType.Undefined ∙ ap (λ xs. slice_set xs r RegisterType.Undefined) (bare_ended class es))
       (after_bares ks (slice_set (ended class es) r RegisterType.Undefined) (from_set r RegisterType.Undefined ks (ended class es) refl (from_ended class ks es f)))
-
-  pub bare_rule : (op : Operation) (a c : ℕ) (number : ℤ) → BareThere op (known ks b) → After (rule types constants op a b c number ks) (rule types constants op a b c number (bare ks))
-  unfolding rule
-  bare_rule Operation.Const a c number b_is = gives_here a RegisterType.Int refl
-  bare_rule Operation.Mov a c number b_is =
-      binds ks (copy_needed (known ks b)) (copy_needed (known (bare ks) b)) _ _ (λ k e. (ap copy_needed (known_bare ks b ∙ b_is) ∙ e, gives_here a k (subst IsBare (copy_bare (known ks b) k e) b_is)))
-  bare_rule Operation.Add a c number b_is = combines_here a c
-  bare_rule Operation.Sub a c number b_is = combines_here a c
-  bare_rule Operation.Mul a c number b_is = combines_here a c
-  bare_rule Operation.Less a c number b_is = combines_here a c
-  bare_rule Operation.Equal a c number b_is = combines_here a c
-  bare_rule Operation.If a c number b_is = needs_integer b _ _ known_here
-  bare_rule Operation.OutInt a c number b_is = needs_integer b _ _ known_here
-  bare_rule Operation.OutStr a c number b_is = needs_form b_is is_str _ _ (λ x i y. known_here)
-  bare_rule Operation.OutConst a c number b_is = same_needed (text_needed (slice_get constants (nat_abs number))) _ _ (λ _ _. known_here)
-  bare_rule Operation.GetByte a c number b_is = opens_here a RegisterType.Int refl
-  bare_rule Operation.Make a c number b_is = needs_name _ _ _ (needs_some c _ _ (opens_here a _ refl))
-  bare_rule Operation.Find a c number b_is = needs_name _ _ _ (needs_some c _ _ (opens_here a _ refl))
-  bare_rule Operation.FindOrMake a c number b_is = needs_name _ _ _ (opens_here a _ refl)
-  bare_rule Operation.Count a c number b_is = needs_name _ _ _ (opens_here a RegisterType.Int refl)
-  bare_rule Operation.Kill a c number b_is = needs_name _ _ _ (gives_ended a (Class.Name (constant_operand number)))
-  bare_rule Operation.MakeUnique a c number b_is = opens_here a _ refl
-  bare_rule Operation.FindUnique a c number b_is = opens_here a _ refl
-  bare_rule Operation.FindOrMakeUnique a c number b_is = opens_here a _ refl
-  bare_rule Operation.KillUnique a c number b_is = gives_ended a (Class.Unique (nat_abs number))
-  bare_rule Operation.New a c number b_is = opens_here a _ refl
-  bare_rule Operation.Drop a c number b_is = needs_owner b _ _ (λ _. emptied (Class.Register b) b ks itself)
-  bare_rule Operation.Ref a c number b_is = needs_owner b _ _ (λ t. gives_here a (RegisterType.Reference (Class.Register b) t) refl)
-  bare_rule Operation.Put a c number b_is = needs_form b_is owned_type _ _ (λ x i t. needs_owner c _ _ (λ u. same_needed (required (t == u) Reason.WrongOperand) _ _
-      (λ _ _. same_needed (required (not (same_class (sharing x.0) (Class.Register c))) Reason.PutIntoItself) _ _
-      (λ _ _. subst (λ es. After (known_after (slice_set (ended (Class.Register c) (others_ended x.0 b ks)) c RegisterType.Undefined)) (known_after (slice_set (ended (Class.Register c) es) c RegisterType.Undefined)))
-      (bare_others x.0 b ks) (emptied (Class.Register c) c (others_ended x.0 b ks) (others_from b_is x.0))))))
-  bare_rule Operation.Take a c number b_is = needs_form b_is owned_type _ _ (λ x i t. opens_others b_is a (RegisterType.Owner t) x.0 refl)
-  bare_rule Operation.Content a c number b_is = needs_form b_is owned_type _ _ (λ x i t. opens_here a (RegisterType.Reference x.0 t) (i t))
-  bare_rule Operation.Clear a c number b_is = needs_reference b_is _ _ (λ x i. known_others b_is x.0)
-  bare_rule Operation.Forget a c number b_is = gives_here b RegisterType.Undefined refl
-  bare_rule Operation.Load a c number b_is = needs_form b_is is_i64 _ _ (λ x i y. gives_here a RegisterType.Int refl)
-  bare_rule Operation.Store a c number b_is = needs_form b_is is_i64 _ _ (λ x i y. needs_integer c _ _ known_here)
-  bare_rule Operation.Field a c number b_is = needs_form b_is (field_type number) _ _ (λ x i t. gives_here a (RegisterType.Reference x.0 t) (i t))
-  bare_rule Operation.Len a c number b_is = needs_form b_is has_length _ _ (λ x i y. gives_here a RegisterType.Int refl)
-  bare_rule Operation.At a c number b_is = needs_reference b_is _ _ (λ x i. same_needed (form_needed (item_known x.0) types x.1) _ _
-      (λ k e. needs_integer c _ _ (opens_here a k (let f = some_form (item_known x.0) types x.1 k e in item_bare x.0 f.0 k i f.1))))
-  bare_rule Operation.PushBack a c number b_is = needs_form b_is vec_or_list_item _ _ (λ x i t. opens_others b_is a (RegisterType.Reference x.0 t) x.0 (i t))
-  bare_rule Operation.PushFront a c number b_is = needs_form b_is list_item _ _ (λ x i t. opens_others b_is a (RegisterType.Reference x.0 t) x.0 (i t))
-  bare_rule Operation.PopBack a c number b_is = needs_form b_is can_pop _ _ (λ x i y. opens_others b_is a RegisterType.Int x.0 refl)
-  bare_rule Operation.PopFront a c number b_is = needs_form b_is list_item _ _ (λ x i y. opens_others b_is a RegisterType.Int x.0 refl)
-  bare_rule Operation.SetStr a c number b_is = needs_form b_is is_str _ _ (λ x i y. same_needed (text_needed (slice_get constants (nat_abs number))) _ _ (λ _ _. opens_here a RegisterType.Int refl))
-  bare_rule Operation.AddStr a c number b_is = needs_form b_is is_str _ _ (λ x i y. same_needed (text_needed (slice_get constants (nat_abs number))) _ _ (λ _ _. opens_here a RegisterType.Int refl))
-  bare_rule Operation.AddByte a c number b_is = needs_form b_is is_str _ _ (λ x i y. needs_integer c _ _ (opens_here a RegisterType.Int refl))
-  bare_rule Operation.Shrink a c number b_is = needs_form b_is can_shrink _ _ (λ x i y. known_here)
-  bare_rule Operation.GetKey a c number b_is = needs_form b_is map_value _ _ (λ x i t. needs_integer c _ _ (opens_here a (RegisterType.Reference x.0 t) (i t)))
-  bare_rule Operation.PutKey a c number b_is = needs_form b_is map_value _ _ (λ x i t. needs_integer c _ _ (opens_others b_is a (RegisterType.Reference x.0 t) x.0 (i t)))
-  bare_rule Operation.DeleteKey a c number b_is = needs_form b_is is_map _ _ (λ x i y. needs_integer c _ _ (gives_others b_is a RegisterType.Int x.0 refl))
-  bare_rule Operation.FirstKey a c number b_is = needs_form b_is is_map _ _ (λ x i y. opens_here a RegisterType.Int refl)
-  bare_rule Operation.NextKey a c number b_is = needs_form b_is is_map _ _ (λ x i y. needs_integer c _ _ (opens_here a RegisterType.Int refl))
-  bare_rule op a c number b_is = record { same = λ good bad e. absurd (let f : Err Reason.WrongOperand ≡ Ok (good, bad) = e in cc) }

@@ -1,26 +1,26 @@
--- Shared cells: a row that ends no reference of their class leaves them unchanged, so references
--- through them stay valid.
-use Rattle.std.proofs.Common.{◌≡◌, ℕ, ℤ, pos, List, [], ◌∷◌, ◌++◌, length, Bool, true, false, Option, Some, None, refl, sym, ◌∙◌, ap, subst, inl, inr}
-use Rattle.std.specs.Prelude.{⊤, ◌⊎◌, Ok, Err, not, slice_get, slice_set, slice_index, nat_abs, is_some, option_and_then, ◌==◌, if◌then◌else◌}
+-- Cells that share: a row leaves them as long as it ends no reference of their class, so what is only read through them stays known.
+use Rattle.std.proofs.Common.{◌≡◌, ℕ, ℤ, List, [], ◌∷◌, ◌++◌, length, Bool, true, false, Option, Some, None, refl, sym, ◌∙◌, ap, subst, inl, inr}
+use Rattle.std.specs.Prelude.{⊤, ◌⊎◌, Ok, slice_get, slice_index, nat_abs, is_some, option_and_then, ◌==◌, if◌then◌else◌}
 use Rattle.std.specs.Option.{option_map_or}
 use Rattle.std.specs.Fmt.{signed_decimal}
-use Rattle.seg_spec.specs.Value.{Label, Value, node, Int, Text, Full, Values, nil, cons, count, Selector, selected}
+use Rattle.seg_spec.specs.Value.{Label, Value, node, Int, Text, Values, nil, cons, count, Selector, selected}
 use Rattle.seg_spec.specs.Value as values
 use Rattle.seg_spec.specs.Types.{Form, Table}
-use Rattle.seg_spec.specs.Items.{key_place}
 use Rattle.client_spec.specs.declared.table.Operation.{Operation}
+use Rattle.client_spec.specs.declared.table.Ends.{Ends}
+use Rattle.client_spec.specs.Operations.{row_of}
 use Rattle.client_spec.specs.Syntax.{Constant}
-use Rattle.client_spec.specs.Machine.{◌>>=◌, Origin, Path, extend, Register, Object, State, with_name, with_unique, register, set_register, owned_by, at_origin, path_value, path_type, put_origin, put_at}
-use Rattle.client_spec.specs.Answer.{Answer, success, out_of_range, other_type, path_from, Outcome, answer, copied, integer_at, path_of}
-use Rattle.client_spec.specs.Answer.{path_in, give, fail, refer, give_count, index_below, object_count, byte_of, type_operand, constant_operand}
-use Rattle.client_spec.specs.Answer.{integer_in, integer_or, constant_name, constant_text, write_out, number_in, bytes_in, items_in, entries_in, content_in}
-use Rattle.client_spec.specs.Answer.{fields_in, length_in, vec_or_list_item, list_item, map_value, owned_type, path_form, provided, with_room}
-use Rattle.client_spec.specs.Effect.{effect, combine, next_byte, add_object, item_of_object, find_or_add, count_of_object, destroy_object, add_unique}
+use Rattle.client_spec.specs.Machine.{◌>>=◌, Origin, Path, extend, Register, Object, State, with_name, with_unique, register, set_register, owned_by, at_origin, path_value, put_origin, put_at}
+use Rattle.client_spec.specs.Answer.{Answer, success, out_of_range, other_type, path_from, Outcome, answer, integer_at, path_of}
+use Rattle.client_spec.specs.Answer.{path_in, give, fail, refer, give_count, index_below, constant_operand}
+use Rattle.client_spec.specs.Answer.{integer_in, constant_name, write_out, number_in, bytes_in, items_in}
+use Rattle.client_spec.specs.Answer.{provided, with_room}
+use Rattle.client_spec.specs.Effect.{combine, next_byte, add_object, item_of_object, find_or_add, count_of_object, destroy_object, add_unique}
 use Rattle.client_spec.specs.Effect.{item_of_value, pop_bytes, pop_last, pop_first, set_text, first_key, take_content, see_content}
-use Rattle.client_spec.specs.Typed.{Class, RegisterType, RegisterTypes, Rule, known, same_class, sharing, ended, others_ended, reference_needed, integer_needed}
-use Rattle.client_spec.specs.Typed.{owner_needed, name_needed, required, form_needed, is_map, can_pop, known_after, gives, opens, rule}
+use Rattle.client_spec.specs.Typed.{Class, RegisterType, RegisterTypes, Rule, known, same_class, sharing, ended, others_ended, reference_needed}
+use Rattle.client_spec.specs.Typed.{form_needed, known_after, gives, opens, rule}
 use Rattle.client_spec.specs.Bare.{bare}
-use Rattle.client_spec.proofs.Bare.{known_bare, IsBare, BareThere, class_bare, FrozenFrom, from_set, from_ended, gives_bare, opens_bare, after_bares}
+use Rattle.client_spec.proofs.Bare.{known_bare, IsBare, FrozenFrom, from_set, gives_bare, opens_bare, after_bares}
 use Rattle.client_spec.specs.Typed as typed
 use Rattle.client_spec.specs.Meaning.{IsNamedBy, InClass, Meets, IsAsKnown}
 use Rattle.client_spec.proofs.Values.{Some_inj, bind_some, then_some, part_after}
@@ -64,7 +64,7 @@ module _ (constants : List Constant) (one : OneEach constants) (class : Class) w
   abbrev Kept : State → State → Type 0
   Kept = CellsKept constants class
 
-  still : (s : State) → Kept s s
+  pub still : (s : State) → Kept s s
   still s = record { types = refl; cells = λ q U p w e. e }
 
   pub onward : (s t u : State) → Kept s t → Kept t u → Kept s u
@@ -78,8 +78,8 @@ module _ (constants : List Constant) (one : OneEach constants) (class : Class) w
         ap (λ (o : Option (Value × ℕ)). o >>= λ found. values.value_at found.0 q.selectors) (f q.origin a.0 w a.1) ∙ a.2;
   }
 
-  -- a register that owns nothing gets a value
-  by_register : (s : State) (a : ℕ) (x : Register) → owned_by (register s a) ≡ None → Kept s (set_register s a x)
+  -- a register that owns nothing gets something
+  pub by_register : (s : State) (a : ℕ) (x : Register) → owned_by (register s a) ≡ None → Kept s (set_register s a x)
   by_register s a x free = by_origins s (set_register s a x) refl (λ o y w e. kept o y e)
     where
       kept : (o : Origin) (y : Value × ℕ) → at_origin s o ≡ Some y → at_origin (set_register s a x) o ≡ Some y
@@ -179,7 +179,7 @@ module _ (constants : List Constant) (one : OneEach constants) (class : Class) w
         | inr p ↦ ap (λ (x : Option Value). x >>= λ z. Some (z, u)) p ∙ e
       ]
 
-  by_unique_gone : (s : State) (t : ℕ) → same_class (Class.Unique t) (sharing class) ≡ false → Kept s (record s { uniques = with_unique s.uniques t None })
+  pub by_unique_gone : (s : State) (t : ℕ) → same_class (Class.Unique t) (sharing class) ≡ false → Kept s (record s { uniques = with_unique s.uniques t None })
   by_unique_gone s t far = by_origins s (record s { uniques = with_unique s.uniques t None }) refl kept
     where
       kept : (r : Origin) (y : Value × ℕ) → InClass constants class r → at_origin s r ≡ Some y → at_origin (record s { uniques = with_unique s.uniques t None }) r ≡ Some y
@@ -195,139 +195,7 @@ module _ (constants : List Constant) (one : OneEach constants) (class : Class) w
   pub record Keeps (s : State) (o : Outcome) : Type 0 where
     pub each : (code : Answer) (s' : State) → o ≡ Some (code, s') → Kept s s'
 
-  none : (s : State) → Keeps s None
-  none s = record { each = λ code s' e. absurd (let f : None ≡ Some (code, s') = e in cc) }
-
-  some : (s : State) (code : Answer) (s' : State) → Kept s s' → Keeps s (Some (code, s'))
-  some s code s' h = record { each = λ code' t e. subst (Kept s) (ap (λ (p : Answer × State). p.1) (Some_inj e)) h }
-
-  bound : {A : Type 0} (s : State) (o : Option A) (f : A → Outcome) → ((x : A) → o ≡ Some x → Keeps s (f x)) → Keeps s (o >>= f)
-  bound s None f h = none s
-  bound s (Some x) f h = h x refl
-
-  either : {A : Type 0} (s : State) (f : A → Outcome) (o : Option A) (d : Outcome) → ((x : A) → o ≡ Some x → Keeps s (f x)) → (o ≡ None → Keeps s d) → Keeps s (option_map_or f o d)
-  either s f None d h g = g refl
-  either s f (Some x) d h g = h x refl
-
-  tested : (s : State) (b : Bool) (x y : Outcome) → Keeps s x → Keeps s y → Keeps s (if b then x else y)
-  tested s true x y f g = f
-  tested s false x y f g = g
-
-  shown : (s : State) (b : Bool) (o : Outcome) → Keeps s o → Keeps s (provided b o)
-  shown s true o f = f
-  shown s false o f = none s
-
-  -- register a, which owns nothing, gets a value
-  answered : (s t : State) (code : Answer) (a : ℕ) (x : Register) → Kept s t → Keeps s (answer code a x t)
-  answered s t code a x h =
-      either s (λ _. None) (owned_by (register t a)) (Some (code, set_register t a x)) (λ _ _. none s) (λ free. some s code _ (onward s t (set_register t a x) h (by_register t a x free)))
-
-  given : (s : State) (code : Answer) (a : ℕ) (x : Register) → Keeps s (answer code a x s)
-  given s code a x = answered s s code a x (still s)
-
-  roomy : (s : State) (b : Bool) (a : ℕ) (o : Outcome) → Keeps s o → Keeps s (with_room b a s o)
-  roomy s true a o f = f
-  roomy s false a o f = given s _ a _
-
-  -- ---- parts of rows
-
-  combines : (s : State) (f : ℤ → ℤ → ℤ) (a b c : ℕ) → Keeps s (combine f a b c s)
-  combines s f a b c =
-      bound s (integer_at s b) (λ x. integer_at s c >>= λ y. give a (Register.Int (f x y)) s) (λ x _. bound s (integer_at s c) (λ y. give a (Register.Int (f x y)) s) (λ y _. given s success a (Register.Int (f x y))))
-
-  next : (s : State) (a : ℕ) (input : List ℕ) → Keeps s (next_byte a input s)
-  next s a [] = given s _ a _
-  next s a (byte ∷ rest) = answered s (record s { input = rest }) success a _ (by_origins s (record s { input = rest }) refl (λ o x w e. same_there o x e))
-    where
-      same_there : (o : Origin) (x : Value × ℕ) → at_origin s o ≡ Some x → at_origin (record s { input = rest }) o ≡ Some x
-      same_there (Origin.Name n i) x e = e
-      same_there (Origin.Unique t) x e = e
-      same_there (Origin.Owned r) x e = e
-
-  writes : (s : State) (bytes : List ℕ) → Keeps s (write_out bytes s)
-  writes s bytes = some s success _ (by_origins s (record s { output = s.output ++ bytes }) refl (λ o x w e. same_there o x e))
-    where
-      same_there : (o : Origin) (x : Value × ℕ) → at_origin s o ≡ Some x → at_origin (record s { output = s.output ++ bytes }) o ≡ Some x
-      same_there (Origin.Name n i) x e = e
-      same_there (Origin.Unique t) x e = e
-      same_there (Origin.Owned r) x e = e
-
-  adds : (s : State) (a : ℕ) (name : List ℕ) (t : ℕ) (o : Option Object) (n : ℕ) (room : Bool) → s.names name ≡ o → Keeps s (add_object a name t o n room s)
-  adds s a name t (Some o) n room e = given s _ a _
-  adds s a name t None n room e = roomy s room a _ (answered s _ success a _ (by_new_name s name _ e))
-
-  item : (s : State) (a : ℕ) (name : List ℕ) (t : ℕ) (x : ℤ) (o : Option Object) → Keeps s (item_of_object a name t x o s)
-  item s a name t x None = given s _ a _
-  item s a name t x (Some o) =
-      tested s (o.type == t) (option_map_or (λ i. refer a (path_from (Origin.Name name i)) s) (index_below (count o.values) x) (fail a out_of_range s)) (fail a other_type s)
-      (either s (λ i. refer a (path_from (Origin.Name name i)) s) (index_below (count o.values) x) (fail a out_of_range s) (λ i _. given s success a _) (λ _. given s _ a _)) (given s _ a _)
-
-  finds : (s : State) (a : ℕ) (name : List ℕ) (t : ℕ) (o : Option Object) (room : Bool) → s.names name ≡ o → Keeps s (find_or_add a name t o room s)
-  finds s a name t None room e = adds s a name t None 1 room e
-  finds s a name t (Some o) room e = tested s _ _ _ (given s success a _) (given s _ a _)
-
-  counts : (s : State) (a t : ℕ) (o : Option Object) → Keeps s (count_of_object a t o s)
-  counts s a t None = given s _ a _
-  counts s a t (Some o) = tested s _ _ _ (given s success a _) (given s _ a _)
-
-  destroys : (s : State) (a : ℕ) (name : List ℕ) (t k : ℕ) (o : Option Object) → IsNamedBy (slice_get constants k) name → same_class (Class.Name k) (sharing class) ≡ false → Keeps s (destroy_object a name t o s)
-  destroys s a name t k None by far = given s success a _
-  destroys s a name t k (Some o) by far = tested s _ _ _ (answered s _ success a _ (by_name_gone s name k by far)) (given s success a _)
-
-  unique : (s : State) (a t : ℕ) (room : Bool) → s.uniques t ≡ None → Keeps s (add_unique a t room s)
-  unique s a t room e = roomy s room a _ (answered s _ success a _ (by_new_unique s t _ e))
-
-  by_unique : (s : State) (t : ℕ) (x y : Outcome) → Keeps s x → (s.uniques t ≡ None → Keeps s y) → Keeps s (if is_some (s.uniques t) then x else y)
-  by_unique s t x y f g = choose (s.uniques t) refl
-    where
-      choose : (o : Option Value) → s.uniques t ≡ o → Keeps s (if is_some o then x else y)
-      choose None e = g e
-      choose (Some v) e = f
-
-  value_item : (s : State) (a : ℕ) (p : Path) (x : ℤ) (v : Value) → Keeps s (item_of_value a p x v s)
-  value_item s a p x v =
-      let byte = λ (bytes : List ℕ). option_map_or (λ i. give_count a (slice_index bytes i) s) (index_below (length bytes) x) (fail a out_of_range s) in
-      let item_of = λ (vs : Values). option_map_or (λ i. refer a (extend p (Selector.item i)) s) (index_below (count vs) x) (fail a out_of_range s) in
-      either s byte (bytes_in v) (items_in v >>= item_of)
-      (λ bytes _. either s (λ i. give_count a (slice_index bytes i) s) (index_below (length bytes) x) (fail a out_of_range s) (λ i _. given s success a _) (λ _. given s _ a _))
-      (λ _. bound s (items_in v) item_of (λ vs _. either s (λ i. refer a (extend p (Selector.item i)) s) (index_below (count vs) x) (fail a out_of_range s) (λ i _. given s success a _) (λ _. given s _ a _)))
-
-  key : (s : State) (a : ℕ) (keys : List ℤ) → Keeps s (first_key a keys s)
-  key s a [] = given s _ a _
-  key s a (k ∷ ks) = given s success a _
-
-  sees : (s : State) (a : ℕ) (p : Path) (o : Option Value) → Keeps s (see_content a p o s)
-  sees s a p None = given s _ a _
-  sees s a p (Some v) = given s success a _
-
-  -- the place of a put is in another class
-  module _ (s : State) (p : Path) (old : Value) (there : path_value s p ≡ Some old) (d : Class) (within : InClass constants d p.origin) (far : same_class (sharing d) (sharing class) ≡ false) where
-    put : (new : Value) → Kept s (put_at s p new)
-    put new = by_put s p old new d there within far
-
-    given_put : (a : ℕ) (x : Register) (new : Value) → Keeps s (answer success a x (put_at s p new))
-    given_put a x new = answered s (put_at s p new) success a x (put new)
-
-    put_some : (new : Value) → Keeps s (Some (success, put_at s p new))
-    put_some new = some s success _ (put new)
-
-    bytes_pop : (a : ℕ) (bytes : List ℕ) → Keeps s (pop_bytes a p bytes s)
-    bytes_pop a [] = given s _ a _
-    bytes_pop a (x ∷ xs) = given_put a _ _
-
-    last_pop : (a : ℕ) (vs : Values) → Keeps s (pop_last a p vs s)
-    last_pop a nil = given s _ a _
-    last_pop a (cons v vs) = given_put a _ _
-
-    first_pop : (a : ℕ) (vs : Values) → Keeps s (pop_first a p vs s)
-    first_pop a nil = given s _ a _
-    first_pop a (cons v vs) = given_put a _ _
-
-    takes : (a t : ℕ) (o : Option Value) → Keeps s (take_content a p t o s)
-    takes a t None = given s _ a _
-    takes a t (Some v) = given_put a _ _
-
-  -- a number or a text replaces one
+  -- a number or a text is put where one was
   number_of : (v : Value) (k : ℤ) → number_in v ≡ Some k → v ≡ Int k
   number_of (node (Label.int l) nil) k e = ap Int (Some_inj e)
   number_of v k e = cc
@@ -336,60 +204,44 @@ module _ (constants : List Constant) (one : OneEach constants) (class : Class) w
   text_of (node (Label.text xs) nil) bytes e = ap Text (Some_inj e)
   text_of v bytes e = cc
 
-  put_number : (s : State) (p : Path) (k : ℤ) (new : Value) → (path_value s p >>= number_in) ≡ Some k → Kept s (put_at s p new)
+  pub put_number : (s : State) (p : Path) (k : ℤ) (new : Value) → (path_value s p >>= number_in) ≡ Some k → Kept s (put_at s p new)
   put_number s p k new e =
       let v = bind_some (path_value s p) number_in k e in
       let is = number_of v.0 k v.2 in
       by_leaf s p (Int k) new (v.1 ∙ ap Some is) (number_leaf k) (λ V q f. cc)
 
-  put_text : (s : State) (p : Path) (bytes : List ℕ) (new : Value) → (path_value s p >>= bytes_in) ≡ Some bytes → Kept s (put_at s p new)
+  pub put_text : (s : State) (p : Path) (bytes : List ℕ) (new : Value) → (path_value s p >>= bytes_in) ≡ Some bytes → Kept s (put_at s p new)
   put_text s p bytes new e =
       let v = bind_some (path_value s p) bytes_in bytes e in
       let is = text_of v.0 bytes v.2 in
       by_leaf s p (Text bytes) new (v.1 ∙ ap Some is) (text_leaf bytes) (λ V q f. cc)
 
-  text : (s : State) (a : ℕ) (p : Path) (old bytes : List ℕ) (room : Bool) → (path_value s p >>= bytes_in) ≡ Some old → Keeps s (set_text a p bytes room s)
-  text s a p old bytes room e = roomy s room a _ (answered s _ success a _ (put_text s p old (Text bytes) e))
-
-  -- the name that a constant spells
-  spelled : (o : Option Constant) (x : Register) (name : List ℕ) → (o >>= λ k. constant_name k x) ≡ Some name → IsNamedBy o name
-  spelled None x name e = cc
-  spelled (Some (Constant.Text bytes)) x name e = cc
-  spelled (Some (Constant.Name n)) x name e = sym (Some_inj e)
-  spelled (Some (Constant.Family prefix)) x name e =
-      let k = bind_some (integer_in x) (λ k. Some (prefix ++ 35 ∷ signed_decimal k)) name e in
-      (k.0, sym (Some_inj k.2))
-
-  -- ---- rows, from their rules
+  -- ---- rows, by what their rules say
 
   module _ (types : Table) (ks : RegisterTypes) (s : State) (h : IsAsKnown types constants ks s) (b : ℕ) where
     -- register b has another class
     abbrev IsFar : Type 0
     IsFar = (x : Class) (t : ℕ) → known ks b ≡ RegisterType.Reference x t → same_class (sharing x) (sharing class) ≡ false
 
-    -- the references that a row ends are of other classes
+    -- the references that end are of other classes
+    abbrev AreSpared : Ends → ℕ → ℤ → Type 0
+    AreSpared Ends.Name c number = same_class (Class.Name (constant_operand number)) (sharing class) ≡ false
+    AreSpared Ends.Unique c number = same_class (Class.Unique (nat_abs number)) (sharing class) ≡ false
+    AreSpared Ends.Dropped c number = same_class (Class.Register b) (sharing class) ≡ false
+    AreSpared Ends.Others c number = IsFar
+    AreSpared Ends.Moved c number = IsFar × (same_class (Class.Register c) (sharing class) ≡ false)
+    AreSpared ends c number = ⊤
+
     abbrev pub Spared : Operation → ℕ → ℤ → Type 0
-    Spared Operation.Kill c number = same_class (Class.Name (constant_operand number)) (sharing class) ≡ false
-    Spared Operation.KillUnique c number = same_class (Class.Unique (nat_abs number)) (sharing class) ≡ false
-    Spared Operation.Drop c number = same_class (Class.Register b) (sharing class) ≡ false
-    Spared Operation.Put c number = IsFar × (same_class (Class.Register c) (sharing class) ≡ false)
-    Spared Operation.Take c number = IsFar
-    Spared Operation.Clear c number = IsFar
-    Spared Operation.PushBack c number = IsFar
-    Spared Operation.PushFront c number = IsFar
-    Spared Operation.PopBack c number = IsFar
-    Spared Operation.PopFront c number = IsFar
-    Spared Operation.PutKey c number = IsFar
-    Spared Operation.DeleteKey c number = IsFar
-    Spared operation c number = ⊤
+    Spared operation = AreSpared (row_of operation).ends
 
-    -- what a rule needs of register b
-    record Far (p : Path) : Type 0 where
-      its : Class
-      within : InClass constants its p.origin
-      far : same_class (sharing its) (sharing class) ≡ false
+    -- what a rule needs of b
+    pub record Far (p : Path) : Type 0 where
+      pub its : Class
+      pub within : InClass constants its p.origin
+      pub far : same_class (sharing its) (sharing class) ≡ false
 
-    far_at : (f : Class × ℕ → Rule) (good bad : RegisterTypes) → typed.◌>>=◌ (reference_needed (known ks b)) f ≡ Ok (good, bad) → IsFar → (p : Path) → path_of s b ≡ Some p → Far p
+    pub far_at : (f : Class × ℕ → Rule) (good bad : RegisterTypes) → typed.◌>>=◌ (reference_needed (known ks b)) f ≡ Ok (good, bad) → IsFar → (p : Path) → path_of s b ≡ Some p → Far p
     far_at f good bad e far p at =
         let x = bind_ok (reference_needed (known ks b)) f (good, bad) e in
         let is = reference_is (known ks b) x.0 x.1 in
@@ -397,82 +249,156 @@ module _ (constants : List Constant) (one : OneEach constants) (class : Class) w
         let path : m.path ≡ p = Some_inj (sym (ap path_in m.is) ∙ at) in
         record { its = x.0.0; within = subst (λ (z : Path). InClass constants x.0.0 z.origin) path m.within; far = far x.0.0 x.0.1 is }
 
-    pub cells_kept : (op : Operation) (a c : ℕ) (number : ℤ) (room : Bool) (good bad : RegisterTypes) → rule types constants op a b c number ks ≡ Ok (good, bad) → Spared op c number → Keeps s (effect constants op a b c number room s)
-    unfolding rule effect
-    cells_kept Operation.Const a c number room good bad e far = given s success a _
-    cells_kept Operation.Mov a c number room good bad e far = bound s (copied s (register s b)) _ (λ x _. given s success a x)
-    cells_kept Operation.Add a c number room good bad e far = combines s _ a b c
-    cells_kept Operation.Sub a c number room good bad e far = combines s _ a b c
-    cells_kept Operation.Mul a c number room good bad e far = combines s _ a b c
-    cells_kept Operation.Less a c number room good bad e far = combines s _ a b c
-    cells_kept Operation.Equal a c number room good bad e far = combines s _ a b c
-    cells_kept Operation.If a c number room good bad e far = bound s (integer_at s b) _ (λ x _. some s _ s (still s))
-    cells_kept Operation.OutInt a c number room good bad e far = bound s (integer_at s b) _ (λ x _. writes s _)
-    cells_kept Operation.OutStr a c number room good bad e far = bound s (path_of s b) _ (λ p _. bound s (path_value s p >>= bytes_in) _ (λ bytes _. writes s bytes))
-    cells_kept Operation.OutConst a c number room good bad e far = bound s (slice_get constants (nat_abs number) >>= constant_text) _ (λ bytes _. writes s bytes)
-    cells_kept Operation.GetByte a c number room good bad e far = next s a s.input
-    cells_kept Operation.Make a c number room good bad e far = bound s (slice_get constants (constant_operand number) >>= λ k. constant_name k (register s b)) _ (λ name _. bound s (integer_or (pos 1) c s) _ (λ x _. either s _
-        (object_count x) _ (λ n _. adds s a name (type_operand number) (s.names name) n room refl) (λ _. given s _ a _)))
-    cells_kept Operation.Find a c number room good bad e far = bound s (slice_get constants (constant_operand number) >>= λ k. constant_name k (register s b)) _ (λ name _. bound s (integer_or (pos 0) c s) _
-        (λ x _. item s a name (type_operand number) x (s.names name)))
-    cells_kept Operation.FindOrMake a c number room good bad e far = bound s (slice_get constants (constant_operand number) >>= λ k. constant_name k (register s b)) _ (λ name _. finds s a name (type_operand number) (s.names name) room refl)
-    cells_kept Operation.Count a c number room good bad e far = bound s (slice_get constants (constant_operand number) >>= λ k. constant_name k (register s b)) _ (λ name _. counts s a (type_operand number) (s.names name))
-    cells_kept Operation.Kill a c number room good bad e far = bound s (slice_get constants (constant_operand number) >>= λ k. constant_name k (register s b)) _
-        (λ name is. destroys s a name (type_operand number) (constant_operand number) (s.names name) (spelled (slice_get constants (constant_operand number)) (register s b) name is) far)
-    cells_kept Operation.MakeUnique a c number room good bad e far = by_unique s (nat_abs number) _ _ (given s _ a _) (λ free. unique s a (nat_abs number) room free)
-    cells_kept Operation.FindUnique a c number room good bad e far = by_unique s (nat_abs number) _ _ (given s success a _) (λ _. given s _ a _)
-    cells_kept Operation.FindOrMakeUnique a c number room good bad e far = by_unique s (nat_abs number) _ _ (given s success a _) (λ free. unique s a (nat_abs number) room free)
-    cells_kept Operation.KillUnique a c number room good bad e far = by_unique s (nat_abs number) _ _ (answered s _ success a _ (by_unique_gone s (nat_abs number) far)) (λ _. given s success a _)
-    cells_kept Operation.New a c number room good bad e far = roomy s room a _ (given s success a _)
-    cells_kept Operation.Drop a c number room good bad e far = bound s (owned_by (register s b)) _ (λ o _. some s success _ (by_release s b Register.Undefined far))
-    cells_kept Operation.Ref a c number room good bad e far = bound s (owned_by (register s b)) _ (λ o _. given s success a _)
-    cells_kept Operation.Put a c number room good bad e far = bound s (path_of s b) _ (λ p at. let f = far_at _ good bad e far.0 p at in bound s (path_form s p >>= owned_type) _ (λ t _. bound s (owned_by (register s c)) _ (λ new _. bound s
-        (path_value s p >>= content_in) _ (λ o there. let v = bind_some (path_value s p) content_in o there in let later = put_at s p (Full new.0) in
-        shown s _ _ (some s success _ (onward s later (set_register later c Register.Undefined) (put s p v.0 v.1 f.its f.within f.far (Full new.0)) (by_release later c Register.Undefined far.1)))))))
-    cells_kept Operation.Take a c number room good bad e far = bound s (path_of s b) _ (λ p at. let f = far_at _ good bad e far p at in bound s (path_form s p >>= owned_type) _ (λ t _. bound s (path_value s p >>= content_in) _
-        (λ o there. let v = bind_some (path_value s p) content_in o there in takes s p v.0 v.1 f.its f.within f.far a t o)))
-    cells_kept Operation.Content a c number room good bad e far = bound s (path_of s b) _ (λ p _. bound s (path_value s p >>= content_in) _ (λ o _. sees s a p o))
-    cells_kept Operation.Clear a c number room good bad e far = bound s (path_of s b) _
-        (λ p at. let f = far_at _ good bad e far p at in bound s (path_type s p) _ (λ t _. bound s (path_value s p) _ (λ v there. put_some s p v there f.its f.within f.far _)))
-    cells_kept Operation.Forget a c number room good bad e far = either s _ (owned_by (register s b)) _ (λ o _. none s) (λ free. some s success _ (by_register s b Register.Undefined free))
-    cells_kept Operation.Load a c number room good bad e far = bound s (path_of s b) _ (λ p _. bound s (path_value s p >>= number_in) _ (λ k _. given s success a _))
-    cells_kept Operation.Store a c number room good bad e far = bound s (path_of s b) _ (λ p _. bound s (path_value s p >>= number_in) _ (λ k there. bound s (integer_at s c) _ (λ x _. some s success _ (put_number s p k _ there))))
-    cells_kept Operation.Field a c number room good bad e far = bound s (path_of s b) _ (λ p _. bound s (path_value s p >>= fields_in) _ (λ vs _. bound s (index_below (count vs) number) _ (λ i _. given s success a _)))
-    cells_kept Operation.Len a c number room good bad e far = bound s (path_of s b) _ (λ p _. bound s (path_value s p >>= length_in) _ (λ n _. given s success a _))
-    cells_kept Operation.At a c number room good bad e far = bound s (path_of s b) _ (λ p _. bound s (integer_at s c) _ (λ x _. bound s (path_value s p) _ (λ v _. value_item s a p x v)))
-    cells_kept Operation.PushBack a c number room good bad e far = bound s (path_of s b) _ (λ p at. let f = far_at _ good bad e far p at in bound s (path_form s p >>= vec_or_list_item) _ (λ t _. bound s (path_value s p >>= items_in) _
-        (λ vs there. let v = bind_some (path_value s p) items_in vs there in roomy s room a _ (given_put s p v.0 v.1 f.its f.within f.far a _ _))))
-    cells_kept Operation.PushFront a c number room good bad e far = bound s (path_of s b) _ (λ p at. let f = far_at _ good bad e far p at in bound s (path_form s p >>= list_item) _ (λ t _. bound s (path_value s p >>= items_in) _
-        (λ vs there. let v = bind_some (path_value s p) items_in vs there in roomy s room a _ (given_put s p v.0 v.1 f.its f.within f.far a _ _))))
-    cells_kept Operation.PopBack a c number room good bad e far = bound s (path_of s b) _ (λ p at. let f = far_at _ good bad e far p at in bound s (path_value s p) _ (λ v there. either s _ (bytes_in v) _
-        (λ bytes _. bytes_pop s p v there f.its f.within f.far a bytes) (λ _. bound s (items_in v) _ (λ vs _. last_pop s p v there f.its f.within f.far a vs))))
-    cells_kept Operation.PopFront a c number room good bad e far = bound s (path_of s b) _ (λ p at. let f = far_at _ good bad e far p at in bound s (path_form s p >>= list_item) _ (λ t _. bound s (path_value s p >>= items_in) _
-        (λ vs there. let v = bind_some (path_value s p) items_in vs there in first_pop s p v.0 v.1 f.its f.within f.far a vs)))
-    cells_kept Operation.SetStr a c number room good bad e far = bound s (path_of s b) _
-        (λ p _. bound s (path_value s p >>= bytes_in) _ (λ old there. bound s (slice_get constants (nat_abs number) >>= constant_text) _ (λ new _. text s a p old new room there)))
-    cells_kept Operation.AddStr a c number room good bad e far = bound s (path_of s b) _
-        (λ p _. bound s (path_value s p >>= bytes_in) _ (λ old there. bound s (slice_get constants (nat_abs number) >>= constant_text) _ (λ more _. text s a p old _ room there)))
-    cells_kept Operation.AddByte a c number room good bad e far = bound s (path_of s b) _
-        (λ p _. bound s (path_value s p >>= bytes_in) _ (λ old there. bound s (integer_at s c) _ (λ x _. either s _ (byte_of x) _ (λ byte _. text s a p old _ room there)
-        (λ _. given s _ a _))))
-    cells_kept Operation.Shrink a c number room good bad e far = bound s (path_of s b) _ (λ p _. bound s (path_form s p) _ (λ k _. bound s (path_value s p) _ (λ v _. shown s _ _ (some s success s (still s)))))
-    cells_kept Operation.GetKey a c number room good bad e far = bound s (path_of s b) _
-        (λ p _. bound s (integer_at s c) _ (λ k _. bound s (path_value s p >>= entries_in) _ (λ es _. either s _ (key_place es.0 k) _ (λ i _. given s success a _) (λ _. given s _ a _))))
-    cells_kept Operation.PutKey a c number room good bad e far = bound s (path_of s b) _
-        (λ p at. let f = far_at _ good bad e far p at in bound s (integer_at s c) _ (λ k _. bound s (path_form s p >>= map_value) _ (λ t _. bound s (path_value s p >>= entries_in) _
-        (λ es there. let v = bind_some (path_value s p) entries_in es there in either s _ (key_place es.0 k) _ (λ i _. given s success a _) (λ _. roomy s room a _ (given_put s p v.0 v.1 f.its f.within f.far a _ _))))))
-    cells_kept Operation.DeleteKey a c number room good bad e far = bound s (path_of s b) _ (λ p at. let f = far_at _ good bad e far p at in bound s (integer_at s c) _ (λ k _. bound s (path_value s p >>= entries_in) _
-        (λ es there. let v = bind_some (path_value s p) entries_in es there in either s _ (key_place es.0 k) _ (λ i _. given_put s p v.0 v.1 f.its f.within f.far a _ _) (λ _. given s success a _))))
-    cells_kept Operation.FirstKey a c number room good bad e far = bound s (path_of s b) _ (λ p _. bound s (path_value s p >>= entries_in) _ (λ es _. key s a es.0))
-    cells_kept Operation.NextKey a c number room good bad e far = bound s (path_of s b) _ (λ p _. bound s (integer_at s c) _ (λ k _. bound s (path_value s p >>= entries_in) _ (λ es _. key s a _)))
-    cells_kept op a c number room good bad e far = absurd (let f : Err typed.Reason.WrongOperand ≡ Ok (good, bad) = e in cc)
+-- ---- outcomes of rows
+
+module _ {constants : List Constant} {one : OneEach constants} {class : Class} where
+  pub none : (s : State) → Keeps constants one class s None
+  none s = record { each = λ code s' e. absurd (let f : None ≡ Some (code, s') = e in cc) }
+
+  pub some : (s : State) (code : Answer) (s' : State) → CellsKept constants class s s' → Keeps constants one class s (Some (code, s'))
+  some s code s' h = record { each = λ code' t e. subst (CellsKept constants class s) (ap (λ (p : Answer × State). p.1) (Some_inj e)) h }
+
+  pub bound : {A : Type 0} (s : State) (o : Option A) (f : A → Outcome) → ((x : A) → o ≡ Some x → Keeps constants one class s (f x)) → Keeps constants one class s (o >>= f)
+  bound s None f h = none s
+  bound s (Some x) f h = h x refl
+
+  pub either : {A : Type 0} (s : State) (f : A → Outcome) (o : Option A) (d : Outcome) → ((x : A) → o ≡ Some x → Keeps constants one class s (f x)) → (o ≡ None → Keeps constants one class s d) → Keeps constants one class s (option_map_or f o d)
+  either s f None d h g = g refl
+  either s f (Some x) d h g = h x refl
+
+  pub tested : (s : State) (b : Bool) (x y : Outcome) → Keeps constants one class s x → Keeps constants one class s y → Keeps constants one class s (if b then x else y)
+  tested s true x y f g = f
+  tested s false x y f g = g
+
+  pub shown : (s : State) (b : Bool) (o : Outcome) → Keeps constants one class s o → Keeps constants one class s (provided b o)
+  shown s true o f = f
+  shown s false o f = none s
+
+  -- register a gets something, where it owns nothing
+  pub answered : (s t : State) (code : Answer) (a : ℕ) (x : Register) → CellsKept constants class s t → Keeps constants one class s (answer code a x t)
+  answered s t code a x h =
+      either s (λ _. None) (owned_by (register t a)) (Some (code, set_register t a x)) (λ _ _. none s) (λ free. some s code _ (onward constants one class s t (set_register t a x) h (by_register constants one class t a x free)))
+
+  pub given : (s : State) (code : Answer) (a : ℕ) (x : Register) → Keeps constants one class s (answer code a x s)
+  given s code a x = answered s s code a x (still constants one class s)
+
+  pub roomy : (s : State) (b : Bool) (a : ℕ) (o : Outcome) → Keeps constants one class s o → Keeps constants one class s (with_room b a s o)
+  roomy s true a o f = f
+  roomy s false a o f = given s _ a _
+
+  -- ---- parts of rows
+
+  pub combines : (s : State) (f : ℤ → ℤ → ℤ) (a b c : ℕ) → Keeps constants one class s (combine f a b c s)
+  combines s f a b c =
+      bound s (integer_at s b) (λ x. integer_at s c >>= λ y. give a (Register.Int (f x y)) s) (λ x _. bound s (integer_at s c) (λ y. give a (Register.Int (f x y)) s) (λ y _. given s success a (Register.Int (f x y))))
+
+  pub next : (s : State) (a : ℕ) (input : List ℕ) → Keeps constants one class s (next_byte a input s)
+  next s a [] = given s _ a _
+  next s a (byte ∷ rest) = answered s (record s { input = rest }) success a _ (by_origins constants one class s (record s { input = rest }) refl (λ o x w e. same_there o x e))
+    where
+      same_there : (o : Origin) (x : Value × ℕ) → at_origin s o ≡ Some x → at_origin (record s { input = rest }) o ≡ Some x
+      same_there (Origin.Name n i) x e = e
+      same_there (Origin.Unique t) x e = e
+      same_there (Origin.Owned r) x e = e
+
+  pub writes : (s : State) (bytes : List ℕ) → Keeps constants one class s (write_out bytes s)
+  writes s bytes = some s success _ (by_origins constants one class s (record s { output = s.output ++ bytes }) refl (λ o x w e. same_there o x e))
+    where
+      same_there : (o : Origin) (x : Value × ℕ) → at_origin s o ≡ Some x → at_origin (record s { output = s.output ++ bytes }) o ≡ Some x
+      same_there (Origin.Name n i) x e = e
+      same_there (Origin.Unique t) x e = e
+      same_there (Origin.Owned r) x e = e
+
+  pub adds : (s : State) (a : ℕ) (name : List ℕ) (t : ℕ) (o : Option Object) (n : ℕ) (room : Bool) → s.names name ≡ o → Keeps constants one class s (add_object a name t o n room s)
+  adds s a name t (Some o) n room e = given s _ a _
+  adds s a name t None n room e = roomy s room a _ (answered s _ success a _ (by_new_name constants one class s name _ e))
+
+  pub item : (s : State) (a : ℕ) (name : List ℕ) (t : ℕ) (x : ℤ) (o : Option Object) → Keeps constants one class s (item_of_object a name t x o s)
+  item s a name t x None = given s _ a _
+  item s a name t x (Some o) =
+      tested s (o.type == t) (option_map_or (λ i. refer a (path_from (Origin.Name name i)) s) (index_below (count o.values) x) (fail a out_of_range s)) (fail a other_type s)
+      (either s (λ i. refer a (path_from (Origin.Name name i)) s) (index_below (count o.values) x) (fail a out_of_range s) (λ i _. given s success a _) (λ _. given s _ a _)) (given s _ a _)
+
+  pub finds : (s : State) (a : ℕ) (name : List ℕ) (t : ℕ) (o : Option Object) (room : Bool) → s.names name ≡ o → Keeps constants one class s (find_or_add a name t o room s)
+  finds s a name t None room e = adds s a name t None 1 room e
+  finds s a name t (Some o) room e = tested s _ _ _ (given s success a _) (given s _ a _)
+
+  pub counts : (s : State) (a t : ℕ) (o : Option Object) → Keeps constants one class s (count_of_object a t o s)
+  counts s a t None = given s _ a _
+  counts s a t (Some o) = tested s _ _ _ (given s success a _) (given s _ a _)
+
+  pub destroys : (s : State) (a : ℕ) (name : List ℕ) (t k : ℕ) (o : Option Object) → IsNamedBy (slice_get constants k) name → same_class (Class.Name k) (sharing class) ≡ false → Keeps constants one class s (destroy_object a name t o s)
+  destroys s a name t k None by far = given s success a _
+  destroys s a name t k (Some o) by far = tested s _ _ _ (answered s _ success a _ (by_name_gone constants one class s name k by far)) (given s success a _)
+
+  pub unique : (s : State) (a t : ℕ) (room : Bool) → s.uniques t ≡ None → Keeps constants one class s (add_unique a t room s)
+  unique s a t room e = roomy s room a _ (answered s _ success a _ (by_new_unique constants one class s t _ e))
+
+  pub by_unique : (s : State) (t : ℕ) (x y : Outcome) → Keeps constants one class s x → (s.uniques t ≡ None → Keeps constants one class s y) → Keeps constants one class s (if is_some (s.uniques t) then x else y)
+  by_unique s t x y f g = choose (s.uniques t) refl
+    where
+      choose : (o : Option Value) → s.uniques t ≡ o → Keeps constants one class s (if is_some o then x else y)
+      choose None e = g e
+      choose (Some v) e = f
+
+  pub value_item : (s : State) (a : ℕ) (p : Path) (x : ℤ) (v : Value) → Keeps constants one class s (item_of_value a p x v s)
+  value_item s a p x v =
+      let byte = λ (bytes : List ℕ). option_map_or (λ i. give_count a (slice_index bytes i) s) (index_below (length bytes) x) (fail a out_of_range s) in
+      let item_of = λ (vs : Values). option_map_or (λ i. refer a (extend p (Selector.item i)) s) (index_below (count vs) x) (fail a out_of_range s) in
+      either s byte (bytes_in v) (items_in v >>= item_of)
+      (λ bytes _. either s (λ i. give_count a (slice_index bytes i) s) (index_below (length bytes) x) (fail a out_of_range s) (λ i _. given s success a _) (λ _. given s _ a _))
+      (λ _. bound s (items_in v) item_of (λ vs _. either s (λ i. refer a (extend p (Selector.item i)) s) (index_below (count vs) x) (fail a out_of_range s) (λ i _. given s success a _) (λ _. given s _ a _)))
+
+  pub key : (s : State) (a : ℕ) (keys : List ℤ) → Keeps constants one class s (first_key a keys s)
+  key s a [] = given s _ a _
+  key s a (k ∷ ks) = given s success a _
+
+  pub sees : (s : State) (a : ℕ) (p : Path) (o : Option Value) → Keeps constants one class s (see_content a p o s)
+  sees s a p None = given s _ a _
+  sees s a p (Some v) = given s success a _
+
+  -- what is put is of another class
+  module _ (s : State) (p : Path) (old : Value) (there : path_value s p ≡ Some old) (d : Class) (within : InClass constants d p.origin) (far : same_class (sharing d) (sharing class) ≡ false) where
+    pub given_put : (a : ℕ) (x : Register) (new : Value) → Keeps constants one class s (answer success a x (put_at s p new))
+    given_put a x new = answered s (put_at s p new) success a x (by_put constants one class s p old new d there within far)
+
+    pub put_some : (new : Value) → Keeps constants one class s (Some (success, put_at s p new))
+    put_some new = some s success _ (by_put constants one class s p old new d there within far)
+
+    pub bytes_pop : (a : ℕ) (bytes : List ℕ) → Keeps constants one class s (pop_bytes a p bytes s)
+    bytes_pop a [] = given s _ a _
+    bytes_pop a (x ∷ xs) = given_put a _ _
+
+    pub last_pop : (a : ℕ) (vs : Values) → Keeps constants one class s (pop_last a p vs s)
+    last_pop a nil = given s _ a _
+    last_pop a (cons v vs) = given_put a _ _
+
+    pub first_pop : (a : ℕ) (vs : Values) → Keeps constants one class s (pop_first a p vs s)
+    first_pop a nil = given s _ a _
+    first_pop a (cons v vs) = given_put a _ _
+
+    pub takes : (a t : ℕ) (o : Option Value) → Keeps constants one class s (take_content a p t o s)
+    takes a t None = given s _ a _
+    takes a t (Some v) = given_put a _ _
+
+  pub text : (s : State) (a : ℕ) (p : Path) (old bytes : List ℕ) (room : Bool) → (path_value s p >>= bytes_in) ≡ Some old → Keeps constants one class s (set_text a p bytes room s)
+  text s a p old bytes room e = roomy s room a _ (answered s _ success a _ (put_text constants one class s p old (Text bytes) e))
+
+-- the name that a constant spells
+pub spelled : (o : Option Constant) (x : Register) (name : List ℕ) → (o >>= λ k. constant_name k x) ≡ Some name → IsNamedBy o name
+spelled None x name e = cc
+spelled (Some (Constant.Text bytes)) x name e = cc
+spelled (Some (Constant.Name n)) x name e = sym (Some_inj e)
+spelled (Some (Constant.Family prefix)) x name e =
+    let k = bind_some (integer_in x) (λ k. Some (prefix ++ 35 ∷ signed_decimal k)) name e in
+    (k.0, sym (Some_inj k.2))
 
 -- ---- references that stay valid have no class that a row ends
 
-left_of : (E : Class) (ks : RegisterTypes) (r : ℕ) (x : Class) (T : ℕ) → known (ended E ks) r ≡ RegisterType.Reference (Class.Frozen x) T → same_class E (sharing (Class.Frozen x)) ≡ false
+pub left_of : (E : Class) (ks : RegisterTypes) (r : ℕ) (x : Class) (T : ℕ) → known (ended E ks) r ≡ RegisterType.Reference (Class.Frozen x) T → same_class E (sharing (Class.Frozen x)) ≡ false
 left_of E ks r x T e = (still_known E (Class.Frozen x) (known ks r) T (sym (known_ended E ks r) ∙ e)).1
 
-itself : (ks : RegisterTypes) → FrozenFrom ks ks
+pub itself : (ks : RegisterTypes) → FrozenFrom ks ks
 itself ks r x t e = e
 
 module _ (types : Table) (constants : List Constant) (ks : RegisterTypes) (b : ℕ) (class : Class) where
@@ -484,21 +410,21 @@ module _ (types : Table) (constants : List Constant) (ks : RegisterTypes) (b : �
   read_in es good bad f g (r, T, inl e) = (r, T, f r class T e)
   read_in es good bad f g (r, T, inr e) = (r, T, g r class T e)
 
-  -- after a class has ended
-  not_ended : (E : Class) (es good bad : RegisterTypes) → FrozenFrom (ended E es) good → FrozenFrom (ended E es) bad → StillRead good bad → same_class E (sharing (Class.Frozen class)) ≡ false
+  -- where a class ended
+  pub not_ended : (E : Class) (es good bad : RegisterTypes) → FrozenFrom (ended E es) good → FrozenFrom (ended E es) bad → StillRead good bad → same_class E (sharing (Class.Frozen class)) ≡ false
   not_ended E es good bad f g still = let k = read_in (ended E es) good bad f g still in left_of E es k.0 class k.1 k.2
 
-  opens_from : (es : RegisterTypes) (a : ℕ) (k : RegisterType) (good bad : RegisterTypes) → IsBare k → opens a k es ≡ Ok (good, bad) → FrozenFrom es good × FrozenFrom es bad
+  pub opens_from : (es : RegisterTypes) (a : ℕ) (k : RegisterType) (good bad : RegisterTypes) → IsBare k → opens a k es ≡ Ok (good, bad) → FrozenFrom es good × FrozenFrom es bad
   opens_from es a k good bad i e = let q = (opens_bare es a k es i (itself es)).same good bad e in (q.1, q.2)
 
-  gives_from : (es : RegisterTypes) (a : ℕ) (k : RegisterType) (good bad : RegisterTypes) → IsBare k → gives a k es ≡ Ok (good, bad) → FrozenFrom es good × FrozenFrom es bad
+  pub gives_from : (es : RegisterTypes) (a : ℕ) (k : RegisterType) (good bad : RegisterTypes) → IsBare k → gives a k es ≡ Ok (good, bad) → FrozenFrom es good × FrozenFrom es bad
   gives_from es a k good bad i e = let q = (gives_bare es a k es i (itself es)).same good bad e in (q.1, q.2)
 
-  after_from : (es good bad : RegisterTypes) → known_after es ≡ Ok (good, bad) → FrozenFrom es good × FrozenFrom es bad
+  pub after_from : (es good bad : RegisterTypes) → known_after es ≡ Ok (good, bad) → FrozenFrom es good × FrozenFrom es bad
   after_from es good bad e = let q = (after_bares es es (itself es)).same good bad e in (q.1, q.2)
 
-  -- after the class of b has ended, except for b
-  far_of : (x : Class × ℕ) (good bad : RegisterTypes) → IsBare (known ks b) → reference_needed (known ks b) ≡ Ok x → FrozenFrom (others_ended x.0 b ks) good → FrozenFrom (others_ended x.0 b ks) bad → StillRead good bad
+  -- the class of b ended but for b
+  pub far_of : (x : Class × ℕ) (good bad : RegisterTypes) → IsBare (known ks b) → reference_needed (known ks b) ≡ Ok x → FrozenFrom (others_ended x.0 b ks) good → FrozenFrom (others_ended x.0 b ks) bad → StillRead good bad
       → (y : Class) (t : ℕ) → known (bare ks) b ≡ RegisterType.Reference y t → same_class (sharing y) (sharing (Class.Frozen class)) ≡ false
   far_of x good bad b_is e f g still y t is =
       let es = ended (sharing x.0) ks in
@@ -509,11 +435,11 @@ module _ (types : Table) (constants : List Constant) (ks : RegisterTypes) (b : �
       ∙ not_ended (sharing x.0) ks good bad (λ r z u h. back r z u (f r z u h)) (λ r z u h. back r z u (g r z u h)) still
 
   module _ (one : OneEach constants) (s : State) (h : IsAsKnown types constants (bare ks) s) where
-    abbrev IsSpared : Operation → ℕ → ℤ → Type 0
+    abbrev pub IsSpared : Operation → ℕ → ℤ → Type 0
     IsSpared = Spared constants one (Class.Frozen class) types (bare ks) s h b
 
-    -- after b's class has ended, and register a has a value
-    opens_far : {A : Type 0} (f : Form → Option A) (rest : Class × ℕ → A → Rule) (good bad : RegisterTypes) → IsBare (known ks b)
+    -- where b's class ends but for b, and register a gets something
+    pub opens_far : {A : Type 0} (f : Form → Option A) (rest : Class × ℕ → A → Rule) (good bad : RegisterTypes) → IsBare (known ks b)
         → ((x : Class × ℕ) (y : A) → reference_needed (known ks b) ≡ Ok x → rest x y ≡ Ok (good, bad) → FrozenFrom (others_ended x.0 b ks) good × FrozenFrom (others_ended x.0 b ks) bad)
         → typed.◌>>=◌ (reference_needed (known ks b)) (λ x. typed.◌>>=◌ (form_needed f types x.1) (rest x)) ≡ Ok (good, bad) → StillRead good bad
         → (y : Class) (t : ℕ) → known (bare ks) b ≡ RegisterType.Reference y t → same_class (sharing y) (sharing (Class.Frozen class)) ≡ false
@@ -523,63 +449,8 @@ module _ (types : Table) (constants : List Constant) (ks : RegisterTypes) (b : �
         let g = each x.0 y.0 x.1 y.2 in
         far_of x.0 good bad b_is x.1 g.0 g.1 still
 
-    opened_far : {A : Type 0} (a : ℕ) (f : Form → Option A) (k : Class × ℕ → A → RegisterType) (good bad : RegisterTypes) → IsBare (known ks b) → ((x : Class × ℕ) (y : A) → reference_needed (known ks b) ≡ Ok x → IsBare (k x y))
+    pub opened_far : {A : Type 0} (a : ℕ) (f : Form → Option A) (k : Class × ℕ → A → RegisterType) (good bad : RegisterTypes) → IsBare (known ks b) → ((x : Class × ℕ) (y : A) → reference_needed (known ks b) ≡ Ok x → IsBare (k x y))
         → typed.◌>>=◌ (reference_needed (known ks b)) (λ x. typed.◌>>=◌ (form_needed f types x.1) (λ y. opens a (k x y) (others_ended x.0 b ks))) ≡ Ok (good, bad) → StillRead good bad
         → (y : Class) (t : ℕ) → known (bare ks) b ≡ RegisterType.Reference y t → same_class (sharing y) (sharing (Class.Frozen class)) ≡ false
     opened_far a f k good bad b_is plain e still =
         opens_far f (λ x y. opens a (k x y) (others_ended x.0 b ks)) good bad b_is (λ x y n g. opens_from (others_ended x.0 b ks) a (k x y) good bad (plain x y n) g) e still
-
-    pub spared : (op : Operation) (a c : ℕ) (number : ℤ) (good bad : RegisterTypes) → rule types constants op a b c number ks ≡ Ok (good, bad) → BareThere op (known ks b) → StillRead good bad → IsSpared op c number
-    unfolding rule
-    spared Operation.Kill a c number good bad e b_is still =
-        let E = Class.Name (constant_operand number) in
-        let p = bind_ok (name_needed (slice_get constants (constant_operand number)) (known ks b)) (λ _. gives a RegisterType.Int (ended E ks)) (good, bad) e in
-        let g = gives_from (ended E ks) a RegisterType.Int good bad refl p.2 in
-        not_ended E ks good bad g.0 g.1 still
-    spared Operation.KillUnique a c number good bad e b_is still =
-        let E = Class.Unique (nat_abs number) in
-        let g = gives_from (ended E ks) a RegisterType.Int good bad refl e in
-        not_ended E ks good bad g.0 g.1 still
-    spared Operation.Drop a c number good bad e b_is still =
-        let E = Class.Register b in
-        let es = slice_set (ended E ks) b RegisterType.Undefined in
-        let p = bind_ok (owner_needed (known ks b)) (λ _. known_after es) (good, bad) e in
-        let g = after_from es good bad p.2 in
-        let back = from_set b RegisterType.Undefined (ended E ks) (ended E ks) refl (itself (ended E ks)) in
-        not_ended E ks good bad (λ r z u f. back r z u (g.0 r z u f)) (λ r z u f. back r z u (g.1 r z u f)) still
-    spared Operation.Put a c number good bad e b_is still =
-        let end = λ (x : Class × ℕ). slice_set (ended (Class.Register c) (others_ended x.0 b ks)) c RegisterType.Undefined in
-        let last = λ (x : Class × ℕ). typed.◌>>=◌ (required (not (same_class (sharing x.0) (Class.Register c))) typed.Reason.PutIntoItself) (λ _. known_after (end x)) in
-        let rest = λ (x : Class × ℕ) (t : ℕ). typed.◌>>=◌ (owner_needed (known ks c)) (λ u. typed.◌>>=◌ (required (t == u) typed.Reason.WrongOperand) (λ _. last x)) in
-        let x = bind_ok (reference_needed (known ks b)) (λ x. typed.◌>>=◌ (form_needed owned_type types x.1) (rest x)) (good, bad) e in
-        let y = bind_ok (form_needed owned_type types x.0.1) (rest x.0) (good, bad) x.2 in
-        let z = bind_ok (owner_needed (known ks c)) (λ u. typed.◌>>=◌ (required (y.0 == u) typed.Reason.WrongOperand) (λ _. last x.0)) (good, bad) y.2 in
-        let v = bind_ok (required (y.0 == z.0) typed.Reason.WrongOperand) (λ _. last x.0) (good, bad) z.2 in
-        let w = bind_ok (required (not (same_class (sharing x.0.0) (Class.Register c))) typed.Reason.PutIntoItself) (λ _. known_after (end x.0)) (good, bad) v.2 in
-        let others = others_ended x.0.0 b ks in
-        let g = after_from (end x.0) good bad w.2 in
-        let back = from_set c RegisterType.Undefined (ended (Class.Register c) others) (ended (Class.Register c) others) refl (itself (ended (Class.Register c) others)) in
-        let first : FrozenFrom (ended (Class.Register c) others) good = λ r k u f. back r k u (g.0 r k u f) in
-        let second : FrozenFrom (ended (Class.Register c) others) bad = λ r k u f. back r k u (g.1 r k u f) in
-        let further = from_ended (Class.Register c) others others (itself others) in (
-          far_of x.0 good bad b_is x.1 (λ r k u f. further r k u (first r k u f)) (λ r k u f. further r k u (second r k u f)) still,
-          not_ended (Class.Register c) others good bad first second still,
-        )
-    spared Operation.Take a c number good bad e b_is still = opened_far a owned_type (λ x t. RegisterType.Owner t) good bad b_is (λ x t _. refl) e still
-    spared Operation.Clear a c number good bad e b_is still =
-        let x = bind_ok (reference_needed (known ks b)) (λ x. known_after (others_ended x.0 b ks)) (good, bad) e in
-        let g = after_from (others_ended x.0.0 b ks) good bad x.2 in
-        far_of x.0 good bad b_is x.1 g.0 g.1 still
-    spared Operation.PushBack a c number good bad e b_is still = opened_far a vec_or_list_item (λ x t. RegisterType.Reference x.0 t) good bad b_is (λ x t n. class_bare (known ks b) x t b_is n) e still
-    spared Operation.PushFront a c number good bad e b_is still = opened_far a list_item (λ x t. RegisterType.Reference x.0 t) good bad b_is (λ x t n. class_bare (known ks b) x t b_is n) e still
-    spared Operation.PopBack a c number good bad e b_is still = opened_far a can_pop (λ x y. RegisterType.Int) good bad b_is (λ x y _. refl) e still
-    spared Operation.PopFront a c number good bad e b_is still = opened_far a list_item (λ x y. RegisterType.Int) good bad b_is (λ x y _. refl) e still
-    spared Operation.PutKey a c number good bad e b_is still =
-        opens_far map_value (λ x t. typed.◌>>=◌ (integer_needed (known ks c)) (λ _. opens a (RegisterType.Reference x.0 t) (others_ended x.0 b ks))) good bad b_is
-        (λ x t n f. let m = bind_ok (integer_needed (known ks c)) (λ _. opens a (RegisterType.Reference x.0 t) (others_ended x.0 b ks)) (good, bad) f in
-        opens_from (others_ended x.0 b ks) a (RegisterType.Reference x.0 t) good bad (class_bare (known ks b) x t b_is n) m.2) e still
-    spared Operation.DeleteKey a c number good bad e b_is still =
-        opens_far is_map (λ x y. typed.◌>>=◌ (integer_needed (known ks c)) (λ _. gives a RegisterType.Int (others_ended x.0 b ks))) good bad b_is
-        (λ x y n f. let m = bind_ok (integer_needed (known ks c)) (λ _. gives a RegisterType.Int (others_ended x.0 b ks)) (good, bad) f in
-        gives_from (others_ended x.0 b ks) a RegisterType.Int good bad refl m.2) e still
-    spared op a c number good bad e b_is still = tt

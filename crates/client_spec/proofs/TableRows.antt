@@ -8,6 +8,7 @@ use Rattle.std.proofs.Common.{◌≡◌, ℕ, zero, suc, ◌+◌, ◌-◌, ◌<�
 use Rattle.std.specs.Prelude.{slice_index_or, if◌then◌else◌}
 use Rattle.std.proofs.lemmas.List.{get_or_default, length-map}
 use Rattle.seg_spec.specs.Index.{same_name}
+use Rattle.client_spec.specs.declared.table.TheConstants.{OPERATIONS}
 use Rattle.client_spec.specs.declared.table.Operation.{Operation}
 use Rattle.client_spec.specs.Operations.{Entry, opcode, entries, no_entry, entry_of, mnemonic, row_of}
 
@@ -37,7 +38,7 @@ own_word o = refl
 pub same_by_word : (a b : Operation) → mnemonic a ≡ mnemonic b → a ≡ b
 same_by_word a b e = sym (own_word a) ∙ ap (operation_in entries) e ∙ own_word b
 
-pub number_range : (o : Operation) → (1 ≤ opcode o) × (opcode o ≤ 52)
+pub number_range : (o : Operation) → (1 ≤ opcode o) × (opcode o ≤ OPERATIONS)
 number_range Operation.Const = (omega arith, omega arith)
 number_range o = (omega arith, omega arith)
 
@@ -48,7 +49,7 @@ index_map f [] k d = refl
 index_map f (x ∷ xs) zero d = refl
 index_map f (x ∷ xs) (suc k) d = index_map f xs k d
 
-pub entry_at : {A : Type 0} (view : A → Entry) (rows : List A) → map view rows ≡ entries → (k : ℕ) (d : A) → k < 52 → view (slice_index_or rows k d) ≡ slice_index_or entries k no_entry
+pub entry_at : {A : Type 0} (view : A → Entry) (rows : List A) → map view rows ≡ entries → (k : ℕ) (d : A) → k < OPERATIONS → view (slice_index_or rows k d) ≡ slice_index_or entries k no_entry
 entry_at view rows same k d h =
     sym (index_map view rows k d) ∙ ap (λ xs. slice_index_or xs k (view d)) same
     ∙ get_or_default entries k (view d) no_entry h
@@ -73,38 +74,38 @@ counted_at n (suc m) (suc k) d h = let rest = counted_at (suc n) m k d (omega ar
 number_in : Entry → ℕ
 number_in entry = opcode entry.1.operation
 
-numbers_count : map number_in entries ≡ counted 1 52
+numbers_count : map number_in entries ≡ counted 1 OPERATIONS
 unfolding number_in counted
 numbers_count = refl
 
-pub number_at : (k : ℕ) → k < 52 → opcode (slice_index_or entries k no_entry).1.operation ≡ k + 1
+pub number_at : (k : ℕ) → k < OPERATIONS → opcode (slice_index_or entries k no_entry).1.operation ≡ k + 1
 unfolding number_in
 number_at k h =
-    let found = ap (λ ns. slice_index_or ns k (number_in no_entry)) numbers_count ∙ counted_at 1 52 k (number_in no_entry) h in
+    let found = ap (λ ns. slice_index_or ns k (number_in no_entry)) numbers_count ∙ counted_at 1 OPERATIONS k (number_in no_entry) h in
     let here = index_map number_in entries k no_entry in
     omega arith
 
-pub entry_own : (k : ℕ) → k < 52 → entry_of (slice_index_or entries k no_entry).1.operation ≡ slice_index_or entries k no_entry
+pub entry_own : (k : ℕ) → k < OPERATIONS → entry_of (slice_index_or entries k no_entry).1.operation ≡ slice_index_or entries k no_entry
 entry_own k h =
     let n = number_at k h in
     let place : opcode (slice_index_or entries k no_entry).1.operation - 1 ≡ k = omega arith in
     ap (λ i. slice_index_or entries i no_entry) place
 
--- the operation of an entry has its number and its mnemonic
-pub operation_number : {A : Type 0} (view : A → Entry) (rows : List A) → map view rows ≡ entries → (k : ℕ) (d : A) → k < 52 → opcode (view (slice_index_or rows k d)).1.operation ≡ k + 1
+-- the operation of an entry has its number, and its word
+pub operation_number : {A : Type 0} (view : A → Entry) (rows : List A) → map view rows ≡ entries → (k : ℕ) (d : A) → k < OPERATIONS → opcode (view (slice_index_or rows k d)).1.operation ≡ k + 1
 operation_number view rows same k d h = ap (λ entry. opcode entry.1.operation) (entry_at view rows same k d h) ∙ number_at k h
 
-pub operation_word : {A : Type 0} (view : A → Entry) (rows : List A) → map view rows ≡ entries → (k : ℕ) (d : A) → k < 52 → mnemonic (view (slice_index_or rows k d)).1.operation ≡ (view (slice_index_or rows k d)).0
+pub operation_word : {A : Type 0} (view : A → Entry) (rows : List A) → map view rows ≡ entries → (k : ℕ) (d : A) → k < OPERATIONS → mnemonic (view (slice_index_or rows k d)).1.operation ≡ (view (slice_index_or rows k d)).0
 operation_word view rows same k d h =
     let here = entry_at view rows same k d h in
     ap (λ entry. mnemonic entry.1.operation) here ∙ ap (λ entry. entry.0) (entry_own k h) ∙ sym (ap (λ entry. entry.0) here)
 
--- a word in no row is no operation's mnemonic
-pub no_word : {A : Type 0} (view : A → Entry) (rows : List A) → map view rows ≡ entries → (word : List ℕ) → ((d : A) (k : ℕ) → k < 52 → (view (slice_index_or rows k d)).0 ≡ word → ⊥) → (o : Operation) → mnemonic o ≡ word → ⊥
+-- a word that no row has is that of no operation
+pub no_word : {A : Type 0} (view : A → Entry) (rows : List A) → map view rows ≡ entries → (word : List ℕ) → ((d : A) (k : ℕ) → k < OPERATIONS → (view (slice_index_or rows k d)).0 ≡ word → ⊥) → (o : Operation) → mnemonic o ≡ word → ⊥
 no_word view [] same word none o e = cc
 no_word view (row ∷ rows) same word none o e =
     let range = number_range o in
     none row (opcode o - 1) (omega arith) (ap (λ entry. entry.0) (at_number view (row ∷ rows) same o (opcode o) row refl) ∙ e)
 
-pub as_many : {A : Type 0} (view : A → Entry) (rows : List A) → map view rows ≡ entries → length rows ≡ 52
+pub as_many : {A : Type 0} (view : A → Entry) (rows : List A) → map view rows ≡ entries → length rows ≡ OPERATIONS
 as_many view rows same = sym (length-map rows view) ∙ ap length same

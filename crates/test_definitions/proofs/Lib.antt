@@ -11,7 +11,6 @@ pub mod CutBuffers
 pub mod WorkedCalls
 pub mod Simulated
 pub mod Worked
-pub mod Following
 pub mod Stopped
 pub mod Several
 pub mod Whole

@@ -10,7 +10,8 @@ use Rattle.client_spec.specs.Run.{Ending, finished, stopped, stuck, Way, Nothing
 use Rattle.client_spec.specs.Plain.{plain_machine}
 use Rattle.client_spec.specs.Trees.{AreTrees}
 use Rattle.client_spec.specs.Safe.{MayBegin, IsAccepted, Writes, IsFront}
-use Rattle.test_definitions.proofs.Following.{still, onward, set_follows, rows}
+use Rattle.client_spec.proofs.Following.{still, onward, set_follows}
+use Rattle.client_spec.proofs.OperationLaws.{rows}
 use Rattle.client_spec.proofs.Keeping.{never_wrong}
 use Rattle.client_spec.proofs.Total.{Total, nothing_total, then_total, step_total, turns_total, one_total}
 
