@@ -6,6 +6,7 @@ use crate::image::Image;
 use crate::sources::type_bytes;
 use seg_layout::ENTRY;
 use seg_ptr::{MAX_LEN, MIN_LEN, header, is_size};
+use seg_raw::Fault;
 use std::alloc::{AllocError, Global};
 use std::fmt::Write;
 
@@ -105,43 +106,39 @@ pub(crate) fn add_bad_type(
 pub(crate) fn add_place(
     text: &mut String,
     alloc: Global,
+    fault: Fault,
     at: u32,
     image: Option<&[u8]>,
 ) -> Result<(), AllocError> {
-    match image_of(alloc, image)? {
-        Some(image) => add_location(text, &image, at),
-        None => Ok(()),
+    let image = image_of(alloc, image)?;
+    if let Some(image) = &image {
+        add_location(text, image, at)?;
+    }
+    match (fault, &image) {
+        (Fault::BadFree(_) | Fault::BadPointer(_), Some(image)) => add_target(text, image, at),
+        (Fault::BadValue(_), Some(image)) => add_rules(text, image, at),
+        (Fault::BadValue(_), None) => text.push_str(VALUES),
+        _ => Ok(()),
     }
 }
 
-/// Describes the place of a pointer, and what it points to.
-pub(crate) fn add_pointer(
-    text: &mut String,
-    alloc: Global,
-    at: u32,
-    image: Option<&[u8]>,
-) -> Result<(), AllocError> {
-    let Some(image) = image_of(alloc, image)? else {
-        return Ok(());
-    };
-    add_location(text, &image, at)?;
+fn add_location(text: &mut String, image: &Image, at: u32) -> Result<(), AllocError> {
+    let location = image.location(at);
+    write!(text, "byte {at} lies {location}\n")
+}
+
+fn add_target(text: &mut String, image: &Image, at: u32) -> Result<(), AllocError> {
     match image.target(at) {
         None => text.push_str("the pointer there is null\n"),
-        Some(to) => add_target(text, &image, to),
+        Some(to) => {
+            let location = image.location(to);
+            write!(text, "the pointer there names byte {to}, {location}\n")
+        }
     }
 }
 
-/// Describes the place of a value, and says what would be right.
-pub(crate) fn add_bad_value(
-    text: &mut String,
-    alloc: Global,
-    at: u32,
-    image: Option<&[u8]>,
-) -> Result<(), AllocError> {
-    let Some(image) = image_of(alloc, image)? else {
-        return text.push_str(VALUES);
-    };
-    add_location(text, &image, at)?;
+/// Adds what the value at a byte should be.
+fn add_rules(text: &mut String, image: &Image, at: u32) -> Result<(), AllocError> {
     if image.is_frozen(at) {
         return text.push_str(FROZEN);
     }
@@ -150,16 +147,6 @@ pub(crate) fn add_bad_value(
         return text.push_str(SHARING);
     }
     Ok(())
-}
-
-fn add_location(text: &mut String, image: &Image, at: u32) -> Result<(), AllocError> {
-    let location = image.location(at);
-    write!(text, "byte {at} lies {location}\n")
-}
-
-fn add_target(text: &mut String, image: &Image, to: u32) -> Result<(), AllocError> {
-    let location = image.location(to);
-    write!(text, "the pointer there names byte {to}, {location}\n")
 }
 
 fn image_of(alloc: Global, image: Option<&[u8]>) -> Result<Option<Image>, AllocError> {

@@ -1,4 +1,4 @@
-use crate::damage::{add_bad_header, add_bad_type, add_bad_value, add_place, add_pointer};
+use crate::damage::{add_bad_header, add_bad_type, add_place};
 use crate::field::add_bad_code;
 use crate::rejection::{add_bound, add_rejection};
 use crate::sources::Sources;
@@ -41,10 +41,13 @@ fn add_places(
         Fault::BadHeader => add_bad_header(text, sources.image),
         Fault::BadType(number) => add_bad_type(text, number, sources.image),
         Fault::TypeMismatch(number) => add_mismatch(text, number, client, sources),
-        Fault::BadBlock(at) | Fault::BadIndex(at) | Fault::DoubleOwner(at) | Fault::Unowned(at) =>
-            add_place(text, alloc, at, sources.image),
-        Fault::BadValue(at) => add_bad_value(text, alloc, at, sources.image),
-        Fault::BadFree(at) | Fault::BadPointer(at) => add_pointer(text, alloc, at, sources.image),
+        Fault::BadBlock(at)
+        | Fault::BadIndex(at)
+        | Fault::DoubleOwner(at)
+        | Fault::Unowned(at)
+        | Fault::BadValue(at)
+        | Fault::BadFree(at)
+        | Fault::BadPointer(at) => add_place(text, alloc, fault, at, sources.image),
         Fault::BadCode(at) => add_bad_code(text, sources.file(client), at),
         Fault::BadLine(number) => add_bad_line(text, sources.text, number),
         Fault::Rejected {

@@ -18,4 +18,5 @@ mod UnnamedLaws
 mod RestLaws
 mod PassLaws
 mod ProgramLaws
+pub mod AcceptedLaws
 mod RunLaws

@@ -23,6 +23,7 @@ use Rattle.client_verify.specs.Refusals.{IsRefused}
 use Rattle.client_output.specs.declared.refused.Refused.{Refused}
 use Rattle.client_verify.specs.Texts.{IsWrongAt, IsWrongBy, AreWrong}
 use Rattle.client_vm.specs.Admitted.{IsWrongFor, IsWrong}
+use Rattle.client_vm.specs.Jobs.{Job}
 use Rattle.client_vm.specs.Outcomes.{IsBadImage, IsFault, IsFaultOfCall, IsFaultOfClient, IsRefusedFor}
 use Rattle.seg_spec.proofs.Failures.{unsound}
 
@@ -151,7 +152,7 @@ pub err_is : {A E : Type 0} (result : Result A E) (e : E) (P : E → Type 0) →
 err_is (Ok a) e P p is = absurd is
 err_is (Err x) e P p is = subst P (sym is) p
 
-module _ {A : Type 0} (image : List ℕ) (texts : List (List ℕ)) (room base : ℕ) (moves : List Move) (can : CanMove image room base moves) where
-  pub refused_for : (result : Result A Refused) → IfErr result (λ refused. IsWrong image texts refused) → IfErr result (λ refused. IsRefusedFor image texts room base moves refused)
+module _ {A : Type 0} (job : Job) (can : CanMove job.image job.room job.base job.moves) where
+  pub refused_for : (result : Result A Refused) → IfErr result (λ refused. IsWrong job.image job.texts refused) → IfErr result (λ refused. IsRefusedFor job refused)
   refused_for (Ok a) h = tt
-  refused_for (Err refused) h = why image texts room base moves can refused.client refused.fault h
+  refused_for (Err refused) h = why job.image job.texts job.room job.base job.moves can refused.client refused.fault h

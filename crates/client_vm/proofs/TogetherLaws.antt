@@ -19,6 +19,7 @@ use Rattle.client_output.specs.declared.report.Report.{Report}
 use Rattle.client_output.specs.declared.report.Ended.{Ended}
 use Rattle.client_output.specs.declared.report.Ended.TheVariants as ended
 use Rattle.client_run.specs.Runs.{ending_of, given_of, left_of, IsReady, MayRun, HasRun}
+use Rattle.client_vm.specs.Jobs.{Effect, job_at}
 use Rattle.client_vm.specs.Outcomes.{AreReports, HasOutcome}
 use Rattle.seg_spec.specs.Images.{upgraded}
 use Rattle.seg_spec.proofs.Upgrading.{upgrade_changes, same_word, upgraded_version, upgraded_held, upgraded_counted}
@@ -207,12 +208,13 @@ opened_ready window table moves allocator is named may = record {
       (subst (λ n. AreMoves (length (region_of window)) n 0 moves) (sym (upgrade_changes window.bytes).length_kept) may);
 }
 
--- the result on a sound image, with its types
-pub ran_on : (texts : List (List ℕ)) (moves : List Move) (input : List ℕ) (window : Placement) (taken : Option (List ℕ)) (saved : List ℕ) (taken_then : Option (List ℕ)) (reports : List Report) (ending : Ending)
-    (table : Table) (allocator : ℕ) → IsImageOf window.bytes table → word window.bytes allocator_word ≡ allocator → (clients : List Client) → AreAccepted table texts clients
-    → ((clients : List Client) → AreAccepted table texts clients → IsReady allocator [] (opened window) table moves → HaveRun clients moves input (opened window) taken saved taken_then reports ending)
-    → HaveRunOn texts moves input window taken saved taken_then reports ending
-ran_on texts moves input window taken saved taken_then reports ending table allocator is named clients accepted runs = record {
+-- on a sound image, with its types
+pub ran_on : (texts : List (List ℕ)) (moves : List Move) (input : List ℕ) (window : Placement) (effect : Effect) (table : Table) (allocator : ℕ)
+    → IsImageOf window.bytes table → word window.bytes allocator_word ≡ allocator → (clients : List Client) → AreAccepted table texts clients
+    → ((clients : List Client) → AreAccepted table texts clients → IsReady allocator [] (opened window) table moves
+    → HaveRun clients moves input (opened window) effect.taken effect.saved effect.taken_then effect.reports (ending_of effect.ended))
+    → HaveRunOn texts moves input window effect
+ran_on texts moves input window effect table allocator is named clients accepted runs = record {
   accepted = record {
     sound = record { picture = is.picture; held = is.held; counted = is.counted; none_loose = is.none_loose };
     clients = clients;
@@ -221,10 +223,9 @@ ran_on texts moves input window taken saved taken_then reports ending table allo
   runs = λ may. runs clients accepted (opened_ready window table moves allocator is named may);
 }
 
-module _ (texts : List (List ℕ)) (moves : List Move) (input : List ℕ) (window : Placement) (taken : Option (List ℕ)) (saved : List ℕ) (taken_then : Option (List ℕ)) (reports : List Report) (how : Ended)
-    (h : HaveRunOn texts moves input window taken saved taken_then reports (ending_of how)) where
+module _ (texts : List (List ℕ)) (moves : List Move) (input : List ℕ) (window : Placement) (effect : Effect) (h : HaveRunOn texts moves input window effect) where
   outcome_here : CanMove window.bytes (length (region_of window)) (length window.before) moves
-      → HasOutcome window.bytes texts input (length (region_of window)) (length window.before) moves taken taken_then saved reports how
+      → HasOutcome (job_at window.bytes texts input (length (region_of window)) (length window.before) moves) effect
   outcome_here can =
       let can_run : CanRun window.bytes texts (length (region_of window)) (length window.before) moves =
       record { can_move = can; sound = h.accepted.sound; clients = h.accepted.clients; accepted = h.accepted.accepted } in
@@ -245,9 +246,9 @@ module _ (texts : List (List ℕ)) (moves : List Move) (input : List ℕ) (windo
       }
 
   pub has_outcome : (image : List ℕ) (room base : ℕ) → window.bytes ≡ image → length (region_of window) ≡ room → length window.before ≡ base → CanMove image room base moves
-      → HasOutcome image texts input room base moves taken taken_then saved reports how
+      → HasOutcome (job_at image texts input room base moves) effect
   has_outcome image room base bytes region before can =
-      subst (λ (i : List ℕ). HasOutcome i texts input room base moves taken taken_then saved reports how) bytes
-      (subst (λ n. HasOutcome window.bytes texts input n base moves taken taken_then saved reports how) region
-      (subst (λ n. HasOutcome window.bytes texts input (length (region_of window)) n moves taken taken_then saved reports how) before
+      subst (λ (i : List ℕ). HasOutcome (job_at i texts input room base moves) effect) bytes
+      (subst (λ n. HasOutcome (job_at window.bytes texts input n base moves) effect) region
+      (subst (λ n. HasOutcome (job_at window.bytes texts input (length (region_of window)) n moves) effect) before
       (outcome_here (subst (λ n. CanMove window.bytes (length (region_of window)) n moves) (sym before) (subst (λ n. CanMove window.bytes n base moves) (sym region) (subst (λ (i : List ℕ). CanMove i room base moves) (sym bytes) can))))))

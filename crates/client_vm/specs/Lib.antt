@@ -1,3 +1,4 @@
+pub mod Jobs
 pub mod Outcomes
 pub mod Reports
 pub mod Admitted

@@ -17,10 +17,10 @@ use Rattle.client_spec.specs.Clients.{outputs, image_after, ending_after, table_
 use Rattle.client_spec.specs.Outcome.{CanRun, IsOutcome, Refusal, IsTurnOf, IsRefusalOf}
 use Rattle.client_verify.specs.Refusals.{IsRefused}
 use Rattle.client_output.specs.declared.report.Report.{Report}
-use Rattle.client_output.specs.declared.report.Ended.{Ended}
 use Rattle.client_output.specs.declared.refused.Refused.{Refused}
 use Rattle.client_sim.specs.Writes.{Took}
 use Rattle.client_run.specs.Runs.{ending_of}
+use Rattle.client_vm.specs.Jobs.{Job, Effect}
 
 -- ---- the clients ran
 
@@ -36,26 +36,22 @@ AreReports [] (left ∷ lefts) = ⊥
 AreReports (report ∷ reports) [] = ⊥
 AreReports (report ∷ reports) (left ∷ lefts) = IsReport report left × AreReports reports lefts
 
--- The clients ran, each within its bound, with this result. The saved image is sound.
-pub record AreLeftByRuns (image : List ℕ) (texts : List (List ℕ)) (input : List ℕ)
-    (room base : ℕ) (moves : List Move) (taken taken_then : Option (List ℕ))
-    (saved : List ℕ) (reports : List Report) (ended : Ended) : Type 0 where
+-- The clients ran, each within its bound, and this is what they left. It is a sound image again.
+pub record AreLeftByRuns (job : Job) (effect : Effect) : Type 0 where
   pub lefts : List Left
-  pub outcome : IsOutcome image texts input room base moves lefts
+  pub outcome : IsOutcome job.image job.texts job.input job.room job.base job.moves lefts
   pub within : StayWithin outcome.can_run.clients lefts
-  pub reports_are : AreReports reports lefts
-  pub ended_is : ending_of ended ≡ ending_after lefts
-  pub took : Took taken taken_then (outputs lefts)
-  pub saved_is : saved ≡ image_after (upgraded image) lefts
-  pub sound : IsSound saved
+  pub reports_are : AreReports effect.reports lefts
+  pub ended_is : ending_of effect.ended ≡ ending_after lefts
+  pub took : Took effect.taken effect.taken_then (outputs lefts)
+  pub saved_is : effect.saved ≡ image_after (upgraded job.image) lefts
+  pub sound : IsSound effect.saved
 
--- The clients were accepted, one after the other, on a sound image, and the rest is the result of
--- runs of the abstract machine.
-pub record HasOutcome (image : List ℕ) (texts : List (List ℕ)) (input : List ℕ)
-    (room base : ℕ) (moves : List Move) (taken taken_then : Option (List ℕ))
-    (saved : List ℕ) (reports : List Report) (ended : Ended) : Type 0 where
-  pub can_run : CanRun image texts room base moves
-  pub left : AreLeftByRuns image texts input room base moves taken taken_then saved reports ended
+-- The clients were accepted, one after the other, on a sound image, and runs of the abstract
+-- machine left the rest.
+pub record HasOutcome (job : Job) (effect : Effect) : Type 0 where
+  pub can_run : CanRun job.image job.texts job.room job.base job.moves
+  pub left : AreLeftByRuns job effect
 
 -- ---- no client ran
 
@@ -136,6 +132,7 @@ module _ (image : List ℕ) (texts : List (List ℕ)) (room base : ℕ) (moves :
   IsFault None f = IsFaultOfCall f
   IsFault (Some k) f = IsFaultOfClient k f
 
-  -- why no client ran: the fault, and the client that has it, if it is a client's
-  abbrev pub IsRefusedFor : Refused → Type 0
-  IsRefusedFor refused = IsFault refused.client refused.fault
+-- why no client ran: the fault, and the client that has it, where one has
+abbrev pub IsRefusedFor : Job → Refused → Type 0
+IsRefusedFor job refused =
+    IsFault job.image job.texts job.room job.base job.moves refused.client refused.fault

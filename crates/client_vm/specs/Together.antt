@@ -9,10 +9,13 @@ use Rattle.seg_spec.specs.Images.{IsSound, upgraded}
 use Rattle.client_spec.specs.Syntax.{Client}
 use Rattle.client_spec.specs.Run.{Ending, finished, stopped}
 use Rattle.client_spec.specs.OnImages.{Move, Left}
-use Rattle.client_spec.specs.Clients.{AreMoves, RunClients, StayWithin, outputs, image_after, ending_after}
+use Rattle.client_spec.specs.Clients.{AreMoves, AreAccepted, RunClients, StayWithin, outputs, image_after, ending_after}
 use Rattle.client_sim.specs.Writes.{Took}
 use Rattle.client_output.specs.declared.report.Report.{Report}
-use Rattle.client_run.specs.Runs.{given_of}
+use Rattle.client_run.specs.ReadyClients.{texts_in}
+use Rattle.client_run.specs.Runs.{ending_of, given_of}
+use Rattle.client_vm.specs.declared.bytes.Admitted.{Admitted}
+use Rattle.client_vm.specs.Jobs.{Effect}
 use Rattle.client_vm.specs.Admitted.{AreAcceptedOn}
 use Rattle.client_vm.specs.Outcomes.{AreReports}
 
@@ -39,8 +42,14 @@ opened window = with_bytes window (upgraded window.bytes)
 -- the texts' clients were accepted on the sound image of a window, and ran on it after it was
 -- opened
 pub record HaveRunOn (texts : List (List ℕ)) (moves : List Move) (input : List ℕ)
-    (window : Placement) (taken : Option (List ℕ)) (saved : List ℕ)
-    (taken_then : Option (List ℕ)) (reports : List Report) (ending : Ending) : Type 0 where
+    (window : Placement) (effect : Effect) : Type 0 where
   pub accepted : AreAcceptedOn window.bytes texts
   pub runs : AreMoves (length (region_of window)) (length window.bytes) 0 moves →
-      HaveRun accepted.clients moves input (opened window) taken saved taken_then reports ending
+      HaveRun accepted.clients moves input (opened window) effect.taken effect.saved
+      effect.taken_then effect.reports (ending_of effect.ended)
+
+-- so they have, if the image's types accept them
+abbrev pub AdmittedRan : {A : _} → Admitted A → List Move → List ℕ → Placement → Effect → Type 0
+AdmittedRan admitted moves input window effect = (clients : List Client) →
+    AreAccepted admitted.types (texts_in admitted.programs.items) clients →
+    HaveRunOn (texts_in admitted.programs.items) moves input window effect

@@ -10,9 +10,10 @@ ghost use Rattle.client_spec.specs.Clients.{AreAccepted};
 ghost use Rattle.client_spec.specs.Outcome.{CanMove};
 ghost use Rattle.client_vm.specs.Admitted.{IsWrong};
 ghost use Rattle.client_run.specs.Moves.{moves_of};
+ghost use Rattle.client_vm.specs.Jobs.{job_at, job_of, effect_of};
 ghost use Rattle.client_vm.specs.Outcomes.{IsFaultOfCall, IsRefusedFor, HasOutcome};
 ghost use Rattle.client_run.specs.Runs.{ending_of, IsReady};
-ghost use Rattle.client_vm.specs.Together.{ending_if, HaveRun, HaveRunOn};
+ghost use Rattle.client_vm.specs.Together.{ending_if, AdmittedRan, HaveRun, HaveRunOn};
 ghost use Rattle.client_verify.specs.Texts.{AreWrong, texts_of};
 ghost use Rattle.client_run.specs.ReadyClients.{texts_in};
 ghost use Rattle.client_vm.specs.Reports.{AreReportsOf, HasReportsOf};
@@ -48,11 +49,11 @@ pub fn run_bytes<A: Allocator + Copy, W: Sink>(
     out: &mut W,
 ) -> Result<Outcome<A>, Refused>
     requires works { W.has_failed out.old ≡ false }
-    ensures refused { IfErr result (IsRefusedFor image.now (map (λ c. c.now) clients.now)
-        schedule.now.room schedule.now.base (moves_of schedule.now.moves.now)) }
-    ensures outcome { IfOk result (λ o. HasOutcome image.now (map (λ c. c.now) clients.now)
-        input.now schedule.now.room schedule.now.base (moves_of schedule.now.moves.now)
-        (W.taken out.old) (W.taken out.new) o.image.items o.reports.items o.ended) }
+    ensures refused { IfErr result (IsRefusedFor
+        (job_of image.now (map (λ c. c.now) clients.now) input.now schedule.now)) }
+    ensures outcome { IfOk result (λ o. HasOutcome
+        (job_of image.now (map (λ c. c.now) clients.now) input.now schedule.now)
+        (effect_of (W.taken out.old) (W.taken out.new) o)) }
     ensures nothing_written { OnErr result (out.new ≡ out.old) }
     ensures ended { IfOk result
         (λ o. (o.ended ≡ Ended.OutputFailed) ↔ (W.has_failed out.new ≡ true)) }
@@ -82,13 +83,13 @@ pub fn run_image<A: Allocator + Copy, W: Sink>(
     out: &mut W,
 ) -> Result<Outcome<A>, Unrun<A>>
     requires works { W.has_failed out.old ≡ false }
-    ensures refused { IfErr result (λ unrun. IsRefusedFor image.items
-        (map (λ c. c.now) clients.now) schedule.now.room schedule.now.base
-        (moves_of schedule.now.moves.now) unrun.refused) }
+    ensures refused { IfErr result (λ unrun. IsRefusedFor
+        (job_of image.items (map (λ c. c.now) clients.now) input.now schedule.now)
+        unrun.refused) }
     ensures given_back { IfErr result (λ unrun. unrun.bytes.items ≡ image.items) }
-    ensures outcome { IfOk result (λ o. HasOutcome image.items (map (λ c. c.now) clients.now)
-        input.now schedule.now.room schedule.now.base (moves_of schedule.now.moves.now)
-        (W.taken out.old) (W.taken out.new) o.image.items o.reports.items o.ended) }
+    ensures outcome { IfOk result (λ o. HasOutcome
+        (job_of image.items (map (λ c. c.now) clients.now) input.now schedule.now)
+        (effect_of (W.taken out.old) (W.taken out.new) o)) }
     ensures nothing_written { OnErr result (out.new ≡ out.old) }
     ensures ended { IfOk result
         (λ o. (o.ended ≡ Ended.OutputFailed) ↔ (W.has_failed out.new ≡ true)) }
@@ -149,9 +150,9 @@ fn run_copy<A: Allocator + Copy, W: Sink>(
     requires can_move { CanMove image.now schedule.now.room schedule.now.base
         (moves_of schedule.now.moves.now) }
     ensures refused { IfErr result (IsWrong image.now (map (λ c. c.now) clients.now)) }
-    ensures outcome { IfOk result (λ o. HasOutcome image.now (map (λ c. c.now) clients.now)
-        input.now schedule.now.room schedule.now.base (moves_of schedule.now.moves.now)
-        (W.taken out.old) (W.taken out.new) o.image.items o.reports.items o.ended) }
+    ensures outcome { IfOk result (λ o. HasOutcome
+        (job_of image.now (map (λ c. c.now) clients.now) input.now schedule.now)
+        (effect_of (W.taken out.old) (W.taken out.new) o)) }
     ensures nothing_written { OnErr result (out.new ≡ out.old) }
     ensures ended { IfOk result
         (λ o. (o.ended ≡ Ended.OutputFailed) ↔ (W.has_failed out.new ≡ true)) }
@@ -181,9 +182,9 @@ fn run_own<A: Allocator + Copy, W: Sink>(
     ensures refused { IfErr result (λ unrun.
         IsWrong image.items (map (λ c. c.now) clients.now) unrun.refused) }
     ensures given_back { IfErr result (λ unrun. unrun.bytes.items ≡ image.items) }
-    ensures outcome { IfOk result (λ o. HasOutcome image.items (map (λ c. c.now) clients.now)
-        input.now len 0 (moves_of moves.now)
-        (W.taken out.old) (W.taken out.new) o.image.items o.reports.items o.ended) }
+    ensures outcome { IfOk result (λ o. HasOutcome
+        (job_at image.items (map (λ c. c.now) clients.now) input.now len 0 (moves_of moves.now))
+        (effect_of (W.taken out.old) (W.taken out.new) o)) }
     ensures nothing_written { OnErr result (out.new ≡ out.old) }
     ensures ended { IfOk result
         (λ o. (o.ended ≡ Ended.OutputFailed) ↔ (W.has_failed out.new ≡ true)) }
@@ -214,8 +215,7 @@ fn run_in<A: Allocator + Copy, W: Sink>(
         IsWrong window.bytes (map (λ c. c.now) clients.now) it.0) }
     ensures given_back { IfErr result (λ it. it.1 ≡ window) }
     ensures runs { IfOk result (λ o. HaveRunOn (map (λ c. c.now) clients.now)
-        (moves_of moves.now) input.now window (W.taken out.old) o.image.items (W.taken out.new)
-        o.reports.items (ending_of o.ended)) }
+        (moves_of moves.now) input.now window (effect_of (W.taken out.old) (W.taken out.new) o)) }
     ensures nothing_written { OnErr result (out.new ≡ out.old) }
     ensures ended { IfOk result
         (λ o. (o.ended ≡ Ended.OutputFailed) ↔ (W.has_failed out.new ≡ true)) }
@@ -271,11 +271,9 @@ fn run_admitted<A: Allocator, W: Sink>(
     requires works { W.has_failed out.old ≡ false }
     requires empty { admitted.reports.items ≡ [] }
     requires room { length admitted.programs.items ≤ vec_capacity admitted.reports }
-    ensures runs { IsImageOf window.bytes admitted.entry.types → (trees : List syntax.Client) →
-        AreAccepted admitted.entry.types (texts_in admitted.entry.programs.items) trees →
-        HaveRunOn (texts_in admitted.entry.programs.items) (moves_of moves.now) input.now window
-        (W.taken out.old) result.image.items (W.taken out.new) result.reports.items
-        (ending_of result.ended) }
+    ensures runs { IsImageOf window.bytes admitted.entry.types →
+        AdmittedRan admitted.entry (moves_of moves.now) input.now window
+        (effect_of (W.taken out.old) (W.taken out.new) result) }
     ensures ended { (result.ended ≡ Ended.OutputFailed) ↔ (W.has_failed out.new ≡ true) }
     ensures reports { HasReportsOf (texts_in admitted.entry.programs.items) result.reports.items
         result.ended }
@@ -299,11 +297,9 @@ fn run_on<F: Fit, A: Allocator, W: Sink>(
     requires empty { admitted.reports.items ≡ [] }
     requires room { length admitted.programs.items ≤ vec_capacity admitted.reports }
     ensures runs { IsImageOf window.bytes admitted.entry.types →
-        word window.bytes allocator_word ≡ F.allocator → (trees : List syntax.Client) →
-        AreAccepted admitted.entry.types (texts_in admitted.entry.programs.items) trees →
-        HaveRunOn (texts_in admitted.entry.programs.items) (moves_of moves.now) input.now window
-        (W.taken out.old) result.image.items (W.taken out.new) result.reports.items
-        (ending_of result.ended) }
+        word window.bytes allocator_word ≡ F.allocator →
+        AdmittedRan admitted.entry (moves_of moves.now) input.now window
+        (effect_of (W.taken out.old) (W.taken out.new) result) }
     ensures ended { (result.ended ≡ Ended.OutputFailed) ↔ (W.has_failed out.new ≡ true) }
     ensures reports { HasReportsOf (texts_in admitted.entry.programs.items) result.reports.items
         result.ended }

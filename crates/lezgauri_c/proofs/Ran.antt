@@ -8,13 +8,13 @@ use Rattle.client_output.specs.declared.refused.Refused.{Refused}
 use Rattle.client_vm.specs.Admitted.{IsWrong}
 use Rattle.client_vm.specs.Outcomes.{HasOutcome, IsRefusedFor}
 use Rattle.client_vm.proofs.Refusing.{why}
-use Rattle.lezgauri_c.specs.Calls.{IsRun}
+use Rattle.lezgauri_c.specs.Calls.{whole_job, effect_of_one, IsRun}
 use Rattle.lezgauri_c.proofs.OneClient.{can_move}
 
 -- the statement of a run
 pub same_run : (text input image from output started output_then written saved left : List ℕ) (told : Report) (ended : Ended)
     → from ≡ image → started ≡ output → output_then ≡ written → saved ≡ left → told.ended ≡ ended
-    → (IsSound from → HasOutcome from (text ∷ []) input (length from) 0 [] (Some started) (Some written) left (told ∷ []) told.ended)
+    → (IsSound from → HasOutcome (whole_job from (text ∷ []) input) (effect_of_one (Some started) (Some written) left told))
     → IsSound image → IsRun image (text ∷ []) input output output_then saved (told ∷ []) ended
 same_run text input image from output started output_then written saved left told ended from_is started_is then_is saved_is ended_is run sound =
     subst (λ (e : Ended). IsRun image (text ∷ []) input output output_then saved (told ∷ []) e) ended_is
@@ -25,7 +25,7 @@ same_run text input image from output started output_then written saved left tol
 
 -- the statement of a refusal
 pub same_refusal : (text image from : List ℕ) (refused : Refused) → from ≡ image → (IsSound from → IsWrong from (text ∷ []) refused)
-    → IsSound image → IsRefusedFor image (text ∷ []) (length image) 0 [] refused
+    → IsSound image → IsRefusedFor (whole_job image (text ∷ []) []) refused
 same_refusal text image from refused from_is wrong sound =
     why image (text ∷ []) (length image) 0 [] (can_move image sound) refused.client refused.fault
     (subst (λ (i : List ℕ). IsSound i → IsWrong i (text ∷ []) refused) from_is wrong sound)

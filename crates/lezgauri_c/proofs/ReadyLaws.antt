@@ -1,7 +1,6 @@
--- A prepared client was accepted, so it is verified for each table of types that its types agree
--- with.
-use Rattle.std.proofs.Common.{◌≡◌, ◌≤◌, ℕ, ◌^◌, List, [], ◌∷◌, replicate, refl, sym, ◌∙◌, arith}
-use Rattle.std.specs.Prelude.{Ok, Err, Result, Some, IfErr}
+-- A client that is ready was accepted, so it is verified wherever its types agree with a table.
+use Rattle.std.proofs.Common.{◌≡◌, ◌≤◌, ℕ, ◌^◌, List, [], ◌∷◌, refl, arith}
+use Rattle.std.specs.Prelude.{Err, Result, Some}
 use Rattle.std.specs.Global.{Global}
 use Rattle.std.proofs.Math.Logic.{∥∥₁_elim}
 use Rattle.seg_spec.specs.Types.{Table, Agree, IsFirstDifference}
@@ -10,24 +9,15 @@ use Rattle.seg_check.specs.Faults.{IsImageOf}
 use Rattle.client_spec.specs.Syntax.{Client}
 use Rattle.client_spec.specs.Grammar.{SpellsClient}
 use Rattle.client_spec.specs.Run.{bound}
-use Rattle.client_spec.specs.Safe.{IsAccepted}
-use Rattle.client_spec.specs.Typed.{Checked, RegisterType, RegisterTypes, types_after}
 use Rattle.client_spec.specs.Clients.{IsVerified}
 use Rattle.client_verify.specs.declared.verified.TheConstants.{MOST_STEPS}
 use Rattle.client_run.specs.declared.ready.Ready.{Ready}
+use Rattle.client_run.proofs.AcceptedLaws.{accepted_so}
 use Rattle.client_output.specs.declared.refused.Refused.{Refused}
 use Rattle.client_vm.specs.Admitted.{IsWrong}
 use Rattle.client_vm.proofs.Refusing.{if_wrong}
 use Rattle.lezgauri_c.specs.Prepared.{text_of}
 use Rattle.lezgauri_c.proofs.OneClient.{only_wrong}
-
--- acceptance is decidable, so a double negation of it can be dropped
-accepted_so : (client : Client) → ((IsAccepted client → ⊥) → ⊥) → IsAccepted client
-accepted_so client some = go (types_after client.types client.constants client.code (replicate 16 RegisterType.Undefined)) refl
-  where
-    go : (known : Checked RegisterTypes) → types_after client.types client.constants client.code (replicate 16 RegisterType.Undefined) ≡ known → IsAccepted client
-    go (Ok after) e = (after, e)
-    go (Err reason) e = absurd (some (λ a. let f : Ok a.0 ≡ Err reason = sym a.1 ∙ e in cc))
 
 module _ (ready : Ready Global) (client : Client) (spells : SpellsClient (text_of ready) client) (table : Table) where
   pub verified_on : Agree table client.types → IsVerified table client

@@ -2,18 +2,23 @@
 --     in_hand prepared            the client, if there is one
 --     text_of ready               its file
 --     IsReadyOn image text ready  it was verified against the types of an image
---     HoldsClient image text prepared     C keeps such a client
---     OfClient prepared P         if C keeps a client, P is true of its file
-use Rattle.std.specs.Prelude.{◌≡◌, ℕ, List, Option, Some}
+--     HoldsClient image text prepared     and C keeps it
+--     OfClient prepared P         where C keeps one, P holds of its file
+--     ReadyRan ready ..           a client that is ready has run on the image in a window, if the
+--                                 image's types accept it
+use Rattle.std.specs.Prelude.{◌≡◌, ℕ, List, [], ◌∷◌, Option, Some}
 use Rattle.std.specs.Global.{Global}
 use Rattle.seg_spec.specs.Types.{Table}
 use Rattle.seg_spec.specs.Images.{IsSound}
+use Rattle.seg_spec.specs.Window.{Placement}
 use Rattle.client_spec.specs.Syntax.{Client}
 use Rattle.client_spec.specs.Grammar.{SpellsClient}
 use Rattle.client_spec.specs.Clients.{IsVerified}
 use Rattle.client_code.specs.Clients.{bytes_of}
 use Rattle.client_run.specs.declared.ready.Ready.{Ready}
 use Rattle.client_run.specs.ReadyClients.{client_in}
+use Rattle.client_vm.specs.Jobs.{Effect}
+use Rattle.client_vm.specs.Together.{HaveRunOn}
 use Rattle.lezgauri_c.specs.declared.prepared.Prepared.{Prepared}
 
 abbrev pub in_hand : Prepared → Option (Ready Global)
@@ -39,3 +44,8 @@ HoldsClient image text prepared =
 abbrev pub OfClient : Prepared → (List ℕ → Type 0) → Type 0
 OfClient prepared P = (ready : Ready Global) → in_hand prepared ≡ Some ready →
     (client : Client) → SpellsClient (text_of ready) client → P (text_of ready)
+
+abbrev pub ReadyRan : Ready Global → Table → List ℕ → Placement → Effect → Type 0
+ReadyRan ready types input window effect =
+    (client : Client) → SpellsClient (text_of ready) client → IsVerified types client →
+    HaveRunOn (text_of ready ∷ []) [] input window effect

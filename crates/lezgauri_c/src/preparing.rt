@@ -1,9 +1,13 @@
 ghost use Rattle.std.specs.Prelude.{◌≡◌, ◌<◌, ◌≤◌, ◌↔◌, None, [], ◌∷◌, IfOk, IfErr};
 ghost use Rattle.seg_spec.specs.Images.{IsSound};
+ghost use Rattle.client_spec.specs.Syntax as syntax;
+ghost use Rattle.client_spec.specs.Grammar.{SpellsClient};
+ghost use Rattle.client_spec.specs.Clients.{IsVerified};
+ghost use Rattle.client_verify.specs.Texts.{AreWrong};
 ghost use Rattle.client_output.specs.declared.report.Ended.{Ended};
 ghost use Rattle.client_vm.specs.Admitted.{IsWrong};
 ghost use Rattle.lezgauri_c.specs.Calls.{HasRunOn, IsWrongAs, IsRefusedAs};
-ghost use Rattle.lezgauri_c.specs.Prepared.{in_hand, IsReadyOn, HoldsClient, OfClient};
+ghost use Rattle.lezgauri_c.specs.Prepared.{in_hand, text_of, IsReadyOn, HoldsClient, OfClient};
 ghost use Rattle.lezgauri_c.specs.Told.{no_fault, status_number};
 
 use crate::accepting::ready;
@@ -11,13 +15,12 @@ use crate::buffer::Buffer;
 use crate::fault::Fault;
 use crate::prepared::Prepared;
 use crate::report::Report;
-use crate::run_in_place::{run_again, types_of, window_of};
+use crate::run_in_place::{open_window, run_again};
 use crate::running::status_of;
 use crate::status::{BAD_ARGUMENT, OK};
 use client_vm::{Ready, Refused};
+use seg_layout::TypeTable;
 use seg_lent::Lent;
-use seg_ptr::Window;
-use seg_raw::Fault as Reason;
 use std::alloc::{Allocator, Global};
 
 /// Verifies a client against the types of an image that an earlier call found sound, or changed, and prepares it to run any
@@ -130,24 +133,25 @@ fn made_ready<A: Allocator>(
         IsWrong image.items (client.now ∷ []) refused) }
     ensures kept { result.1.items ≡ image.items }
 {
-    let window = match window_of(image) {
-        Ok(window) => window,
-        Err(image) => return (Err(Refused::from(Reason::BadHeader)), image),
+    let (window, types) = match open_window(image) {
+        Ok(it) => it,
+        Err((fault, image)) => return (Err(Refused::from(fault)), image),
     };
-    let made = ready_on(alloc, &window, client);
+    let made = boxed_ready(alloc, &types, client);
     (made, window.into_bytes())
 }
 
-fn ready_on<A: Allocator>(
+/// A client verified against types, and made ready in memory of its own.
+fn boxed_ready(
     alloc: Global,
-    window: &Window<A>,
+    types: &TypeTable,
     client: &'static [u8],
 ) -> Result<Box<Ready<'static, Global>>, Refused>
-    ensures ready { IfOk result (λ made. IsReadyOn window.now.bytes client.now made.value) }
-    ensures wrong { IfErr result (λ refused. IsSound window.now.bytes →
-        IsWrong window.now.bytes (client.now ∷ []) refused) }
+    ensures text { IfOk result (λ made. text_of made.value ≡ client.now) }
+    ensures accepted { IfOk result (λ made. (tree : syntax.Client) ×
+        SpellsClient client.now tree × IsVerified types.now tree) }
+    ensures wrong { IfErr result (AreWrong types.now (client.now ∷ [])) }
 {
-    let types = types_of(window)?;
-    let client = ready(alloc, client, &types)?;
+    let client = ready(alloc, client, types)?;
     Ok(Box::new(alloc, client)?)
 }

@@ -5,15 +5,14 @@ ghost use Rattle.seg_spec.specs.Types.{Table};
 ghost use Rattle.seg_spec.specs.Images.{IsSound};
 ghost use Rattle.seg_spec.specs.Window.{region_of};
 ghost use Rattle.seg_check.specs.Faults.{IsImageOf, IsFaultOf};
-ghost use Rattle.client_spec.specs.Clients.{IsVerified};
-ghost use Rattle.client_code.specs.Clients.{OfTree, bytes_of};
+ghost use Rattle.client_code.specs.Clients.{OfTree};
 ghost use Rattle.client_run.specs.ReadyClients.{client_in};
 ghost use Rattle.client_output.specs.declared.report.Ended.{Ended};
 ghost use Rattle.client_vm.specs.Admitted.{IsWrong};
 ghost use Rattle.client_vm.specs.Outcomes.{HasOutcome};
 ghost use Rattle.client_vm.specs.Reports.{IsReportOf};
-ghost use Rattle.client_run.specs.Runs.{ending_of};
-ghost use Rattle.client_vm.specs.Together.{HaveRunOn};
+ghost use Rattle.lezgauri_c.specs.Calls.{whole_job, effect_of_one};
+ghost use Rattle.lezgauri_c.specs.Prepared.{text_of, ReadyRan};
 
 use crate::accepting::ready;
 use client_vm::{Ready, Refused, Report as Told, Sink, run};
@@ -37,9 +36,9 @@ pub(crate) fn verify_and_run<A: Allocator, W: Sink>(
 ) -> (Result<Told, Refused>, Vec<u8, A>)
     requires works { W.has_failed sink.old ≡ false }
     ensures within { IfOk result.0 (IsReportOf client.now) }
-    ensures outcome { IfOk result.0 (λ told. IsSound image.items →
-        HasOutcome image.items (client.now ∷ []) input.now (length image.items) 0 []
-        (W.taken sink.old) (W.taken sink.new) result.1.items (told ∷ []) told.ended) }
+    ensures outcome { IfOk result.0 (λ told. IsSound image.items → HasOutcome
+        (whole_job image.items (client.now ∷ []) input.now)
+        (effect_of_one (W.taken sink.old) (W.taken sink.new) result.1.items told)) }
     ensures ended { IfOk result.0
         (λ told. (told.ended ≡ Ended.OutputFailed) ↔ (W.has_failed sink.new ≡ true)) }
     ensures refused { IfErr result.0 (λ refused. IsSound image.items →
@@ -47,13 +46,9 @@ pub(crate) fn verify_and_run<A: Allocator, W: Sink>(
     ensures kept { OnErr result.0 (result.1.items ≡ image.items) }
     ensures unwritten { OnErr result.0 (sink.new ≡ sink.old) }
 {
-    let window = match window_of(image) {
-        Ok(window) => window,
-        Err(image) => return (Err(Refused::from(Reason::BadHeader)), image),
-    };
-    let types = match types_of(&window) {
-        Ok(types) => types,
-        Err(fault) => return (Err(Refused::from(fault)), window.into_bytes()),
+    let (window, types) = match open_window(image) {
+        Ok(it) => it,
+        Err((fault, image)) => return (Err(Refused::from(fault)), image),
     };
     match ready(alloc, client, &types) {
         Ok(client) => {
@@ -73,27 +68,21 @@ pub(crate) fn run_again<A: Allocator, W: Sink>(
     sink: &mut W,
 ) -> (Result<Told, Refused>, Vec<u8, A>)
     requires works { W.has_failed sink.old ≡ false }
-    ensures within { IfOk result.0 (IsReportOf (bytes_of (client_in client.now))) }
+    ensures within { IfOk result.0 (IsReportOf (text_of client.now)) }
     ensures outcome { OfTree (client_in client.now) (λ _. IfOk result.0 (λ told.
-        IsSound image.items →
-        HasOutcome image.items (bytes_of (client_in client.now) ∷ []) input.now
-        (length image.items) 0 [] (W.taken sink.old) (W.taken sink.new) result.1.items
-        (told ∷ []) told.ended)) }
+        IsSound image.items → HasOutcome
+        (whole_job image.items (text_of client.now ∷ []) input.now)
+        (effect_of_one (W.taken sink.old) (W.taken sink.new) result.1.items told))) }
     ensures refused { OfTree (client_in client.now) (λ _. IfErr result.0 (λ refused.
-        IsSound image.items →
-        IsWrong image.items (bytes_of (client_in client.now) ∷ []) refused)) }
+        IsSound image.items → IsWrong image.items (text_of client.now ∷ []) refused)) }
     ensures mismatch { IfErr result.0 (λ refused. IsSound image.items →
         (k : ℕ) × (refused.fault ≡ Reason.TypeMismatch k)) }
     ensures kept { OnErr result.0 (result.1.items ≡ image.items) }
     ensures unwritten { OnErr result.0 (sink.new ≡ sink.old) }
 {
-    let window = match window_of(image) {
-        Ok(window) => window,
-        Err(image) => return (Err(Refused::from(Reason::BadHeader)), image),
-    };
-    let types = match types_of(&window) {
-        Ok(types) => types,
-        Err(fault) => return (Err(Refused::from(fault)), window.into_bytes()),
+    let (window, types) = match open_window(image) {
+        Ok(it) => it,
+        Err((fault, image)) => return (Err(Refused::from(fault)), image),
     };
     match types.agrees(client.verified().types()) {
         Ok(()) => {
@@ -110,8 +99,30 @@ pub(crate) fn run_again<A: Allocator, W: Sink>(
     }
 }
 
-/// A window on an image in place. Bytes that are too long for a segment are returned.
-pub(crate) fn window_of<A: Allocator>(image: Vec<u8, A>) -> Result<Window<A>, Vec<u8, A>>
+/// A window on an image, in the image's own memory, and the image's types. Bytes that are no image come back with a fault.
+pub(crate) fn open_window<A: Allocator>(
+    image: Vec<u8, A>,
+) -> Result<(Window<A>, TypeTable), (Reason, Vec<u8, A>)>
+    ensures bytes { IfOk result (λ it. it.0.bytes ≡ image.items) }
+    ensures region { IfOk result (λ it. region_of it.0 ≡ image.items) }
+    ensures base { IfOk result (λ it. length it.0.before ≡ 0) }
+    ensures types { IfOk result (λ it. (table : Table) → IsImageOf image.items table →
+        it.1 ≡ table) }
+    ensures fault { OnErr result ((table : Table) → IsImageOf image.items table → ⊥) }
+    ensures kept { IfErr result (λ it. it.1.items ≡ image.items) }
+{
+    let window = match window_of(image) {
+        Ok(window) => window,
+        Err(image) => return Err((Reason::BadHeader, image)),
+    };
+    match types_of(&window) {
+        Ok(types) => Ok((window, types)),
+        Err(fault) => Err((fault, window.into_bytes())),
+    }
+}
+
+/// A window on an image, in the image's own memory. Bytes that are too many for a segment are no image, and come back.
+fn window_of<A: Allocator>(image: Vec<u8, A>) -> Result<Window<A>, Vec<u8, A>>
     ensures bytes { IfOk result (λ window. window.bytes ≡ image.items) }
     ensures region { IfOk result (λ window. region_of window ≡ image.items) }
     ensures base { IfOk result (λ window. length window.before ≡ 0) }
@@ -126,7 +137,7 @@ pub(crate) fn window_of<A: Allocator>(image: Vec<u8, A>) -> Result<Window<A>, Ve
 }
 
 /// The types of the image in a window.
-pub(crate) fn types_of<A: Allocator>(window: &Window<A>) -> Result<TypeTable, Reason>
+fn types_of<A: Allocator>(window: &Window<A>) -> Result<TypeTable, Reason>
     ensures { (table : Table) → IsImageOf window.now.bytes table → result ≡ Ok table }
 {
     read_types(window)
@@ -141,11 +152,9 @@ pub(crate) fn run_ready<A: Allocator, W: Sink>(
     sink: &mut W,
 ) -> (Told, Vec<u8, A>)
     requires works { W.has_failed sink.old ≡ false }
-    ensures within { IsReportOf (bytes_of (client_in client.now)) result.0 }
-    ensures runs { IsImageOf window.bytes types →
-        OfTree (client_in client.now) (λ tree. IsVerified types tree →
-        HaveRunOn (bytes_of (client_in client.now) ∷ []) [] input.now window (W.taken sink.old)
-        result.1.items (W.taken sink.new) (result.0 ∷ []) (ending_of result.0.ended)) }
+    ensures within { IsReportOf (text_of client.now) result.0 }
+    ensures runs { IsImageOf window.bytes types → ReadyRan client.now types input.now window
+        (effect_of_one (W.taken sink.old) (W.taken sink.new) result.1.items result.0) }
     ensures ended { (result.0.ended ≡ Ended.OutputFailed) ↔ (W.has_failed sink.new ≡ true) }
 {
     if window.get32(header::ALLOCATOR) == BestFit::word() {
@@ -164,11 +173,10 @@ fn run_on<F: Fit, A: Allocator, W: Sink>(
     sink: &mut W,
 ) -> (Told, Vec<u8, A>)
     requires works { W.has_failed sink.old ≡ false }
-    ensures within { IsReportOf (bytes_of (client_in client.now)) result.0 }
+    ensures within { IsReportOf (text_of client.now) result.0 }
     ensures runs { IsImageOf window.bytes types → word window.bytes allocator_word ≡ F.allocator →
-        OfTree (client_in client.now) (λ tree. IsVerified types tree →
-        HaveRunOn (bytes_of (client_in client.now) ∷ []) [] input.now window (W.taken sink.old)
-        result.1.items (W.taken sink.new) (result.0 ∷ []) (ending_of result.0.ended)) }
+        ReadyRan client.now types input.now window
+        (effect_of_one (W.taken sink.old) (W.taken sink.new) result.1.items result.0) }
     ensures ended { (result.0.ended ≡ Ended.OutputFailed) ↔ (W.has_failed sink.new ≡ true) }
 {
     header::upgrade(&mut window);

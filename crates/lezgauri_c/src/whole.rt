@@ -4,7 +4,7 @@ ghost use Rattle.client_output.specs.declared.report.Ended.{Ended};
 ghost use Rattle.client_vm.specs.Admitted.{IsWrong};
 ghost use Rattle.client_vm.specs.Outcomes.{HasOutcome};
 ghost use Rattle.client_vm.specs.Reports.{IsReportOf};
-ghost use Rattle.lezgauri_c.specs.Calls.{HasRunOn, WantsRoom, IsRefusedAs};
+ghost use Rattle.lezgauri_c.specs.Calls.{whole_job, effect_of_one, HasRunOn, WantsRoom, IsRefusedAs};
 ghost use Rattle.lezgauri_c.specs.Told.{no_fault, status_number};
 
 use crate::buffer::{Counter, replace};
@@ -98,9 +98,9 @@ fn run_on_copy<W: Sink>(
 ) -> Result<Ran, Refused>
     requires works { W.has_failed sink.old ≡ false }
     ensures within { IfOk result (λ ran. IsReportOf client.now ran.told) }
-    ensures outcome { IfOk result (λ ran. IsSound image.now →
-        HasOutcome image.now (client.now ∷ []) input.now (length image.now) 0 []
-        (W.taken sink.old) (W.taken sink.new) ran.image.items (ran.told ∷ []) ran.told.ended) }
+    ensures outcome { IfOk result (λ ran. IsSound image.now → HasOutcome
+        (whole_job image.now (client.now ∷ []) input.now)
+        (effect_of_one (W.taken sink.old) (W.taken sink.new) ran.image.items ran.told)) }
     ensures ended { IfOk result
         (λ ran. (ran.told.ended ≡ Ended.OutputFailed) ↔ (W.has_failed sink.new ≡ true)) }
     ensures refused { IfErr result (λ refused. IsSound image.now →

@@ -25,8 +25,8 @@ use Rattle.test_definitions.proofs.Worked.{increment_spelled}
 use Rattle.test_definitions.proofs.Whole as whole
 use Rattle.client_output.specs.declared.report.Report.{Report}
 use Rattle.client_output.specs.declared.refused.Refused.{Refused}
-use Rattle.client_output.specs.declared.report.Ended.{Ended}
 use Rattle.client_output.specs.declared.report.Ended.TheVariants as ended
+use Rattle.client_vm.specs.Jobs.{Job, Effect, job_at, effect_at}
 use Rattle.client_vm.specs.Outcomes.{AreReports, AreLeftByRuns, HasOutcome, IsFault, IsRefusedFor}
 
 -- ---- every fault stands for a refusal
@@ -79,9 +79,6 @@ module _ (image : List ℕ) (texts : List (List ℕ)) (room base : ℕ) (moves :
   stands (Some k) (fault.BadLine line) h = absurd h
   stands (Some k) (fault.BadMove i) h = absurd h
 
-  pub reason : (refused : Refused) → IsRefusedFor image texts room base moves refused → (refusal : Refusal) × IsRefusalOf image texts room base moves refusal
-  reason refused h = let s = stands refused.client refused.fault h in (s.refusal, s.holds)
-
   -- a refusal that isn't want of memory excludes an outcome
   memory_alone : (refusal : Refusal) → IsRefusalOf image texts room base moves refusal → CanRun image texts room base moves → refusal ≡ Refusal.no_memory
   memory_alone Refusal.no_memory r o = refl
@@ -92,11 +89,13 @@ module _ (image : List ℕ) (texts : List (List ℕ)) (room base : ℕ) (moves :
   memory_alone (Refusal.bad_text k) r o = absurd (whole.not_both image texts room base moves (Refusal.bad_text k) (λ e. cc) r o)
   memory_alone (Refusal.bad_client k) r o = absurd (whole.not_both image texts room base moves (Refusal.bad_client k) (λ e. cc) r o)
 
-  pub not_both : (input : List ℕ) (taken taken_then : Option (List ℕ)) (saved : List ℕ) (reports : List Report) (how : Ended) (refused : Refused)
-      → HasOutcome image texts input room base moves taken taken_then saved reports how → IsRefusedFor image texts room base moves refused → refused.fault ≡ fault.Memory
-  not_both input taken taken_then saved reports how refused o h =
-      let s = stands refused.client refused.fault h in
-      s.memory (memory_alone s.refusal s.holds o.can_run)
+pub reason : (job : Job) (refused : Refused) → IsRefusedFor job refused → (refusal : Refusal) × IsRefusalOf job.image job.texts job.room job.base job.moves refusal
+reason job refused h = let s = stands job.image job.texts job.room job.base job.moves refused.client refused.fault h in (s.refusal, s.holds)
+
+pub not_both : (job : Job) (effect : Effect) (refused : Refused) → HasOutcome job effect → IsRefusedFor job refused → refused.fault ≡ fault.Memory
+not_both job effect refused o h =
+    let s = stands job.image job.texts job.room job.base job.moves refused.client refused.fault h in
+    s.memory (memory_alone job.image job.texts job.room job.base job.moves s.refusal s.holds o.can_run)
 
 -- ---- without clients
 
@@ -115,7 +114,7 @@ lies_at_16 = record { size = sized; room_fits = lit≤ tt; placed = (refl, lit�
 moves : CanMove counter 2048 0 []
 moves = record { lies = lies_at_0; fit = tt }
 
-pub no_client-whole : HasOutcome counter [] [] 2048 0 [] (Some (codes "=")) (Some (codes "=")) (upgraded counter) [] ended.Done
+pub no_client-whole : HasOutcome (job_at counter [] [] 2048 0 []) (effect_at (Some (codes "=")) (Some (codes "=")) (upgraded counter) [] ended.Done)
 no_client-whole =
     let can_run : CanRun counter [] 2048 0 [] = record { can_move = moves; sound = counter_sound; clients = []; accepted = tt } in
     record {
@@ -137,8 +136,8 @@ no_lefts table [] given [] a r = refl
 no_lefts table [] given (left ∷ lefts) a r = absurd r
 no_lefts table (client ∷ clients) given lefts a r = absurd a
 
-module _ {input : List ℕ} {base : ℕ} {taken taken_then : Option (List ℕ)} {saved : List ℕ} {reports : List Report} {how : Ended} (o : HasOutcome counter [] input 2048 base [] taken taken_then saved reports how) where
-  pub left : AreLeftByRuns counter [] input 2048 base [] taken taken_then saved reports how
+module _ {input : List ℕ} {base : ℕ} {effect : Effect} (o : HasOutcome (job_at counter [] input 2048 base []) effect) where
+  pub left : AreLeftByRuns (job_at counter [] input 2048 base []) effect
   left = o.left
 
   nothing_left : left.lefts ≡ []
@@ -146,11 +145,11 @@ module _ {input : List ℕ} {base : ℕ} {taken taken_then : Option (List ℕ)} 
       let can = left.outcome.can_run in
       no_lefts can.sound.picture.table can.clients _ left.lefts can.accepted left.outcome.runs
 
-  pub saved_same : saved ≡ upgraded counter
+  pub saved_same : effect.saved ≡ upgraded counter
   saved_same = left.saved_is ∙ ap (image_after (upgraded counter)) nothing_left
 
-  pub no_reports : AreReports reports []
-  no_reports = subst (AreReports reports) nothing_left left.reports_are
+  pub no_reports : AreReports effect.reports []
+  no_reports = subst (AreReports effect.reports) nothing_left left.reports_are
 
   pub came_to_end : ending_after left.lefts ≡ finished
   came_to_end = ap ending_after nothing_left
@@ -158,20 +157,20 @@ module _ {input : List ℕ} {base : ℕ} {taken taken_then : Option (List ℕ)} 
   pub wrote_nothing : outputs left.lefts ≡ []
   wrote_nothing = ap outputs nothing_left
 
-pub no_client-wrote : HasOutcome counter [] [] 2048 0 [] (Some (codes "=")) (Some (codes "=4")) (upgraded counter) [] ended.Done → ⊥
+pub no_client-wrote : HasOutcome (job_at counter [] [] 2048 0 []) (effect_at (Some (codes "=")) (Some (codes "=4")) (upgraded counter) [] ended.Done) → ⊥
 no_client-wrote o = let e = subst (λ (bytes : List ℕ). Some (codes "=4") ≡ Some (61 ∷ bytes)) (wrote_nothing o) (left o).took in cc
 
-pub no_client-another : HasOutcome counter [] [] 2048 0 [] None None empty [] ended.Done → ⊥
+pub no_client-another : HasOutcome (job_at counter [] [] 2048 0 []) (effect_at None None empty [] ended.Done) → ⊥
 unfolding counter empty
 no_client-another o = absurd (omega (arith, ap length (saved_same o), (upgrade_changes counter).length_kept))
 
-pub no_client-stopped : HasOutcome counter [] [] 2048 0 [] None None (upgraded counter) [] ended.OutputFailed → ⊥
+pub no_client-stopped : HasOutcome (job_at counter [] [] 2048 0 []) (effect_at None None (upgraded counter) [] ended.OutputFailed) → ⊥
 no_client-stopped o = let e : stopped ≡ finished = (left o).ended_is ∙ came_to_end o in cc
 
-pub no_client-report : (report : Report) → HasOutcome counter [] [] 2048 0 [] None None (upgraded counter) (report ∷ []) ended.Done → ⊥
+pub no_client-report : (report : Report) → HasOutcome (job_at counter [] [] 2048 0 []) (effect_at None None (upgraded counter) (report ∷ []) ended.Done) → ⊥
 no_client-report report o = no_reports o
 
-pub no_client-no_place : HasOutcome counter [] [] 2048 8 [] None None (upgraded counter) [] ended.Done → ⊥
+pub no_client-no_place : HasOutcome (job_at counter [] [] 2048 8 []) (effect_at None None (upgraded counter) [] ended.Done) → ⊥
 no_client-no_place o = absurd (omega (arith, o.can_run.can_move.lies.placed.0))
 
 -- ---- refused

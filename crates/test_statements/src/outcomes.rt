@@ -1,12 +1,12 @@
 //! What a run's outcome means, and the fault of a run that didn't begin.
 
-ghost use Rattle.std.specs.Prelude.{◌≡◌, ℕ, List, [], ◌∷◌, codes, Option, Some, None};
+ghost use Rattle.std.specs.Prelude.{◌≡◌, [], ◌∷◌, codes, Some, None};
 ghost use Rattle.seg_spec.specs.Fixtures.{counter, greeting, empty, lost_gap};
 ghost use Rattle.seg_spec.specs.Images.{upgraded};
 ghost use Rattle.client_spec.specs.Grammar.{client_bytes};
-ghost use Rattle.client_spec.specs.OnImages.{Move};
 ghost use Rattle.client_spec.specs.Outcome.{Refusal, IsRefusalOf};
 ghost use Rattle.client_spec.specs.Fixtures.{increment, move_to};
+ghost use Rattle.client_vm.specs.Jobs.{Job, Effect, job_at, effect_at};
 ghost use Rattle.client_vm.specs.Outcomes.{HasOutcome, IsRefusedFor};
 
 use client_vm::{Ended, Refused, Report};
@@ -15,55 +15,52 @@ use seg_raw::Fault;
 /// A fault that is told stands for one of the reasons why no client runs. But for memory, none of them holds where clients ran,
 /// whatever they did.
 pub fn faults_and_outcomes()
-    ensures reason { (image : List ℕ) (texts : List (List ℕ)) (room base : ℕ) (moves : List Move)
-        (refused : Refused) →
-        IsRefusedFor image texts room base moves refused →
-        (refusal : Refusal) × IsRefusalOf image texts room base moves refusal }
-    ensures not_both { (image : List ℕ) (texts : List (List ℕ)) (input : List ℕ) (room base : ℕ)
-        (moves : List Move) (taken taken_then : Option (List ℕ)) (saved : List ℕ)
-        (reports : List Report) (ended : Ended) (refused : Refused) →
-        HasOutcome image texts input room base moves taken taken_then saved reports ended →
-        IsRefusedFor image texts room base moves refused → refused.fault ≡ Fault.Memory }
+    ensures reason { (job : Job) (refused : Refused) → IsRefusedFor job refused →
+        (refusal : Refusal) ×
+        IsRefusalOf job.image job.texts job.room job.base job.moves refusal }
+    ensures not_both { (job : Job) (effect : Effect) (refused : Refused) →
+        HasOutcome job effect → IsRefusedFor job refused → refused.fault ≡ Fault.Memory }
 {}
 
 /// With no client the number 41 named x is saved as it was opened. Nothing is written, there is no report, and the end is reached.
 pub fn no_clients()
-    ensures whole { HasOutcome counter [] [] 2048 0 [] (Some (codes "=")) (Some (codes "="))
-        (upgraded counter) [] Ended.Done }
-    ensures wrote { HasOutcome counter [] [] 2048 0 [] (Some (codes "=")) (Some (codes "=4"))
-        (upgraded counter) [] Ended.Done → ⊥ }
-    ensures another { HasOutcome counter [] [] 2048 0 [] None None empty [] Ended.Done → ⊥ }
-    ensures stopped { HasOutcome counter [] [] 2048 0 [] None None
-        (upgraded counter) [] Ended.OutputFailed → ⊥ }
-    ensures a_report { (report : Report) → HasOutcome counter [] [] 2048 0 [] None None
-        (upgraded counter) (report ∷ []) Ended.Done → ⊥ }
-    ensures no_place { HasOutcome counter [] [] 2048 8 [] None None
-        (upgraded counter) [] Ended.Done → ⊥ }
+    ensures whole { HasOutcome (job_at counter [] [] 2048 0 []) (effect_at
+        (Some (codes "=")) (Some (codes "=")) (upgraded counter) [] Ended.Done) }
+    ensures wrote { HasOutcome (job_at counter [] [] 2048 0 []) (effect_at
+        (Some (codes "=")) (Some (codes "=4")) (upgraded counter) [] Ended.Done) → ⊥ }
+    ensures another { HasOutcome (job_at counter [] [] 2048 0 [])
+        (effect_at None None empty [] Ended.Done) → ⊥ }
+    ensures stopped { HasOutcome (job_at counter [] [] 2048 0 [])
+        (effect_at None None (upgraded counter) [] Ended.OutputFailed) → ⊥ }
+    ensures a_report { (report : Report) → HasOutcome (job_at counter [] [] 2048 0 [])
+        (effect_at None None (upgraded counter) (report ∷ []) Ended.Done) → ⊥ }
+    ensures no_place { HasOutcome (job_at counter [] [] 2048 8 [])
+        (effect_at None None (upgraded counter) [] Ended.Done) → ⊥ }
 {}
 
 /// Three bytes are no image, a base of 8 is no place, and no move comes at step 0. An image that has lost its gap, and a client of
 /// no bytes; the client that adds one to a number, where the only type is a text's.
 pub fn refused()
-    ensures no_image { IsRefusedFor (codes "abc") [] 2048 0 []
+    ensures no_image { IsRefusedFor (job_at (codes "abc") [] [] 2048 0 [])
         (record { client = None; fault = Fault.BadHeader }) }
-    ensures no_place { IsRefusedFor counter [] 2048 8 []
+    ensures no_place { IsRefusedFor (job_at counter [] [] 2048 8 [])
         (record { client = None; fault = Fault.Misplaced }) }
-    ensures a_place { IsRefusedFor counter [] 2048 16 []
+    ensures a_place { IsRefusedFor (job_at counter [] [] 2048 16 [])
         (record { client = None; fault = Fault.Misplaced }) → ⊥ }
-    ensures bad_move { IsRefusedFor counter [] 2048 0 (move_to 0 16 ∷ [])
+    ensures bad_move { IsRefusedFor (job_at counter [] [] 2048 0 (move_to 0 16 ∷ []))
         (record { client = None; fault = Fault.BadMove 0 }) }
-    ensures another_move { IsRefusedFor counter [] 2048 0 (move_to 0 16 ∷ [])
+    ensures another_move { IsRefusedFor (job_at counter [] [] 2048 0 (move_to 0 16 ∷ []))
         (record { client = None; fault = Fault.BadMove 1 }) → ⊥ }
-    ensures lost_gap { IsRefusedFor lost_gap [] 2048 0 []
+    ensures lost_gap { IsRefusedFor (job_at lost_gap [] [] 2048 0 [])
         (record { client = None; fault = Fault.BadFree 24 }) }
-    ensures sound { IsRefusedFor counter [] 2048 0 []
+    ensures sound { IsRefusedFor (job_at counter [] [] 2048 0 [])
         (record { client = None; fault = Fault.BadFree 24 }) → ⊥ }
-    ensures no_client { IsRefusedFor counter ([] ∷ []) 2048 0 []
+    ensures no_client { IsRefusedFor (job_at counter ([] ∷ []) [] 2048 0 [])
         (record { client = Some 0; fault = Fault.BadCode 0 }) }
-    ensures first_client { IsRefusedFor counter ([] ∷ []) 2048 0 []
+    ensures first_client { IsRefusedFor (job_at counter ([] ∷ []) [] 2048 0 [])
         (record { client = Some 1; fault = Fault.BadCode 0 }) → ⊥ }
-    ensures other_types { IsRefusedFor greeting (client_bytes increment ∷ []) 2048 0 []
+    ensures other_types { IsRefusedFor (job_at greeting (client_bytes increment ∷ []) [] 2048 0 [])
         (record { client = Some 0; fault = Fault.TypeMismatch 0 }) }
-    ensures its_types { IsRefusedFor counter (client_bytes increment ∷ []) 2048 0 []
+    ensures its_types { IsRefusedFor (job_at counter (client_bytes increment ∷ []) [] 2048 0 [])
         (record { client = Some 0; fault = Fault.TypeMismatch 0 }) → ⊥ }
 {}

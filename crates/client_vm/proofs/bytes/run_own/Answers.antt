@@ -1,5 +1,6 @@
 use Rattle.std.proofs.Common.{List, ℕ, length, map, sym, ap, ◌∙◌}
 use Rattle.client_run.specs.Moves.{moves_of}
+use Rattle.client_vm.specs.Jobs.{effect_of}
 use Rattle.client_vm.proofs.Refusing.{placed_there, shows, whole_region}
 use Rattle.client_vm.proofs.TogetherLaws.{has_outcome}
 use Rattle.client_vm.proofs.bytes.run_own.Goals as goal
@@ -11,7 +12,7 @@ returns-in-Ok-clause-outcome g c =
     let texts : List (List ℕ) = map (λ x. x.now) c.args.clients.now in
     let region = c.from_vec.result in
     let window = c.unwrap-window.result in
-    let o = c.in-Ok.outcome in
     let w = placed_there _ c.place.result window region 0 len c.unwrap-window.ensures c.place.ensures.window in
-    has_outcome texts (moves_of c.args.moves.now) c.args.input.now window (g.W.Sink.taken c.args.out.now) o.image.items (g.W.Sink.taken c.run_in.new.out) o.reports.items o.ended c.in-Ok.ensures.runs image len 0
+    let effect = effect_of (g.W.Sink.taken c.args.out.now) (g.W.Sink.taken c.run_in.new.out) c.in-Ok.outcome in
+    has_outcome texts (moves_of c.args.moves.now) c.args.input.now window effect c.in-Ok.ensures.runs image len 0
     (shows window region 0 len image w.0 w.1 w.2 c.requires.len (whole_region image region c.from_vec.ensures)) (ap length (w.0 ∙ c.from_vec.ensures) ∙ sym c.requires.len) w.1 c.requires.can_move

@@ -4,6 +4,7 @@ use Rattle.std.proofs.lemmas.Result.{IfErr-at_err}
 use Rattle.seg_spec.specs.Images.{IsSound}
 use Rattle.client_output.specs.declared.report.Ended.TheVariants as ended
 use Rattle.client_vm.specs.Admitted.{IsWrong}
+use Rattle.lezgauri_c.specs.Calls.{whole_job, effect_of_one}
 use Rattle.lezgauri_c.proofs.OneClient.{done}
 use Rattle.lezgauri_c.proofs.Ran.{same_run, same_refusal}
 use Rattle.lezgauri_c.proofs.Sizes.{saved_size, same_room, told_bytes}
@@ -30,7 +31,7 @@ returns-then-not-whole-clause-full c is =
       needed_is = c.count-count.ensures;
       more = λ sound.
           (let run = c.in-Ok.ensures.outcome (subst IsSound (sym from) sound) in
-          let same = same_room items (text ∷ []) input (length items) 0 [] saved (told ∷ []) told.ended before.room sink.room before.written.bytes sink.written.bytes run.left in
+          let same = same_room (whole_job items (text ∷ []) input) saved (told ∷ []) told.ended before.room sink.room before.written.bytes sink.written.bytes run.left in
           let full = c.into_whole-whole.ensures.full c.if-not-whole.true in
           let room = c.new-sink.ensures.room ∙ c.take.ensures.room in
           let count = c.count-count.ensures in
@@ -41,7 +42,7 @@ returns-then-not-whole-clause-full c is =
           let count = c.count-count.ensures in
           omega (arith, long, counted, count));
       run = same_run text input image items output before.written.bytes sink.written.bytes sink.written.bytes saved saved told told.ended from started refl refl refl
-          (λ sound. told_bytes items (text ∷ []) input (length items) 0 [] saved (told ∷ []) told.ended before.room sink.room before.written.bytes sink.written.bytes (c.in-Ok.ensures.outcome sound));
+          (λ sound. told_bytes (whole_job items (text ∷ []) input) saved (told ∷ []) told.ended before.room sink.room before.written.bytes sink.written.bytes (c.in-Ok.ensures.outcome sound));
     }
 
 pub returns-then-not-replaced-clause-small : goal.returns-then-not-replaced-clause-small
@@ -58,7 +59,8 @@ returns-then-not-replaced-clause-small c sound is =
     let from : items ≡ image = c.as_slice.ensures.value ∙ c.take-bytes.ensures.bytes in
     let started : before.written.bytes ≡ output = c.new-sink.ensures.bytes ∙ c.take.ensures.bytes in
     let run = c.in-Ok.ensures.outcome (subst IsSound (sym from) sound) in
-    let size = saved_size items (text ∷ []) input (length items) 0 [] saved (told ∷ []) told.ended (Some (before.room ∷ before.written.bytes)) (Some (sink.room ∷ sink.written.bytes)) run.left in
+    let effect = effect_of_one (Some (before.room ∷ before.written.bytes)) (Some (sink.room ∷ sink.written.bytes)) saved told in
+    let size = saved_size (whole_job items (text ∷ []) input) effect run.left in
     let new = ap length c.as_slice-in-Ok.ensures.value in
     let old = ap length c.as_mut_slice.ensures.value in
     let whole = ap length c.as_slice.ensures.value in
@@ -92,7 +94,7 @@ returns-else-not-replaced-clause-whole c is =
       ended_is = ended_is;
       within = c.in-Ok.ensures.within;
       run = same_run text input image items output before.written.bytes c.give_back.new.self.bytes sink.written.bytes c.give_back-in-Ok.new.self.bytes saved told ended.Done from started then_is saved_is ended_is
-          (λ sound. told_bytes items (text ∷ []) input (length items) 0 [] saved (told ∷ []) told.ended before.room sink.room before.written.bytes sink.written.bytes (c.in-Ok.ensures.outcome sound));
+          (λ sound. told_bytes (whole_job items (text ∷ []) input) saved (told ∷ []) told.ended before.room sink.room before.written.bytes sink.written.bytes (c.in-Ok.ensures.outcome sound));
     }
 
 pub returns-in-Err-clause-refused : goal.returns-in-Err-clause-refused
