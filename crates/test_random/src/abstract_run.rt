@@ -1,7 +1,7 @@
 //! A client's run on objects without bytes, beside what a real run printed. Want of room is taken from there: an opener that
 //! succeeds prints a mark first. All else must be as printed.
 
-use crate::tests::model::Objects;
+use crate::model::Objects;
 use client_code::{Client, ConstantKind, Instruction, Role};
 use itoa::Buffer;
 use std::alloc::Global;

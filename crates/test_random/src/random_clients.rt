@@ -1,10 +1,11 @@
-use crate::tests::abstract_run::{AbstractRun, Sharing};
-use crate::tests::generator::{Generator, Version};
-use crate::tests::model::Objects;
+use crate::abstract_run::{AbstractRun, Sharing};
+use crate::counts::Counts;
+use crate::generator::{Generator, Version};
+use crate::model::Objects;
 use client_code::{Client, parse};
 use seg_layout::TypeTable;
 use std::alloc::Global;
-use std::process::Abort;
+use std::io::Eprint;
 use std::test::Fail;
 use support_data::write_words;
 use support_runs::{
@@ -21,31 +22,11 @@ struct Retraced {
     sharing: Sharing,
 }
 
-/// How many clients were accepted, and how many of them did what with frozen objects.
-#[derive(Debug, Clone, Copy, PartialEq, Eq, Default)]
-struct Counts {
-    accepted: u32,
-    froze: u32,
-    had_no_room: u32,
-    had_no_number: u32,
-    shared: u32,
-    read: u32,
-}
+/// Clients that run one after the other on one segment.
+const TURN: u32 = 10;
 
-impl Counts {
-    fn add(&mut self, sharing: Sharing) {
-        count(&mut self.accepted, true);
-        count(&mut self.froze, sharing.froze);
-        count(&mut self.had_no_room, sharing.had_no_room);
-        count(&mut self.had_no_number, sharing.had_no_number);
-        count(&mut self.shared, sharing.shared);
-        count(&mut self.read, sharing.read);
-    }
-}
-
-fn count(clients: &mut u32, is_one: bool) {
-    *clients = clients.wrapping_add(u32::from(is_one));
-}
+/// Clients of a seed: a turn on a segment of each kind and size.
+pub(crate) const ROUND: u32 = 320;
 
 /// Where an image has the number of the next object that is frozen.
 const NEXT_NUMBER: usize = 28;
@@ -88,9 +69,18 @@ struct Followed {
     sharing: Sharing,
 }
 
+/// Fails if a run and the model differ in a number.
+fn same(what: &str, run: u64, model: u64) -> Result<(), Fail> {
+    if run == model {
+        Ok(())
+    } else {
+        Err(Fail::new(format_args!("{what}: {run}, but {model} in the model")))
+    }
+}
+
 /// Runs a client on an image and on the objects beside it, if it is accepted.
 fn follow(
-    rt: &(impl Abort + AllocGlobal),
+    alloc: Global,
     objects: &mut Objects,
     image: &[u8],
     file: &[u8],
@@ -104,12 +94,18 @@ fn follow(
         room: 4096,
         ..PLAIN
     };
-    let ran = run_files(rt.alloc(), image, &[file], setting)?;
-    let retraced = retrace(rt.alloc(), objects, parsed, ran.out.as_slice())?;
+    let ran = run_files(alloc, image, &[file], setting)?;
+    let retraced = retrace(alloc, objects, parsed, ran.out.as_slice())?;
     let report = ran.reports.first().copied().unwrap_or_default();
-    assert_eq!(rt; report.steps, retraced.steps);
-    assert_eq!(rt; report.read, retraced.read);
-    assert!(rt; report.steps <= accepted.bound());
+    same("steps", report.steps, retraced.steps)?;
+    same(
+        "bytes of the input",
+        report.read as u64,
+        retraced.read as u64,
+    )?;
+    if report.steps > accepted.bound() {
+        return Err(Fail::new("more steps than the bound"));
+    }
     Ok(Some(Followed {
         image: ran.image,
         sharing: retraced.sharing,
@@ -117,63 +113,127 @@ fn follow(
 }
 
 /// As many names, unique objects and numbers of frozen ones are in the image as in the model.
-fn agree(rt: &(impl Abort + AllocGlobal), objects: &Objects, image: &[u8]) -> Result<(), Fail> {
-    let left = statistics_of(rt.alloc(), image)?;
-    assert_eq!(rt; left.named as usize, objects.named.len());
-    assert_eq!(rt; left.unique, objects.uniques.len());
+fn agree(alloc: Global, objects: &Objects, image: &[u8]) -> Result<(), Fail> {
+    let left = statistics_of(alloc, image)?;
+    same("names", u64::from(left.named), objects.named.len() as u64)?;
+    same(
+        "unique objects",
+        left.unique as u64,
+        objects.uniques.len() as u64,
+    )?;
     let next_number = objects.next_number.to_le_bytes();
-    assert_eq!(rt;
-        image
-            .get(NEXT_NUMBER..)
-            .map(|rest| rest.starts_with(&next_number)),
-        Some(true)
-    );
-    Ok(())
+    match image.get(NEXT_NUMBER..) {
+        Some(rest) if rest.starts_with(&next_number) => Ok(()),
+        _ => Err(Fail::new("another number of the next frozen object")),
+    }
 }
 
-/// Clients one after the other on one segment, whose next frozen object has a number. Every fourth is of version 1.
-fn follow_clients(
-    rt: &(impl Abort + AllocGlobal),
-    counts: &mut Counts,
+/// A client: the seed of its round, the segment that it runs on, and its place in the turn.
+#[derive(Debug, Clone, Copy)]
+struct Case {
+    seed: u32,
     kind: Kind,
-    (size, next_number): (u32, u32),
-) -> Result<(), Fail> {
-    let alloc = rt.alloc();
-    let mut image = empty(alloc, size, kind)?;
-    write_words(image.as_mut_slice(), NEXT_NUMBER, &[next_number]);
-    let mut objects = Objects::new(alloc, next_number);
-    for seed in 0..10 {
-        let version = if seed % 4 == 0 {
+    size: u32,
+    client: u32,
+}
+
+impl Case {
+    /// The text of the client. Every fourth is of version 1.
+    fn text(self, alloc: Global) -> Result<String, Fail> {
+        let version = if self.client % 4 == 0 {
             Version::One
         } else {
             Version::Two
         };
-        let seed = u64::from(size).wrapping_add(seed);
-        let text = Generator::new(alloc, version, seed).client(60)?;
+        let seed = u64::from(self.seed)
+            .wrapping_mul(10_000)
+            .wrapping_add(u64::from(self.size))
+            .wrapping_add(u64::from(self.client));
+        Ok(Generator::new(alloc, version, seed).client(60)?)
+    }
+}
+
+/// A segment and the objects of the model beside it.
+#[derive(Drop)]
+struct Pair {
+    image: Vec<u8>,
+    objects: Objects,
+}
+
+impl Pair {
+    /// Both are empty. The next object that is frozen gets this number.
+    fn new(alloc: Global, kind: Kind, size: u32, next_number: u32) -> Result<Pair, Fail> {
+        let mut image = empty(alloc, size, kind)?;
+        write_words(image.as_mut_slice(), NEXT_NUMBER, &[next_number]);
+        Ok(Pair {
+            image,
+            objects: Objects::new(alloc, next_number),
+        })
+    }
+
+    /// Runs a client on both, and compares them.
+    fn step(&mut self, alloc: Global, counts: &mut Counts, case: Case) -> Result<(), Fail> {
+        let text = case.text(alloc)?;
         let file = client(alloc, text.as_str())?;
-        if let Some(followed) = follow(rt, &mut objects, image.as_slice(), file.as_slice())? {
-            image = followed.image;
+        if let Some(followed) = follow(
+            alloc,
+            &mut self.objects,
+            self.image.as_slice(),
+            file.as_slice(),
+        )? {
+            self.image = followed.image;
             counts.add(followed.sharing);
         }
-        agree(rt, &objects, image.as_slice())?;
+        agree(alloc, &self.objects, self.image.as_slice())
+    }
+}
+
+/// Clients one after the other on one new segment. A failure is printed with what repeats it.
+fn follow_turn(
+    rt: &(impl Eprint + AllocGlobal),
+    counts: &mut Counts,
+    first: Case,
+    next_number: u32,
+    clients: u32,
+) -> Result<(), Fail> {
+    let mut pair = Pair::new(rt.alloc(), first.kind, first.size, next_number)?;
+    for client in 0..clients {
+        let case = Case { client, ..first };
+        if let Err(fail) = pair.step(rt.alloc(), counts, case) {
+            // the failure counts more than an output that can't take this line
+            let _ = eprintln!(rt; "{case:?}");
+            return Err(fail);
+        }
     }
     Ok(())
 }
 
-/// Random clients of all operations: output, steps and codes are those of objects without bytes.
-#[test]
-fn random_clients_follow_a_model(rt: HostRuntime) -> Result<(), Fail> {
+/// Random clients of all operations: output, steps and codes are those of objects without bytes. Each round has a seed, one
+/// more than the round before.
+pub(crate) fn follow_rounds(
+    rt: &(impl Eprint + AllocGlobal),
+    seed: u32,
+    clients: u32,
+) -> Result<Counts, Fail> {
     let mut counts = Counts::default();
-    for kind in KINDS {
-        for segment in SEGMENTS {
-            follow_clients(&rt, &mut counts, kind, segment)?;
+    let mut left = clients;
+    for seed in seed..u32::MAX {
+        for kind in KINDS {
+            for (size, next_number) in SEGMENTS {
+                let turn = left.min(TURN);
+                let first = Case {
+                    seed,
+                    kind,
+                    size,
+                    client: 0,
+                };
+                follow_turn(rt, &mut counts, first, next_number, turn)?;
+                left -= turn;
+            }
+        }
+        if left == 0 {
+            break;
         }
     }
-    assert!(rt; counts.accepted > 240, "{counts:?}");
-    assert!(rt; counts.froze > 30, "{counts:?}");
-    assert!(rt; counts.had_no_room > 5, "{counts:?}");
-    assert!(rt; counts.had_no_number > 10, "{counts:?}");
-    assert!(rt; counts.shared > 5, "{counts:?}");
-    assert!(rt; counts.read > 15, "{counts:?}");
-    Ok(())
+    Ok(counts)
 }
