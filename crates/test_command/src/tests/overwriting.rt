@@ -1,9 +1,9 @@
 //! What commands don't write over, and what they do.
 
-use crate::tests::files::{Stored, counter_files, counter_where, follow};
+use crate::tests::files::{Stored, counter_files, follow};
 use std::alloc::Global;
 use std::test::Fail;
-use support_data::{INCREMENT, INCREMENT_FILE, counter, counter_saved};
+use support_data::{INCREMENT, INCREMENT_FILE, counter, counter_saved, counter_where};
 
 /// The counter's image and another of its kind, the increment client and its text, a text that is no client, a picture, notes
 /// and an empty file. The files `alias` and `mirror` are the client and the image under other names.

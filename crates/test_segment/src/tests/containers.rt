@@ -50,17 +50,23 @@ fn item<F: Fit>(s: &Rooted<F>, index: u32) -> Result<i64, Code> {
     Ok(s.heap.load(at(&s.heap, s.root, index)?))
 }
 
-fn calls_on_lists<F: Fit>(rt: &(impl Abort + AllocGlobal)) -> Result<(), Fail> {
+/// A list of 1, 2 and 3.
+fn three_numbers<F: Fit>(rt: &(impl Abort + AllocGlobal)) -> Result<Rooted<F>, Fail> {
     let mut s = root_of::<F>(rt.alloc(), list_of(0))?;
     push_number(&mut s, 2)?;
     push_number(&mut s, 3)?;
     let first = push_front(&mut s.heap, s.root)?;
     s.heap.store(first, 1);
+    assert_eq!(rt; s.heap.load(next(&s.heap, first)), 2);
+    Ok(s)
+}
+
+fn calls_on_lists<F: Fit>(rt: &(impl Abort + AllocGlobal)) -> Result<(), Fail> {
+    let mut s = three_numbers::<F>(rt)?;
     assert_eq!(rt;
         (item(&s, 0), item(&s, 1), item(&s, 2)),
         (Ok(1), Ok(2), Ok(3))
     );
-    assert_eq!(rt; s.heap.load(next(&s.heap, first)), 2);
     pop_front(&mut s.heap, s.root)?;
     pop_back(&mut s.heap, s.root)?;
     assert_eq!(rt; (item(&s, 0), item(&s, 1)), (Ok(2), Err(Code::OutOfRange)));
@@ -86,11 +92,17 @@ fn value<F: Fit>(s: &Rooted<F>, key: i64) -> Result<i64, Code> {
     Ok(s.heap.load(get(&s.heap, s.root, key)?))
 }
 
-fn calls_on_maps<F: Fit>(rt: &(impl Abort + AllocGlobal), map: Spelled) -> Result<(), Fail> {
-    let mut s = root_of::<F>(rt.alloc(), map)?;
+/// A map with the keys -5, 3 and 4. The number of 3 is 6, since it was added twice.
+fn three_keys<F: Fit>(alloc: Global, map: Spelled) -> Result<Rooted<F>, Fail> {
+    let mut s = root_of::<F>(alloc, map)?;
     for key in [3, -5, 4, 3] {
         add(&mut s, key)?;
     }
+    Ok(s)
+}
+
+fn calls_on_maps<F: Fit>(rt: &(impl Abort + AllocGlobal), map: Spelled) -> Result<(), Fail> {
+    let mut s = three_keys::<F>(rt.alloc(), map)?;
     assert_eq!(rt; seg_map::len(&s.heap, s.root), Ok(3));
     assert_eq!(rt; first_key(&s.heap, s.root), Ok(-5));
     assert_eq!(rt; next_key(&s.heap, s.root, -5), Ok(3));

@@ -24,38 +24,68 @@ use support_data::{counter, counter_saved, sharing};
 /// Maps of numbers.
 const MAP: TypeId = 1;
 
-fn calls_on_names<F: Fit>(rt: &(impl Abort + AllocGlobal), index: IndexKind) -> Result<(), Fail> {
-    let mut s = segment::<F>(rt.alloc(), 1024, index, &[I64, map_of(NUMBER)])?;
+fn empty<F: Fit>(alloc: Global, index: IndexKind) -> Result<Segment<F, Global>, Fail> {
+    segment::<F>(alloc, 1024, index, &[I64, map_of(NUMBER)])
+}
+
+/// Two numbers named y, and one named x.
+fn with_names<F: Fit>(
+    rt: &(impl Abort + AllocGlobal),
+    index: IndexKind,
+) -> Result<Segment<F, Global>, Fail> {
+    let mut s = empty::<F>(rt.alloc(), index)?;
     let y = s.construct(b"y", NUMBER, 2)?;
     let x = s.find_or_construct(b"x", NUMBER)?;
-    assert_eq!(rt; s.find_or_construct(b"x", NUMBER), Ok(x));
     assert_eq!(rt; s.find(b"y", NUMBER)?, Found { at: y, count: 2 });
+    assert_eq!(rt; s.find_or_construct(b"x", NUMBER), Ok(x));
+    Ok(s)
+}
+
+/// Why a call on a name is refused.
+fn refuses_names<F: Fit>(rt: &impl Abort, s: &mut Segment<F, Global>) {
     assert_eq!(rt; s.find(b"x", MAP).err(), Some(Code::OtherType));
     assert_eq!(rt; s.construct(b"x", MAP, 1), Err(Code::AlreadyExists));
     assert_eq!(rt; s.construct(b"a b", NUMBER, 1), Err(Code::OutOfRange));
     assert_eq!(rt; s.construct(b"z", NUMBER, 65535), Err(Code::BadAlloc));
-    assert!(rt; first_name(&s).is_some_and(|it| it.name == b"x".as_slice() && it.count == 1));
-    assert!(rt; next_name(&s, b"x").is_some_and(|it| it.name == b"y".as_slice() && it.count == 2));
-    assert!(rt; next_name(&s, b"y").is_none());
-    assert_eq!(rt; num_named(&s), 2);
+}
+
+fn lists_names<F: Fit>(rt: &impl Abort, s: &Segment<F, Global>) {
+    assert!(rt; first_name(s).is_some_and(|it| it.name == b"x".as_slice() && it.count == 1));
+    assert!(rt; next_name(s, b"x").is_some_and(|it| it.name == b"y".as_slice() && it.count == 2));
+    assert!(rt; next_name(s, b"y").is_none());
+    assert_eq!(rt; num_named(s), 2);
+}
+
+fn calls_on_names<F: Fit>(rt: &(impl Abort + AllocGlobal), index: IndexKind) -> Result<(), Fail> {
+    let mut s = with_names::<F>(rt, index)?;
+    refuses_names(rt, &mut s);
+    lists_names(rt, &s);
     assert_eq!(rt; first_fault(rt.alloc(), s.window()), None);
     assert!(rt; s.destroy(b"x", NUMBER) && !s.destroy(b"x", NUMBER));
     assert!(rt; s.destroy(b"y", NUMBER) && all_memory_deallocated(&s));
     Ok(())
 }
 
-fn calls_on_other_objects<F: Fit>(
+fn calls_on_unique_objects<F: Fit>(
     rt: &(impl Abort + AllocGlobal),
     index: IndexKind,
 ) -> Result<(), Fail> {
-    let mut s = segment::<F>(rt.alloc(), 1024, index, &[I64, map_of(NUMBER)])?;
+    let mut s = empty::<F>(rt.alloc(), index)?;
     assert_eq!(rt; s.find_unique(MAP), Err(Code::Absent));
     let map = s.construct_unique(MAP)?;
     assert_eq!(rt; s.construct_unique(MAP), Err(Code::AlreadyExists));
-    assert_eq!(rt; s.find_unique(MAP), Ok(map));
     assert_eq!(rt; s.find_or_construct_unique(MAP), Ok(map));
     assert_eq!(rt; s.num_unique(), 1);
     assert!(rt; s.destroy_unique(MAP) && !s.destroy_unique(MAP));
+    Ok(())
+}
+
+/// An object that nothing owns is a fault in an image.
+fn calls_on_anonymous_objects<F: Fit>(
+    rt: &(impl Abort + AllocGlobal),
+    index: IndexKind,
+) -> Result<(), Fail> {
+    let mut s = empty::<F>(rt.alloc(), index)?;
     let number = s.new_anonymous(NUMBER)?;
     assert_eq!(rt;
         first_fault(rt.alloc(), s.window()),
@@ -67,29 +97,41 @@ fn calls_on_other_objects<F: Fit>(
 }
 
 #[test]
-fn each_call_on_objects(rt: HostRuntime) -> Result<(), Fail> {
+fn each_call_on_names(rt: HostRuntime) -> Result<(), Fail> {
     for index in INDEXES {
         calls_on_names::<SeqFit>(&rt, index)?;
         calls_on_names::<BestFit>(&rt, index)?;
-        calls_on_other_objects::<SeqFit>(&rt, index)?;
-        calls_on_other_objects::<BestFit>(&rt, index)?;
     }
     Ok(())
+}
+
+#[test]
+fn each_call_on_other_objects(rt: HostRuntime) -> Result<(), Fail> {
+    for index in INDEXES {
+        calls_on_unique_objects::<SeqFit>(&rt, index)?;
+        calls_on_unique_objects::<BestFit>(&rt, index)?;
+        calls_on_anonymous_objects::<SeqFit>(&rt, index)?;
+        calls_on_anonymous_objects::<BestFit>(&rt, index)?;
+    }
+    Ok(())
+}
+
+fn refuses_to_grow<F: Fit>(rt: &impl Abort, s: &mut Segment<F, Global>) {
+    assert_eq!(rt; grow(s, 24), Err(Fault::BadSize));
+    assert_eq!(rt; grow(s, 256), Err(Fault::NoHostRoom));
+    assert_eq!(rt; (free_memory(s), largest_gap(s)), (0, 0));
 }
 
 /// A number and its name fill a segment of 784 bytes.
 fn calls_on_memory<F: Fit>(rt: &(impl Abort + AllocGlobal), index: IndexKind) -> Result<(), Fail> {
     let mut s = segment_in::<F>(rt.alloc(), 1024, 784, index, &[I64])?;
     construct_number(&mut s, b"x")?;
-    assert_eq!(rt; (free_memory(&s), largest_gap(&s)), (0, 0));
-    assert_eq!(rt; grow(&mut s, 24), Err(Fault::BadSize));
-    assert_eq!(rt; grow(&mut s, 256), Err(Fault::NoHostRoom));
+    refuses_to_grow(rt, &mut s);
     assert_eq!(rt; grow(&mut s, 240), Ok(1024));
     assert_eq!(rt; (free_memory(&s), largest_gap(&s)), (240, 240));
     zero_free_memory(&mut s);
     assert_eq!(rt; first_fault(rt.alloc(), s.window()), None);
     assert_eq!(rt; shrink_to_fit(&mut s), 784);
-    assert_eq!(rt; s.find(b"x", NUMBER)?.count, 1);
     Ok(())
 }
 
