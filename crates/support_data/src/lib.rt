@@ -8,7 +8,7 @@ mod examples;
 mod images;
 mod output;
 mod random;
-mod statements;
+mod transcript;
 
 pub use changes::{change, counter_where, number};
 pub use clients::{INCREMENT, INCREMENT_FILE, chain};
@@ -16,4 +16,4 @@ pub use examples::{CACHE, CONFIGURE, COUNT, NOTICE, PUBLISH, SETTINGS};
 pub use images::{counter, counter_saved, front, sharing, write, write_words};
 pub use output::Limited;
 pub use random::Random;
-pub use statements::{Statement, statements};
+pub use transcript::{Statement, statements};
