@@ -26,7 +26,7 @@ struct Retraced {
 const TURN: u32 = 10;
 
 /// Clients of a seed: a turn on a segment of each kind and size.
-pub(crate) const ROUND: u32 = 320;
+pub(crate) const ROUND: u32 = KINDS.len() as u32 * SEGMENTS.len() as u32 * TURN;
 
 /// Where an image has the number of the next object that is frozen.
 const NEXT_NUMBER: usize = 28;
@@ -217,7 +217,8 @@ pub(crate) fn follow_rounds(
 ) -> Result<Counts, Fail> {
     let mut counts = Counts::default();
     let mut left = clients;
-    for seed in seed..u32::MAX {
+    for round in 0..clients.div_ceil(ROUND) {
+        let seed = seed.wrapping_add(round);
         for kind in KINDS {
             for (size, next_number) in SEGMENTS {
                 let turn = left.min(TURN);
@@ -230,9 +231,6 @@ pub(crate) fn follow_rounds(
                 follow_turn(rt, &mut counts, first, next_number, turn)?;
                 left -= turn;
             }
-        }
-        if left == 0 {
-            break;
         }
     }
     Ok(counts)
