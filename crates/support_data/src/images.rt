@@ -41,18 +41,12 @@ pub fn counter(alloc: Global) -> Result<Vec<u8>, AllocError> {
     Ok(image)
 }
 
-/// The counter's image with other words at some positions.
-pub fn counter_with(alloc: Global, changes: &[(usize, u32)]) -> Result<Vec<u8>, AllocError> {
-    let mut image = counter(alloc)?;
-    for (at, word) in changes {
-        write_words(image.as_mut_slice(), *at, &[*word]);
-    }
-    Ok(image)
-}
-
 /// The counter's image as it is saved: of version 2, with this number.
 pub fn counter_saved(alloc: Global, number: u32) -> Result<Vec<u8>, AllocError> {
-    counter_with(alloc, &[(8, 2), (720, number)])
+    let mut image = counter(alloc)?;
+    write_words(image.as_mut_slice(), 8, &[2]);
+    write_words(image.as_mut_slice(), 720, &[number]);
+    Ok(image)
 }
 
 /// An image of 1024 bytes with a frozen number, 7, to which the cell named b points. A cell named a, which also pointed

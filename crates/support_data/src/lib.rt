@@ -2,14 +2,18 @@
 //! and an output with a limit.
 #![tactic(auto)]
 
+mod changes;
 mod clients;
 mod examples;
 mod images;
 mod output;
 mod random;
+mod transcript;
 
+pub use changes::{change, counter_where, number};
 pub use clients::{INCREMENT, INCREMENT_FILE, chain};
 pub use examples::{CACHE, CONFIGURE, COUNT, NOTICE, PUBLISH, SETTINGS};
-pub use images::{counter, counter_saved, counter_with, front, sharing, write, write_words};
+pub use images::{counter, counter_saved, front, sharing, write, write_words};
 pub use output::Limited;
 pub use random::Random;
+pub use transcript::{Statement, statements};

@@ -1,12 +1,10 @@
 mod allocators;
 mod blocks;
 mod bytes;
-mod calls;
 mod containers;
 mod examples;
 mod frozen;
 mod growth;
-mod heaps;
 mod image;
 mod index;
 mod keys;

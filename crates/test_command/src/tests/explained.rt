@@ -1,6 +1,6 @@
-use crate::tests::files::{Stored, counter_file, counter_files, counter_where, follow, run};
+use crate::tests::files::{Stored, counter_file, counter_files, follow, run};
 use std::test::Fail;
-use support_data::counter;
+use support_data::{counter, counter_where};
 
 #[test]
 fn a_trace_changes_no_file(rt: HostRuntime) -> Result<(), Fail> {

@@ -1,7 +1,7 @@
-use crate::tests::files::{Stored, counter_files, counter_where, follow, run};
+use crate::tests::files::{Stored, counter_files, follow, run};
 use std::alloc::Global;
 use std::test::Fail;
-use support_data::{INCREMENT_FILE, counter, front};
+use support_data::{INCREMENT_FILE, counter, counter_where, front};
 
 /// The counter's image, the increment client, that client without its last byte, and a text that is no client.
 fn files(alloc: Global) -> Result<Stored, Fail> {

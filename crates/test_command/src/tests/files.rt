@@ -8,7 +8,7 @@ use std::alloc::{AllocError, Global};
 use std::process::Abort;
 use std::str;
 use std::test::Fail;
-use support_data::{INCREMENT, Limited, counter, front, write_words};
+use support_data::{INCREMENT, Limited, counter, front, statements};
 
 /// Files in memory. The read and the write with these numbers, counted from 1, fail. The file `saved` can be made, and those
 /// that are there be written.
@@ -202,18 +202,17 @@ pub(crate) fn run_into(alloc: Global, words: &[&str], files: &mut Stored, out: L
     }
 }
 
-/// Runs commands, each after a `$` at the beginning of a line, as `$ segtool check image`. The lines after it are what it
+/// Runs commands, each after a `$`, as `$ segtool check image`. The lines after it are what it
 /// prints. With a status, as in `$1 segtool check image`, it prints nothing, and these lines are its error; with the status
 /// 2 the error's words are of no matter.
 pub(crate) fn follow(alloc: Global, files: &mut Stored, text: &str) -> Result<(), Fail> {
-    let (_, commands) = text.split_once("\n$").ok_or("no command")?;
-    for part in commands.split("\n$") {
-        let (command, lines) = part.split_once('\n').unwrap_or((part, ""));
-        let (status, words) = command.split_once(' ').ok_or("no command")?;
-        let words: Vec<&str> = words.split_whitespace().collect(alloc)?;
+    for it in statements(alloc, text)? {
+        let (status, command) = it.words.split_once(' ').ok_or("no command")?;
+        let words: Vec<&str> = command.split_whitespace().collect(alloc)?;
         let printed = run(alloc, words.as_slice(), files);
+        let lines = it.lines.strip_suffix('\n').unwrap_or(it.lines);
         if !is_printed(&printed, status, lines) {
-            return Err(Fail::new(format_args!("{part}\n\nbut {}", printed.shown())));
+            return Err(Fail::new(format_args!("{command}\n{lines}\n\nbut {}", printed.shown())));
         }
     }
     Ok(())
@@ -255,17 +254,3 @@ pub(crate) fn counter_files(alloc: Global) -> Result<Stored, Fail> {
 /// names nothing.
 pub(crate) const FROZEN_PAIR: &str = "8=2 28=1 32=1 36=0 80=0x20109 96=0x1000208 580=140 712=258 \
     720=32 724=1 728=0 744=519 752=1 756=0 760=5 764=0 768=1 772=0";
-
-/// The counter's image with other words at some positions, as `16=2 60=0x1000000`.
-pub(crate) fn counter_where(alloc: Global, changes: &str) -> Result<Vec<u8>, Fail> {
-    let mut image = counter(alloc)?;
-    for change in changes.split_whitespace() {
-        let (at, word) = change.split_once('=').ok_or("no change")?;
-        let word = match word.strip_prefix("0x") {
-            Some(digits) => u32::from_str_radix(digits, 16)?,
-            None => word.parse()?,
-        };
-        write_words(image.as_mut_slice(), at.parse()?, &[word]);
-    }
-    Ok(image)
-}

@@ -1,9 +1,9 @@
 //! Which files commands refuse to overwrite, and which they overwrite.
 
-use crate::tests::files::{Stored, counter_files, counter_where, follow};
+use crate::tests::files::{Stored, counter_files, follow};
 use std::alloc::Global;
 use std::test::Fail;
-use support_data::{INCREMENT, INCREMENT_FILE, counter, counter_saved};
+use support_data::{INCREMENT, INCREMENT_FILE, counter, counter_saved, counter_where};
 
 /// The counter's image and another of its kind, the increment client and its text, a text that is no client, a picture, notes
 /// and an empty file. The files `alias` and `mirror` are the client and the image under other names.

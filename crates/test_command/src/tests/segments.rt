@@ -1,6 +1,6 @@
-use crate::tests::files::{Stored, counter_file, counter_where, follow, is, run, run_into};
+use crate::tests::files::{Stored, counter_file, follow, is, run, run_into};
 use std::test::Fail;
-use support_data::{Limited, counter_saved};
+use support_data::{Limited, counter_saved, counter_where};
 
 /// A new image on each allocator and index is all free.
 #[test]

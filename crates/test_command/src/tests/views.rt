@@ -1,7 +1,7 @@
-use crate::tests::files::{FROZEN_PAIR, Stored, counter_file, counter_where, follow};
+use crate::tests::files::{FROZEN_PAIR, Stored, counter_file, follow};
 use std::alloc::Global;
 use std::test::Fail;
-use support_data::{sharing, write_words};
+use support_data::{counter_where, sharing, write_words};
 
 /// Makes an object with a value of each type, three numbers, and a unique object.
 const EVERY_TYPE: &str = "type i64

@@ -65,53 +65,20 @@ fn region(alloc: Global) -> Result<Region<Global>, Fault>
     Region::new(alloc, 24)
 }
 
+/// Bytes and numbers, each written and read once.
 #[test]
 fn reads_what_it_wrote(rt: HostRuntime) -> Result<(), Fail> {
     let mut region = region(rt.alloc())?;
-    assert_eq!(rt; region.len(), 24);
-    assert!(rt; !region.is_empty());
-    region.put32(4, 0x0403_0201);
-    region.put8(8, 5);
-    assert_eq!(rt; region.slice(4, 5), [1, 2, 3, 4, 5].as_slice());
-    assert_eq!(rt; region.get8(5), 2);
-    assert_eq!(rt; region.get32(4), 0x0403_0201);
-    Ok(())
-}
-
-#[test]
-fn reads_what_it_wrote_in_long(rt: HostRuntime) -> Result<(), Fail> {
-    let mut region = region(rt.alloc())?;
-    region.put64(8, 0x0807_0605_0403_0201);
-    assert_eq!(rt; region.slice(8, 8), [1, 2, 3, 4, 5, 6, 7, 8].as_slice());
-    assert_eq!(rt; region.get64(8), 0x0807_0605_0403_0201);
-    Ok(())
-}
-
-/// The places of a move overlap, to either side.
-#[test]
-fn moves_bytes(rt: HostRuntime) -> Result<(), Fail> {
-    let mut region = region(rt.alloc())?;
-    region.put32(4, 0x0403_0201);
-    region.move_within(4, 6, 4);
-    assert_eq!(rt; region.slice(4, 6), [1, 2, 1, 2, 3, 4].as_slice());
-    region.move_within(6, 5, 4);
-    assert_eq!(rt; region.slice(4, 6), [1, 1, 2, 3, 4, 4].as_slice());
-    Ok(())
-}
-
-#[test]
-fn copies_and_fills(rt: HostRuntime) -> Result<(), Fail> {
-    let mut region = region(rt.alloc())?;
     region.fill(0, 24, 7);
+    region.put64(8, 0x0807_0605_0403_0201);
+    region.put32(4, 0x0403_0201);
+    region.put8(3, 5);
     region.copy_in(20, &[5, 6]);
-    assert_eq!(rt; region.slice(18, 6), [7, 7, 5, 6, 7, 7].as_slice());
-    Ok(())
-}
-
-#[test]
-fn may_be_empty(rt: HostRuntime) -> Result<(), Fail> {
-    let region: Region<Global> = Region::new(rt.alloc(), 0)?;
-    assert_eq!(rt; region.len(), 0);
-    assert!(rt; region.is_empty());
+    region.move_within(3, 4, 5);
+    assert_eq!(rt; region.slice(2, 8), [7, 5, 5, 1, 2, 3, 4, 2].as_slice());
+    assert_eq!(rt; region.get8(20), 5);
+    assert_eq!(rt; region.get32(4), 0x0302_0105);
+    assert_eq!(rt; region.get64(16), 0x0707_0605_0707_0707);
+    assert!(rt; region.len() == 24 && !region.is_empty());
     Ok(())
 }

@@ -13,9 +13,7 @@ use seg_raw::Region;
 use seg_rbtree::{Colour, NodeOrder, Path, Side, TREE_WORDS, Tree, UniqueKeys, child, node_colour};
 use std::alloc::{AllocError, Allocator, Global};
 use std::cmp::Ordering;
-use std::process::Abort;
 use std::test::Fail;
-use support_data::Random;
 
 /// Nodes of 32 bytes with a number after the tree words.
 const NODE: u32 = 32;
@@ -71,53 +69,13 @@ fn window(alloc: Global, nodes: u32) -> Result<Window<Global>, Fail> {
     }
 }
 
-/// The black nodes on each way down from a node, and the nodes on the longest, where colours, heights and zero words are right.
-fn height(w: &Window<Global>, node: Option<u32>, above_is_red: bool, fuel: u32) -> Option<u32> {
-    let Some(node) = node else {
-        return Some(0);
-    };
-    if fuel == 0 || w.get32(node as usize + 12) != 0 {
-        return None;
-    }
-    let is_red = match w.get32(node as usize + 8) {
-        0 => false,
-        1 if !above_is_red => true,
-        _ => return None,
-    };
-    let left = height(w, w.target(node as usize), is_red, fuel - 1)?;
-    let right = height(w, w.target(node as usize + 4), is_red, fuel - 1)?;
-    if left == right {
-        Some(if is_red { left } else { left.saturating_add(1) })
-    } else {
-        None
-    }
+/// Where the node of a number is.
+fn node_of(n: u32) -> u32 {
+    NODE.saturating_mul(n.saturating_add(1))
 }
 
-/// The numbers of the nodes below one, in order.
-fn collect(
-    w: &Window<Global>,
-    node: Option<u32>,
-    fuel: u32,
-    numbers: &mut Vec<u32>,
-) -> Result<(), AllocError> {
-    if let Some(node) = node {
-        if fuel > 0 {
-            collect(w, w.target(node as usize), fuel - 1, numbers)?;
-            numbers.push(number(w.view(), node))?;
-            collect(w, w.target(node as usize + 4), fuel - 1, numbers)?;
-        }
-    }
-    Ok(())
-}
-
-/// The tree has these numbers in order, and keeps the rules of colour.
-fn holds(rt: &(impl Abort + AllocGlobal), w: &Window<Global>, wanted: &[u32]) -> Result<(), Fail> {
-    let mut numbers = Vec::new(rt.alloc());
-    collect(w, w.target(0), 64, &mut numbers)?;
-    assert_eq!(rt; numbers.as_slice(), wanted);
-    // the root is black: it stands below no red node, and may have none as a child of one
-    assert!(rt; height(w, w.target(0), true, 64).is_some());
-    Ok(())
+fn write_number(w: &mut Window<Global>, n: u32) {
+    w.put32(node_of(n).saturating_add(TREE_WORDS) as usize, n);
 }
 
 /// The number of a node that was found.
@@ -125,132 +83,80 @@ fn found(w: &Window<Global>, node: Option<u32>) -> Option<u32> {
     Some(number(w.view(), node?))
 }
 
-/// The first number that is at least the key.
-fn at_least(numbers: &[u32], key: u32) -> Option<u32> {
-    numbers.iter().copied().find(|n| *n >= key)
-}
-
-/// Whether so many looks are few among so many nodes.
-fn are_few(looks: u32, nodes: usize) -> bool {
-    let most = (nodes as u64).saturating_add(1);
-    looks < 64 && 1u64 << looks <= most.saturating_mul(most)
-}
-
-/// What searches for a number find among numbers in order, within the bound on their looks.
-fn searches(rt: &impl Abort, w: &Window<Global>, numbers: &[u32], key: u32) {
+/// The numbers of the tree's nodes, each after the one before.
+fn numbers(alloc: Global, w: &Window<Global>) -> Result<Vec<u32>, AllocError> {
     let tree = Tree::new(0);
-    let looked = tree.first_at_least(w, &ByNumber, key);
-    assert_eq!(rt; found(w, looked.node), at_least(numbers, key));
-    assert!(rt; are_few(looked.looks, numbers.len()));
-    let mut path = Path::new(0);
-    assert_eq!(rt; path.lead_to_first(w, tree, &ByNumber, key), looked.node);
-    assert!(rt; looked.node.is_none() || path.node(w) == looked.node);
-    let next = tree.next_after(w, &ByNumber, key);
-    assert_eq!(rt; found(w, next), at_least(numbers, key.saturating_add(1)));
-    let same = tree.find(w, &ByNumber, key);
-    assert!(rt; same.is_some() == numbers.contains(&key));
-    assert!(rt; same.is_none() || found(w, same) == Some(key));
-    assert_eq!(rt; tree.path_to_key(w, &ByNumber, key).node(w), same);
-}
-
-/// The tree's first node has the first number.
-fn begins(rt: &impl Abort, w: &Window<Global>, numbers: &[u32]) {
-    let tree = Tree::new(0);
-    assert_eq!(rt; found(w, tree.first(w)), numbers.first().copied());
-    assert_eq!(rt; tree.is_empty(w), numbers.is_empty());
-}
-
-/// How a node is added or removed.
-#[derive(Clone, Copy)]
-enum Way {
-    /// By the node, which is looked for.
-    Node,
-    /// At the end of the path to its number.
-    Path,
-}
-
-fn add(w: &mut Window<Global>, way: Way, node: u32, n: u32) {
-    let tree = Tree::new(0);
-    let mut path = tree.path_to_key(w, &ByNumber, n);
-    // the number may be written after the walk
-    w.put32(node as usize + TREE_WORDS as usize, n);
-    match way {
-        Way::Node => tree.insert(w, &ByNumber, node),
-        Way::Path => path.insert(w, node),
+    let mut numbers = Vec::new(alloc);
+    let mut node = tree.first(w);
+    for _ in 0..8 {
+        let Some(n) = found(w, node) else {
+            break;
+        };
+        numbers.push(n)?;
+        node = tree.next_after(w, &ByNumber, n);
     }
+    Ok(numbers)
 }
 
-fn take_out(w: &mut Window<Global>, way: Way, node: u32, n: u32) {
+/// A tree of the numbers 1 to 4 and 6. The number 3 is added at the end of a path, and its node is written after the search.
+fn five_nodes(alloc: Global) -> Result<Window<Global>, Fail> {
+    let mut w = window(alloc, 8)?;
     let tree = Tree::new(0);
-    match way {
-        Way::Node => tree.remove(w, &ByNumber, node),
-        Way::Path => tree.path_to_key(w, &ByNumber, n).remove(w),
+    for n in [4, 2, 6, 1] {
+        write_number(&mut w, n);
+        tree.insert(&mut w, &ByNumber, node_of(n));
     }
-}
-
-/// Adds or removes the node of a number.
-fn toggle(
-    w: &mut Window<Global>,
-    numbers: &mut Vec<u32>,
-    way: Way,
-    n: u32,
-) -> Result<(), AllocError> {
-    let node = NODE.saturating_mul(n.saturating_add(1));
-    match numbers.binary_search(&n) {
-        Ok(i) => {
-            take_out(w, way, node, n);
-            if i < numbers.len() {
-                numbers.remove(i);
-            }
-        }
-        Err(i) => {
-            add(w, way, node, n);
-            if i <= numbers.len() {
-                numbers.insert(i, n)?;
-            }
-        }
-    }
-    Ok(())
+    let mut path = tree.path_to_key(&w, &ByNumber, 3);
+    write_number(&mut w, 3);
+    path.insert(&mut w, node_of(3));
+    Ok(w)
 }
 
 #[test]
-fn keeps_nodes_in_order(rt: HostRuntime) -> Result<(), Fail> {
-    let mut random = Random::new(1);
-    for size in [1, 2, 3, 5, 8, 40, 300] {
-        let mut w = window(rt.alloc(), size)?;
-        let mut numbers = Vec::new(rt.alloc());
-        for _ in 0..400 {
-            let way = match random.below(2) {
-                0 => Way::Node,
-                _ => Way::Path,
-            };
-            toggle(&mut w, &mut numbers, way, random.below(size))?;
-            holds(&rt, &w, numbers.as_slice())?;
-            searches(&rt, &w, numbers.as_slice(), random.below(size));
-            begins(&rt, &w, numbers.as_slice());
-        }
+fn finds_nodes_by_number(rt: HostRuntime) -> Result<(), Fail> {
+    let w = five_nodes(rt.alloc())?;
+    let tree = Tree::new(0);
+    assert_eq!(rt;
+        numbers(rt.alloc(), &w)?.as_slice(),
+        [1, 2, 3, 4, 6].as_slice()
+    );
+    assert_eq!(rt; tree.find(&w, &ByNumber, 3), Some(node_of(3)));
+    assert_eq!(rt; tree.find(&w, &ByNumber, 5), None);
+    assert_eq!(rt;
+        tree.first_at_least(&w, &ByNumber, 5).node,
+        Some(node_of(6))
+    );
+    assert_eq!(rt; tree.next_after(&w, &ByNumber, 6), None);
+    let mut path = Path::new(0);
+    assert_eq!(rt;
+        path.lead_to_first(&w, tree, &ByNumber, 5),
+        Some(node_of(6))
+    );
+    assert_eq!(rt; path.node(&w), Some(node_of(6)));
+    Ok(())
+}
+
+/// One is removed by its node, and one at the end of a path.
+#[test]
+fn removes_nodes(rt: HostRuntime) -> Result<(), Fail> {
+    let mut w = five_nodes(rt.alloc())?;
+    let tree = Tree::new(0);
+    tree.remove(&mut w, &ByNumber, node_of(4));
+    tree.path_to_key(&w, &ByNumber, 2).remove(&mut w);
+    assert_eq!(rt; numbers(rt.alloc(), &w)?.as_slice(), [1, 3, 6].as_slice());
+    for n in [1, 3, 6] {
+        tree.remove(&mut w, &ByNumber, node_of(n));
     }
+    assert!(rt; tree.is_empty(&w));
     Ok(())
 }
 
 #[test]
 fn reads_the_words_of_a_node(rt: HostRuntime) -> Result<(), Fail> {
     let mut w = window(rt.alloc(), 4)?;
-    let words = [
-        (0, 0, Some(Colour::Black)),
-        (1, 0, Some(Colour::Red)),
-        (2, 0, None),
-        (0, 1, None),
-        (1, 256, None),
-    ];
-    for (colour, zero, read) in words {
-        w.put32(32 + 8, colour);
-        w.put32(32 + 12, zero);
-        assert_eq!(rt; node_colour(&w, 32), read);
-    }
+    w.put32(32 + 8, 1);
     w.point(32, Some(64));
-    w.point(36, Some(96));
+    assert_eq!(rt; node_colour(&w, 32), Some(Colour::Red));
     assert_eq!(rt; child(&w, 32, Side::Left), Some(64));
-    assert_eq!(rt; child(&w, 32, Side::Right), Some(96));
     Ok(())
 }

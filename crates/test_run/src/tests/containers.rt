@@ -68,76 +68,84 @@ pub(crate) const PRINT_TEXTS: &str = "type str
 #[test]
 fn fifth_push_takes_its_limit(rt: HostRuntime) -> Result<(), Fail> {
     let text = format!(in rt.alloc();
-        r"> client make
+        r"$ client make
         {FIVE_TEXTS}
-        > client print
+        $ client print
         {PRINT_TEXTS}
-        > seq on 1024 make print; free 0 named 1
+        $ seq on 1024 make print; free 0 named 1
         abbcccddddeeeee\
-        > best on 1024 make print
+        $ best on 1024 make print
         abbcccddddeeeee\"
     )?;
     plays(rt.alloc(), &[SEQ_FLAT, BEST_FLAT], text.as_str())
 }
 
+/// Assigns a text of 5 bytes, appends 20, and prints both lengths and the text.
+const GROW_TEXT: &str = "type str
+    name s
+    text hello
+    text abcdefghijklmnopqrst
+    FINDOR r0 - t0 k0
+      SETS r1 r0 k1
+        OUTI r1
+      ELSE
+      END
+      ADDS r1 r0 k2
+        OUTI r1
+      ELSE
+      END
+      OUTS r0
+    ELSE
+    END";
+
+/// Assigns a text of one byte, and shrinks its buffer.
+const SHRINK_TEXT: &str = "type str
+    name s
+    text a
+    FINDOR r0 - t0 k0
+      SETS r1 r0 k1
+      ELSE
+      END
+      SHRINK r0
+    ELSE
+    END";
+
+/// Pops the only byte of a text, prints the code of a second pop, and shrinks the buffer.
+const EMPTY_TEXT: &str = "type str
+    name s
+    FINDOR r0 - t0 k0
+      POP r1 r0
+        OUTI r1
+      ELSE
+      END
+      POP r1 r0
+      ELSE
+        OUTI r1
+      END
+      SHRINK r0
+    ELSE
+    END";
+
 /// A text of 5 bytes has a buffer of 2 units, of 25 bytes one of 3 at its place. Shrinking gives back what it can.
 #[test]
 fn texts_grow_and_shrink_in_place(rt: HostRuntime) -> Result<(), Fail> {
-    plays(
-        rt.alloc(),
-        &[SEQ_FLAT],
-        r"> client grow
-            type str
-            name s
-            text hello
-            text abcdefghijklmnopqrst
-            FINDOR r0 - t0 k0
-              SETS r1 r0 k1
-                OUTI r1
-              ELSE
-              END
-              ADDS r1 r0 k2
-                OUTI r1
-              ELSE
-              END
-              OUTS r0
-            ELSE
-            END
-        > client shrink
-            type str
-            name s
-            text a
-            FINDOR r0 - t0 k0
-              SETS r1 r0 k1
-              ELSE
-              END
-              SHRINK r0
-            ELSE
-            END
-        > client empty
-            type str
-            name s
-            FINDOR r0 - t0 k0
-              POP r1 r0
-                OUTI r1
-              ELSE
-              END
-              POP r1 r0
-              ELSE
-                OUTI r1
-              END
-              SHRINK r0
-            ELSE
-            END
-        > on 1024 grow; free 192 named 1
+    let text = format!(in rt.alloc();
+        r"$ client grow
+        {GROW_TEXT}
+        $ client shrink
+        {SHRINK_TEXT}
+        $ client empty
+        {EMPTY_TEXT}
+        $ on 1024 grow; free 192 named 1
         5
         25
         helloabcdefghijklmnopqrst\
-        > then shrink; free 208 named 1
-        > then empty; free 240 named 1
+        $ then shrink; free 208 named 1
+        $ then empty; free 240 named 1
         0
-        6",
-    )
+        6"
+    )?;
+    plays(rt.alloc(), &[SEQ_FLAT], text.as_str())
 }
 
 /// Bytes of a text, one by one.
@@ -146,7 +154,7 @@ fn texts_of_bytes(rt: HostRuntime) -> Result<(), Fail> {
     plays(
         rt.alloc(),
         &KINDS,
-        "> client bytes
+        "$ client bytes
             type str
             name s
             CONST r1 255
@@ -183,7 +191,7 @@ fn texts_of_bytes(rt: HostRuntime) -> Result<(), Fail> {
               OUTI r6
             ELSE
             END
-        > on 1024 bytes
+        $ on 1024 bytes
         1
         5
         5
@@ -194,75 +202,86 @@ fn texts_of_bytes(rt: HostRuntime) -> Result<(), Fail> {
     )
 }
 
+/// Pushes three numbers at the back of a list, and one at its front.
+const PUSH_NUMBERS: &str = "type i64
+    type list t0
+    name l
+    CONST r2 7
+    MAKE r0 - - t1 k0
+      PUSH r1 r0
+        STORE r1 r2
+      ELSE
+      END
+      PUSH r1 r0
+      ELSE
+      END
+      PUSH r1 r0
+      ELSE
+      END
+      PUSHF r1 r0
+        CONST r2 8
+        STORE r1 r2
+      ELSE
+      END
+    ELSE
+    END";
+
+/// Pops the last number of the list, and prints how many are left and the second one.
+const POP_NUMBER: &str = "type i64
+    type list t0
+    name l
+    CONST r2 1
+    FIND r0 - - t1 k0
+      POP r1 r0
+        OUTI r1
+      ELSE
+      END
+      AT r1 r0 r2
+        LOAD r1 r1
+        OUTI r1
+      ELSE
+      END
+    ELSE
+    END";
+
+/// Clears the list, and prints the code of a further pop.
+const CLEAR_LIST: &str = "type i64
+    type list t0
+    name l
+    FIND r0 - - t1 k0
+      CLEAR r0
+      POPF r1 r0
+      ELSE
+        OUTI r1
+      END
+    ELSE
+    END";
+
+/// Destroys the list.
+const KILL_LIST: &str = "type i64
+    type list t0
+    name l
+    KILL r0 - t1 k0";
+
 /// Each node of a list of numbers has 2 units.
 #[test]
 fn lists_of_numbers(rt: HostRuntime) -> Result<(), Fail> {
-    plays(
-        rt.alloc(),
-        &[SEQ_FLAT],
-        "> client push
-            type i64
-            type list t0
-            name l
-            CONST r2 7
-            MAKE r0 - - t1 k0
-              PUSH r1 r0
-                STORE r1 r2
-              ELSE
-              END
-              PUSH r1 r0
-              ELSE
-              END
-              PUSH r1 r0
-              ELSE
-              END
-              PUSHF r1 r0
-                CONST r2 8
-                STORE r1 r2
-              ELSE
-              END
-            ELSE
-            END
-        > client pop
-            type i64
-            type list t0
-            name l
-            CONST r2 1
-            FIND r0 - - t1 k0
-              POP r1 r0
-                OUTI r1
-              ELSE
-              END
-              AT r1 r0 r2
-                LOAD r1 r1
-                OUTI r1
-              ELSE
-              END
-            ELSE
-            END
-        > client clear
-            type i64
-            type list t0
-            name l
-            FIND r0 - - t1 k0
-              CLEAR r0
-              POPF r1 r0
-              ELSE
-                OUTI r1
-              END
-            ELSE
-            END
-        > client kill
-            type i64
-            type list t0
-            name l
-            KILL r0 - t1 k0
-        > on 1024 push; free 112 named 1
-        > then pop; free 144 named 1
+    let text = format!(in rt.alloc();
+        "$ client push
+        {PUSH_NUMBERS}
+        $ client pop
+        {POP_NUMBER}
+        $ client clear
+        {CLEAR_LIST}
+        $ client kill
+        {KILL_LIST}
+        $ on 1024 push; free 112 named 1
+        $ then pop; free 144 named 1
         3
         7
-        > then clear; free 240 named 1
+        $ then clear; free 240 named 1
         6
-        > then kill; free 320 named 0",
-    )
+        $ then kill; free 320 named 0"
+    )?;
+    plays(rt.alloc(), &[SEQ_FLAT], text.as_str())
 }

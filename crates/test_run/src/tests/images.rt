@@ -2,7 +2,7 @@ use crate::tests::door::{Host, types_in};
 use lezgauri::{AllocatorKind, Fault, IndexKind, MAX_LEN, Type};
 use std::process::Abort;
 use std::test::Fail;
-use support_data::{counter, counter_with, front};
+use support_data::{counter, counter_where, front};
 
 /// An image with a number that is 7, of 1024 bytes: the heap begins at 704 and has 320, all free before the object comes.
 fn made(rt: &(impl Abort + AllocGlobal), allocator: AllocatorKind) -> Result<Host, Fail> {
@@ -63,7 +63,7 @@ fn is_no_image(rt: &(impl Abort + AllocGlobal), faulty: &[u8]) -> Result<(), Fai
 #[test]
 fn faulty_images_are_refused(rt: HostRuntime) -> Result<(), Fail> {
     let image = counter(rt.alloc())?;
-    is_no_image(&rt, counter_with(rt.alloc(), &[(8, 3)])?.as_slice())?;
+    is_no_image(&rt, counter_where(rt.alloc(), "8=3")?.as_slice())?;
     is_no_image(&rt, front(image.as_slice(), 768))?;
     is_no_image(&rt, b"")
 }

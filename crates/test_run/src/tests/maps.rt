@@ -7,7 +7,7 @@ use support_runs::{KINDS, SEQ_FLAT};
 fn keys_in_order(rt: HostRuntime) -> Result<(), Fail> {
     for kind in ["flat_map", "map"] {
         let text = format!(in rt.alloc();
-            "> client print_keys
+            "$ client print_keys
                 type i64
                 type {kind} t0
                 name m
@@ -37,7 +37,7 @@ fn keys_in_order(rt: HostRuntime) -> Result<(), Fail> {
                   END
                 ELSE
                 END
-            > on 1024 print_keys
+            $ on 1024 print_keys
             -9223372036854775808
             9223372036854775807
             6"
@@ -47,77 +47,82 @@ fn keys_in_order(rt: HostRuntime) -> Result<(), Fail> {
     Ok(())
 }
 
+/// Puts four numbers into a flat map, each with itself as its key.
+const PUT_FOUR: &str = "type i64
+    type flat_map t0
+    name m
+    CONST r1 3
+    CONST r2 1
+    CONST r3 2
+    CONST r4 4
+    FINDOR r0 - t1 k0
+      PUTK r5 r0 r1
+        STORE r5 r1
+      ELSE
+      END
+      PUTK r5 r0 r2
+        STORE r5 r2
+      ELSE
+      END
+      PUTK r5 r0 r3
+        STORE r5 r3
+      ELSE
+      END
+      PUTK r5 r0 r4
+        STORE r5 r4
+      ELSE
+      END
+    ELSE
+    END";
+
+/// Puts a fifth key, and prints what the calls give before and after; then deletes a key twice.
+const PUT_FIFTH: &str = "type i64
+    type flat_map t0
+    name m
+    CONST r1 5
+    CONST r2 1
+    FINDOR r0 - t1 k0
+      GETK r5 r0 r1
+      ELSE
+        OUTI r5
+      END
+      PUTK r5 r0 r1
+        LOAD r5 r5
+        OUTI r5
+      ELSE
+      END
+      GETK r5 r0 r2
+        LOAD r5 r5
+        OUTI r5
+      ELSE
+      END
+      DELK r5 r0 r2
+      OUTI r5
+      DELK r5 r0 r2
+      OUTI r5
+      LEN r5 r0
+      OUTI r5
+    ELSE
+    END";
+
 /// A flat map of 4 numbers has a buffer of 5 units, of 5 one of 9 at its place.
 #[test]
 fn flat_maps_grow(rt: HostRuntime) -> Result<(), Fail> {
-    plays(
-        rt.alloc(),
-        &[SEQ_FLAT],
-        "> client put_four
-            type i64
-            type flat_map t0
-            name m
-            CONST r1 3
-            CONST r2 1
-            CONST r3 2
-            CONST r4 4
-            FINDOR r0 - t1 k0
-              PUTK r5 r0 r1
-                STORE r5 r1
-              ELSE
-              END
-              PUTK r5 r0 r2
-                STORE r5 r2
-              ELSE
-              END
-              PUTK r5 r0 r3
-                STORE r5 r3
-              ELSE
-              END
-              PUTK r5 r0 r4
-                STORE r5 r4
-              ELSE
-              END
-            ELSE
-            END
-        > client put_fifth
-            type i64
-            type flat_map t0
-            name m
-            CONST r1 5
-            CONST r2 1
-            FINDOR r0 - t1 k0
-              GETK r5 r0 r1
-              ELSE
-                OUTI r5
-              END
-              PUTK r5 r0 r1
-                LOAD r5 r5
-                OUTI r5
-              ELSE
-              END
-              GETK r5 r0 r2
-                LOAD r5 r5
-                OUTI r5
-              ELSE
-              END
-              DELK r5 r0 r2
-              OUTI r5
-              DELK r5 r0 r2
-              OUTI r5
-              LEN r5 r0
-              OUTI r5
-            ELSE
-            END
-        > on 1024 put_four; free 160 named 1
-        > then put_fifth; free 96 named 1
+    let text = format!(in rt.alloc();
+        "$ client put_four
+        {PUT_FOUR}
+        $ client put_fifth
+        {PUT_FIFTH}
+        $ on 1024 put_four; free 160 named 1
+        $ then put_fifth; free 96 named 1
         3
         0
         1
         1
         0
-        4",
-    )
+        4"
+    )?;
+    plays(rt.alloc(), &[SEQ_FLAT], text.as_str())
 }
 
 /// A node of a map of numbers has 3 units.
@@ -126,7 +131,7 @@ fn maps_have_nodes(rt: HostRuntime) -> Result<(), Fail> {
     plays(
         rt.alloc(),
         &[SEQ_FLAT],
-        "> client put
+        "$ client put
             type i64
             type map t0
             name m
@@ -145,6 +150,6 @@ fn maps_have_nodes(rt: HostRuntime) -> Result<(), Fail> {
               END
             ELSE
             END
-        > on 1024 put; free 96 named 1",
+        $ on 1024 put; free 96 named 1",
     )
 }

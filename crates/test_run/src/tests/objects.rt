@@ -17,19 +17,19 @@ const MAKE: &str = "type i64
 #[test]
 fn makes_an_object_where_there_is_room(rt: HostRuntime) -> Result<(), Fail> {
     let text = format!(in rt.alloc();
-        "> client make
+        "$ client make
         {MAKE}
-        > on 1024 make; free 240 named 1
+        $ on 1024 make; free 240 named 1
         42
-        > on 784 make; free 0 named 1
+        $ on 784 make; free 0 named 1
         42
-        > flat on 768 make; free 0 named 1
+        $ flat on 768 make; free 0 named 1
         42
-        > tree on 768 make; free 64 named 0
+        $ tree on 768 make; free 64 named 0
         2
-        > on 752 make; free 48 named 0
+        $ on 752 make; free 48 named 0
         2
-        > on 736 make; free 32 named 0
+        $ on 736 make; free 32 named 0
         2"
     )?;
     plays(rt.alloc(), &KINDS, text.as_str())
@@ -38,16 +38,16 @@ fn makes_an_object_where_there_is_room(rt: HostRuntime) -> Result<(), Fail> {
 #[test]
 fn destroys_an_object_once(rt: HostRuntime) -> Result<(), Fail> {
     let text = format!(in rt.alloc();
-        "> client make
+        "$ client make
         {MAKE}
-        > client kill_twice
+        $ client kill_twice
             type i64
             name x
             KILL r0 - t0 k0
             OUTI r0
             KILL r0 - t0 k0
             OUTI r0
-        > on 1024 make kill_twice; free 320 largest 320 named 0
+        $ on 1024 make kill_twice; free 320 largest 320 named 0
         42
         1
         0"
@@ -61,7 +61,7 @@ fn objects_of_cells_that_share(rt: HostRuntime) -> Result<(), Fail> {
     plays(
         rt.alloc(),
         &KINDS,
-        "> client make
+        "$ client make
             type i64
             type shared t0
             name x
@@ -71,20 +71,20 @@ fn objects_of_cells_that_share(rt: HostRuntime) -> Result<(), Fail> {
             ELSE
               OUTI r0
             END
-        > client number
+        $ client number
             type i64
             name y
             MAKE r0 - - t0 k0
             ELSE
             END
-        > client other
+        $ client other
             type i64
             name x
             FIND r0 - - t0 k0
             ELSE
               OUTI r0
             END
-        > client kill
+        $ client kill
             type i64
             type shared t0
             name x
@@ -95,17 +95,17 @@ fn objects_of_cells_that_share(rt: HostRuntime) -> Result<(), Fail> {
             END
             KILL r0 - t1 k0
             OUTI r0
-        > on 1024 make; free 240 named 1
+        $ on 1024 make; free 240 named 1
         7
-        > then make other; free 240 named 1
+        $ then make other; free 240 named 1
         1
         4
-        > then kill; free 320 named 0
+        $ then kill; free 320 named 0
         5
         1
-        > flat on 1024 number make; free 208 named 2
+        $ flat on 1024 number make; free 208 named 2
         7
-        > tree on 1024 number make; free 160 named 2
+        $ tree on 1024 number make; free 160 named 2
         7",
     )
 }
@@ -116,7 +116,7 @@ fn makes_two_objects(rt: HostRuntime) -> Result<(), Fail> {
     plays(
         rt.alloc(),
         &KINDS,
-        "> client make
+        "$ client make
             type i64
             name y
             name x
@@ -130,17 +130,17 @@ fn makes_two_objects(rt: HostRuntime) -> Result<(), Fail> {
             ELSE
               OUTI r0
             END
-        > client kill
+        $ client kill
             type i64
             name x
             name y
             KILL r0 - t0 k0
             KILL r0 - t0 k1
-        > flat on 1024 make; free 208 named 2
+        $ flat on 1024 make; free 208 named 2
         1
-        > tree on 1024 make; free 160 named 2
+        $ tree on 1024 make; free 160 named 2
         1
-        > then kill; free 320 named 0",
+        $ then kill; free 320 named 0",
     )
 }
 
@@ -151,7 +151,7 @@ fn objects_of_many_values(rt: HostRuntime) -> Result<(), Fail> {
     plays(
         rt.alloc(),
         &KINDS,
-        "> client rows
+        "$ client rows
             type i64
             type str
             family row
@@ -203,7 +203,7 @@ fn objects_of_many_values(rt: HostRuntime) -> Result<(), Fail> {
             ELSE
               OUTI r3
             END
-        > on 1024 rows
+        $ on 1024 rows
         3
         9
         5
@@ -222,7 +222,7 @@ fn unique_objects(rt: HostRuntime) -> Result<(), Fail> {
     plays(
         rt.alloc(),
         &KINDS,
-        "> client make
+        "$ client make
             type i64
             type struct t0 t0
             UMAKE r0 t1
@@ -237,7 +237,7 @@ fn unique_objects(rt: HostRuntime) -> Result<(), Fail> {
               OUTI r4
             ELSE
             END
-        > client find
+        $ client find
             type i64
             type struct t0 t0
             UFIND r0 t1
@@ -256,17 +256,17 @@ fn unique_objects(rt: HostRuntime) -> Result<(), Fail> {
               OUTI r4
             ELSE
             END
-        > client kill_twice
+        $ client kill_twice
             type i64
             type struct t0 t0
             UKILL r0 t1
             OUTI r0
             UKILL r0 t1
             OUTI r0
-        > on 1024 make; free 288 named 0 unique 1
+        $ on 1024 make; free 288 named 0 unique 1
         1
         9
-        > then find kill_twice; free 320 named 0
+        $ then find kill_twice; free 320 named 0
         9
         3
         9
@@ -281,7 +281,7 @@ fn reads_the_input(rt: HostRuntime) -> Result<(), Fail> {
     plays(
         rt.alloc(),
         &[SEQ_FLAT],
-        "> client twice
+        "$ client twice
             GETB r0
               OUTI r0
               GETB r0
@@ -290,16 +290,16 @@ fn reads_the_input(rt: HostRuntime) -> Result<(), Fail> {
               END
             ELSE
             END
-        > client once
+        $ client once
             GETB r0
               OUTI r0
             ELSE
               OUTI r0
             END
-        > on 736 twice reads A; free 32 named 0
+        $ on 736 twice reads A; free 32 named 0
         65
         6
-        > on 736 once once once reads AB; free 32 named 0
+        $ on 736 once once once reads AB; free 32 named 0
         65
         66
         6",

@@ -10,9 +10,9 @@ use support_runs::{KINDS, Kind, PLAIN, Ran, Setting, empty, run_in, statistics_o
 fn a_chain_of_owners(rt: HostRuntime) -> Result<(), Fail> {
     let chain = chain(rt.alloc(), 20_000)?;
     let text = format!(in rt.alloc();
-        "> client chain
+        "$ client chain
         {chain}
-        > on 1048576 chain; free 1047872 named 0 largest 1047872 steps 160004"
+        $ on 1048576 chain; free 1047872 named 0 largest 1047872 steps 160004"
     )?;
     plays(rt.alloc(), &KINDS, text.as_str())
 }
@@ -23,7 +23,7 @@ fn owners_destroy_what_they_hold(rt: HostRuntime) -> Result<(), Fail> {
     plays(
         rt.alloc(),
         &KINDS,
-        "> client owners
+        "$ client owners
             type i64
             type own t0
             CONST r1 5
@@ -61,7 +61,7 @@ fn owners_destroy_what_they_hold(rt: HostRuntime) -> Result<(), Fail> {
               DROP r0
             ELSE
             END
-        > on 1024 owners; free 320 named 0
+        $ on 1024 owners; free 320 named 0
         6
         6
         5",

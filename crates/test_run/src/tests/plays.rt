@@ -1,13 +1,13 @@
-//! Clients with their output and the heap they leave, written as text: statements after a `>`, each with the lines below it.
+//! Clients, what they print, and what they leave, written as text: statements, each after a `$`, with lines below them.
 //!
-//!     > client add                      the text of a client with the name `add`; spaces at the start of a line don't count
+//!     $ client add                      the text of a client, which is called `add`, each line without the spaces in front
 //!     ...
-//!     > on 1024 add add; free 240       run clients on a new segment of 1024 bytes; afterwards this is true
-//!     1                                 their output; `\` at the end of a line means that no new line follows
+//!     $ on 1024 add add; free 240       clients run on a new segment of 1024 bytes, and leave this
+//!     1                                 what they print, likewise; `\` at the end of a line stands for no new line
 //!     2
-//!     > then add; named 1 largest 240   run a client on the saved image
+//!     $ then add; named 1 largest 240   a client runs on the saved image
 //!     3
-//!     > flat on 768 add reads AB        only with a flat index (or `tree`, `seq`, `best`); the input is AB
+//!     $ flat on 768 add reads AB        only with a flat index, or `tree`, `seq`, `best`; the input is AB
 //!
 //! Each run must finish, and its saved image must be sound.
 
@@ -16,6 +16,7 @@ use seg_manager::IndexKind;
 use std::alloc::Global;
 use std::str;
 use std::test::Fail;
+use support_data::statements;
 use support_runs::{Kind, PLAIN, Ran, Setting, client, empty, run_files, statistics_of};
 
 /// Runs what a text says on each kind of segments.
@@ -43,10 +44,8 @@ struct Play<'a> {
 
 impl<'a> Play<'a> {
     fn follow(&mut self, text: &'a str) -> Result<(), Fail> {
-        let (_, statements) = text.split_once('>').ok_or("no statement")?;
-        for part in statements.split('>') {
-            let (statement, lines) = part.split_once('\n').unwrap_or((part, ""));
-            self.perform(statement.trim(), lines)?;
+        for it in statements(self.alloc, text)? {
+            self.perform(it.words.trim(), it.lines)?;
         }
         Ok(())
     }

@@ -4,7 +4,7 @@ use client_vm::{Move, Refused};
 use seg_raw::Fault;
 use std::process::Abort;
 use std::test::Fail;
-use support_data::{INCREMENT_FILE, counter, counter_saved, counter_with};
+use support_data::{INCREMENT_FILE, counter, counter_saved, counter_where};
 use support_runs::{PLAIN, Setting, outcome_in};
 
 /// A region of the counter's length.
@@ -20,12 +20,12 @@ const MOVING: Setting<'static> = Setting {
 /// The counter, but for these words, comes back with this refusal.
 fn comes_back(
     rt: &(impl Abort + AllocGlobal),
-    changes: &[(usize, u32)],
+    changes: &str,
     clients: &[&[u8]],
     setting: Setting,
     refused: Refused,
 ) -> Result<(), Fail> {
-    let image = counter_with(rt.alloc(), changes)?;
+    let image = counter_where(rt.alloc(), changes)?;
     let bytes = Vec::from_slice(rt.alloc(), image.as_slice())?;
     match outcome_in(rt.alloc(), bytes, clients, setting) {
         Ok(_ran) => Err(Fail::from("ran")),
@@ -41,13 +41,7 @@ fn comes_back(
 #[test]
 fn a_faulty_image_comes_back(rt: HostRuntime) -> Result<(), Fail> {
     for setting in [WHOLE, PLAIN, MOVING] {
-        comes_back(
-            &rt,
-            &[(8, 3)],
-            &[],
-            setting,
-            Refused::from(Fault::BadHeader),
-        )?;
+        comes_back(&rt, "8=3", &[], setting, Refused::from(Fault::BadHeader))?;
     }
     Ok(())
 }
@@ -61,7 +55,7 @@ fn an_image_comes_back_where_a_client_is_refused(rt: HostRuntime) -> Result<(), 
         fault: Fault::BadCode(0),
     };
     for setting in [WHOLE, PLAIN, MOVING] {
-        comes_back(&rt, &[], &clients, setting, refused)?;
+        comes_back(&rt, "", &clients, setting, refused)?;
     }
     Ok(())
 }
@@ -70,7 +64,7 @@ fn an_image_comes_back_where_a_client_is_refused(rt: HostRuntime) -> Result<(), 
 #[test]
 fn an_image_comes_back_where_it_has_no_place(rt: HostRuntime) -> Result<(), Fail> {
     for setting in [Setting { base: 8, ..PLAIN }, Setting { room: 768, ..PLAIN }] {
-        comes_back(&rt, &[], &[], setting, Refused::from(Fault::Misplaced))?;
+        comes_back(&rt, "", &[], setting, Refused::from(Fault::Misplaced))?;
     }
     Ok(())
 }

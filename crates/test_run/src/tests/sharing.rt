@@ -72,17 +72,17 @@ fn shared_image(alloc: Global) -> Result<Vec<u8>, Fail> {
 #[test]
 fn a_frozen_number_is_shared_and_read(rt: HostRuntime) -> Result<(), Fail> {
     let text = format!(in rt.alloc();
-        "> client share
+        "$ client share
         {SHARE}
-        > client kill
+        $ client kill
             type i64
             type shared t0
             name b
             KILL r0 - t1 k0
             OUTI r0
-        > on 1024 share; free 208 named 1 steps 12
+        $ on 1024 share; free 208 named 1 steps 12
         7
-        > then kill; free 320 named 0 largest 320
+        $ then kill; free 320 named 0 largest 320
         1"
     )?;
     plays(rt.alloc(), &KINDS, text.as_str())
@@ -219,9 +219,9 @@ const REPLACE: &str = "type i64
 #[test]
 fn a_cell_names_what_its_content_shares(rt: HostRuntime) -> Result<(), Fail> {
     let text = format!(in rt.alloc();
-        "> client replace
+        "$ client replace
         {REPLACE}
-        > on 1024 replace; free 192 named 1"
+        $ on 1024 replace; free 192 named 1"
     )?;
     plays(rt.alloc(), &KINDS, text.as_str())
 }
@@ -247,7 +247,7 @@ fn no_gap_for_a_frozen_object(rt: HostRuntime) -> Result<(), Fail> {
     plays(
         rt.alloc(),
         &KINDS,
-        "> client freeze
+        "$ client freeze
             type i64
             type shared t0
             CONST r4 7
@@ -282,15 +282,15 @@ fn no_gap_for_a_frozen_object(rt: HostRuntime) -> Result<(), Fail> {
               END
             ELSE
             END
-        > on 800 freeze; free 32 unique 1
+        $ on 800 freeze; free 32 unique 1
         2
         8
         7
-        > on 816 freeze; free 32 unique 1
+        $ on 816 freeze; free 32 unique 1
         2
         8
         7
-        > on 832 freeze; free 64 unique 1
+        $ on 832 freeze; free 64 unique 1
         8",
     )
 }
@@ -299,9 +299,9 @@ fn no_gap_for_a_frozen_object(rt: HostRuntime) -> Result<(), Fail> {
 #[test]
 fn cells_share_nothing_and_themselves(rt: HostRuntime) -> Result<(), Fail> {
     let text = format!(in rt.alloc();
-        "> client share
+        "$ client share
         {SHARE}
-        > client itself
+        $ client itself
             type i64
             type shared t0
             name b
@@ -316,7 +316,7 @@ fn cells_share_nothing_and_themselves(rt: HostRuntime) -> Result<(), Fail> {
               END
             ELSE
             END
-        > client nothing
+        $ client nothing
             type i64
             type shared t0
             name b
@@ -334,10 +334,10 @@ fn cells_share_nothing_and_themselves(rt: HostRuntime) -> Result<(), Fail> {
             ELSE
             END
             KILL r3 - t1 k1
-        > on 1024 share itself; free 208 named 1
+        $ on 1024 share itself; free 208 named 1
         7
         7
-        > then nothing itself; free 240 named 1
+        $ then nothing itself; free 240 named 1
         6"
     )?;
     plays(rt.alloc(), &KINDS, text.as_str())
@@ -533,11 +533,11 @@ const READ_EACH_KIND: &str = "type i64
 #[test]
 fn what_is_frozen_is_read_in_each_way(rt: HostRuntime) -> Result<(), Fail> {
     let text = format!(in rt.alloc();
-        r"> client freeze
+        r"$ client freeze
         {FREEZE_EACH_KIND}
-        > client read
+        $ client read
         {READ_EACH_KIND}
-        > client kill
+        $ client kill
             type i64
             type str
             type vec t0
@@ -550,9 +550,9 @@ fn what_is_frozen_is_read_in_each_way(rt: HostRuntime) -> Result<(), Fail> {
             type shared t8
             name h
             KILL r0 - t9 k0
-        > on 4096 freeze; named 1
+        $ on 4096 freeze; named 1
         1
-        > then read; named 1
+        $ then read; named 1
         11
         abc\
         3
@@ -573,7 +573,7 @@ fn what_is_frozen_is_read_in_each_way(rt: HostRuntime) -> Result<(), Fail> {
         16
         17
         17
-        > then kill; named 0 free 3392 largest 3392"
+        $ then kill; named 0 free 3392 largest 3392"
     )?;
     plays(rt.alloc(), &KINDS, text.as_str())
 }
@@ -598,15 +598,15 @@ fn readers_change_nothing(rt: HostRuntime) -> Result<(), Fail> {
 #[test]
 fn a_notice_is_published(rt: HostRuntime) -> Result<(), Fail> {
     let text = format!(in rt.alloc();
-        "> client publish
+        "$ client publish
         {PUBLISH}
-        > client notice
+        $ client notice
         {NOTICE}
-        > on 2048 notice publish notice; named 2
+        $ on 2048 notice publish notice; named 2
         no notice
         7
         closed on Monday
-        > then publish notice; named 2
+        $ then publish notice; named 2
         7
         closed on Monday"
     )?;

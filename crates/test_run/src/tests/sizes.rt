@@ -203,7 +203,7 @@ fn first_push_by_size(rt: HostRuntime) -> Result<(), Fail> {
     plays(
         rt.alloc(),
         &[SEQ_FLAT],
-        "> client push
+        "$ client push
             type i64
             type vec t0
             name v
@@ -217,23 +217,23 @@ fn first_push_by_size(rt: HostRuntime) -> Result<(), Fail> {
             ELSE
               OUTI r0
             END
-        > on 736 push; named 0 free 32
+        $ on 736 push; named 0 free 32
         2
-        > on 752 push; named 0 free 48
+        $ on 752 push; named 0 free 48
         2
-        > on 768 push; named 1 free 0
+        $ on 768 push; named 1 free 0
         2
-        > on 784 push; named 1 free 0
+        $ on 784 push; named 1 free 0
         2
-        > on 800 push; named 1 free 0
+        $ on 800 push; named 1 free 0
         2
-        > on 816 push; named 1 free 0
+        $ on 816 push; named 1 free 0
         1
-        > on 832 push; named 1 free 0
+        $ on 832 push; named 1 free 0
         1
-        > on 848 push; named 1 free 0
+        $ on 848 push; named 1 free 0
         1
-        > on 864 push; named 1 free 32
+        $ on 864 push; named 1 free 32
         1",
     )
 }

@@ -11,14 +11,14 @@ use support_runs::{KINDS, client};
 #[test]
 fn clients_share_a_counter(rt: HostRuntime) -> Result<(), Fail> {
     let text = format!(in rt.alloc();
-        "> client count
+        "$ client count
         {COUNT}
-        > on 1024 count count
+        $ on 1024 count count
         1
         2
-        > then count
+        $ then count
         3
-        > on 736 count
+        $ on 736 count
         no room"
     )?;
     plays(rt.alloc(), &KINDS, text.as_str())
@@ -27,19 +27,19 @@ fn clients_share_a_counter(rt: HostRuntime) -> Result<(), Fail> {
 #[test]
 fn clients_share_settings(rt: HostRuntime) -> Result<(), Fail> {
     let text = format!(in rt.alloc();
-        "> client configure
+        "$ client configure
         {CONFIGURE}
-        > client settings
+        $ client settings
         {SETTINGS}
-        > on 1024 settings
+        $ on 1024 settings
         no settings
-        > on 1024 configure settings configure
+        $ on 1024 configure settings configure
         1
         640
         2
         8080
         hello, world
-        > then settings
+        $ then settings
         1
         640
         2
@@ -53,9 +53,9 @@ fn clients_share_settings(rt: HostRuntime) -> Result<(), Fail> {
 #[test]
 fn a_cache_forgets_the_oldest(rt: HostRuntime) -> Result<(), Fail> {
     let text = format!(in rt.alloc();
-        "> client cache
+        "$ client cache
         {CACHE}
-        > on 2048 cache reads ABCADAC
+        $ on 2048 cache reads ABCADAC
         miss 4225
         miss 4356
         miss 4489
@@ -63,7 +63,7 @@ fn a_cache_forgets_the_oldest(rt: HostRuntime) -> Result<(), Fail> {
         miss 4624
         miss 4225
         hit 4489
-        > then cache reads DB
+        $ then cache reads DB
         hit 4624
         miss 4356"
     )?;

@@ -1,78 +1,143 @@
-//! Each call on a list and on a map once, over both allocators, and calls that fail on values of other types.
+//! Each call on a text, a list, a map and an own once, over both allocators.
 
-use crate::tests::heaps::calls_on;
+use crate::tests::rooted::{Rooted, with_root};
+use crate::tests::support::{I64, STR, Spelled, flat_map_of, list_of, map_of, own_of};
+use crate::tests::tiles::is_one_gap;
 use seg_bestfit::BestFit;
+use seg_block::Fit;
+use seg_map::{first_key, get, next_key, put, remove};
+use seg_raw::Code;
+use seg_seq::{
+    append, assign, at, next, pop_back, pop_front, prev, push_back, push_byte, push_front,
+};
 use seg_seqfit::SeqFit;
+use seg_value::{Content, set_own, take_own};
 use std::alloc::Global;
+use std::process::Abort;
 use std::test::Fail;
 
-fn calls(alloc: Global, text: &str) -> Result<(), Fail> {
-    calls_on::<SeqFit>(alloc, text)?;
-    calls_on::<BestFit>(alloc, text)
+/// The types: numbers, and the root's.
+fn root_of<F: Fit>(alloc: Global, root: Spelled) -> Result<Rooted<F>, Fail> {
+    with_root::<F>(alloc, 1024, &[I64, root], 1)
+}
+
+fn calls_on_texts<F: Fit>(rt: &(impl Abort + AllocGlobal)) -> Result<(), Fail> {
+    let mut s = root_of::<F>(rt.alloc(), STR)?;
+    assign(&mut s.heap, s.root, b"hello")?;
+    append(&mut s.heap, s.root, b", all")?;
+    assert_eq!(rt; push_byte(&mut s.heap, s.root, b'!')?, 11);
+    assert_eq!(rt; seg_seq::len(&s.heap, s.root)?, 11);
+    let from = at(&s.heap, s.root, 0)?;
+    assert_eq!(rt;
+        s.heap.window().slice(from as usize, 11),
+        b"hello, all!".as_slice()
+    );
+    s.heap.clear(s.root);
+    is_one_gap(rt, s.heap.window())
 }
 
 #[test]
-fn lists_have_two_ends(rt: HostRuntime) -> Result<(), Fail> {
-    calls(
-        rt.alloc(),
-        "heap 1024 list
-        push 2 => ok; push 3 => ok; push_front 1 => ok
-        items 1 2 3
-        next 0 => 2; prev 2 => 2
-        pop_front => ok; pop => ok
-        items 2",
-    )
+fn each_call_on_a_text(rt: HostRuntime) -> Result<(), Fail> {
+    calls_on_texts::<SeqFit>(&rt)?;
+    calls_on_texts::<BestFit>(&rt)
 }
 
-/// Three keys of a map, one of which is put twice, and another removed.
-const KEYS: &str = "keys
-    put 3 => 3; put -5 => -5; put 4 => 4; put 3 => 6
-    keys -5 3 4
-    get 3 => 6
-    remove 3 => 1; remove 3 => 0; get 3 => Absent
-    keys -5 4";
-
-#[test]
-fn maps_have_keys_in_order(rt: HostRuntime) -> Result<(), Fail> {
-    let text = format!(in rt.alloc(); "heap 1024 flat_map\n{KEYS}\nheap 1024 map\n{KEYS}")?;
-    calls(rt.alloc(), text.as_str())
+fn push_number<F: Fit>(s: &mut Rooted<F>, number: i64) -> Result<(), Code> {
+    let item = push_back(&mut s.heap, s.root)?;
+    s.heap.store(item, number);
+    Ok(())
 }
 
-/// The calls on sequences and texts, on something else.
-const REFUSED: &str =
-    "at 0 => OtherType; at 1 => OtherType; push => OtherType; push_front => OtherType
-    pop => OtherType; pop_front => OtherType
-    append a => OtherType; assign a => OtherType; push_byte 7 => OtherType";
+fn item<F: Fit>(s: &Rooted<F>, index: u32) -> Result<i64, Code> {
+    Ok(s.heap.load(at(&s.heap, s.root, index)?))
+}
 
-/// Two maps, empty and with a key.
+/// A list of 1, 2 and 3.
+fn three_numbers<F: Fit>(rt: &(impl Abort + AllocGlobal)) -> Result<Rooted<F>, Fail> {
+    let mut s = root_of::<F>(rt.alloc(), list_of(0))?;
+    push_number(&mut s, 2)?;
+    push_number(&mut s, 3)?;
+    let first = push_front(&mut s.heap, s.root)?;
+    s.heap.store(first, 1);
+    assert_eq!(rt; s.heap.load(next(&s.heap, first)), 2);
+    assert_eq!(rt; s.heap.load(prev(&s.heap, first)), 3);
+    Ok(s)
+}
+
+fn calls_on_lists<F: Fit>(rt: &(impl Abort + AllocGlobal)) -> Result<(), Fail> {
+    let mut s = three_numbers::<F>(rt)?;
+    assert_eq!(rt;
+        (item(&s, 0), item(&s, 1), item(&s, 2)),
+        (Ok(1), Ok(2), Ok(3))
+    );
+    pop_front(&mut s.heap, s.root)?;
+    pop_back(&mut s.heap, s.root)?;
+    assert_eq!(rt; (item(&s, 0), item(&s, 1)), (Ok(2), Err(Code::OutOfRange)));
+    pop_back(&mut s.heap, s.root)?;
+    assert_eq!(rt; pop_back(&mut s.heap, s.root), Err(Code::Null));
+    is_one_gap(rt, s.heap.window())
+}
+
 #[test]
-fn maps_have_no_items(rt: HostRuntime) -> Result<(), Fail> {
-    for map in ["map", "flat_map"] {
-        let text = format!(in rt.alloc();
-            "heap 1024 {map}
-            {REFUSED}
-            put 3 => 3
-            {REFUSED}
-            count => 1; first => 3; get 3 => 3"
-        )?;
-        calls(rt.alloc(), text.as_str())?;
+fn each_call_on_a_list(rt: HostRuntime) -> Result<(), Fail> {
+    calls_on_lists::<SeqFit>(&rt)?;
+    calls_on_lists::<BestFit>(&rt)
+}
+
+/// Adds a key to the number that it has, which is 0 before.
+fn add<F: Fit>(s: &mut Rooted<F>, key: i64) -> Result<(), Code> {
+    let value = put(&mut s.heap, s.root, key)?;
+    s.heap.store(value, s.heap.load(value).wrapping_add(key));
+    Ok(())
+}
+
+fn value<F: Fit>(s: &Rooted<F>, key: i64) -> Result<i64, Code> {
+    Ok(s.heap.load(get(&s.heap, s.root, key)?))
+}
+
+/// A map with the keys -5, 3 and 4. The number of 3 is 6, since it was added twice.
+fn three_keys<F: Fit>(alloc: Global, map: Spelled) -> Result<Rooted<F>, Fail> {
+    let mut s = root_of::<F>(alloc, map)?;
+    for key in [3, -5, 4, 3] {
+        add(&mut s, key)?;
+    }
+    Ok(s)
+}
+
+fn calls_on_maps<F: Fit>(rt: &(impl Abort + AllocGlobal), map: Spelled) -> Result<(), Fail> {
+    let mut s = three_keys::<F>(rt.alloc(), map)?;
+    assert_eq!(rt; seg_map::len(&s.heap, s.root), Ok(3));
+    assert_eq!(rt; first_key(&s.heap, s.root), Ok(-5));
+    assert_eq!(rt; next_key(&s.heap, s.root, -5), Ok(3));
+    assert_eq!(rt; (value(&s, 3), value(&s, 4)), (Ok(6), Ok(4)));
+    assert!(rt; remove(&mut s.heap, s.root, 3) && !remove(&mut s.heap, s.root, 3));
+    assert_eq!(rt; value(&s, 3), Err(Code::Absent));
+    assert_eq!(rt; push_back(&mut s.heap, s.root), Err(Code::OtherType));
+    Ok(())
+}
+
+#[test]
+fn each_call_on_a_map(rt: HostRuntime) -> Result<(), Fail> {
+    for map in [flat_map_of(0), map_of(0)] {
+        calls_on_maps::<SeqFit>(&rt, map)?;
+        calls_on_maps::<BestFit>(&rt, map)?;
     }
     Ok(())
 }
 
-/// A number, a struct, and an own, at last with an object.
+fn calls_on_owns<F: Fit>(rt: &(impl Abort + AllocGlobal)) -> Result<(), Fail> {
+    let mut s = root_of::<F>(rt.alloc(), own_of(0))?;
+    let number = Content::object(s.heap.types(), 0);
+    let object = s.heap.new_block(&number)?;
+    set_own(&mut s.heap, s.root, object);
+    assert_eq!(rt; take_own(&mut s.heap, s.root), Some(object));
+    assert_eq!(rt; take_own(&mut s.heap, s.root), None);
+    s.heap.destroy(object);
+    is_one_gap(rt, s.heap.window())
+}
+
 #[test]
-fn sequences_alone_have_items(rt: HostRuntime) -> Result<(), Fail> {
-    let text = format!(in rt.alloc();
-        "heap 1024 i64
-        {REFUSED}
-        heap 1024 pair
-        {REFUSED}
-        heap 1024 own
-        {REFUSED}
-        own => 720
-        {REFUSED}
-        take => 720"
-    )?;
-    calls(rt.alloc(), text.as_str())
+fn each_call_on_an_own(rt: HostRuntime) -> Result<(), Fail> {
+    calls_on_owns::<SeqFit>(&rt)?;
+    calls_on_owns::<BestFit>(&rt)
 }

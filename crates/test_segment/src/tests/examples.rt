@@ -1,179 +1,174 @@
-//! Calls on whole segments, worked out by hand; the checker tests the bytes.
+//! Each call on a whole segment once, over both allocators and indexes, and images that are opened and saved.
 
-use crate::tests::calls::{are, calls};
 use crate::tests::support::{
-    I64, INDEXES, NUMBER, construct_number, first_fault, place_of, segment, shared_of, used_region,
-    window,
+    I64, INDEXES, NUMBER, construct_number, first_fault, map_of, place_of, segment, segment_in,
+    shared_of, used_region, window,
 };
 use seg_bestfit::BestFit;
+use seg_block::Fit;
 use seg_check::{open, save};
 use seg_layout::TypeId;
-use seg_manager::{Found, IndexKind, Segment, num_named};
+use seg_manager::{Found, IndexKind, Segment, first_name, next_name, num_named};
 use seg_ptr::Window;
 use seg_raw::{Code, Fault};
 use seg_seqfit::SeqFit;
-use seg_space::{create, free_memory, zero_free_memory};
+use seg_space::{
+    all_memory_deallocated, create, free_memory, grow, largest_gap, shrink_to_fit, zero_free_memory,
+};
 use seg_value::{freeze, share};
 use std::alloc::Global;
 use std::process::Abort;
 use std::test::Fail;
 use support_data::{counter, counter_saved, sharing};
 
-/// The object has 2 units; a flat index asks for 3 and takes 2 at its limit, a node of the tree has 3.
-#[test]
-fn index_takes_what_is_there(rt: HostRuntime) -> Result<(), Fail> {
-    calls(
-        rt.alloc(),
-        "new 1024; make x t0 1 => ok; named => 1; free => 240
-        new 784; make x t0 1 => ok; named => 1; free => 0
-        new 768 flat; make x t0 1 => ok; named => 1; free => 0
-        new 768 tree; make x t0 1 => BadAlloc; named => 0; free => 64
-        new 752; make x t0 1 => BadAlloc; named => 0; free => 48
-        new 736; make x t0 1 => BadAlloc; named => 0; free => 32",
-    )
+/// Maps of numbers.
+const MAP: TypeId = 1;
+
+fn empty<F: Fit>(alloc: Global, index: IndexKind) -> Result<Segment<F, Global>, Fail> {
+    segment::<F>(alloc, 1024, index, &[I64, map_of(NUMBER)])
 }
 
-/// The names x and y in order of their bytes, a prefix first. Two objects of 2 units, and an index of 3 or two nodes of 3.
-#[test]
-fn names_in_order(rt: HostRuntime) -> Result<(), Fail> {
-    calls(
-        rt.alloc(),
-        "new 1024 flat; make y t0 1 => ok; make x t0 1 => ok; free => 208
-        new 1024 tree; make y t0 1 => ok; make x t0 1 => ok; free => 160
-        new 1024; first none => 1; make y t0 1 => ok; make x t0 1 => ok
-        first x => 1; next x y => 1; next xx y => 1; next y none => 1
-        kill x t0 => 1; kill y t0 => 1; kill y t0 => 0; is_empty => 1; free => 320",
-    )
+/// Two numbers named y, and one named x.
+fn with_names<F: Fit>(
+    rt: &(impl Abort + AllocGlobal),
+    index: IndexKind,
+) -> Result<Segment<F, Global>, Fail> {
+    let mut s = empty::<F>(rt.alloc(), index)?;
+    let y = s.construct(b"y", NUMBER, 2)?;
+    let x = s.find_or_construct(b"x", NUMBER)?;
+    assert_eq!(rt; s.find(b"y", NUMBER)?, Found { at: y, count: 2 });
+    assert_eq!(rt; s.find_or_construct(b"x", NUMBER), Ok(x));
+    Ok(s)
 }
 
-/// A wrong count comes before a name that is there, and that before want of room. An object isn't found as one of another
-/// type, nor destroyed.
-#[test]
-fn refusals_in_order(rt: HostRuntime) -> Result<(), Fail> {
-    calls(
-        rt.alloc(),
-        "new 1024; make x t0 2 => ok
-        make x t0 0 => OutOfRange; make x t0 65536 => OutOfRange; make x t0 4294967295 => OutOfRange
-        make x t2 65535 => AlreadyExists; make y t2 65535 => BadAlloc
-        find x t2 => OtherType; find_or_make x t2 => OtherType; kill x t2 => 0
-        count x t0 => 2; named => 1",
-    )
+/// Why a call on a name is refused.
+fn refuses_names<F: Fit>(rt: &impl Abort, s: &mut Segment<F, Global>) {
+    assert_eq!(rt; s.find(b"x", MAP).err(), Some(Code::OtherType));
+    assert_eq!(rt; s.construct(b"x", MAP, 1), Err(Code::AlreadyExists));
+    assert_eq!(rt; s.construct(b"a b", NUMBER, 1), Err(Code::OutOfRange));
+    assert_eq!(rt; s.construct(b"z", NUMBER, 65535), Err(Code::BadAlloc));
 }
 
-/// A name that no object may have is refused, and never found.
-fn is_refused(segment: &mut Segment<SeqFit, Global>, name: &[u8]) -> bool {
-    construct_number(segment, name) == Err(Code::OutOfRange)
-        && segment.find_or_construct(name, NUMBER) == Err(Code::OutOfRange)
-        && segment.find(name, NUMBER).err() == Some(Code::Absent)
+fn lists_names<F: Fit>(rt: &impl Abort, s: &Segment<F, Global>) {
+    assert!(rt; first_name(s).is_some_and(|it| it.name == b"x".as_slice() && it.count == 1));
+    assert!(rt; next_name(s, b"x").is_some_and(|it| it.name == b"y".as_slice() && it.count == 2));
+    assert!(rt; next_name(s, b"y").is_none());
+    assert_eq!(rt; num_named(s), 2);
+}
+
+fn calls_on_names<F: Fit>(rt: &(impl Abort + AllocGlobal), index: IndexKind) -> Result<(), Fail> {
+    let mut s = with_names::<F>(rt, index)?;
+    refuses_names(rt, &mut s);
+    lists_names(rt, &s);
+    assert_eq!(rt; first_fault(rt.alloc(), s.window()), None);
+    assert!(rt; s.destroy(b"x", NUMBER) && !s.destroy(b"x", NUMBER));
+    assert!(rt; s.destroy(b"y", NUMBER) && all_memory_deallocated(&s));
+    Ok(())
+}
+
+fn calls_on_unique_objects<F: Fit>(
+    rt: &(impl Abort + AllocGlobal),
+    index: IndexKind,
+) -> Result<(), Fail> {
+    let mut s = empty::<F>(rt.alloc(), index)?;
+    assert_eq!(rt; s.find_unique(MAP), Err(Code::Absent));
+    let map = s.construct_unique(MAP)?;
+    assert_eq!(rt; s.construct_unique(MAP), Err(Code::AlreadyExists));
+    assert_eq!(rt; s.find_or_construct_unique(MAP), Ok(map));
+    assert_eq!(rt; s.num_unique(), 1);
+    assert!(rt; s.destroy_unique(MAP) && !s.destroy_unique(MAP));
+    Ok(())
+}
+
+/// An object that nothing owns is a fault in an image.
+fn calls_on_anonymous_objects<F: Fit>(
+    rt: &(impl Abort + AllocGlobal),
+    index: IndexKind,
+) -> Result<(), Fail> {
+    let mut s = empty::<F>(rt.alloc(), index)?;
+    let number = s.new_anonymous(NUMBER)?;
+    assert_eq!(rt;
+        first_fault(rt.alloc(), s.window()),
+        Some(Fault::Unowned(704))
+    );
+    s.destroy_anonymous(number);
+    assert!(rt; all_memory_deallocated(&s));
+    Ok(())
 }
 
 #[test]
-fn names_have_limits(rt: HostRuntime) -> Result<(), Fail> {
+fn each_call_on_names(rt: HostRuntime) -> Result<(), Fail> {
     for index in INDEXES {
-        let mut segment = segment::<SeqFit>(rt.alloc(), 1024, index, &[I64])?;
-        assert!(rt; is_refused(&mut segment, b"") && is_refused(&mut segment, b"a b"));
-        assert!(rt; is_refused(&mut segment, b"\x7f") && is_refused(&mut segment, &[b'a'; 64]));
-        construct_number(&mut segment, &[b'a'; 63])?;
-        assert_eq!(rt; num_named(&segment), 1);
+        calls_on_names::<SeqFit>(&rt, index)?;
+        calls_on_names::<BestFit>(&rt, index)?;
     }
     Ok(())
 }
 
 #[test]
-fn one_unique_object_of_a_type(rt: HostRuntime) -> Result<(), Fail> {
-    calls(
-        rt.alloc(),
-        "new 1024; find_unique t1 => Absent; make_unique t1 => 720; make_unique t1 => AlreadyExists
-        find_unique t1 => 720; find_or_make_unique t1 => 720; unique => 1; free => 288
-        kill_unique t1 => 1; kill_unique t1 => 0; unique => 0; free => 320",
-    )
+fn each_call_on_other_objects(rt: HostRuntime) -> Result<(), Fail> {
+    for index in INDEXES {
+        calls_on_unique_objects::<SeqFit>(&rt, index)?;
+        calls_on_unique_objects::<BestFit>(&rt, index)?;
+        calls_on_anonymous_objects::<SeqFit>(&rt, index)?;
+        calls_on_anonymous_objects::<BestFit>(&rt, index)?;
+    }
+    Ok(())
+}
+
+fn refuses_to_grow<F: Fit>(rt: &impl Abort, s: &mut Segment<F, Global>) {
+    assert_eq!(rt; grow(s, 24), Err(Fault::BadSize));
+    assert_eq!(rt; grow(s, 256), Err(Fault::NoHostRoom));
+    assert_eq!(rt; (free_memory(s), largest_gap(s)), (0, 0));
+}
+
+/// A number and its name fill a segment of 784 bytes.
+fn calls_on_memory<F: Fit>(rt: &(impl Abort + AllocGlobal), index: IndexKind) -> Result<(), Fail> {
+    let mut s = segment_in::<F>(rt.alloc(), 1024, 784, index, &[I64])?;
+    construct_number(&mut s, b"x")?;
+    refuses_to_grow(rt, &mut s);
+    assert_eq!(rt; grow(&mut s, 240), Ok(1024));
+    assert_eq!(rt; (free_memory(&s), largest_gap(&s)), (240, 240));
+    zero_free_memory(&mut s);
+    assert_eq!(rt; first_fault(rt.alloc(), s.window()), None);
+    assert_eq!(rt; shrink_to_fit(&mut s), 784);
+    Ok(())
+}
+
+#[test]
+fn each_call_on_memory(rt: HostRuntime) -> Result<(), Fail> {
+    for index in INDEXES {
+        calls_on_memory::<SeqFit>(&rt, index)?;
+        calls_on_memory::<BestFit>(&rt, index)?;
+    }
+    Ok(())
+}
+
+fn are(bytes: &[u8], byte: u8) -> bool {
+    bytes.iter().all(|it| *it == byte)
 }
 
 /// What the library makes anew has none of the bytes that the host had there.
 #[test]
-fn new_segments_are_empty(rt: HostRuntime) -> Result<(), Fail> {
-    calls(
-        rt.alloc(),
-        "new 1024; free => 320; largest => 320; named => 0; is_empty => 1
-        new 1024 seq; zeros 720 304 => 1",
-    )
+fn new_segments_are_zeroed(rt: HostRuntime) -> Result<(), Fail> {
+    let s = segment::<SeqFit>(rt.alloc(), 1024, IndexKind::Flat, &[I64])?;
+    let bytes = s.window().slice(720, 304);
+    assert!(rt; bytes.len() == 304 && are(bytes, 0));
+    Ok(())
 }
 
-/// A segment isn't made where this is the fault. The region comes back as it was.
-fn makes_none(
-    rt: &(impl Abort + AllocGlobal),
-    base: u32,
-    size: u32,
-    fault: Fault,
-) -> Result<(), Fail> {
+/// A segment isn't made. The region comes back as it was.
+#[test]
+fn refused_regions_come_back(rt: HostRuntime) -> Result<(), Fail> {
     let region = used_region(rt.alloc(), 1024)?;
-    match create::<SeqFit, Global>(region, base, size, IndexKind::Flat) {
+    match create::<SeqFit, Global>(region, 0, 1000, IndexKind::Flat) {
         Ok(_) => Err(Fail::from("made")),
-        Err((refused, region)) => {
-            assert_eq!(rt; refused, fault);
+        Err((fault, region)) => {
+            assert_eq!(rt; fault, Fault::BadSize);
             assert!(rt; are(region.slice(0, region.len() as usize), 0xa5));
             Ok(())
         }
     }
-}
-
-#[test]
-fn refused_segments(rt: HostRuntime) -> Result<(), Fail> {
-    makes_none(&rt, 0, 720, Fault::BadSize)?;
-    makes_none(&rt, 0, 1000, Fault::BadSize)?;
-    makes_none(&rt, 8, 1024, Fault::Misplaced)?;
-    makes_none(&rt, 16, 1024, Fault::Misplaced)
-}
-
-/// Sequential fit uses no byte of a gap after its header; best fit keeps the tree's words there. A value stays.
-#[test]
-fn free_memory_is_zeroed(rt: HostRuntime) -> Result<(), Fail> {
-    calls(
-        rt.alloc(),
-        "new 1024 seq; fill 720 304 => ok; zero_free => ok; zeros 720 304 => 1; free => 320
-        make x t0 1 => 720; fill 720 8 => ok; zero_free => ok; filled 720 8 => 1; free => 240
-        new 1024 best; fill 736 288 => ok; zero_free => ok; zeros 736 288 => 1; free => 320",
-    )
-}
-
-/// A single unit goes to the last block, two are a gap. A size that isn't a multiple of 16, and one past the region's end or
-/// the limit, are refused.
-#[test]
-fn segments_grow(rt: HostRuntime) -> Result<(), Fail> {
-    calls(
-        rt.alloc(),
-        "new 784 in 1024; make x t0 1 => ok; grow 0 => 784; size => 784; named => 1; free => 0
-        shrink => 784; free => 0
-        new 784 in 1024; make x t0 1 => ok; grow 16 => 800; size => 800; named => 1; free => 0
-        shrink => 800; free => 0
-        new 784 in 1024; make x t0 1 => ok; grow 32 => 816; size => 816; named => 1; free => 32
-        shrink => 784; free => 0
-        new 784 in 1024; make x t0 1 => ok; grow 240 => 1024; size => 1024; named => 1; free => 240
-        shrink => 784; free => 0
-        new 784 in 1024; make x t0 1 => ok; grow 24 => BadSize; grow 256 => NoHostRoom
-        size => 784; named => 1; free => 0; shrink => 784; free => 0
-        new 784 in 784; make x t0 1 => ok; grow 16 => NoHostRoom; grow 1073741824 => BadSize
-        size => 784; named => 1; free => 0; shrink => 784; free => 0",
-    )
-}
-
-/// What the host had where a segment grows doesn't get into it: after a header and the allocator's words the bytes are 0.
-#[test]
-fn segments_grow_by_zeros(rt: HostRuntime) -> Result<(), Fail> {
-    calls(
-        rt.alloc(),
-        "new 784 in 1024; make x t0 1 => ok; grow 240 => 1024; zeros 816 208 => 1",
-    )
-}
-
-/// An empty segment keeps two units, one with the number x what that needs.
-#[test]
-fn segments_shrink(rt: HostRuntime) -> Result<(), Fail> {
-    calls(
-        rt.alloc(),
-        "new 1024; shrink => 736; free => 32; grow 288 => 1024; free => 320; make x t0 1 => ok
-        shrink => 784; free => 0",
-    )
 }
 
 /// The counter's image in a window.

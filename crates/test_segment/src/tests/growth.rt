@@ -1,6 +1,5 @@
-//! Sizes of blocks that follow from the rules of growth, worked out by hand.
+//! Growth in place, values that move, and one that is deep.
 
-use crate::tests::heaps::calls_on;
 use crate::tests::rooted::{ROOT, Rooted, with_root};
 use crate::tests::support::{I64, STR, own_of, pair, place_of, vec_of};
 use crate::tests::tiles::{is_one_gap, live_are, tiles};
@@ -9,81 +8,16 @@ use seg_seqfit::SeqFit;
 use seg_value::{Content, set_own, take_own};
 use std::test::Fail;
 
-/// A text that is assigned keeps the buffer.
-#[test]
-fn a_string_grows_and_shrinks_in_place(rt: HostRuntime) -> Result<(), Fail> {
-    calls_on::<SeqFit>(
-        rt.alloc(),
-        "heap 1024 str
-        assign hello => ok
-        live 704:2
-        append , dear neighbours!! => ok
-        live 704:3
-        text hello, dear neighbours!! => 1
-        assign hello => ok
-        live 704:3
-        shrink => ok
-        live 704:2
-        assign => ok
-        live 704:2
-        shrink => ok
-        live",
-    )
-}
-
-/// A vector of numbers has room for 4, then for 8 where it stands.
+/// A vector of numbers has room for 4, then for 8 where it stands. Without the rest it has 5 of them.
 #[test]
 fn a_vector_doubles_in_place(rt: HostRuntime) -> Result<(), Fail> {
-    calls_on::<SeqFit>(
-        rt.alloc(),
-        "heap 1024 vec
-        push => ok; live 704:3
-        push => ok; live 704:3
-        push => ok; live 704:3
-        push => ok; live 704:3
-        push => ok; live 704:5",
-    )
-}
-
-/// A fifth push that finds no room for 8 takes its limit elsewhere. A seventh finds no room, and changes nothing.
-#[test]
-fn a_fifth_push_takes_its_limit(rt: HostRuntime) -> Result<(), Fail> {
-    calls_on::<SeqFit>(
-        rt.alloc(),
-        "heap 848 vec
-        push => ok; push => ok; push => ok; push => ok
-        new => ok
-        live 704:3 752:2
-        push => ok; live 752:2 784:4
-        push => ok; live 752:2 784:4
-        push => BadAlloc
-        live 752:2 784:4",
-    )
-}
-
-#[test]
-fn list_nodes_of_numbers_have_2_units(rt: HostRuntime) -> Result<(), Fail> {
-    calls_on::<SeqFit>(
-        rt.alloc(),
-        "heap 1024 list
-        push => ok; push => ok; push => ok
-        live 704:2 736:2 768:2
-        pop => ok
-        live 704:2 736:2",
-    )
-}
-
-#[test]
-fn a_flat_map_of_numbers_has_5_then_9_units(rt: HostRuntime) -> Result<(), Fail> {
-    calls_on::<SeqFit>(
-        rt.alloc(),
-        "heap 1024 flat_map
-        put 1 => ok; live 704:5
-        put 2 => ok; live 704:5
-        put 3 => ok; live 704:5
-        put 4 => ok; live 704:5
-        put 5 => ok; live 704:9",
-    )
+    let mut s = with_root::<SeqFit>(rt.alloc(), 1024, &[I64, vec_of(0)], 1)?;
+    for units in [3, 3, 3, 3, 5] {
+        push_back(&mut s.heap, s.root)?;
+        live_are(&rt, s.heap.window(), &[(704, units)])?;
+    }
+    s.heap.shrink_to_fit(s.root);
+    live_are(&rt, s.heap.window(), &[(704, 4)])
 }
 
 /// Puts an object that owns what the root owned before into the root.
@@ -122,18 +56,4 @@ fn shifted_values_read_the_same(rt: HostRuntime) -> Result<(), Fail> {
     }
     assert_eq!(rt; s.heap.window().slice(720, 2), b"ab".as_slice());
     live_are(&rt, s.heap.window(), &[(704, 2)])
-}
-
-/// Bytes after the used items may be a pointer to a block that something else owns, which stays.
-#[test]
-fn unused_items_own_nothing(rt: HostRuntime) -> Result<(), Fail> {
-    let mut s = with_root::<SeqFit>(rt.alloc(), 1024, &[STR, vec_of(0)], 1)?;
-    let item = push_back(&mut s.heap, place_of(1, ROOT))?;
-    assign(&mut s.heap, place_of(0, item), b"hello")?;
-    let other = Content::object(s.heap.types(), 0);
-    let stays = s.heap.new_block(&other)?;
-    live_are(&rt, s.heap.window(), &[(704, 3), (752, 2), (784, 2)])?;
-    s.heap.window_mut().point(item as usize + 8, Some(stays));
-    s.heap.clear(place_of(1, ROOT));
-    live_are(&rt, s.heap.window(), &[(784, 2)])
 }

@@ -19,6 +19,7 @@ use seg_ptr::header::{SIZE, TYPES, UNIQUES};
 use seg_raw::Fault;
 use std::alloc::Global;
 use std::test::Fail;
+use support_data::{change, number};
 
 /// The kinds of live blocks, as a tag has them.
 const NAMED: u32 = 1;
@@ -142,7 +143,7 @@ impl Image {
             [at, kind, t, units] if tag_of(kind, t).is_some() => {
                 self.add_block(number(at)?, number(units)?, LIVE, tag_of(kind, t)?)
             }
-            _ => self.change_all(words),
+            _ => self.change(words),
         }
     }
 
@@ -175,48 +176,29 @@ impl Image {
 
     fn add_unique(&mut self, payload: u32, t: u32, units: u32) -> Option<()> {
         let tag = OBJECT.wrapping_add(t.wrapping_mul(256));
-        self.point((UNIQUES as u32).wrapping_add(t.wrapping_mul(4)), payload);
+        self.w.point(
+            UNIQUES.saturating_add((t as usize).saturating_mul(4)),
+            Some(payload),
+        );
         self.add_block(payload, units, LIVE, tag)
     }
 
     fn add_chain(&mut self, kind: &str, from: u32, nodes: u32) -> Option<()> {
-        let mut pointer = from;
+        let mut pointer = from as usize;
         for _ in 0..nodes {
             let node = self.w.len().saturating_add(16);
             self.add_block(node, 3, LIVE, tag_of(kind, "t0")?)?;
             self.w.put32(node as usize, 1);
             self.w.put32(node as usize + 4, 1);
-            self.point(pointer, node);
-            pointer = node;
+            self.w.point(pointer, Some(node));
+            pointer = node as usize;
         }
         Some(())
     }
 
-    /// Lets a pointer name a position.
-    fn point(&mut self, at: u32, named: u32) {
-        self.w.put32(at as usize, named.wrapping_sub(at));
-    }
-
-    fn change_all(&mut self, changes: &[&str]) -> Option<()> {
-        for change in changes {
-            self.change(change)?;
-        }
-        Some(())
-    }
-
-    fn change(&mut self, change: &str) -> Option<()> {
-        if let Some((at, named)) = change.split_once("->") {
-            let at = number(at)?;
-            match named {
-                "null" => self.w.put32(at as usize, 1),
-                _ => self.point(at, number(named)?),
-            }
-        } else if let Some((at, long)) = change.split_once(':') {
-            let long: i64 = long.parse().ok()?;
-            self.w.put64(number(at)? as usize, long.cast_unsigned());
-        } else {
-            let (at, word) = change.split_once('=')?;
-            self.w.put32(number(at)? as usize, word_of(word)?);
+    fn change(&mut self, changes: &[&str]) -> Option<()> {
+        for it in changes {
+            change(self.w.bytes_mut(), it)?;
         }
         Some(())
     }
@@ -254,25 +236,6 @@ fn tag_of(kind: &str, t: &str) -> Option<u32> {
 
 fn type_id(word: &str) -> Option<u32> {
     number(word.strip_prefix('t')?)
-}
-
-fn number(word: &str) -> Option<u32> {
-    match word.strip_prefix("0x") {
-        Some(digits) => u32::from_str_radix(digits, 16).ok(),
-        None => word.parse().ok(),
-    }
-}
-
-/// A word of an image: a number, its halves, or its bytes.
-fn word_of(word: &str) -> Option<u32> {
-    if let Some((low, high)) = word.split_once(',') {
-        return Some(number(low)?.wrapping_add(number(high)?.wrapping_mul(1 << 16)));
-    }
-    match word.as_bytes() {
-        [b'\'', letter, b'\''] => Some(u32::from(*letter)),
-        [b'\'', first, second, b'\''] => Some(u32::from_le_bytes([*first, *second, 0, 0])),
-        _ => number(word),
-    }
 }
 
 /// Whether a fault is the one that these words tell.

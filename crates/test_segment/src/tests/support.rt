@@ -134,17 +134,3 @@ pub(crate) fn construct_number<F: Fit>(
 pub(crate) fn first_fault(alloc: Global, w: &Window<Global>) -> Option<Fault> {
     check(alloc, w).err()
 }
-
-/// What a call gives, or the word for its refusal.
-pub(crate) fn given<T>(found: Result<T, Code>) -> Result<T, &'static str> {
-    match found {
-        Ok(found) => Ok(found),
-        Err(Code::AlreadyExists) => Err("AlreadyExists"),
-        Err(Code::BadAlloc) => Err("BadAlloc"),
-        Err(Code::Absent) => Err("Absent"),
-        Err(Code::OtherType) => Err("OtherType"),
-        Err(Code::OutOfRange) => Err("OutOfRange"),
-        Err(Code::Null) => Err("Null"),
-        Err(Code::NumbersUsedUp) => Err("NumbersUsedUp"),
-    }
-}

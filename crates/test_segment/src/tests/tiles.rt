@@ -35,51 +35,20 @@ pub(crate) fn tiles(alloc: Global, w: &Window<Global>) -> Result<Vec<Tile>, Allo
     Ok(tiles)
 }
 
-fn live(alloc: Global, w: &Window<Global>) -> Result<Vec<Tile>, AllocError> {
-    let mut live = tiles(alloc, w)?;
-    live.retain(|tile| tile.live);
-    Ok(live)
-}
-
 /// These are the live blocks: where they are, and their units.
 pub(crate) fn live_are(
     rt: &(impl Abort + AllocGlobal),
     w: &Window<Global>,
     wanted: &[(u32, u32)],
 ) -> Result<(), Fail> {
-    let live = live(rt.alloc(), w)?;
+    let mut live = tiles(rt.alloc(), w)?;
+    live.retain(|tile| tile.live);
     let found: Vec<(u32, u32)> = live
         .iter()
         .map(|tile| (tile.at, tile.units))
         .collect(rt.alloc())?;
     assert_eq!(rt; found.as_slice(), wanted);
     Ok(())
-}
-
-/// Whether these are the live blocks, as `704:2`: where each is, and its units. Without any the heap is one gap.
-pub(crate) fn are_live(alloc: Global, w: &Window<Global>, wanted: &[&str]) -> Result<bool, Fail> {
-    let live = live(alloc, w)?;
-    if wanted.is_empty() {
-        return is_gap(alloc, w);
-    }
-    for (tile, wanted) in live.iter().zip(wanted) {
-        let (at, units) = wanted.split_once(':').ok_or("no block")?;
-        if at.parse() != Ok(tile.at) || units.parse() != Ok(tile.units) {
-            return Ok(false);
-        }
-    }
-    Ok(live.len() == wanted.len())
-}
-
-/// Whether these are the tags of the live blocks.
-pub(crate) fn have_tags(alloc: Global, w: &Window<Global>, wanted: &[&str]) -> Result<bool, Fail> {
-    let live = live(alloc, w)?;
-    for (tile, wanted) in live.iter().zip(wanted) {
-        if wanted.parse() != Ok(tile.tag) {
-            return Ok(false);
-        }
-    }
-    Ok(live.len() == wanted.len())
 }
 
 /// Whether the heap is one gap, with which the free structure starts. Its link is null.

@@ -1,10 +1,11 @@
 use crate::tests::explain::sources::{clients_alone, image_alone, is};
-use crate::tests::files::{FROZEN_PAIR, counter_where};
+use crate::tests::files::FROZEN_PAIR;
 use cli_explain::explain;
 use lezgauri::check;
 use seg_raw::Fault;
 use std::alloc::Global;
 use std::test::Fail;
+use support_data::counter_where;
 
 /// What is wrong with the counter's image where some words are others.
 fn explained(alloc: Global, changes: &str) -> Result<Vec<u8>, Fail> {

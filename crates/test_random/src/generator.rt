@@ -1,6 +1,6 @@
 //! Random clients. Most are accepted, because the generator knows which references are still valid.
 
-use crate::tests::model::{Shape, shape_of};
+use crate::model::{Shape, shape_of};
 use std::alloc::{AllocError, Global};
 use std::fmt::Write;
 use support_data::Random;

@@ -1,7 +1,7 @@
 //! Instructions with an else part, on the model.
 
-use crate::tests::abstract_run::{AbstractRun, Register};
-use crate::tests::model::{Content, Object, Objects, Shape};
+use crate::abstract_run::{AbstractRun, Register};
+use crate::model::{Content, Object, Objects, Shape};
 use client_code::{Instruction, Operation};
 use std::ops::Bound;
 use std::test::Fail;

@@ -1,7 +1,7 @@
 //! Instructions without parts, on the model.
 
-use crate::tests::abstract_run::{AbstractRun, Register};
-use crate::tests::model::{Content, Objects};
+use crate::abstract_run::{AbstractRun, Register};
+use crate::model::{Content, Objects};
 use client_code::{Instruction, Operation};
 use std::test::Fail;
 

@@ -1,7 +1,7 @@
 //! A client's run on the model, next to the output of a real run. The model can't know when memory runs out, so it takes that
 //! from the output: an opener that succeeds prints a mark first. Everything else must be as printed.
 
-use crate::tests::model::Objects;
+use crate::model::Objects;
 use client_code::{Client, ConstantKind, Instruction, Role};
 use itoa::Buffer;
 use std::alloc::Global;
