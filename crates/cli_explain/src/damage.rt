@@ -14,17 +14,17 @@ const VERSION: usize = 8;
 
 /// What values should be.
 const VALUES: &str =
-    "a list should be a ring, a map a red-black tree with ascending keys, each with as many nodes as it says, \
-and a pointer null exactly where there are none\n";
+    "a list should be a ring and a map a red-black tree with ascending keys, with as many nodes as the number \
+after its pointer; the pointer should be null exactly if that number is 0\n";
 
 /// What cells that share should be.
 const SHARING: &str =
-    "a cell that shares should name a frozen object exactly where it says 1, and one with a lower number where \
-it stands in a frozen object itself\n";
+    "a shared should point to a frozen object exactly if the number after its pointer is 1; inside a frozen object, \
+it should point to one with a lower number\n";
 
 /// What frozen objects should be.
 const FROZEN: &str =
-    "a frozen object should count the cells that name it, and have a number below the one at byte 28\n";
+    "a frozen object should count the cells that point to it, and have a number below the one at byte 28\n";
 
 /// Adds what is wrong with an image's length or its header.
 pub(crate) fn add_bad_header(text: &mut String, image: Option<&[u8]>) -> Result<(), AllocError> {
@@ -33,12 +33,12 @@ pub(crate) fn add_bad_header(text: &mut String, image: Option<&[u8]>) -> Result<
     };
     let len = image.len();
     if !image.starts_with(b"SEGIMAGE") {
-        return text.push_str("the first 8 bytes should be `SEGIMAGE`: the file is no image\n");
+        return text.push_str("the file isn't an image: its first 8 bytes should be `SEGIMAGE`\n");
     }
     if !u32::try_from(len).is_ok_and(|len| is_size(len)) {
         return write!(
             text,
-            "the image has {len} bytes, and should have {MIN_LEN} to {MAX_LEN}, a multiple of 16\n"
+            "the image has {len} bytes, but should have {MIN_LEN} to {MAX_LEN}, a multiple of 16\n"
         );
     }
     add_bad_word(text, image)
@@ -50,13 +50,13 @@ fn add_bad_word(text: &mut String, image: &[u8]) -> Result<(), AllocError> {
     if size as usize != units && matches!(word(image, VERSION), 1 | 2) {
         return write!(
             text,
-            "the length in units at byte 12 is {size}, and should be {units}\n"
+            "the length at byte 12 is {size} units of 16 bytes, but the file has {units}\n"
         );
     }
     match wrong_number(image) {
         Some((field, number, right)) => write!(
             text,
-            "{field} is {number}, and should be {right}\n"
+            "{field} is {number}, but should be {right}\n"
         ),
         None if word(image, VERSION) == 1 => text.push_str(
             "bytes 28 to 31 and 40 to 63 should be 0\n",
@@ -154,12 +154,12 @@ pub(crate) fn add_bad_value(
 
 fn add_location(text: &mut String, image: &Image, at: u32) -> Result<(), AllocError> {
     let location = image.location(at);
-    write!(text, "byte {at} lies {location}\n")
+    write!(text, "byte {at} is {location}\n")
 }
 
 fn add_target(text: &mut String, image: &Image, to: u32) -> Result<(), AllocError> {
     let location = image.location(to);
-    write!(text, "the pointer there names byte {to}, {location}\n")
+    write!(text, "the pointer there points to byte {to}, {location}\n")
 }
 
 fn image_of(alloc: Global, image: Option<&[u8]>) -> Result<Option<Image>, AllocError> {
