@@ -34,6 +34,20 @@ r2 should contain a number
 each register has to contain what the instruction needs, whichever parts ran before it
 ===
 type i64
+name a
+FIND r0 - - t0 k0
+ELSE
+END
+LOAD r1 r0
+---
+instruction 3, line 6 of the text that `segtool print` writes: `LOAD r1 r0`
+r0 is undefined
+r0 contained a number, until `END` in line 5; after END a register is defined only if both parts leave the same kind of \
+value in it, or if it was defined before the loop
+r0 should refer to an i64
+each register has to contain what the instruction needs, whichever parts ran before it
+===
+type i64
 type own t0
 name a
 FINDOR r0 - t1 k0
