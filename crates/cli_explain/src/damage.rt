@@ -15,17 +15,17 @@ const VERSION: usize = 8;
 
 /// The rules for values.
 const VALUES: &str =
-    "a list should be a ring, a map a red-black tree with ascending keys, each with as many nodes as it says, \
-and a pointer null exactly where there are none\n";
+    "a list should be a ring and a map a red-black tree with ascending keys, with as many nodes as the number \
+after its pointer; the pointer should be null exactly if that number is 0\n";
 
 /// The rules for shared cells.
 const SHARING: &str =
-    "a cell that shares should name a frozen object exactly where it says 1, and one with a lower number where \
-it stands in a frozen object itself\n";
+    "a shared should point to a frozen object exactly if the number after its pointer is 1; inside a frozen object, \
+it should point to one with a lower number\n";
 
 /// The rules for frozen objects.
 const FROZEN: &str =
-    "a frozen object should count the cells that name it, and have a number below the one at byte 28\n";
+    "a frozen object should count the cells that point to it, and have a number below the one at byte 28\n";
 
 /// Explains a fault in an image's length or header.
 pub(crate) fn add_bad_header(text: &mut String, image: Option<&[u8]>) -> Result<(), AllocError> {
@@ -34,12 +34,12 @@ pub(crate) fn add_bad_header(text: &mut String, image: Option<&[u8]>) -> Result<
     };
     let len = image.len();
     if !image.starts_with(b"SEGIMAGE") {
-        return text.push_str("the first 8 bytes should be `SEGIMAGE`: the file is no image\n");
+        return text.push_str("the file isn't an image: its first 8 bytes should be `SEGIMAGE`\n");
     }
     if !u32::try_from(len).is_ok_and(|len| is_size(len)) {
         return write!(
             text,
-            "the image has {len} bytes, and should have {MIN_LEN} to {MAX_LEN}, a multiple of 16\n"
+            "the image has {len} bytes, but should have {MIN_LEN} to {MAX_LEN}, a multiple of 16\n"
         );
     }
     add_bad_word(text, image)
@@ -51,13 +51,13 @@ fn add_bad_word(text: &mut String, image: &[u8]) -> Result<(), AllocError> {
     if size as usize != units && matches!(word(image, VERSION), 1 | 2) {
         return write!(
             text,
-            "the length in units at byte 12 is {size}, and should be {units}\n"
+            "the length at byte 12 is {size} units of 16 bytes, but the file has {units}\n"
         );
     }
     match wrong_number(image) {
         Some((field, number, right)) => write!(
             text,
-            "{field} is {number}, and should be {right}\n"
+            "{field} is {number}, but should be {right}\n"
         ),
         None if word(image, VERSION) == 1 => text.push_str(
             "bytes 28 to 31 and 40 to 63 should be 0\n",
@@ -124,7 +124,7 @@ pub(crate) fn add_place(
 
 fn add_location(text: &mut String, image: &Image, at: u32) -> Result<(), AllocError> {
     let location = image.location(at);
-    write!(text, "byte {at} lies {location}\n")
+    write!(text, "byte {at} is {location}\n")
 }
 
 fn add_target(text: &mut String, image: &Image, at: u32) -> Result<(), AllocError> {
@@ -132,7 +132,7 @@ fn add_target(text: &mut String, image: &Image, at: u32) -> Result<(), AllocErro
         None => text.push_str("the pointer there is null\n"),
         Some(to) => {
             let location = image.location(to);
-            write!(text, "the pointer there names byte {to}, {location}\n")
+            write!(text, "the pointer there points to byte {to}, {location}\n")
         }
     }
 }

@@ -98,8 +98,8 @@ fn add_rule(text: &mut String, fault: Fault) -> Result<(), AllocError> {
     match fault {
         Fault::Misplaced => write!(
             text,
-            "a base is a multiple of 16, and the segment from there on ends within its room, \
-with at most {MAX_LEN} bytes\n"
+            "the base should be a multiple of 16, and the segment should end within the room, \
+at {MAX_LEN} bytes at most\n"
         ),
         Fault::BadSize => write!(
             text,
@@ -107,8 +107,8 @@ with at most {MAX_LEN} bytes\n"
         ),
         Fault::BadMove(number) => write!(
             text,
-            "move {number}, counted from 0, should come at a later step than the one before, 1 at least, \
-and its base be a multiple of 16 from which the segment ends within its room\n"
+            "move {number}, counted from 0, should come at step 1 or later, and later than the move before; \
+its base should be a multiple of 16 from which the segment ends within its room\n"
         ),
         told => text.push_str(rule(told)),
     }
@@ -118,29 +118,30 @@ and its base be a multiple of 16 from which the segment ends within its room\n"
 fn rule(fault: Fault) -> &'static str {
     match fault {
         Fault::Memory => "the host refused memory that the command asked for\n",
-        Fault::NoHostRoom => "the region ends before the larger segment would\n",
+        Fault::NoHostRoom => "the region is too small for the larger segment\n",
         Fault::TypeMismatch(_) =>
-            "types with the same number should be the same in a client and where it runs\n",
+            "a client has to declare the types of the image with the same numbers; new types come after them\n",
         Fault::BadBlock(_) => {
-            "a header should have 2 units or more up to the heap's end, the units of the block before, \
-a tag and a null link; and no two free blocks are neighbours\n"
+            "a block's header should have a size of 2 units or more within the heap, the size of the block before, a valid tag, \
+and a null link if the block is allocated; two free blocks should not be adjacent\n"
         }
         Fault::BadFree(_) => {
-            "the free blocks should be a list in ascending order (sequential fit), \
-or a red-black tree by their sizes (best fit)\n"
+            "the free blocks should form a list in ascending order (sequential fit), \
+or a red-black tree ordered by size (best fit)\n"
         }
         Fault::BadIndex(_) => {
-            "names should ascend, as many as byte 36 says, with 1 to 63 visible bytes and 1 to 65535 values each\n"
+            "the names should be in ascending order, as many as the number at byte 36, each of 1 to 63 visible bytes \
+and with 1 to 65535 values\n"
         }
         Fault::BadPointer(_) => {
-            "it should name the first payload byte of a live block of the right kind and type, with enough room\n"
+            "it should point to the first payload byte of an allocated block of the right kind and type, with enough room\n"
         }
-        Fault::DoubleOwner(_) => "one pointer should name the block, and two do\n",
+        Fault::DoubleOwner(_) => "one pointer should own the block, but two do\n",
         Fault::Unowned(_) => {
-            "the index, a unique object's pointer or a value should name the block, and none does\n"
+            "a pointer of the index, of a unique object or of a value should own the block, but none does\n"
         }
         Fault::TooLong => {
-            "a loop takes 1 step and its turns times the steps of its body and 1 more, so loops inside loops multiply\n"
+            "a loop takes 1 step, and in each turn 1 step and the steps of its body, so the turns of nested loops multiply\n"
         }
         Fault::Misplaced
         | Fault::BadSize

@@ -91,10 +91,13 @@ impl<'a> File<'a> {
     fn field(&self, at: usize) -> Field {
         let constants_at = self.constants_at();
         match at {
-            0..=3 => Field::Header("the first 4 bytes", "it should be `SEGC`"),
+            0..=3 => Field::Header(
+                "the first 4 bytes",
+                "a client file begins with `SEGC`; the text of a client has to be assembled first, by segtool asm",
+            ),
             4..=7 => Field::Header(
                 "the version",
-                "it should be 2 where a type is `shared`, else 1",
+                "it should be 2 if a type is `shared`, else 1",
             ),
             8..=11 => Field::Header("the number of types", "it should be 0 to 32"),
             12..=15 => Field::Header("the number of constants", "it should be 0 to 256"),
@@ -161,7 +164,7 @@ impl<'a> File<'a> {
             None => Flaw::Number(
                 "",
                 usize::from(kind),
-                " is no kind: 1 is a text, 2 an exact name, 3 a family",
+                " isn't a kind: 1 is a text, 2 an exact name, 3 a family",
             ),
             Some(ConstantKind::Text) => Flaw::Unmet(rule::ANY),
             Some(kind) if !is_name(kind, bytes) => Flaw::name(kind),
@@ -182,7 +185,7 @@ impl<'a> File<'a> {
             None => Flaw::Number(
                 "",
                 usize::from(spelled.first().copied().unwrap_or_default()),
-                " is no operation: they are 1 to 52",
+                " isn't an operation: they are 1 to 52",
             ),
         }
     }

@@ -58,7 +58,10 @@ impl fmt::Display for Flaw<'_> {
                 found,
             } => {
                 let word = operation.word();
-                write!(f, "{wanted} words should follow {word}, and {found} do")
+                write!(
+                    f,
+                    "the number of words after {word} should be {wanted}, but is {found}"
+                )
             }
         }
     }

@@ -64,7 +64,7 @@ impl Location<'_> {
             28..=31 => "the next number of a frozen object",
             32..=35 => "the pointer to the index",
             36..=39 => "the number of names",
-            _ => "the bytes that are 0",
+            _ => "the reserved bytes",
         })
     }
 }
@@ -77,7 +77,7 @@ impl fmt::Display for Location<'_> {
             Location::Unique(number) => ("the pointer to the unique object of type", number),
             Location::Block(owner, area) => return write!(f, "in {owner}, {area}"),
             Location::Heap => return f.write_str(
-                "in the heap, in no block that the headers lead to",
+                "in the heap, but in no block that the headers describe",
             ),
             Location::Outside => return f.write_str("after the image's end"),
         };
@@ -127,7 +127,7 @@ impl fmt::Display for Area {
         let (from, part) = match *self {
             Area::Header => return f.write_str("in the block's header"),
             Area::Values(from) => (from, "values"),
-            Area::Name => return f.write_str("after its values, where its name stands"),
+            Area::Name => return f.write_str("after its values, in its name"),
             Area::Payload(from) => (from, "payload"),
         };
         write!(f, "at byte {from} of its {part}")

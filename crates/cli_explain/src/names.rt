@@ -60,8 +60,8 @@ impl<'a> Names<'a> {
             .copied()
             .unwrap_or_default();
         match kind {
-            ConstantKind::Family => Whole::Named("family", bytes),
-            ConstantKind::Name | ConstantKind::Text => Whole::Named("name", bytes),
+            ConstantKind::Family => Whole::Named("the objects of the family", bytes),
+            ConstantKind::Name | ConstantKind::Text => Whole::Named("the object named", bytes),
         }
     }
 }
@@ -84,13 +84,15 @@ impl Known<'_> {
     fn verbs(&self) -> Verbs {
         match self.tense {
             Tense::Present => Verbs {
-                hold: "holds",
-                lead: "leads",
+                be: "is",
+                contain: "contains",
+                refer: "refers",
                 own: "owns",
             },
             Tense::Past => Verbs {
-                hold: "held",
-                lead: "led",
+                be: "was",
+                contain: "contained",
+                refer: "referred",
                 own: "owned",
             },
         }
@@ -100,34 +102,39 @@ impl Known<'_> {
 /// The verbs for a register with any value, with a reference and with an owner.
 #[derive(Clone, Copy)]
 struct Verbs {
-    hold: &'static str,
-    lead: &'static str,
+    be: &'static str,
+    contain: &'static str,
+    refer: &'static str,
     own: &'static str,
 }
 
 impl fmt::Display for Known<'_> {
     fn fmt<W: fmt::Write>(&self, f: &mut fmt::Formatter<W>) -> fmt::Result {
-        let Verbs { hold, lead, own } = self.verbs();
-        let what = match self.holds {
-            RegisterType::Undefined => "nothing that may be used",
-            RegisterType::Int => "a number",
+        let Verbs {
+            be,
+            contain,
+            refer,
+            own,
+        } = self.verbs();
+        match self.holds {
+            RegisterType::Undefined => write!(f, "{be} undefined"),
+            RegisterType::Int => write!(f, "{contain} a number"),
             RegisterType::Reference(class, to) => {
                 let (to, whole) = (self.names.type_of(to), self.names.whole(class));
-                return write!(f, "{lead} to a value of {to}, of {whole}");
+                write!(f, "{refer} to a value of {to} in {whole}")
             }
             RegisterType::ReadOnly(class, to) => {
                 let (to, whole) = (self.names.type_of(to), self.names.whole(class));
-                return write!(
+                write!(
                     f,
-                    "{lead} to a value of {to}, of a frozen object that is shared by {whole}"
-                );
+                    "{refer} to a value of {to} in a frozen object that is shared by {whole}"
+                )
             }
             RegisterType::Owner(of) => {
                 let of = self.names.type_of(of);
-                return write!(f, "{own} an object of {of}");
+                write!(f, "{own} an object of {of}")
             }
-        };
-        write!(f, "{hold} {what}")
+        }
     }
 }
 
@@ -145,7 +152,7 @@ impl fmt::Display for Whole<'_> {
         match *self {
             Whole::Named(kind, name) => {
                 let name = Quoted(name);
-                write!(f, "the objects of {kind} {name}")
+                write!(f, "{kind} {name}")
             }
             Whole::Unique(of) => write!(f, "the unique object of {of}"),
             Whole::Register(register) => write!(f, "the object that r{register} owns"),

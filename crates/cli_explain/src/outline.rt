@@ -112,7 +112,7 @@ impl Outline {
         let wrong = match self.constants.get(n) {
             None => ABSENT,
             Some(ConstantKind::Text) => return None,
-            Some(ConstantKind::Name | ConstantKind::Family) => " is a name, and should be a text",
+            Some(ConstantKind::Name | ConstantKind::Family) => " is a name, but should be a text",
         };
         Some(Flaw::constant(n, wrong))
     }
@@ -121,9 +121,9 @@ impl Outline {
         let has_number = b < REGISTERS;
         let wrong = match self.constants.get(n) {
             None => ABSENT,
-            Some(ConstantKind::Text) => " is a text, and should be a name",
+            Some(ConstantKind::Text) => " is a text, but should be a name",
             Some(ConstantKind::Name) if has_number =>
-                " is an exact name, so operand b should be none",
+                " is an exact name, so operand b should be none (`-` in a text)",
             Some(ConstantKind::Family) if !has_number =>
                 " is a family, so operand b should be a register",
             Some(ConstantKind::Name | ConstantKind::Family) => return None,
@@ -133,7 +133,7 @@ impl Outline {
 }
 
 /// For a constant that an instruction refers to and that doesn't exist.
-const ABSENT: &str = " isn't there";
+const ABSENT: &str = " doesn't exist";
 
 fn is_operand(operand: Operand, n: u8) -> bool {
     match operand {
@@ -148,6 +148,6 @@ pub(crate) fn operand_words(operand: Operand) -> &'static str {
     match operand {
         Operand::Unused => "should be 0, since the operation doesn't have it",
         Operand::Register => "should be a register, r0 to r15",
-        Operand::Optional => "should be a register, r0 to r15, or none",
+        Operand::Optional => "should be a register, r0 to r15, or none (`-` in a text)",
     }
 }

@@ -104,10 +104,10 @@ fn is_first_met(
 impl fmt::Display for Demand {
     fn fmt<W: fmt::Write>(&self, f: &mut fmt::Formatter<W>) -> fmt::Result {
         let words = match (self.need, self.content) {
-            (Need::Nothing, _) => "hold anything",
-            (Need::Int | Need::IntOrNone, _) => "hold a number",
+            (Need::Nothing, _) => "contain anything",
+            (Need::Int | Need::IntOrNone, _) => "contain a number",
             (Need::Copyable, _) => {
-                "hold a number or lead to a value, since an owner isn't copied"
+                "contain a number or refer to a value, since an owner can't be copied"
             }
             (Need::Owner, _) | (Need::Content, None) => "own an object",
             (Need::Content, Some(content)) => return write!(f, "own an object of {content}"),
@@ -115,24 +115,24 @@ impl fmt::Display for Demand {
                 let field = self.field;
                 return write!(
                     f,
-                    "lead to a struct that has a field {field}, counted from 0"
+                    "refer to a struct that has a field {field}, counted from 0"
                 );
             }
             (Need::Changeable(kinds), _) if self.is_read_only => {
                 let kinds = kinds_words(kinds);
                 return write!(
                     f,
-                    "lead to {kinds} that may be changed, and what is frozen is only read"
+                    "refer to {kinds} that may be changed; a frozen object can only be read"
                 );
             }
             (Need::Reference(kinds) | Need::Changeable(kinds), _) => {
                 let kinds = kinds_words(kinds);
-                return write!(f, "lead to {kinds}");
+                return write!(f, "refer to {kinds}");
             }
             (Need::Alike, Some(content)) => {
-                return write!(f, "lead to a shared whose object is of {content}");
+                return write!(f, "refer to a shared whose object is of {content}");
             }
-            (Need::Alike, None) => "lead to a shared",
+            (Need::Alike, None) => "refer to a shared",
         };
         f.write_str(words)
     }

@@ -54,11 +54,11 @@ pub(crate) fn add_bound(
     match replay.steps() {
         u64::MAX => write!(
             text,
-            "the client could take more steps than 64 bits count, and the most is {MOST_STEPS}\n"
+            "the client could take more than 2^64 steps; at most {MOST_STEPS} are allowed\n"
         ),
         steps => write!(
             text,
-            "the client could take {steps} steps, and the most is {MOST_STEPS}\n"
+            "the client could take {steps} steps; at most {MOST_STEPS} are allowed\n"
         ),
     }
 }
@@ -79,13 +79,13 @@ fn lines_before(client: &Client) -> u32 {
 /// The rule for a reason, at an instruction.
 fn rule(reason: u8, instruction: Option<Instruction>) -> &'static str {
     if reason == Reason::WrongOperand.number() {
-        "each register has to hold what the operation needs, on every way to the instruction\n"
+        "each register has to contain what the instruction needs, whichever parts ran before it\n"
     } else if reason == Reason::OwnerLost.number() {
-        "an owned object may not be lost: PUT it into an own, or DROP it\n"
+        "an owned object must not be lost: PUT it into an own, FREEZE it or DROP it\n"
     } else if reason == Reason::PutIntoItself.number() {
         of_holding(instruction)
     } else {
-        "a loop's body has to leave each register that was defined in front of the loop as it was\n"
+        "a register that is defined before a loop has to contain the same kind of value at the end of its body\n"
     }
 }
 
@@ -93,10 +93,10 @@ fn rule(reason: u8, instruction: Option<Instruction>) -> &'static str {
 fn of_holding(instruction: Option<Instruction>) -> &'static str {
     match instruction.map(|it| it.operation.row().ends) {
         Some(Ends::Frozen) => {
-            "an object may not share itself: FREEZE it into a cell that isn't inside it\n"
+            "an object can't share itself: FREEZE it into a place outside it\n"
         }
         Some(Ends::Nothing | Ends::Others | Ends::Name | Ends::Unique | Ends::Dropped | Ends::Moved)
-        | None => "an object may not own itself: PUT it where it isn't inside itself\n",
+        | None => "an object can't own itself: PUT it into a place outside it\n",
     }
 }
 
@@ -123,7 +123,7 @@ impl<'a> Refusal<'a> {
         let (at, shown) = (self.line_of(number), self.shown(number));
         write!(
             text,
-            "instruction {number}, line {at} of the printed text: {shown}\n"
+            "instruction {number}, line {at} of the text that `segtool print` writes: {shown}\n"
         )
     }
 
@@ -182,7 +182,19 @@ impl<'a> Refusal<'a> {
         let (past, at, shown) = (self.names.past(held), self.line_of(by), self.shown(by));
         write!(text, "r{register} {past}, until {shown} in line {at}")?;
         self.add_again(text, held)?;
+        self.add_kept_by_end(text, by)?;
         text.push('\n')
+    }
+
+    /// Adds which registers stay defined, if the instruction that ended one is an `END`.
+    fn add_kept_by_end(&self, text: &mut String, by: u32) -> Result<(), AllocError> {
+        match line(self.printed.as_slice(), self.line_of(by)).unwrap_or(&[]) {
+            b"END" => text.push_str(
+                "; after END a register is defined only if both parts leave the same kind of value in it, \
+or if it was defined before the loop",
+            ),
+            _ => Ok(()),
+        }
     }
 
     fn add_demand(&self, text: &mut String, instruction: Instruction) -> Result<(), AllocError> {
@@ -237,7 +249,7 @@ impl<'a> Refusal<'a> {
         let (past, present) = (self.names.past(before), self.names.present(after));
         write!(
             text,
-            "r{register} {past} in front of the loop, and {present} at its end"
+            "r{register} {past} before the loop, and {present} at the end of its body"
         )?;
         self.add_since(text, register)?;
         text.push('\n')
@@ -268,17 +280,21 @@ impl<'a> Refusal<'a> {
         let (first, second) = (self.names.present(success), self.names.present(otherwise));
         write!(
             text,
-            "r{register} {first} at the end of the success part, and {second} at that of the else part\n"
+            "r{register} {first} at the end of the success part, and {second} at the end of the else part\n"
         )
     }
 
     /// Says how to get a reference again that has ended.
     fn add_again(&self, text: &mut String, held: RegisterType) -> Result<(), AllocError> {
         match held.led() {
-            Some((Class::Name(_), _)) => text.push_str(": FIND the object again"),
-            Some((Class::Unique(_), _)) => text.push_str(": UFIND the object again"),
+            Some((Class::Name(_), _)) => text.push_str(
+                "; get it again, by FIND or from its container",
+            ),
+            Some((Class::Unique(_), _)) => text.push_str(
+                "; get it again, by UFIND or from its container",
+            ),
             Some((Class::Register(owner), _)) if self.registers().get(owner).is_owner() => {
-                write!(text, ": REF r{owner} again")
+                write!(text, "; get it again, by REF r{owner}")
             }
             Some((Class::Register(_), _)) | None => Ok(()),
         }

@@ -37,7 +37,7 @@ pub(crate) fn add_bad_line(
         }
         None => {
             let flaw = rule::CLOSED;
-            write!(text, "line {number}, after the last: {flaw}\n")
+            write!(text, "line {number}, after the last line: {flaw}\n")
         }
     }
 }
@@ -143,7 +143,7 @@ fn line_flaw<'a>(source: &[u8], number: u32, line: &'a [u8]) -> Flaw<'a> {
     match statement {
         Statement::Unknown => Flaw::Word(
             word.unwrap_or(&[]),
-            "is no operation, and none of type, text, name and family",
+            "isn't an instruction, nor type, text, name or family; instructions are in capitals, and a comment is a line whose first byte is `;`",
         ),
         Statement::Type => type_flaw(words, outline.types),
         Statement::Constant(ConstantKind::Text) => Flaw::Unmet(text_flaw(line)),
@@ -197,7 +197,7 @@ fn type_flaw<'a>(mut words: Pieces<'a>, types: usize) -> Flaw<'a> {
     let Some(most) = most_parts(word) else {
         return Flaw::Word(
             word,
-            "is none of i64, str, vec, list, flat_map, map, own, struct and shared",
+            "isn't a type: i64, str, vec, list, flat_map, map, own, struct or shared",
         );
     };
     let parts = words.count_words();
@@ -205,7 +205,7 @@ fn type_flaw<'a>(mut words: Pieces<'a>, types: usize) -> Flaw<'a> {
         return Flaw::Unmet(rule::PARTS);
     }
     match wrong_part(words, parts, types) {
-        Some(part) => Flaw::Word(part, "should be a type of this client, as `t0`"),
+        Some(part) => Flaw::Word(part, "should be a type of this client, such as `t0`"),
         None if types > MAX_TYPES => Flaw::Unmet(rule::FEW),
         None => Flaw::Unmet(rule::TYPES),
     }
@@ -384,11 +384,11 @@ fn read_signed<'a>(words: &mut Pieces<'a>) -> Result<i32, Flaw<'a>> {
 }
 
 fn read_type<'a>(words: &mut Pieces<'a>) -> Result<i32, Flaw<'a>> {
-    read_index(b't', words, "should be a type, as `t0`")
+    read_index(b't', words, "should be a type, such as `t0`")
 }
 
 fn read_constant<'a>(words: &mut Pieces<'a>) -> Result<i32, Flaw<'a>> {
-    read_index(b'k', words, "should be a constant, as `k0`")
+    read_index(b'k', words, "should be a constant, such as `k0`")
 }
 
 fn read_index<'a>(

@@ -6,31 +6,31 @@ use std::alloc::{AllocError, Global};
 const SHARED: &[Argument] = &[Argument {
     id: "explain",
     takes: Takes::Flag,
-    help: "After a fault, say in words what it is, where, and what would be right",
+    help: "After a failure, also print what is wrong, where, and what would be right",
 }];
 
 const IMAGE: Argument = Argument {
     id: "FILE",
     takes: Takes::Word,
-    help: "The image",
+    help: "The file of the image",
 };
 
 const CLIENT: Argument = Argument {
     id: "CLIENT",
     takes: Takes::Word,
-    help: "The client",
+    help: "The file of the client",
 };
 
 const NEW: [Argument; 5] = [
     Argument {
         id: "FILE",
         takes: Takes::Word,
-        help: "The file that the image is written to",
+        help: "The file to which the image is written",
     },
     Argument {
         id: "SIZE",
         takes: Takes::Bytes,
-        help: "The bytes of the segment, a multiple of 16 from 736 to 2^30",
+        help: "The size of the segment in bytes, a multiple of 16 from 736 to 2^30",
     },
     Argument {
         id: "ALG",
@@ -40,7 +40,7 @@ const NEW: [Argument; 5] = [
     Argument {
         id: "INDEX",
         takes: Takes::OneOf(&["flat", "tree"]),
-        help: "How names are kept",
+        help: "The index of names: a sorted buffer (flat) or a red-black tree (tree)",
     },
     FORCE,
 ];
@@ -57,7 +57,7 @@ const SHOW: [Argument; 3] = [
     Argument {
         id: "all",
         takes: Takes::Flag,
-        help: "Leave nothing out that is long or deep",
+        help: "Print long texts, long containers and deeply nested values in full",
     },
 ];
 
@@ -66,12 +66,12 @@ const MAP: [Argument; 3] = [
     Argument {
         id: "svg",
         takes: Takes::File,
-        help: "Write a picture to this file instead",
+        help: "Write a picture to this file instead of printing",
     },
     Argument {
         id: "force",
         takes: Takes::Flag,
-        help: "Write the picture over a file that isn't empty and isn't an SVG picture",
+        help: "Overwrite a file even if it isn't an SVG picture",
     },
 ];
 
@@ -80,7 +80,7 @@ const GROW: [Argument; 2] = [
     Argument {
         id: "EXTRA",
         takes: Takes::Bytes,
-        help: "The bytes to add, a multiple of 16",
+        help: "How many bytes to add, a multiple of 16",
     },
 ];
 
@@ -88,17 +88,17 @@ const ASSEMBLE: [Argument; 3] = [
     Argument {
         id: "TEXT",
         takes: Takes::Word,
-        help: "The text",
+        help: "The file of the client's text",
     },
     Argument {
         id: "OUT",
         takes: Takes::Word,
-        help: "The file that the client is written to",
+        help: "The file to which the client is written",
     },
     Argument {
         id: "force",
         takes: Takes::Flag,
-        help: "Write the client over a file that isn't empty and isn't a client",
+        help: "Overwrite a file even if it isn't a client",
     },
 ];
 
@@ -112,13 +112,13 @@ const LINES: &[Line] = &[
     },
     Line {
         name: "check",
-        about: "Prints ok where a file is a sound image, else the first fault",
+        about: "Prints ok if a file is a sound image, otherwise its first fault",
         arguments: &[IMAGE],
         examples: "Examples:\n  segtool check shop.image\n  segtool check damaged.image --explain",
     },
     Line {
         name: "verify",
-        about: "Prints how many steps a client takes at most on an image",
+        about: "Checks a client and prints the most steps that it can take on an image",
         arguments: &[IMAGE, CLIENT],
         examples: "Examples:\n  segtool verify shop.image stock.client\n  segtool verify shop.image stock.client --explain",
     },
@@ -126,23 +126,23 @@ const LINES: &[Line] = &[
         name: "run",
         about: "Runs clients on an image, prints their output and saves the image",
         arguments: &RUN,
-        examples: "Examples:\n  segtool run shop.image shop.image stock.client\n  segtool run shop.image saved.image stock.client sell.client --input orders.txt\n\nOUT may be IMAGE itself, but no client and not the input. If the output fails (status 3), the run ends there,\nand the image as it is then is still written to OUT.",
+        examples: "Examples:\n  segtool run shop.image shop.image stock.client\n  segtool run shop.image saved.image stock.client sell.client --input orders.txt\n\nOUT may be IMAGE, but not a client or the input. A client, and the input, have at most 2^20 bytes.\nIf the output fails (status 3), the run ends there, and the image as it is then is still written to OUT.",
     },
     Line {
         name: "trace",
-        about: "Runs a client and prints each step with its instruction and what the registers hold; saves nothing",
+        about: "Runs a client, prints each step with the registers after it, and saves nothing",
         arguments: &TRACE,
         examples: "Examples:\n  segtool trace shop.image stock.client\n  segtool trace shop.image sell.client --input orders.txt",
     },
     Line {
         name: "stat",
-        about: "Prints the bytes of a segment and of its free memory, and how many objects it has",
+        about: "Prints the size of a segment, its free memory, and how many objects it has",
         arguments: &[IMAGE],
         examples: "Example:\n  segtool stat shop.image",
     },
     Line {
         name: "list",
-        about: "Prints each name with the number of its type and its count, then the types of unique objects",
+        about: "Prints the name, type number and number of values of each object, then the types of unique objects",
         arguments: &[IMAGE],
         examples: "Example:\n  segtool list shop.image",
     },
@@ -154,46 +154,52 @@ const LINES: &[Line] = &[
     },
     Line {
         name: "map",
-        about: "Prints the heap of a segment block by block: position, units, use, and the object that it is of",
+        about: "Prints each block of the heap: its position, its size in units of 16 bytes, its use and its object",
         arguments: &MAP,
         examples: "Examples:\n  segtool map shop.image\n  segtool map shop.image --svg heap.svg",
     },
     Line {
         name: "grow",
-        about: "Adds free memory to a segment's end, rewrites the file and prints the new size",
+        about: "Adds free memory at the end of a segment, rewrites the file and prints the new size",
         arguments: &GROW,
         examples: "Example:\n  segtool grow shop.image 4096\n\nIf the output fails (status 3), the file is still rewritten.",
     },
     Line {
         name: "shrink",
-        about: "Cuts the free memory at a segment's end, rewrites the file and prints the new size",
+        about: "Removes the free memory at the end of a segment, rewrites the file and prints the new size",
         arguments: &[IMAGE],
         examples: "Example:\n  segtool shrink shop.image\n\nIf the output fails (status 3), the file is still rewritten.",
     },
     Line {
         name: "upgrade",
-        about: "Rewrites an image as one of version 2 and prints the version",
+        about: "Rewrites an image as version 2 and prints the version",
         arguments: &[IMAGE],
         examples: "Example:\n  segtool upgrade shop.image\n\nIf the output fails (status 3), the file is still rewritten.",
     },
     Line {
         name: "asm",
-        about: "Assembles the text of a client",
+        about: "Assembles the text of a client to a client file",
         arguments: &ASSEMBLE,
         examples: "Example:\n  segtool asm stock.text stock.client",
     },
     Line {
         name: "print",
-        about: "Prints the text of a client",
+        about: "Prints the text of a client file",
         arguments: &[CLIENT],
         examples: "Example:\n  segtool print stock.client",
     },
 ];
 
+/// The end of each help text.
+const STATUSES: &str =
+    "Exit status: 0 success; 1 a fault, or an absent name; 2 a wrong command line; 3 a file or the output failed.\n\
+Each command takes --explain, which explains its failure.";
+
 /// The parser of `segtool`'s command line.
 pub fn command_line<'a>(alloc: Global) -> Result<Command<'a>, AllocError> {
     let mut program = Command::new(alloc, "segtool")
         .about("Checks images of managed segments, and runs verified clients on them")
+        .after_help(STATUSES)
         .subcommand_required(true)
         .arg_required_else_help(true);
     for line in LINES {

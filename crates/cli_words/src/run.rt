@@ -20,14 +20,14 @@ pub struct Run<'a> {
 pub const INPUT: Argument = Argument {
     id: "input",
     takes: Takes::File,
-    help: "The bytes that the clients read, none if left out",
+    help: "The file that the clients read, byte by byte [default: empty]",
 };
 
 /// Allows overwriting a file that isn't an image.
 pub const FORCE: Argument = Argument {
     id: "force",
     takes: Takes::Flag,
-    help: "Write the image over a file that isn't empty and isn't an image",
+    help: "Overwrite a file even if it isn't an image",
 };
 
 /// The arguments of a run.
@@ -35,27 +35,27 @@ pub const RUN: [Argument; 7] = [
     Argument {
         id: "IMAGE",
         takes: Takes::Word,
-        help: "The image that the clients run on",
+        help: "The file of the image",
     },
     Argument {
         id: "OUT",
         takes: Takes::Word,
-        help: "The file that the saved image is written to",
+        help: "The file to which the saved image is written",
     },
     Argument {
         id: "CLIENT",
         takes: Takes::Words,
-        help: "The clients, run one after the other",
+        help: "The files of the clients, which run one after the other",
     },
     Argument {
         id: "base",
         takes: Takes::Number,
-        help: "Where the segment lies in the host region, a multiple of 16 [default: 0]",
+        help: "The position of the segment in the host's region, a multiple of 16 [default: 0]",
     },
     Argument {
         id: "room",
         takes: Takes::Number,
-        help: "The bytes of the host region [default: as many as the segment needs]",
+        help: "The size of the host's region in bytes [default: as much as the segment needs]",
     },
     INPUT,
     FORCE,

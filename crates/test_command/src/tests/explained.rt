@@ -34,7 +34,7 @@ fn a_fault_is_told_in_words(rt: HostRuntime) -> Result<(), Fail> {
         "
 $1 segtool check image --explain
 fault 10
-the allocator at byte 16 is 2, and should be 0 (sequential fit) or 1 (best fit)
+the allocator at byte 16 is 2, but should be 0 (sequential fit) or 1 (best fit)
 $1 segtool check image
 fault 10",
     )
@@ -63,19 +63,19 @@ fn a_refused_client_is_told_in_words(rt: HostRuntime) -> Result<(), Fail> {
         "
 $1 segtool verify image other --explain
 fault 22 1 1
-instruction 1, line 2 of the printed text: `ADD r0 r1 r2`
-r1 holds a number
-r2 holds nothing that may be used
-r2 should hold a number
-each register has to hold what the operation needs, on every way to the instruction
+instruction 1, line 2 of the text that `segtool print` writes: `ADD r0 r1 r2`
+r1 contains a number
+r2 is undefined
+r2 should contain a number
+each register has to contain what the instruction needs, whichever parts ran before it
 $1 segtool run image saved client other --explain
 client 1 fault 22 1 1
 the fault is in client 1, counted from 0
-instruction 1, line 2 of the printed text: `ADD r0 r1 r2`
-r1 holds a number
-r2 holds nothing that may be used
-r2 should hold a number
-each register has to hold what the operation needs, on every way to the instruction",
+instruction 1, line 2 of the text that `segtool print` writes: `ADD r0 r1 r2`
+r1 contains a number
+r2 is undefined
+r2 should contain a number
+each register has to contain what the instruction needs, whichever parts ran before it",
     )
 }
 

@@ -23,34 +23,34 @@ fn explained(alloc: Global, len: usize, at: usize, byte: u8) -> Result<Vec<u8>, 
 const CASES: &str = "
 === 103 0 115
 byte 0 of the client file begins the first 4 bytes, in the header
-it should be `SEGC`
+a client file begins with `SEGC`; the text of a client has to be assembled first, by segtool asm
 === 103 4 2
 byte 4 of the client file begins the version, in the header
-it should be 2 where a type is `shared`, else 1
+it should be 2 if a type is `shared`, else 1
 === 103 4 3
 byte 4 of the client file begins the version, in the header
-it should be 2 where a type is `shared`, else 1
+it should be 2 if a type is `shared`, else 1
 === 103 8 33
 byte 8 of the client file begins the number of types, in the header
 it should be 0 to 32
 === 103 20 9
 byte 20 of the client file begins the entry of type 0
-i64 and str should have no part, a struct 1 to 8, and any other type one
+i64 and str should have no component, a struct 1 to 8, and any other type one
 === 103 20 10
 byte 20 of the client file begins the entry of type 0
-the kind of a type should be 1 to 9, and an unused entry, which is all 0, be followed by such alone
+the kind of a type should be 1 to 9; an unused entry is all 0, and only unused entries may follow it
 === 103 35 1
 byte 20 of the client file begins the entry of type 0
-the bytes after the parts should be 0
+the bytes after the components should be 0
 === 103 36 4
 byte 36 of the client file begins constant 0
-4 is no kind: 1 is a text, 2 an exact name, 3 a family
+4 isn't a kind: 1 is a text, 2 an exact name, 3 a family
 === 103 39 51
 byte 39 of the client file begins instruction 0
-only a client with a type `shared` has the operation
+only a client with a type `shared` may have this operation
 === 103 39 53
 byte 39 of the client file begins instruction 0
-53 is no operation: they are 1 to 52
+53 isn't an operation: they are 1 to 52
 === 103 48 16
 byte 47 of the client file begins instruction 1
 operand a should be a register, r0 to r15
@@ -59,10 +59,10 @@ byte 47 of the client file begins instruction 1
 operand c should be 0, since the operation doesn't have it
 === 103 95 32
 byte 103 of the client file begins what follows the last instruction
-ELSE and END should follow each opener, and END each loop: an END is missing
+an END is missing: each instruction that can fail needs an ELSE and an END, and each loop an END
 === 102 0 83
 byte 95 of the client file begins instruction 7
-the file should not end before this is whole
+the file ends inside it
 ";
 
 fn explains(alloc: Global, case: &str) -> Result<(), Fail> {

@@ -27,11 +27,25 @@ const CASES: &str = "
 CONST r1 1
 ADD r0 r1 r2
 ---
-instruction 1, line 2 of the printed text: `ADD r0 r1 r2`
-r1 holds a number
-r2 holds nothing that may be used
-r2 should hold a number
-each register has to hold what the operation needs, on every way to the instruction
+instruction 1, line 2 of the text that `segtool print` writes: `ADD r0 r1 r2`
+r1 contains a number
+r2 is undefined
+r2 should contain a number
+each register has to contain what the instruction needs, whichever parts ran before it
+===
+type i64
+name a
+FIND r0 - - t0 k0
+ELSE
+END
+LOAD r1 r0
+---
+instruction 3, line 6 of the text that `segtool print` writes: `LOAD r1 r0`
+r0 is undefined
+r0 contained a number, until `END` in line 5; after END a register is defined only if both parts leave the same kind of \
+value in it, or if it was defined before the loop
+r0 should refer to an i64
+each register has to contain what the instruction needs, whichever parts ran before it
 ===
 type i64
 type own t0
@@ -46,11 +60,11 @@ END
 ELSE
 END
 ---
-instruction 4, line 8 of the printed text: `LOAD r3 r2`
-r2 holds nothing that may be used
-r2 led to a value of type 0 (i64), of the object that r1 owns, until `PUT r0 r1` in line 7
-r2 should lead to an i64
-each register has to hold what the operation needs, on every way to the instruction
+instruction 4, line 8 of the text that `segtool print` writes: `LOAD r3 r2`
+r2 is undefined
+r2 referred to a value of type 0 (i64) in the object that r1 owns, until `PUT r0 r1` in line 7
+r2 should refer to an i64
+each register has to contain what the instruction needs, whichever parts ran before it
 ===
 type i64
 type shared t0
@@ -64,11 +78,11 @@ END
 ELSE
 END
 ---
-instruction 3, line 7 of the printed text: `STORE r1 r2`
-r1 leads to a value of type 0 (i64), of a frozen object that is shared by the objects of name `b`
-r2 holds a number
-r1 should lead to an i64 that may be changed, and what is frozen is only read
-each register has to hold what the operation needs, on every way to the instruction
+instruction 3, line 7 of the text that `segtool print` writes: `STORE r1 r2`
+r1 refers to a value of type 0 (i64) in a frozen object that is shared by the object named `b`
+r2 contains a number
+r1 should refer to an i64 that may be changed; a frozen object can only be read
+each register has to contain what the instruction needs, whichever parts ran before it
 ===
 type i64
 type shared t0
@@ -82,11 +96,11 @@ END
 ELSE
 END
 ---
-instruction 3, line 7 of the printed text: `LOAD r2 r1`
-r1 holds nothing that may be used
-r1 led to a value of type 0 (i64), of a frozen object that is shared by the objects of name `b`, until `SHARE r0 r0` in line 6: FIND the object again
-r1 should lead to an i64
-each register has to hold what the operation needs, on every way to the instruction
+instruction 3, line 7 of the text that `segtool print` writes: `LOAD r2 r1`
+r1 is undefined
+r1 referred to a value of type 0 (i64) in a frozen object that is shared by the object named `b`, until `SHARE r0 r0` in line 6; get it again, by FIND or from its container
+r1 should refer to an i64
+each register has to contain what the instruction needs, whichever parts ran before it
 ===
 type i64
 type shared t0
@@ -101,11 +115,11 @@ END
 ELSE
 END
 ---
-instruction 2, line 8 of the printed text: `SHARE r0 r1`
-r0 leads to a value of type 1 (shared of type 0), of the objects of name `b`
-r1 leads to a value of type 2 (own of type 0), of the objects of name `c`
-r1 should lead to a shared whose object is of type 0 (i64)
-each register has to hold what the operation needs, on every way to the instruction
+instruction 2, line 8 of the text that `segtool print` writes: `SHARE r0 r1`
+r0 refers to a value of type 1 (shared of type 0) in the object named `b`
+r1 refers to a value of type 2 (own of type 0) in the object named `c`
+r1 should refer to a shared whose object is of type 0 (i64)
+each register has to contain what the instruction needs, whichever parts ran before it
 ===
 type i64
 type str
@@ -122,11 +136,11 @@ END
 ELSE
 END
 ---
-instruction 2, line 7 of the printed text: `FREEZE r2 r0 r1`
-r0 leads to a value of type 2 (shared of type 0), of the objects of name `b`
+instruction 2, line 7 of the text that `segtool print` writes: `FREEZE r2 r0 r1`
+r0 refers to a value of type 2 (shared of type 0) in the object named `b`
 r1 owns an object of type 1 (str)
 r1 should own an object of type 0 (i64)
-each register has to hold what the operation needs, on every way to the instruction
+each register has to contain what the instruction needs, whichever parts ran before it
 ===
 type shared t0
 NEW r1 t0
@@ -138,10 +152,10 @@ END
 ELSE
 END
 ---
-instruction 2, line 4 of the printed text: `FREEZE r2 r0 r1`
-r0 leads to a value of type 0 (shared of type 0), of the object that r1 owns
+instruction 2, line 4 of the text that `segtool print` writes: `FREEZE r2 r0 r1`
+r0 refers to a value of type 0 (shared of type 0) in the object that r1 owns
 r1 owns an object of type 0 (shared of type 0)
-an object may not share itself: FREEZE it into a cell that isn't inside it
+an object can't share itself: FREEZE it into a place outside it
 ===
 type i64
 type vec t0
@@ -158,12 +172,12 @@ END
 ELSE
 END
 ---
-instruction 4, line 8 of the printed text: `STORE r1 r9`
-r1 holds nothing that may be used
-r1 led to a value of type 0 (i64), of the objects of family `v`, until `PUSH r2 r0` in line 7: FIND the object again
-r9 holds a number
-r1 should lead to an i64
-each register has to hold what the operation needs, on every way to the instruction
+instruction 4, line 8 of the text that `segtool print` writes: `STORE r1 r9`
+r1 is undefined
+r1 referred to a value of type 0 (i64) in the objects of the family `v`, until `PUSH r2 r0` in line 7; get it again, by FIND or from its container
+r9 contains a number
+r1 should refer to an i64
+each register has to contain what the instruction needs, whichever parts ran before it
 ===
 type i64
 type str
@@ -177,11 +191,11 @@ DROP r0
 ELSE
 END
 ---
-instruction 2, line 6 of the printed text: `PUT r1 r0`
-r1 leads to a value of type 2 (own of type 1), of the unique object of type 2 (own of type 1)
+instruction 2, line 6 of the text that `segtool print` writes: `PUT r1 r0`
+r1 refers to a value of type 2 (own of type 1) in the unique object of type 2 (own of type 1)
 r0 owns an object of type 0 (i64)
 r0 should own an object of type 1 (str)
-each register has to hold what the operation needs, on every way to the instruction
+each register has to contain what the instruction needs, whichever parts ran before it
 ===
 type i64
 type struct t0 t0
@@ -190,10 +204,10 @@ FIELD r1 r0 2
 ELSE
 END
 ---
-instruction 1, line 4 of the printed text: `FIELD r1 r0 2`
-r0 leads to a value of type 1 (struct of types 0, 0), of the unique object of type 1 (struct of types 0, 0)
-r0 should lead to a struct that has a field 2, counted from 0
-each register has to hold what the operation needs, on every way to the instruction
+instruction 1, line 4 of the text that `segtool print` writes: `FIELD r1 r0 2`
+r0 refers to a value of type 1 (struct of types 0, 0) in the unique object of type 1 (struct of types 0, 0)
+r0 should refer to a struct that has a field 2, counted from 0
+each register has to contain what the instruction needs, whichever parts ran before it
 ===
 type str
 name x
@@ -204,10 +218,10 @@ END
 ELSE
 END
 ---
-instruction 1, line 4 of the printed text: `AT r1 r0 r0`
-r0 leads to a value of type 0 (str), of the objects of name `x`
-r0 should hold a number
-each register has to hold what the operation needs, on every way to the instruction
+instruction 1, line 4 of the text that `segtool print` writes: `AT r1 r0 r0`
+r0 refers to a value of type 0 (str) in the object named `x`
+r0 should contain a number
+each register has to contain what the instruction needs, whichever parts ran before it
 ===
 type i64
 NEW r1 t0
@@ -215,9 +229,9 @@ CONST r1 5
 ELSE
 END
 ---
-instruction 1, line 3 of the printed text: `CONST r1 5`
+instruction 1, line 3 of the text that `segtool print` writes: `CONST r1 5`
 r1 owns an object of type 0 (i64), and would be overwritten
-an owned object may not be lost: PUT it into an own, or DROP it
+an owned object must not be lost: PUT it into an own, FREEZE it or DROP it
 ===
 type own t0
 NEW r0 t0
@@ -226,10 +240,10 @@ PUT r1 r0
 ELSE
 END
 ---
-instruction 2, line 4 of the printed text: `PUT r1 r0`
-r1 leads to a value of type 0 (own of type 0), of the object that r0 owns
+instruction 2, line 4 of the text that `segtool print` writes: `PUT r1 r0`
+r1 refers to a value of type 0 (own of type 0) in the object that r0 owns
 r0 owns an object of type 0 (own of type 0)
-an object may not own itself: PUT it where it isn't inside itself
+an object can't own itself: PUT it into a place outside it
 ===
 type i64
 name x
@@ -241,10 +255,10 @@ END
 ELSE
 END
 ---
-instruction 4, line 7 of the printed text: `END`
-r0 held a number in front of the loop, and leads to a value of type 0 (i64), of the objects of name `x` at its end, \
+instruction 4, line 7 of the text that `segtool print` writes: `END`
+r0 contained a number before the loop, and refers to a value of type 0 (i64) in the object named `x` at the end of its body, \
 since `MOV r0 r1` in line 6
-a loop's body has to leave each register that was defined in front of the loop as it was
+a register that is defined before a loop has to contain the same kind of value at the end of its body
 ===
 type i64
 GETB r0
@@ -254,9 +268,9 @@ END
 ELSE
 END
 ---
-instruction 3, line 5 of the printed text: `END`
-r1 owns an object of type 0 (i64) at the end of the success part, and holds a number at that of the else part
-an owned object may not be lost: PUT it into an own, or DROP it
+instruction 3, line 5 of the text that `segtool print` writes: `END`
+r1 owns an object of type 0 (i64) at the end of the success part, and contains a number at the end of the else part
+an owned object must not be lost: PUT it into an own, FREEZE it or DROP it
 ===
 type i64
 CONST r0 1
@@ -265,9 +279,9 @@ FORGET r1
 ELSE
 END
 ---
-instruction 2, line 4 of the printed text: `FORGET r1`
+instruction 2, line 4 of the text that `segtool print` writes: `FORGET r1`
 r1 owns an object of type 0 (i64)
-an owned object may not be lost: PUT it into an own, or DROP it
+an owned object must not be lost: PUT it into an own, FREEZE it or DROP it
 ===
 CONST r0 1
 WHILE r0 100000
@@ -275,8 +289,8 @@ WHILE r0 100000
 END
 END
 ---
-the client could take 10000200002 steps, and the most is 1000000000
-a loop takes 1 step and its turns times the steps of its body and 1 more, so loops inside loops multiply
+the client could take 10000200002 steps; at most 1000000000 are allowed
+a loop takes 1 step, and in each turn 1 step and the steps of its body, so the turns of nested loops multiply
 ";
 
 #[test]
@@ -302,7 +316,7 @@ fn explains_types_that_differ(rt: HostRuntime) -> Result<(), Fail> {
     let wanted = "the fault is in client 1, counted from 0
 type 1 is str in the client
 type 1 is vector of type 0 in the image
-types with the same number should be the same in a client and where it runs
+a client has to declare the types of the image with the same numbers; new types come after them
 ";
     assert_eq!(rt; found.as_slice(), wanted.as_bytes());
     Ok(())

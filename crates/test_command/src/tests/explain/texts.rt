@@ -27,12 +27,12 @@ type i64
 FOO r1
 ---
 line 3: `FOO r1`
-`FOO` is no operation, and none of type, text, name and family
+`FOO` isn't an instruction, nor type, text, name or family; instructions are in capitals, and a comment is a line whose first byte is `;`
 ===
 ADD r0 r1
 ---
 line 1: `ADD r0 r1`
-3 words should follow ADD, and 2 do
+the number of words after ADD should be 3, but is 2
 ===
 type i64
 type own t0
@@ -41,14 +41,14 @@ ELSE
 END
 ---
 line 3: `FREEZE r2 r0 r1`
-only a client with a type `shared` has the operation
+only a client with a type `shared` may have this operation
 ===
 type i64
 type shared t0
 SHARE r0 r1 r2
 ---
 line 3: `SHARE r0 r1 r2`
-2 words should follow SHARE, and 3 do
+the number of words after SHARE should be 2, but is 3
 ===
 CONST r16 1
 ---
@@ -67,7 +67,7 @@ ELSE
 END
 ---
 line 3: `FIND r0 - - t0 k1`
-constant 1 isn't there
+constant 1 doesn't exist
 ===
 type i64
 name x
@@ -84,22 +84,22 @@ CONST r1 1
 KILL r0 r1 t0 k0
 ---
 line 4: `KILL r0 r1 t0 k0`
-constant 0 is an exact name, so operand b should be none
+constant 0 is an exact name, so operand b should be none (`-` in a text)
 ===
 type vec t1
 ---
 line 1: `type vec t1`
-`t1` should be a type of this client, as `t0`
+`t1` should be a type of this client, such as `t0`
 ===
 type array t0
 ---
 line 1: `type array t0`
-`array` is none of i64, str, vec, list, flat_map, map, own, struct and shared
+`array` isn't a type: i64, str, vec, list, flat_map, map, own, struct or shared
 ===
 type i64 t0
 ---
 line 1: `type i64 t0`
-i64 and str should have no part, a struct 1 to 8, and any other type one
+i64 and str should have no component, a struct 1 to 8, and any other type one
 ===
 name a#b
 ---
@@ -116,24 +116,24 @@ the name should differ from those before it
 text a\\0g
 ---
 line 1: `text a\\\\0g`
-a byte of a text should be 0x20 to 0x7e, or spelled as a backslash and two of 0 to 9 and a to f
+a text has the bytes 0x20 to 0x7e; any other byte, or a backslash, is a backslash and two of 0 to 9 and a to f
 ===
 CONST r0 1
 type i64
 ---
 line 2: `type i64`
-types should stand first, then constants, then instructions
+types have to come first, then constants, then instructions
 ===
 CONST r0 1
 END
 ---
 line 2: `END`
-END should end an else part or the body of a loop, and none is open here
+END ends an else part or the body of a loop, but none is open here; an ELSE may be missing
 ===
 ELSE
 ---
 line 1: `ELSE`
-ELSE should end the success part of an opener, and no such part is open here
+ELSE ends the success part of an instruction that can fail, but none is open here
 ===
 CONST r0 1
 WHILE r0 0
@@ -146,7 +146,7 @@ CONST r0 1
 IF r0
 ELSE
 ---
-line 4, after the last: ELSE and END should follow each opener, and END each loop: an END is missing
+line 4, after the last line: an END is missing: each instruction that can fail needs an ELSE and an END, and each loop an END
 ";
 
 #[test]
