@@ -4,7 +4,7 @@ use Rattle.std.specs.Prelude.{flat_map}
 use Rattle.std.specs.List.{AllByRecursion}
 use Rattle.std.specs.Option.{option_and_then}
 use Rattle.std.proofs.lemmas.List.{length-append, length-drop, flat_map_more, map-append, drop-drop, take-append-drop, take_at, take_all}
-use Rattle.seg_bytes.specs.Bytes.{slice}
+use Rattle.seg_spec.specs.Bytes.{slice}
 use Rattle.seg_spec.specs.Types.{Table}
 use Rattle.client_spec.specs.declared.table.Operation.{Operation}
 use Rattle.client_spec.specs.Syntax.{Constant, Instruction, Statements}

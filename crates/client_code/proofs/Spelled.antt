@@ -2,7 +2,7 @@
 use Rattle.std.proofs.Common.{◌≡◌, ℕ, ◌+◌, ◌*◌, ◌<◌, ◌≤◌, List, length, take, drop, refl, sym, ap, ◌∙◌, subst, arith}
 use denote.Struct.Props.{props}
 use Rattle.std.proofs.Math.Logic.{∥∥₁_elim}
-use Rattle.seg_bytes.specs.Bytes.{slice}
+use Rattle.seg_spec.specs.Bytes.{slice}
 use Rattle.client_spec.specs.Syntax.{Client, Instruction}
 use Rattle.client_spec.specs.Grammar.{listing, instruction_bytes, SpellsClient}
 use Rattle.client_spec.proofs.TableRows.{number_range}

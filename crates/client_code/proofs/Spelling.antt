@@ -2,8 +2,8 @@
 use Rattle.std.proofs.Common.{◌≡◌, ℕ, ◌+◌, ◌-◌, ◌*◌, ◌/◌, ◌%◌, ◌<◌, ◌≤◌, Fits, w8, List, [], ◌∷◌, ◌++◌, length, take, drop, get_or, refl, sym, ap, ◌∙◌, arith, rules}
 use Rattle.std.specs.Prelude.{◌≢◌, slice_index, IsTrue, nat_le, All, Option, Some, None, IfSome, IfNone}
 use Rattle.std.proofs.lemmas.List.{get_or_default, take_rest, drop-drop, length-take-le, take-append-drop}
-use Rattle.seg_bytes.specs.Bytes.{spelled, number, slice}
-use Rattle.seg_bytes.proofs.BytesLaws.{number_in, length-slice}
+use Rattle.seg_spec.specs.Bytes.{spelled, number, slice}
+use Rattle.seg_spec.proofs.BytesLaws.{number_in, length-slice}
 use Rattle.client_code.specs.declared.constant.ConstantKind.{ConstantKind}
 use Rattle.client_code.specs.declared.constant.ConstantKind.TheVariants as kind
 use Rattle.client_spec.specs.Syntax as code

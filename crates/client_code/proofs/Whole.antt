@@ -3,9 +3,9 @@ use Rattle.std.proofs.Common.{◌≡◌, ℕ, zero, suc, ◌+◌, ◌*◌, ◌/�
 use Rattle.std.specs.Prelude.{⊤, flat_map, codes, slice_get, ◌≢◌, FitsSigned, IfSome, IfNone, Option, Some, None, Result, Ok, Err, IfErr}
 use Rattle.std.specs.List.{AllByRecursion}
 use Rattle.std.proofs.lemmas.List.{length-append, drop-drop, take-append-drop, take_at, drop_at, get_or-drop, nil_from_length}
-use Rattle.seg_bytes.specs.Bytes.{slice, spelled, spelling, number}
+use Rattle.seg_spec.specs.Bytes.{slice, spelled, spelling, number}
 use Rattle.seg_spec.specs.Types.{Table, form_bytes}
-use Rattle.seg_bytes.proofs.BytesLaws.{number_in, length-slice, length-spelling, spelled-spelling}
+use Rattle.seg_spec.proofs.BytesLaws.{number_in, length-slice, length-spelling, spelled-spelling}
 use Rattle.seg_spec.proofs.EntryLaws.{length-table, one_table}
 use Rattle.client_spec.specs.Syntax.{Constant, Statements, Client}
 use Rattle.client_spec.specs.Grammar.{word_bytes, file_version, constant_bytes, instruction_bytes, listing, SpellsClient}

@@ -11,7 +11,7 @@
 --     IsCodeAt file at table constants code            this code is at a position, and ends the
 --                                                      file
 use Rattle.std.specs.Prelude.{◌≡◌, ℕ, ◌+◌, ◌*◌, ◌≤◌, List, ◌++◌, length, take, drop, flat_map, codes, All, AllPairs}
-use Rattle.seg_bytes.specs.Bytes as bytes
+use Rattle.seg_spec.specs.Bytes as bytes
 use Rattle.seg_spec.specs.Header.{sharing_version}
 use Rattle.seg_spec.specs.Types.{Table, IsTable, form_bytes}
 use Rattle.client_spec.specs.Syntax.{Constant, Statements, Client}

@@ -1,5 +1,5 @@
 ghost use Rattle.std.specs.Prelude.{◌≡◌, ◌≢◌, ◌≤◌, ◌<◌, ◌+◌, ◌*◌, ℕ, length, IfOk, IfErr, OnOk, MatchOption};
-ghost use Rattle.seg_bytes.specs.Bytes as bytes;
+ghost use Rattle.seg_spec.specs.Bytes as bytes;
 ghost use Rattle.client_spec.specs.Grammar.{file_version};
 ghost use Rattle.client_code.specs.Files.{IsFileVersion, IsFileHeader, AreRight};
 ghost use Rattle.client_code.specs.declared.header.TheConstants.{MOST_CONSTANTS, MOST_INSTRUCTIONS};

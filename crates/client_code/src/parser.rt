@@ -1,6 +1,6 @@
 ghost use Rattle.std.specs.Prelude.{◌≡◌, ◌≢◌, ◌≤◌, ◌<◌, ◌+◌, ◌*◌, ◌^◌, ◌++◌, [], ℕ, List, length, map, drop, All, ◌↔◌, IsTrue, IfOk, IfErr, IfSome, IfNone, IsSome, OnOk, FitsSigned};
 ghost use Rattle.std.specs.Int.{w32};
-ghost use Rattle.seg_bytes.specs.Bytes.{slice};
+ghost use Rattle.seg_spec.specs.Bytes.{slice};
 ghost use Rattle.client_spec.specs.Syntax as syntax;
 ghost use Rattle.client_spec.specs.Syntax.{Statements};
 ghost use Rattle.client_spec.specs.Grammar.{constant_bytes, instruction_bytes, listing, IsConstant, Differ, SpellsClient};

@@ -1,5 +1,5 @@
 ghost use Rattle.std.specs.Prelude.{◌≡◌, ◌≤◌, ◌<◌, ◌+◌, ◌*◌, ℕ, IfSome, IfNone, IfOk, IfErr, length};
-ghost use Rattle.seg_bytes.specs.Bytes.{slice};
+ghost use Rattle.seg_spec.specs.Bytes.{slice};
 ghost use Rattle.seg_spec.specs.Types.{Table, IsUsed};
 ghost use Rattle.client_spec.specs.Grammar.{file_version};
 ghost use Rattle.client_code.specs.Files.{AreTypes};

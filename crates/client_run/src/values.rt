@@ -1,7 +1,7 @@
 //! Instructions on numbers, fields, and values of any type.
 
 ghost use Rattle.std.specs.Prelude.{◌≡◌, ◌+◌, ◌≤◌, ◌↔◌, ℕ, IsTrue, Some, length, slice_index_or};
-ghost use Rattle.seg_bytes.specs.Bytes.{signed_long, ChangesOnly};
+ghost use Rattle.seg_spec.specs.Bytes.{signed_long, ChangesOnly};
 ghost use Rattle.seg_spec.specs.Types.{Form, form_at};
 ghost use Rattle.seg_spec.specs.Window.{KeepsHost};
 ghost use Rattle.client_program.specs.Paths.{number_at};

@@ -2,7 +2,7 @@
 -- same steps, the same output and the same final image.
 use Rattle.std.proofs.Common.{◌≡◌, ℕ, zero, suc, ◌++◌, List, [], ◌∷◌, refl, sym, ap, ◌∙◌, subst, inl, inr}
 use Rattle.std.specs.Prelude.{nat_abs, ⊤}
-use Rattle.seg_bytes.specs.Bytes.{put}
+use Rattle.seg_spec.specs.Bytes.{put}
 use Rattle.seg_spec.specs.Index.{Root}
 use Rattle.client_spec.specs.Syntax.{Constant, Instruction, Statement, plain, opener, loop, Statements, no_more, next, Client}
 use Rattle.client_spec.specs.Answer.{Answer, success, is_zero, already_exists, bad_alloc, absent, other_type, out_of_range, null_or_none, numbers_used_up}

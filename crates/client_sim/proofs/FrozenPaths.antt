@@ -3,7 +3,7 @@
 use Rattle.std.proofs.Common.{◌≡◌, ◌≢◌, ℕ, zero, suc, ◌+◌, ◌-◌, ◌*◌, ◌≤◌, inl, inr, List, [], ◌∷◌, ◌++◌, Bool, true, false, refl, sym, ◌∙◌, ap, subst, arith}
 use Rattle.std.specs.Prelude.{⊤, ◌==◌, if◌then◌else◌}
 use Rattle.std.specs.List.{AllByRecursion}
-use Rattle.seg_bytes.specs.Bytes.{IsSame, word}
+use Rattle.seg_spec.specs.Bytes.{IsSame, word}
 use Rattle.seg_spec.specs.Header.{allocator_word}
 use Rattle.seg_spec.specs.Types.{Table, IsTable, size}
 use Rattle.seg_spec.specs.Value.{count}

@@ -7,7 +7,7 @@ use Rattle.std.proofs.lemmas.List.{map-append}
 use Rattle.std.specs.List.{AllByRecursion}
 use Rattle.seg_spec.specs.Types.{size}
 use Rattle.seg_spec.specs.Value.{Value, Full, Selector, value_at}
-use Rattle.seg_bytes.specs.Bytes.{word}
+use Rattle.seg_spec.specs.Bytes.{word}
 use Rattle.seg_spec.specs.Header.{allocator_word, next_word}
 use Rattle.seg_spec.specs.Heap.{live, heap_start}
 use Rattle.seg_spec.specs.Apart.{BlocksApart}

@@ -10,7 +10,7 @@ use Rattle.seg_spec.specs.Heap.{Span}
 use Rattle.seg_spec.specs.Apart.{GoesOnAfter}
 use Rattle.seg_spec.specs.Index.{Root}
 use Rattle.seg_spec.specs.Reads.{Place, Leads}
-use Rattle.seg_bytes.specs.Bytes.{word}
+use Rattle.seg_spec.specs.Bytes.{word}
 use Rattle.seg_spec.specs.Header.{next_word}
 use Rattle.seg_spec.specs.Frozen.{root_of_frozen, blocks_by}
 use Rattle.seg_spec.specs.Shared.{names_in, names_each, left}

@@ -3,7 +3,7 @@
 use Rattle.std.proofs.Common.{◌≡◌, ℕ, ◌⊎◌, inl, inr, Bool, true, false, List, [], ◌∷◌, ◌++◌, map, Option, Some, None, refl, sym, ◌∙◌, ap, subst, arith, append_assoc}
 use Rattle.std.specs.Prelude.{if◌then◌else◌, option_map}
 use Rattle.std.specs.List.{AllByRecursion}
-use Rattle.seg_bytes.specs.Bytes.{word}
+use Rattle.seg_spec.specs.Bytes.{word}
 use Rattle.seg_spec.specs.Header.{next_word}
 use Rattle.seg_spec.specs.Index.{Root, Precedes, AreAscending, same_name, root_named, root_of_type}
 use Rattle.seg_spec.specs.Shared.{names_each, left}

@@ -4,7 +4,7 @@ use Rattle.std.proofs.Common.{◌≡◌, ◌≢◌, ℕ, suc, Bool, true, false,
 use Rattle.std.specs.Prelude.{◌==◌, if◌then◌else◌}
 use Rattle.std.specs.List.{AllByRecursion}
 use Rattle.std.proofs.lemmas.Bool.{eqb-true, eqb-false, eq-eqb, ne_eqb}
-use Rattle.seg_bytes.specs.Bytes.{word}
+use Rattle.seg_spec.specs.Bytes.{word}
 use Rattle.seg_spec.specs.Header.{next_word}
 use Rattle.seg_spec.specs.Value.{Label, Value, node, nil, Full}
 use Rattle.seg_spec.specs.Reads.{Place}

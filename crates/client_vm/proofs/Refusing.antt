@@ -5,7 +5,7 @@ use Rattle.std.specs.Prelude.{replicate, IfOk, IfErr}
 use Rattle.std.proofs.Math.Seq.{take-length}
 use Rattle.std.proofs.lemmas.List.{length-replicate}
 use Rattle.std.proofs.lemmas.Result.{MatchResult-at_ok}
-use Rattle.seg_bytes.specs.Bytes.{slice, IsPlaced}
+use Rattle.seg_spec.specs.Bytes.{slice, IsPlaced}
 use Rattle.seg_spec.specs.Window.{Placement, region_of, IsPlace}
 use Rattle.seg_spec.proofs.SliceLaws.{region-placed}
 use Rattle.seg_spec.specs.Types.{Table}

@@ -1,5 +1,5 @@
 ghost use Rattle.std.specs.Prelude.{◌≡◌, ◌↔◌, true, false, Ok, [], ◌∷◌, length, IfOk, IfErr, OnErr, ℕ};
-ghost use Rattle.seg_bytes.specs.Bytes.{word};
+ghost use Rattle.seg_spec.specs.Bytes.{word};
 ghost use Rattle.seg_spec.specs.Header.{allocator_word};
 ghost use Rattle.seg_spec.specs.Types.{Table};
 ghost use Rattle.seg_spec.specs.Images.{IsSound};

@@ -2,7 +2,7 @@
 -- order, the whole gap takes its place in the tree.
 use Rattle.std.proofs.Common.{◌≡◌, ◌≢◌, ℕ, ◌+◌, ◌*◌, ◌≤◌, ◌⊎◌, inl, inr, false, List, [], ◌∷◌, ◌++◌, length, refl, sym, subst, arith}
 use Rattle.std.proofs.lemmas.List.{append_assoc}
-use Rattle.seg_bytes.specs.Bytes.{IsSame}
+use Rattle.seg_spec.specs.Bytes.{IsSame}
 use Rattle.seg_spec.specs.Heap.{Span, Tile, Fill, free_of, by_size, heap_start, IsFreeTree}
 use Rattle.seg_spec.proofs.HeapFrame.{each_by_size}
 use Rattle.seg_spec.proofs.SliceLaws.{IsSame-agrees}

@@ -1,9 +1,9 @@
 -- The free tile at the heap's end is removed from the tree, enlarged, and added again.
 use Rattle.std.proofs.Common.{◌≡◌, ℕ, ◌+◌, ◌*◌, ◌^◌, ◌≤◌, Bool, false, List, [], ◌∷◌, ◌++◌, length, None, refl, sym, ◌∙◌, subst, arith, inl, inr}
 use Rattle.std.proofs.lemmas.List.{append-nil}
-use Rattle.seg_bytes.specs.Bytes.{set_word}
+use Rattle.seg_spec.specs.Bytes.{set_word}
 use Rattle.seg_spec.specs.Heap.{Span, Tile, is_live_at, link_at, Fill, AreHeaders, HoldsGaps, free_of, live_of, heap_start, IsFreeTree}
-use Rattle.seg_bytes.proofs.BytesLaws.{number-set_other}
+use Rattle.seg_spec.proofs.BytesLaws.{number-set_other}
 use Rattle.seg_spec.proofs.PointerLaws.{target-same}
 use Rattle.seg_spec.proofs.TileLaws.{Fill-append, live_of-append}
 use Rattle.seg_block.specs.Extents.{Enlarges}

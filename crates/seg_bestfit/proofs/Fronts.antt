@@ -1,9 +1,9 @@
 -- The front of a free tile is allocated, and the rest takes its place in the tree.
 use Rattle.std.proofs.Common.{◌≡◌, ◌≢◌, ℕ, ◌+◌, ◌-◌, ◌*◌, ◌≤◌, ◌⊎◌, inl, inr, ⊎_elim, true, false, List, [], ◌∷◌, ◌++◌, length, Some, None, refl, sym, ap, ◌∙◌, subst, arith}
-use Rattle.seg_bytes.specs.Bytes.{word, set_word, Agrees, IsSame}
+use Rattle.seg_spec.specs.Bytes.{word, set_word, Agrees, IsSame}
 use Rattle.seg_spec.specs.Pointer.{distance, set_pointer}
 use Rattle.seg_spec.specs.Heap.{Span, Tile, IsHeader, units_before, link_at, Fill, AreHeaders, free_of, by_size, AreBySize, first_fit, best_fit, heap_start, IsFreeTree}
-use Rattle.seg_bytes.proofs.BytesLaws.{number-set_same, number-set_other, length-set_number, Agrees-set_number, Agrees-trans}
+use Rattle.seg_spec.proofs.BytesLaws.{number-set_same, number-set_other, length-set_number, Agrees-set_number, Agrees-trans}
 use Rattle.seg_spec.proofs.FreeLaws.{by_size-middle, best_fit-first}
 use Rattle.seg_spec.proofs.HeapFrame.{each_by_size}
 use Rattle.seg_spec.proofs.HeaderLaws.{AreHeaders-after}

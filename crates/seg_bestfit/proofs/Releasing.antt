@@ -1,9 +1,9 @@
 -- Tiles outside the tree become one free tile, which is added to the tree.
 use Rattle.std.proofs.Common.{◌≡◌, ℕ, ◌+◌, ◌*◌, ◌≤◌, false, List, [], ◌∷◌, ◌++◌, length, Some, None, refl, sym, ap, ◌∙◌, subst, arith, inl, inr, ◌⊎◌, ⊎_elim}
-use Rattle.seg_bytes.specs.Bytes.{word, set_word, Agrees}
+use Rattle.seg_spec.specs.Bytes.{word, set_word, Agrees}
 use Rattle.seg_spec.specs.Pointer.{distance, set_pointer}
 use Rattle.seg_spec.specs.Heap.{Tile, units_before, tag_at, link_at, Fill, AreHeaders, free_of, heap_start, IsFreeTree}
-use Rattle.seg_bytes.proofs.BytesLaws.{number-set_same, number-set_other, length-set_number, Agrees-set_number, Agrees-trans}
+use Rattle.seg_spec.proofs.BytesLaws.{number-set_same, number-set_other, length-set_number, Agrees-set_number, Agrees-trans}
 use Rattle.seg_spec.proofs.PointerLaws.{target-same, target-set_same}
 use Rattle.seg_spec.proofs.TileLaws.{Fill-le, AreHeaders-back, units_after}
 use Rattle.seg_block.specs.FreeBlocks.{AreFreeBlocks}

@@ -2,7 +2,7 @@
 -- another gap, whose header was written in between.
 use Rattle.std.proofs.Common.{◌≡◌, ◌≢◌, ℕ, ◌+◌, ◌^◌, ◌≤◌, List, [], ◌∷◌, ◌++◌, length, map, true, false, cond, Some, None, refl, sym, ap, ◌∙◌, subst, arith}
 use Rattle.std.specs.List.{AllByRecursion}
-use Rattle.seg_bytes.specs.Bytes.{IsSame}
+use Rattle.seg_spec.specs.Bytes.{IsSame}
 use Rattle.seg_spec.specs.Heap.{Span, link_at, is_smaller, insert_by_size, by_size, IsFreeTree}
 use Rattle.seg_spec.specs.Pointer.{target}
 use Rattle.seg_spec.specs.Search.{Ascend, IsSearchTree}

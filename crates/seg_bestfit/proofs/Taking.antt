@@ -1,8 +1,8 @@
 -- A free tile is removed from the tree and allocated.
 use Rattle.std.proofs.Common.{◌≡◌, ℕ, ◌+◌, ◌*◌, true, false, List, [], ◌∷◌, ◌++◌, length, None, refl, sym, ◌∙◌, subst, arith, inl, inr}
-use Rattle.seg_bytes.specs.Bytes.{set_word}
+use Rattle.seg_spec.specs.Bytes.{set_word}
 use Rattle.seg_spec.specs.Heap.{Tile, link_at, free_of, IsFreeTree}
-use Rattle.seg_bytes.proofs.BytesLaws.{number-set_other}
+use Rattle.seg_spec.proofs.BytesLaws.{number-set_other}
 use Rattle.seg_spec.proofs.PointerLaws.{target-same}
 use Rattle.seg_spec.proofs.TileLaws.{free_of-append}
 use Rattle.seg_block.specs.FreeBlocks.{AreFreeBlocks}

@@ -5,7 +5,7 @@ use Rattle.std.specs.List.{AllByRecursion}
 use Rattle.std.proofs.lemmas.List.{append_assoc}
 use Rattle.seg_spec.specs.Header.{free_word, back_start, back_size}
 use Rattle.seg_spec.specs.Apart.{Separate}
-use Rattle.seg_bytes.specs.Bytes.{Agrees, IsSame}
+use Rattle.seg_spec.specs.Bytes.{Agrees, IsSame}
 use Rattle.seg_spec.specs.Heap.{Span, Tile, span_of, end_of, link_at, Fill, AreHeaders, live_of, free_of, heap_start, IsFreeTree}
 use Rattle.seg_spec.proofs.Frame.{word-same, target-same, each_weaker}
 use Rattle.seg_spec.proofs.SliceLaws.{IsSame-part, Agrees-same_slice}

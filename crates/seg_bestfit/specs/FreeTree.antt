@@ -5,7 +5,7 @@ use Rattle.std.specs.List.{AllByRecursion}
 use Rattle.std.specs.Ordering.{nat_cmp, ordering_then}
 use Rattle.std.specs.declared.cmp.Ordering.{Ordering}
 use Rattle.seg_spec.specs.Apart.{Separate}
-use Rattle.seg_bytes.specs.Bytes.{set_word, IsSame}
+use Rattle.seg_spec.specs.Bytes.{set_word, IsSame}
 use Rattle.seg_spec.specs.Heap.{Span, Tile, Fill, heap_start, units_at, free_of, is_smaller, IsFreeTree}
 use Rattle.seg_spec.specs.Pointer.{set_pointer}
 use Rattle.seg_spec.specs.Search.{Ascend, IsSearchTree}

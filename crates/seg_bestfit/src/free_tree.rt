@@ -4,7 +4,7 @@ ghost use Rattle.std.proofs.Common.{inl, arith};
 ghost use Rattle.std.specs.Cmp.{on_total, then_total, nat_cmp_total};
 ghost use Rattle.seg_spec.specs.Heap.{Span, Tile, span, link_at, best_fit, by_size, free_of, IsFreeTree};
 ghost use Rattle.seg_spec.specs.Window.{with_bytes, KeepsHost};
-ghost use Rattle.seg_bytes.proofs.BytesLaws.{number-slice};
+ghost use Rattle.seg_spec.proofs.BytesLaws.{number-slice};
 ghost use Rattle.seg_spec.proofs.OrderSteps.{then_steps_up};
 ghost use Rattle.seg_rbtree.specs.Parts.{part};
 ghost use Rattle.seg_rbtree.specs.Roots.{root_word};

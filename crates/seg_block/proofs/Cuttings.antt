@@ -3,9 +3,9 @@ use Rattle.std.proofs.Common.{◌≡◌, ◌≢◌, ℕ, ◌+◌, ◌-◌, ◌*�
 use Rattle.std.specs.Prelude.{Contains}
 use Rattle.std.proofs.lemmas.Bool.Decides.{nat_tests}
 use Rattle.std.proofs.lemmas.List.{length-take-le, append-nil}
-use Rattle.seg_bytes.specs.Bytes.{word, set_word, Agrees}
+use Rattle.seg_spec.specs.Bytes.{word, set_word, Agrees}
 use Rattle.seg_spec.specs.Heap.{Span, Tile, span_of, end_of, is_live_at, Fill, AreHeaders, AreApart, HoldsGaps, live_of, free_of, heap_start, tiles, live, gaps, IsHeap, Cuts, without_end, units_to_cut}
-use Rattle.seg_bytes.proofs.BytesLaws.{number-part, number-set_same, number-set_other, Agrees-set_number, length-set_number}
+use Rattle.seg_spec.proofs.BytesLaws.{number-part, number-set_same, number-set_other, Agrees-set_number, length-set_number}
 use Rattle.seg_spec.proofs.SliceLaws.{IsSame-agrees}
 use Rattle.seg_spec.proofs.TileLaws.{Fill-le, AreHeaders-back, live_of-append, free_of-append}
 use Rattle.seg_block.specs.Tiling.{tile, IsTiling}

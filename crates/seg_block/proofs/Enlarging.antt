@@ -3,7 +3,7 @@ use Rattle.std.proofs.Common.{◌≡◌, ℕ, ◌+◌, ◌*◌, ◌^◌, ◌≤�
 use Rattle.std.specs.Prelude.{Contains}
 use Rattle.std.proofs.lemmas.List.{append-nil}
 use Rattle.std.proofs.lemmas.List.Elements.{Contains-append_cases}
-use Rattle.seg_bytes.specs.Bytes.{Agrees}
+use Rattle.seg_spec.specs.Bytes.{Agrees}
 use Rattle.seg_spec.specs.Heap.{Span, Tile, end_of, is_live_at, Fill, AreHeaders, HoldsGaps, live_of, free_of, heap_start}
 use Rattle.seg_spec.proofs.SliceLaws.{IsSame-agrees}
 use Rattle.seg_spec.proofs.TileLaws.{Fill-le, AreHeaders-front, AreHeaders-back, live_of-append, free_of-append}

@@ -1,7 +1,7 @@
 -- A block gets another size, from what the steps ensure.
 use Rattle.std.proofs.Common.{◌≡◌, ◌≢◌, ℕ, ◌+◌, ◌-◌, ◌*◌, ◌≤◌, true, false, Bool, List, [], ◌∷◌, ◌++◌, Some, None, sym, ap, ◌∙◌, subst, arith, ◌⊎◌, ⊎_elim}
 use Rattle.std.specs.Prelude.{Contains}
-use Rattle.seg_bytes.specs.Bytes.{Agrees}
+use Rattle.seg_spec.specs.Bytes.{Agrees}
 use Rattle.seg_spec.specs.Heap.{Span, Tile, AreApart, live, gaps, IsHeap, room_at, expanded, shrunk, Expands, Shrinks}
 use Rattle.seg_block.specs.Blocks.{IsSized, IsResized}
 use Rattle.seg_block.specs.Tiling.{tile, IsTiling, Retiles}

@@ -4,9 +4,9 @@ use Rattle.std.specs.Prelude.{Contains}
 use Rattle.std.proofs.lemmas.Bool.Decides.{nat_tests}
 use Rattle.std.proofs.lemmas.List.{length-take-le, append-nil}
 use Rattle.std.proofs.lemmas.List.Elements.{Contains-append_left, Contains-append_right}
-use Rattle.seg_bytes.specs.Bytes.{slice, word, set_word, Agrees, IsSame}
+use Rattle.seg_spec.specs.Bytes.{slice, word, set_word, Agrees, IsSame}
 use Rattle.seg_spec.specs.Heap.{Span, Tile, span_of, end_of, IsLive, Fill, AreHeaders, AreApart, HoldsGaps, live_of, free_of, heap_start, tiles, live, IsHeap, Gives, Extends, without, without_end, after_extend}
-use Rattle.seg_bytes.proofs.BytesLaws.{part, number-part, slice-part, number-set_same, number-set_other, number-agrees, Agrees-within, Agrees-trans, Agrees-set_number, length-set_number}
+use Rattle.seg_spec.proofs.BytesLaws.{part, number-part, slice-part, number-set_same, number-set_other, number-agrees, Agrees-within, Agrees-trans, Agrees-set_number, length-set_number}
 use Rattle.seg_spec.proofs.SliceLaws.{IsSame-agrees, IsSame-trans}
 use Rattle.seg_spec.proofs.TileLaws.{Fill-le, Fill-append, AreApart-append, AreApart-front, AreApart-back, units_after, live_of-append, free_of-append}
 use Rattle.seg_spec.proofs.HeaderLaws.{IsHeader-same}

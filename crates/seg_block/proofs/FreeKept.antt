@@ -1,7 +1,7 @@
 -- The free structure stays if the words of the gaps are kept, for any allocator.
 use Rattle.std.proofs.Common.{◌≡◌, ℕ, zero, suc, ◌+◌, ◌*◌, ◌≤◌, true, false, List, [], ◌∷◌, ◌++◌, length, map, cond, Option, None, sym, ◌∙◌, subst, arith, inl, inr, ◌⊎◌}
 use Rattle.std.specs.List.{AllByRecursion}
-use Rattle.seg_bytes.specs.Bytes.{Agrees, IsSame}
+use Rattle.seg_spec.specs.Bytes.{Agrees, IsSame}
 use Rattle.seg_spec.specs.Pointer.{target}
 use Rattle.seg_spec.specs.Heap.{Span, Tile, span_of, Fill, free_of, Links, by_size, HoldsGaps, heap_start}
 use Rattle.seg_spec.proofs.SliceLaws.{IsSame-part, IsSame-agrees}

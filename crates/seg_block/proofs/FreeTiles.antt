@@ -1,7 +1,7 @@
 -- The free blocks among the tiles, and the one that is allocated.
 use Rattle.std.proofs.Common.{◌≡◌, ◌≢◌, ℕ, ◌+◌, ◌-◌, ◌*◌, ◌%◌, ◌≤◌, true, false, List, [], ◌∷◌, ◌++◌, length, cond, Some, None, refl, sym, ap, ◌∙◌, subst, arith, ⊎_elim}
 use Rattle.std.proofs.lemmas.Bool.{cases_lt}
-use Rattle.seg_bytes.specs.Bytes.{Agrees}
+use Rattle.seg_spec.specs.Bytes.{Agrees}
 use Rattle.seg_spec.specs.Heap.{Span, Tile, span_of, link_at, Fill, AreHeaders, free_of, heap_start, tiles, gaps, IsHeap, pick, granted, Takes}
 use Rattle.seg_spec.proofs.TileLaws.{Fill-le}
 use Rattle.seg_block.specs.FreeBlocks.{AreFreeBlocks}

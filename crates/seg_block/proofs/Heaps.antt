@@ -4,9 +4,9 @@ use Rattle.std.specs.Prelude.{Contains}
 use Rattle.std.proofs.lemmas.Bool.Decides.{nat_tests}
 use Rattle.std.proofs.lemmas.List.Elements.{Contains-append_left, Contains-append_right, Contains-append_cases}
 use Rattle.seg_spec.specs.Heap.{Span, Tile, span_of, end_of, Fill, AreHeaders, AreApart, HoldsGaps, live_of, free_of, gaps_between, heap_start, tiles, live, gaps, IsHeap, with_block, Keeps}
-use Rattle.seg_bytes.specs.Bytes.{Agrees}
+use Rattle.seg_spec.specs.Bytes.{Agrees}
 use Rattle.seg_spec.specs.Pointer.{target}
-use Rattle.seg_bytes.proofs.BytesLaws.{number-agrees, Agrees-same, Agrees-trans}
+use Rattle.seg_spec.proofs.BytesLaws.{number-agrees, Agrees-same, Agrees-trans}
 use Rattle.seg_spec.proofs.PointerLaws.{target-same}
 use Rattle.seg_spec.proofs.TileLaws.{Fill-le, tiles-unique, gaps_between-live_of, live_of-append}
 use Rattle.seg_block.specs.Tiling.{IsTiling, Spares}

@@ -1,8 +1,8 @@
 -- A tile is joined with the tile right after it.
 use Rattle.std.proofs.Common.{◌≡◌, ℕ, ◌+◌, ◌*◌, ◌≤◌, Bool, List, [], ◌∷◌, ◌++◌, length, refl, ap, ◌∙◌, arith, inl, inr, ◌⊎◌}
-use Rattle.seg_bytes.specs.Bytes.{word, set_word, Agrees}
+use Rattle.seg_spec.specs.Bytes.{word, set_word, Agrees}
 use Rattle.seg_spec.specs.Heap.{Tile, Fill, AreHeaders, heap_start}
-use Rattle.seg_bytes.proofs.BytesLaws.{number-set_same, length-set_number}
+use Rattle.seg_spec.proofs.BytesLaws.{number-set_same, length-set_number}
 use Rattle.seg_spec.proofs.TileLaws.{Fill-le, AreHeaders-back, units_after}
 use Rattle.seg_block.specs.Sizes.{size_word, set_size}
 use Rattle.seg_block.specs.Tiling.{tile, IsTiled, Replaces}

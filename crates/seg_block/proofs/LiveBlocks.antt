@@ -3,7 +3,7 @@ use Rattle.std.proofs.Common.{◌≡◌, ℕ, ◌+◌, ◌*◌, ◌<◌, ◌≤�
 use Rattle.std.specs.Prelude.{Contains}
 use Rattle.std.proofs.lemmas.Bool.Decides.{nat_tests}
 use Rattle.seg_spec.specs.Heap.{Span, Tile, span_of, end_of, Fill, AreApart, live_of, heap_start, tiles, live, IsHeap, without, Gives}
-use Rattle.seg_bytes.proofs.BytesLaws.{Agrees-within}
+use Rattle.seg_spec.proofs.BytesLaws.{Agrees-within}
 use Rattle.seg_spec.proofs.TileLaws.{Fill-le, live_of-append, AreApart-front, AreApart-back}
 use Rattle.seg_block.specs.Tiling.{tile, IsTiling, Spares}
 use Rattle.seg_block.proofs.LiveTiles.{cons_cases}

@@ -3,9 +3,9 @@ use Rattle.std.proofs.Common.{◌≡◌, ◌≢◌, ℕ, ◌+◌, ◌-◌, ◌*�
 use Rattle.std.specs.Prelude.{Contains}
 use Rattle.std.proofs.lemmas.Bool.Decides.{nat_tests}
 use Rattle.std.proofs.lemmas.List.Elements.{Contains-append_cases, Contains-append_left, Contains-append_right}
-use Rattle.seg_bytes.specs.Bytes.{Agrees}
+use Rattle.seg_spec.specs.Bytes.{Agrees}
 use Rattle.seg_spec.specs.Heap.{Span, Tile, span_of, end_of, Fill, AreApart, live_of, free_of, heap_start, live, gaps, IsHeap, room_at, resized, granted, expanded, shrunk, Expands, Shrinks}
-use Rattle.seg_bytes.proofs.BytesLaws.{Agrees-within, Agrees-trans}
+use Rattle.seg_spec.proofs.BytesLaws.{Agrees-within, Agrees-trans}
 use Rattle.seg_spec.proofs.TileLaws.{Fill-le, live_of-append, free_of-append, AreApart-append}
 use Rattle.seg_block.specs.Blocks.{IsReadFree, IsResized}
 use Rattle.seg_block.specs.declared.block.Block.{Block}

@@ -4,9 +4,9 @@ use Rattle.std.proofs.Common.{◌≡◌, ℕ, ◌+◌, ◌*◌, ◌≤◌, true,
 use Rattle.std.specs.Prelude.{Contains}
 use Rattle.std.proofs.lemmas.List.{append_assoc}
 use Rattle.std.proofs.lemmas.List.Elements.{Contains-append_right}
-use Rattle.seg_bytes.specs.Bytes.{Agrees}
+use Rattle.seg_spec.specs.Bytes.{Agrees}
 use Rattle.seg_spec.specs.Heap.{Tile, is_live_at, live_of, heap_start}
-use Rattle.seg_bytes.proofs.BytesLaws.{Agrees-trans}
+use Rattle.seg_spec.proofs.BytesLaws.{Agrees-trans}
 use Rattle.seg_spec.proofs.TileLaws.{live_of-append}
 use Rattle.seg_block.specs.Sizes.{set_size, set_split}
 use Rattle.seg_block.specs.Tiling.{tile, Spares, IsTiling, Retiles}

@@ -1,8 +1,8 @@
 -- A tile is split in two.
 use Rattle.std.proofs.Common.{◌≡◌, ℕ, ◌+◌, ◌*◌, ◌≤◌, Bool, List, [], ◌∷◌, ◌++◌, length, refl, ◌∙◌, subst, arith, inl, inr, ◌⊎◌, ⊎_elim}
-use Rattle.seg_bytes.specs.Bytes.{word, set_word, Agrees}
+use Rattle.seg_spec.specs.Bytes.{word, set_word, Agrees}
 use Rattle.seg_spec.specs.Heap.{Tile, units_before, IsHeader, Fill, AreHeaders, heap_start}
-use Rattle.seg_bytes.proofs.BytesLaws.{number-set_same, number-set_other, length-set_number, Agrees-trans, Agrees-set_number}
+use Rattle.seg_spec.proofs.BytesLaws.{number-set_same, number-set_other, length-set_number, Agrees-trans, Agrees-set_number}
 use Rattle.seg_spec.proofs.TileLaws.{Fill-le, AreHeaders-back, units_after}
 use Rattle.seg_spec.proofs.HeaderLaws.{AreHeaders-after}
 use Rattle.seg_block.specs.Sizes.{size_word, set_size, set_split}

@@ -2,9 +2,9 @@
 use Rattle.std.proofs.Common.{◌≡◌, ℕ, ◌+◌, ◌-◌, ◌*◌, ◌<◌, ◌≤◌, true, false, List, [], ◌∷◌, ◌++◌, length, min, Option, Some, None, refl, sym, ap, ◌∙◌, subst, arith, ⊎_elim}
 use Rattle.std.specs.Prelude.{Contains}
 use Rattle.std.proofs.lemmas.Bool.{cases_lt}
-use Rattle.seg_bytes.specs.Bytes.{Agrees}
+use Rattle.seg_spec.specs.Bytes.{Agrees}
 use Rattle.seg_spec.specs.Heap.{Span, Tile, end_of, link_at, Fill, AreApart, live_of, heap_start, tiles, live, gaps, IsHeap, pick, granted, with_block, Keeps, Takes}
-use Rattle.seg_bytes.proofs.BytesLaws.{Agrees-within}
+use Rattle.seg_spec.proofs.BytesLaws.{Agrees-within}
 use Rattle.seg_spec.proofs.TileLaws.{live_of-append, AreApart-append, AreApart-front, AreApart-back}
 use Rattle.seg_block.specs.Tiling.{tile, IsTiling, Retiles, Spares}
 use Rattle.seg_block.proofs.Tiled.{around}

@@ -2,9 +2,9 @@
 use Rattle.std.proofs.Common.{◌≡◌, ℕ, ◌+◌, ◌*◌, ◌%◌, ◌^◌, ◌≤◌, Bool, List, [], ◌∷◌, ◌++◌, length, sym, ap, ◌∙◌, subst, arith, inl, inr, ◌⊎◌, ⊎_elim}
 use Rattle.std.specs.Prelude.{Contains, ⊤}
 use Rattle.std.proofs.lemmas.List.Elements.{Contains-append_cases}
-use Rattle.seg_bytes.specs.Bytes.{word, Agrees}
+use Rattle.seg_spec.specs.Bytes.{word, Agrees}
 use Rattle.seg_spec.specs.Heap.{Span, Tile, IsHeader, end_of, Fill, AreHeaders, live_of, heap_start}
-use Rattle.seg_bytes.proofs.BytesLaws.{number-agrees}
+use Rattle.seg_spec.proofs.BytesLaws.{number-agrees}
 use Rattle.seg_spec.proofs.TileLaws.{Fill-le, Fill-append, Fill-front, Fill-back, AreHeaders-append, AreHeaders-front, AreHeaders-back, end_after, units_after, live_of-append}
 use Rattle.seg_spec.proofs.HeaderLaws.{IsHeader-same}
 use Rattle.seg_block.specs.Tiling.{tile, IsTiled, Replaces}

@@ -1,7 +1,7 @@
 -- The tiles of a heap, apart from how an allocator stores the free ones. Free tiles may be adjacent
 -- here.
 use Rattle.std.specs.Prelude.{ℕ, ◌+◌, ◌-◌, ◌*◌, ◌≤◌, Bool, List, [], ◌∷◌, ◌++◌, length, Contains}
-use Rattle.seg_bytes.specs.Bytes.{Agrees}
+use Rattle.seg_spec.specs.Bytes.{Agrees}
 use Rattle.seg_spec.specs.Heap.{Span, Tile, end_of, Fill, AreHeaders, HoldsGaps, live_of, free_of, heap_start}
 use Rattle.seg_ptr.specs.declared.window.TheConstants.{MAX_LEN}
 use Rattle.seg_ptr.specs.declared.header.TheConstants.{FREE}

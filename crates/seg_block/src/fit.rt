@@ -5,7 +5,7 @@ ghost use Rattle.seg_spec.specs.Header.{min_length};
 ghost use Rattle.seg_block.specs.Blocks.{block_end, IsCut, IsLiveBlock, room_after, IsResized};
 ghost use Rattle.seg_block.specs.Extents.{Enlarges};
 ghost use Rattle.seg_block.specs.Tiling.{ending};
-ghost use Rattle.seg_bytes.specs.Bytes.{set_word};
+ghost use Rattle.seg_spec.specs.Bytes.{set_word};
 
 use crate::block::{Block, block_at, last_block, room_after, set_size};
 use crate::header::{HEAP_START, UNIT, UNITS_BEFORE};

@@ -1,7 +1,7 @@
 //! How an allocator stores its free blocks, and what that needs if an allocated block changes its size.
 
 ghost use Rattle.std.specs.Prelude.{◌≡◌, ℕ, ◌+◌, ◌*◌, ◌≤◌, ◌⊎◌, Bool, true, false, List, [], ◌∷◌, ◌++◌, None};
-ghost use Rattle.seg_bytes.specs.Bytes.{Agrees};
+ghost use Rattle.seg_spec.specs.Bytes.{Agrees};
 ghost use Rattle.seg_spec.specs.Window.{KeepsHost};
 ghost use Rattle.seg_spec.specs.Heap.{Tile, IsHeap, link_at};
 ghost use Rattle.seg_block.specs.Blocks.{block_end, IsCut, IsLiveBlock, room_after, IsResized};

@@ -1,5 +1,5 @@
 ghost use Rattle.std.specs.Prelude.{◌≡◌, ◌+◌, ◌^◌, ◌<◌, IfSome, Some};
-ghost use Rattle.seg_bytes.specs.Bytes.{set_word};
+ghost use Rattle.seg_spec.specs.Bytes.{set_word};
 ghost use Rattle.seg_spec.specs.Window.{with_bytes};
 ghost use Rattle.seg_block.specs.Tags.{word_of};
 

@@ -1,12 +1,12 @@
 -- Iterating over the cells of a value: types without pointers, with one cell, and with fields.
 use Rattle.std.proofs.Common.{◌≡◌, ℕ, ◌+◌, ◌^◌, ◌<◌, ◌≤◌, inr, List, length, Option, Some, None, true, false, refl, sym, ap, ◌∙◌, arith, add-zero}
 use Rattle.std.proofs.lemmas.Bool.Decides.{nat_tests}
-use Rattle.seg_bytes.specs.Bytes.{word, set_word, set_long, slice, number, number_of, set_number, spelling, ChangesOnly}
+use Rattle.seg_spec.specs.Bytes.{word, set_word, set_long, slice, number, number_of, set_number, spelling, ChangesOnly}
 use Rattle.seg_spec.specs.Pointer.{target}
 use Rattle.seg_spec.specs.Types.{Form, Table, form_at, size, IsTable, fields_of, fields_by}
 use Rattle.seg_spec.specs.Reads.{count_at}
 use Rattle.seg_spec.specs.Cells.{IsWithin, ChangesCells, IsDefaulted, IsFurther, further}
-use Rattle.seg_bytes.proofs.BytesLaws.{number-set_same, number-set_other}
+use Rattle.seg_spec.proofs.BytesLaws.{number-set_same, number-set_other}
 use Rattle.seg_spec.proofs.TypesLaws.{size_large}
 use Rattle.seg_spec.proofs.SliceLaws.{slice-slice, slice-put_same}
 use Rattle.seg_spec.proofs.Writing.{set_number-changes}

@@ -2,9 +2,9 @@
 use Rattle.std.proofs.Common.{◌≡◌, ℕ, suc, ◌+◌, ◌*◌, ◌%◌, ◌^◌, ◌<◌, ◌≤◌, ◌⊎◌, inl, inr, List, length, Some, refl, sym, ap, ◌∙◌, subst, arith}
 use Rattle.std.proofs.Math.Nat.{mul-le-mul_right}
 use Rattle.std.proofs.lemmas.Bool.{cases_lt}
-use Rattle.seg_bytes.specs.Bytes.{word, set_word, slice, put, ChangesOnly}
+use Rattle.seg_spec.specs.Bytes.{word, set_word, slice, put, ChangesOnly}
 use Rattle.seg_spec.specs.Cells.{IsWithin, further}
-use Rattle.seg_bytes.proofs.BytesLaws.{length-slice, number-slice, number-set_same, number-set_other}
+use Rattle.seg_spec.proofs.BytesLaws.{length-slice, number-slice, number-set_same, number-set_other}
 use Rattle.seg_spec.proofs.SliceLaws.{slice-slice, slice-put_same, put-changes, IsSame-trans}
 use Rattle.seg_spec.proofs.Frame.{word-same}
 use Rattle.seg_spec.proofs.Writing.{set_number-changes}

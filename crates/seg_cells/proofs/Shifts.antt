@@ -1,6 +1,6 @@
 -- Moving entries with a value, from what the steps leave.
 use Rattle.std.proofs.Common.{◌≡◌, ℕ, ◌+◌, ◌*◌, ◌%◌, ◌^◌, ◌≤◌, List, [], ◌∷◌, map, refl, length, sym, ap, ◌∙◌, subst, arith}
-use Rattle.seg_bytes.specs.Bytes.{slice, put, ChangesOnly}
+use Rattle.seg_spec.specs.Bytes.{slice, put, ChangesOnly}
 use Rattle.seg_spec.specs.Types.{Table, IsTable, size}
 use Rattle.seg_spec.specs.Value.{Values}
 use Rattle.seg_spec.specs.Heap.{IsHeap, live, heap_start}
@@ -11,7 +11,7 @@ use Rattle.seg_spec.proofs.CellSteps.{size_aligned}
 use Rattle.seg_spec.proofs.Shifting.{shift_changes, shifted}
 use Rattle.seg_spec.specs.Reads.{spaced, places_of, items, HoldsEach}
 use Rattle.seg_spec.specs.Cells.{ChangesEach, IsFurther, Shifts, IsWithin}
-use Rattle.seg_bytes.proofs.BytesLaws.{length-put}
+use Rattle.seg_spec.proofs.BytesLaws.{length-put}
 use Rattle.seg_cells.specs.declared.entry.Held.TheVariants as held
 
 pub same_type : (x y : ℕ) → held.Value x ≡ held.Value y → x ≡ y

@@ -2,7 +2,7 @@
 --     PointsAgain distance old new start each before n     the distances in the pointers of n entries grew by `distance`
 --     MovesPointers old new each before from to n          n entries were moved, and their pointers have the same targets
 use Rattle.std.specs.Prelude.{◌≡◌, ◌≢◌, ℕ, ◌+◌, ◌*◌, ◌<◌, ◌≤◌, ◌⊎◌, List, Some}
-use Rattle.seg_bytes.specs.Bytes.{word, slice, IsSame, ChangesOnly}
+use Rattle.seg_spec.specs.Bytes.{word, slice, IsSame, ChangesOnly}
 use Rattle.seg_spec.specs.Pointer.{target}
 use Rattle.seg_spec.specs.Cells.{further}
 

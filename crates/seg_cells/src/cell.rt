@@ -1,7 +1,7 @@
 //! A cell: a number, or a pointer and a count.
 
 ghost use Rattle.std.specs.Prelude.{◌≡◌};
-ghost use Rattle.seg_bytes.specs.Bytes.{signed_long};
+ghost use Rattle.seg_spec.specs.Bytes.{signed_long};
 ghost use Rattle.seg_spec.specs.Reads.{count_at, start};
 
 use seg_ptr::Window;
@@ -22,7 +22,7 @@ pub fn start<A: Allocator>(w: &Window<A>, cell: u32) -> u32
 }
 
 /// The 64-bit number at a position.
-#[tactic(auto, unfolding(seg_bytes::specs::Bytes::signed))]
+#[tactic(auto, unfolding(seg_spec::specs::Bytes::signed))]
 pub fn load<A: Allocator>(w: &Window<A>, at: u32) -> i64
     ensures { result ≡ signed_long w.now.bytes at }
 {

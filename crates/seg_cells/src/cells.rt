@@ -2,7 +2,7 @@
 //! no deeper than the type table is long.
 
 ghost use Rattle.std.specs.Prelude.{◌≡◌, ℕ, ◌+◌, ◌*◌, ◌≤◌, map, length};
-ghost use Rattle.seg_bytes.specs.Bytes.{word, set_word};
+ghost use Rattle.seg_spec.specs.Bytes.{word, set_word};
 ghost use Rattle.seg_spec.specs.Cells.{further, IsWithin, ChangesCells, ChangesEach, IsDefaulted, IsFurther};
 ghost use Rattle.seg_spec.specs.Reads.{spaced};
 ghost use Rattle.seg_spec.specs.Types.{IsTable, size, form_at, fields_of};

@@ -1,5 +1,5 @@
 ghost use Rattle.std.specs.Prelude.{◌≡◌, ℕ, false, Err, Some, IfErr, IfOk, OnOk};
-ghost use Rattle.seg_bytes.specs.Bytes.{slice, word};
+ghost use Rattle.seg_spec.specs.Bytes.{slice, word};
 ghost use Rattle.seg_spec.specs.Faulty.{HasFront};
 ghost use Rattle.seg_spec.specs.Header.{version_word, types_start, types_size};
 ghost use Rattle.seg_spec.specs.Sound.{HasHeader};

@@ -2,7 +2,7 @@ ghost use Rattle.std.specs.Prelude.{◌≡◌, ◌≢◌, ℕ, ◌+◌, ◌-◌,
 ghost use Rattle.seg_spec.specs.Heap.{heap_start};
 ghost use Rattle.seg_spec.specs.Sound.{times};
 ghost use Rattle.seg_block.specs.Tags.{word_of};
-ghost use Rattle.seg_bytes.specs.Bytes.{word};
+ghost use Rattle.seg_spec.specs.Bytes.{word};
 ghost use Rattle.seg_spec.specs.Header.{next_word};
 ghost use Rattle.seg_check.specs.Marks.{Known, nothing_known, slots_in, IsUnit, IsMarked, IsCounted, KeepsOthers, KeepsNames, Adds};
 ghost use Rattle.seg_check.specs.Claiming.{Refuses, AreLive, CanClaim, ClaimsBlock};

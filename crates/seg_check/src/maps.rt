@@ -1,5 +1,5 @@
 ghost use Rattle.std.specs.Prelude.{◌≡◌, ℕ, ◌-◌, ◌≤◌, ◌∷◌, []};
-ghost use Rattle.seg_bytes.specs.Bytes.{signed_long};
+ghost use Rattle.seg_spec.specs.Bytes.{signed_long};
 ghost use Rattle.seg_spec.specs.Types.{Form};
 ghost use Rattle.seg_cells.specs.Places.{object_at};
 ghost use Rattle.seg_check.specs.Resolving.{IsReady, Steps};
@@ -71,7 +71,7 @@ impl<A: Allocator> Image<'_, A> {
     }
 
     /// The key right before the value at a position.
-    #[tactic(auto, unfolding(seg_bytes::specs::Bytes::signed))]
+    #[tactic(auto, unfolding(seg_spec::specs::Bytes::signed))]
     fn key(&self, value: u32) -> i64
         ensures { KEY ≤ value → result ≡ signed_long self.now.w.now.bytes (value - KEY) }
     {

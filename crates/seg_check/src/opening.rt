@@ -1,5 +1,5 @@
 ghost use Rattle.std.specs.Prelude.{◌≡◌, IfErr, IfOk, OnErr, OnOk};
-ghost use Rattle.seg_bytes.specs.Bytes.{word};
+ghost use Rattle.seg_spec.specs.Bytes.{word};
 ghost use Rattle.seg_spec.specs.Header.{allocator_word};
 ghost use Rattle.seg_spec.specs.Images.{upgraded};
 ghost use Rattle.seg_spec.specs.Window.{with_bytes};

@@ -4,7 +4,7 @@
 --     rest_of entry                    the second word of an entry
 --     write_entry bytes at entry       the bytes with an entry at a position
 use Rattle.std.specs.Prelude.{ℕ, ◌+◌, ◌*◌, ◌^◌, List}
-use Rattle.seg_bytes.specs.Bytes.{byte, set_word}
+use Rattle.seg_spec.specs.Bytes.{byte, set_word}
 use Rattle.seg_spec.specs.Pointer.{target, set_pointer}
 use Rattle.seg_entry.specs.Names.{values_at, len_at}
 use Rattle.seg_entry.specs.declared.entry.NameEntry.{NameEntry}

@@ -5,7 +5,7 @@
 --     type_at bytes object             the type of a named object, from the tag of its block
 --     type_of bytes object             the same for the object of an entry, if it has one
 use Rattle.std.specs.Prelude.{ℕ, ◌+◌, ◌-◌, ◌*◌, ◌/◌, ◌%◌, ◌==◌, ◌&&◌, nat_le, nat_lt, if◌then◌else◌, List, [], Option, Some, None}
-use Rattle.seg_bytes.specs.Bytes.{half, byte, slice}
+use Rattle.seg_spec.specs.Bytes.{half, byte, slice}
 use Rattle.seg_spec.specs.Heap.{tag_at}
 use Rattle.seg_spec.specs.Pointer.{target}
 use Rattle.seg_spec.specs.Types.{Table, size}

@@ -1,7 +1,7 @@
 -- Growing an image.
 --     Lengthens allocator old new picture extra      the image has more bytes at its end, and the same picture
 use Rattle.std.specs.Prelude.{◌≡◌, ℕ, ◌+◌, ◌-◌, ◌/◌, ◌≤◌, List, length, replicate}
-use Rattle.seg_bytes.specs.Bytes.{slice}
+use Rattle.seg_spec.specs.Bytes.{slice}
 use Rattle.seg_spec.specs.Heap.{live, after_extend}
 use Rattle.seg_spec.specs.Block.{KeepsBlock}
 use Rattle.seg_spec.specs.Sound.{Picture, times, positions}

@@ -1,5 +1,5 @@
 ghost use Rattle.std.specs.Prelude.{◌≡◌, ◌↔◌, ℕ, [], length, IsOk, IfOk, IfErr, OnOk, OnErr, IsOkUnless};
-ghost use Rattle.seg_bytes.specs.Bytes.{word};
+ghost use Rattle.seg_spec.specs.Bytes.{word};
 ghost use Rattle.seg_spec.specs.Header.{version_word};
 ghost use Rattle.seg_spec.specs.Images.{IsSound};
 ghost use Rattle.seg_spec.specs.Sound.{Picture};
@@ -52,7 +52,7 @@ impl<A: Allocator> Image<A> {
     }
 
     /// The bytes of the image.
-    #[tactic(auto, unfolding(seg_bytes::specs::Bytes::slice))]
+    #[tactic(auto, unfolding(seg_spec::specs::Bytes::slice))]
     pub fn bytes(&self) -> &[u8]
         ensures { result.now ≡ (segment_of self.now).window.bytes }
     {

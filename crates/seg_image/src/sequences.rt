@@ -1,5 +1,5 @@
 ghost use Rattle.std.specs.Prelude.{◌≡◌, ◌≢◌, ℕ, ◌+◌, ◌-◌, ◌≤◌, false, true, List, [], ◌∷◌, ◌++◌, length, take, None, Some, Ok, Err, IsOk, IfOk, IsOkUnless, MatchResult, suc};
-ghost use Rattle.seg_bytes.specs.Bytes.{slice};
+ghost use Rattle.seg_spec.specs.Bytes.{slice};
 ghost use Rattle.seg_spec.specs.Calls.{Refuses};
 ghost use Rattle.seg_spec.specs.Demand.{block_for};
 ghost use Rattle.seg_spec.specs.Items.{without_last};

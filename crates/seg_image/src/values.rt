@@ -1,5 +1,5 @@
 ghost use Rattle.std.specs.Prelude.{◌≡◌, ◌≢◌, ℕ, ◌+◌, ◌≤◌, List, [], ◌∷◌, length, Some, Ok, Err, IsOk, OnOk};
-ghost use Rattle.seg_bytes.specs.Bytes.{signed_long, ChangesOnly};
+ghost use Rattle.seg_spec.specs.Bytes.{signed_long, ChangesOnly};
 ghost use Rattle.seg_spec.specs.Clearing.{BesideShared, ClearsPlace};
 ghost use Rattle.seg_spec.specs.Shared.{named_in};
 ghost use Rattle.seg_spec.specs.Types.{Form, form_at};

@@ -1,6 +1,6 @@
 -- Entries of the index as the code reads and writes them, compared to the definitions.
 use Rattle.std.proofs.Common.{◌≡◌, ◌≢◌, ℕ, ◌+◌, ◌-◌, ◌/◌, ◌%◌, ◌^◌, ◌<◌, ◌≤◌, inl, List, length, Some, refl, sym, ap, ◌∙◌, subst, arith, []}
-use Rattle.seg_bytes.specs.Bytes.{half, byte, slice, number, number_of, set_number, set_word, spelling, ChangesOnly}
+use Rattle.seg_spec.specs.Bytes.{half, byte, slice, number, number_of, set_number, set_word, spelling, ChangesOnly}
 use Rattle.seg_spec.specs.Index.{Root, IsName, IsEntry}
 use Rattle.seg_spec.specs.Pointer.{set_pointer, distance}
 use Rattle.seg_spec.specs.Value.{count}
@@ -10,7 +10,7 @@ use Rattle.seg_spec.specs.Heap.{live, tag_at}
 use Rattle.seg_spec.specs.Block.{Kind, tag_of, block_of, AllowsType, IsOwnable}
 use Rattle.seg_spec.proofs.Standing.{live_at}
 use Rattle.seg_spec.specs.Cells.{IsWithin}
-use Rattle.seg_bytes.proofs.BytesLaws.{number-set_other, number-slice, length-set_number}
+use Rattle.seg_spec.proofs.BytesLaws.{number-set_other, number-slice, length-set_number}
 use Rattle.seg_spec.proofs.SliceLaws.{slice-slice, slice-put_same}
 use Rattle.seg_spec.proofs.Writing.{set_number-changes}
 use Rattle.seg_spec.proofs.CellSteps.{ChangesOnly-trans, ChangesOnly-wider}

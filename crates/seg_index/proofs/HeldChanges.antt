@@ -3,7 +3,7 @@
 --     held_entered        an object apart from the image that is added to the index becomes one of the image's
 use Rattle.std.proofs.Common.{◌≡◌, ℕ, ◌+◌, ◌≤◌, List, [], ◌∷◌, ◌++◌, length, refl, sym, ap, ◌∙◌, subst, append_assoc, arith}
 use Rattle.std.specs.List.{AllByRecursion}
-use Rattle.seg_bytes.specs.Bytes.{word}
+use Rattle.seg_spec.specs.Bytes.{word}
 use Rattle.seg_spec.specs.Header.{allocator_word, index_kind_word, version_word, next_word, IsVersion, units_word, reserved, reserved_size, types_start, types_size, uniques_start, uniques_size, KeepsFront, KeepsBack}
 use Rattle.seg_spec.specs.Types.{Table, AreOfVersion}
 use Rattle.seg_spec.specs.Heap.{Span, IsHeap, live}

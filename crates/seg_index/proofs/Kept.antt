@@ -8,7 +8,7 @@ use Rattle.std.specs.List.{AllByRecursion}
 use Rattle.std.specs.Ordering.{nat_cmp, ordering_reverse}
 use Rattle.std.specs.Cmp.Lexicographic.{slice_cmp}
 use Rattle.std.specs.declared.cmp.Ordering.{Ordering}
-use Rattle.seg_bytes.specs.Bytes.{word, IsSame}
+use Rattle.seg_spec.specs.Bytes.{word, IsSame}
 use Rattle.seg_spec.specs.Header.{allocator_word, index_kind_word, back_start, back_size, index_cell, KeepsFront, KeepsBack}
 use Rattle.seg_spec.specs.Pointer.{target}
 use Rattle.seg_spec.specs.Types.{Table, size}

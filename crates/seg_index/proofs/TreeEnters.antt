@@ -8,7 +8,7 @@ use Rattle.std.specs.Cmp.Lexicographic.{slice_cmp, nat_list_cmp_total}
 use Rattle.std.specs.declared.cmp.Ordering.{Ordering}
 use Rattle.std.specs.declared.cmp.Ordering.TheVariants.{Less, Equal, Greater}
 use Rattle.std.proofs.lemmas.List.{length-append}
-use Rattle.seg_bytes.specs.Bytes.{word, set_word, IsSame, ChangesOnly}
+use Rattle.seg_spec.specs.Bytes.{word, set_word, IsSame, ChangesOnly}
 use Rattle.seg_spec.specs.Header.{index_kind_word, index_cell, heap_start, KeepsFront, KeepsBack}
 use Rattle.seg_spec.specs.Types.{Table}
 use Rattle.seg_spec.specs.Heap.{live, IsHeap}

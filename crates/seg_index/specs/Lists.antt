@@ -22,7 +22,7 @@ use Rattle.std.specs.Prelude.{◌≡◌, ℕ, ◌+◌, ◌*◌, ◌≤◌, ◌==
 use Rattle.std.specs.List.{AllByRecursion}
 use Rattle.std.specs.Ordering.{nat_cmp, ordering_reverse}
 use Rattle.std.specs.Cmp.Lexicographic.{slice_cmp}
-use Rattle.seg_bytes.specs.Bytes.{word, slice, IsSame}
+use Rattle.seg_spec.specs.Bytes.{word, slice, IsSame}
 use Rattle.seg_spec.specs.Header.{allocator_word, index_kind_word, back_start, index_cell, reserved, KeepsFront}
 use Rattle.seg_spec.specs.Types.{Table, IsTable, size}
 use Rattle.seg_spec.specs.Value.{count}

@@ -3,10 +3,10 @@
 use Rattle.std.proofs.Common.{◌≡◌, ℕ, ◌+◌, ◌-◌, ◌*◌, ◌%◌, ◌^◌, ◌≤◌, List, [], ◌∷◌, Option, Some, None, refl, ap, ◌∙◌, arith}
 use Rattle.std.specs.Prelude.{◌==◌, nat_le, if◌then◌else◌}
 use Rattle.std.specs.List.{AllByRecursion}
-use Rattle.seg_bytes.specs.Bytes.{IsSame}
+use Rattle.seg_spec.specs.Bytes.{IsSame}
 use Rattle.seg_spec.specs.Pointer.{target}
 use Rattle.seg_spec.specs.Types.{Table, size}
-use Rattle.seg_bytes.proofs.BytesLaws.{number-slice}
+use Rattle.seg_spec.proofs.BytesLaws.{number-slice}
 use Rattle.seg_spec.proofs.SliceLaws.{IsSame-part}
 use Rattle.seg_rbtree.specs.Parts.{Part, part}
 use Rattle.seg_entry.specs.Names.{named_type, type_at, values_at, len_at}

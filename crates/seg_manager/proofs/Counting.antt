@@ -1,7 +1,7 @@
 -- The names and unique objects that an image counts.
 use Rattle.std.proofs.Common.{◌≡◌, ℕ, zero, suc, ◌+◌, List, [], ◌∷◌, length, refl, sym, ap, ◌∙◌, arith}
 use Rattle.std.proofs.lemmas.List.{length-map}
-use Rattle.seg_bytes.specs.Bytes.{word}
+use Rattle.seg_spec.specs.Bytes.{word}
 use Rattle.seg_spec.specs.Header.{index_kind_word, index_cell}
 use Rattle.seg_spec.specs.Shapes.{nodes_of, tree_words}
 use Rattle.seg_spec.specs.Reads.{count_at, start}

@@ -3,7 +3,7 @@ use Rattle.std.proofs.Common.{◌≡◌, ◌≢◌, ℕ, ◌+◌, ◌*◌, ◌<�
 use Rattle.std.proofs.lemmas.Bool.{cases_eq}
 use Rattle.std.specs.List.{AllByRecursion}
 use Rattle.std.specs.Prelude.{Contains}
-use Rattle.seg_bytes.specs.Bytes.{word, slice, IsSame}
+use Rattle.seg_spec.specs.Bytes.{word, slice, IsSame}
 use Rattle.seg_spec.specs.Header.{allocator_word, next_word, index_kind_word, index_cell, free_word, back_start, back_size, KeepsFront, KeepsBack}
 use Rattle.seg_spec.specs.Types.{size}
 use Rattle.seg_spec.specs.Value.{count, default_of}

@@ -2,13 +2,13 @@
 use Rattle.std.proofs.Common.{◌≡◌, ℕ, zero, suc, ◌+◌, ◌-◌, ◌*◌, ◌%◌, ◌^◌, ◌<◌, ◌≤◌, ◌⊎◌, inl, inr, min, MatchOption, List, [], ◌∷◌, length, Option, Some, None, refl, sym, ap, ◌∙◌, subst, arith}
 use Rattle.std.proofs.Math.Nat.{mul-le-mul_left, mul-le-mul_right}
 use Rattle.std.proofs.lemmas.Bool.{cases_lt}
-use Rattle.seg_bytes.specs.Bytes.{ChangesOnly, set_word, put, slice}
+use Rattle.seg_spec.specs.Bytes.{ChangesOnly, set_word, put, slice}
 use Rattle.seg_spec.specs.Heap.{Span, IsHeap, live, link_at, after_take, Takes}
 use Rattle.seg_spec.specs.Block.{Kind, tag_of, block_of, IsBlock}
 use Rattle.seg_spec.specs.Demand.{need, block_for}
 use Rattle.seg_spec.specs.Calls.{Refuses}
 use Rattle.seg_spec.specs.Sound.{kind_with, HoldsRoot}
-use Rattle.seg_bytes.proofs.BytesLaws.{length-set_number, length-put}
+use Rattle.seg_spec.proofs.BytesLaws.{length-set_number, length-put}
 use Rattle.seg_spec.proofs.SliceLaws.{put-changes, slice-put_same}
 use Rattle.seg_spec.proofs.NewBlock.{block_fits, was_free, new_heap, all_kept, is_block, new_length, new_front, new_back, new_link, taken_units}
 use Rattle.seg_value.proofs.NewBlocks.{now_live, asks_granted}

@@ -3,7 +3,7 @@ use Rattle.std.proofs.Common.{◌≡◌, ℕ, zero, suc, ◌+◌, ◌-◌, ◌*�
 use Rattle.std.specs.Prelude.{flat_map}
 use Rattle.std.specs.List.{AllByRecursion}
 use Rattle.std.proofs.lemmas.List.{append_assoc, append-nil, length-append, length-drop, same_lists, places, replicate-append-replicate}
-use Rattle.seg_bytes.specs.Bytes.{slice, put, ChangesOnly}
+use Rattle.seg_spec.specs.Bytes.{slice, put, ChangesOnly}
 use Rattle.seg_spec.specs.Header.{types_start, types_size}
 use Rattle.seg_spec.specs.Types.{Form, Table, IsTable, HasTable, form_at, form_bytes, option_bytes, entry_at, padded}
 use Rattle.seg_spec.proofs.CellSteps.{ChangesOnly-trans, ChangesOnly-wider, ChangesOnly-none}

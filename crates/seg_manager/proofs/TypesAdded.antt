@@ -3,7 +3,7 @@ use Rattle.std.proofs.Common.{◌≡◌, ℕ, ◌+◌, ◌-◌, ◌<◌, ◌≤�
 use Rattle.std.proofs.lemmas.Bool.{cases_lt}
 use Rattle.std.proofs.lemmas.Bool.Decides.{nat_tests}
 use Rattle.std.proofs.lemmas.List.{take-append-drop, take_all}
-use Rattle.seg_bytes.specs.Bytes.{word, IsSame, ChangesOnly}
+use Rattle.seg_spec.specs.Bytes.{word, IsSame, ChangesOnly}
 use Rattle.seg_spec.specs.Header.{version_word, allocator_word, next_word, types_start, types_size, uniques_start, heap_start}
 use Rattle.seg_spec.specs.Types.{AreOfVersion, Table, IsTable, HasTable, Agree, longer}
 use Rattle.seg_spec.specs.Sound.{Picture, IsHeld}

@@ -1,7 +1,7 @@
 -- A unique object of a segment is made, found or destroyed.
 use Rattle.std.proofs.Common.{◌≡◌, ◌≢◌, ℕ, ◌+◌, ◌*◌, ◌<◌, ◌≤◌, ◌^◌, List, [], ◌∷◌, ◌++◌, length, Option, Some, None, option_map, refl, sym, ap, ◌∙◌, subst, append_assoc, arith}
 use Rattle.std.specs.List.{AllByRecursion}
-use Rattle.seg_bytes.specs.Bytes.{word, ChangesOnly}
+use Rattle.seg_spec.specs.Bytes.{word, ChangesOnly}
 use Rattle.seg_spec.specs.Header.{allocator_word, next_word, free_word, heap_start}
 use Rattle.seg_spec.specs.Pointer.{target, set_pointer}
 use Rattle.seg_spec.specs.Types.{IsTable}

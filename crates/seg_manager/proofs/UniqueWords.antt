@@ -4,7 +4,7 @@ use Rattle.std.proofs.Common.{◌≡◌, ◌≢◌, ℕ, ◌+◌, ◌<◌, ◌�
 use Rattle.std.proofs.lemmas.Bool.{cases_lt}
 use Rattle.std.proofs.lemmas.List.{append_assoc}
 use Rattle.std.specs.List.{AllByRecursion}
-use Rattle.seg_bytes.specs.Bytes.{word, IsSame, ChangesOnly}
+use Rattle.seg_spec.specs.Bytes.{word, IsSame, ChangesOnly}
 use Rattle.seg_spec.specs.Header.{version_word, allocator_word, index_kind_word, next_word, index_cell, types_start, types_size, uniques_start, heap_start}
 use Rattle.seg_spec.specs.Pointer.{target, set_pointer, distance}
 use Rattle.seg_spec.specs.Types.{Table, AreOfVersion}

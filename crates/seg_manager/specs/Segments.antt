@@ -13,7 +13,7 @@
 --     AddsTypes                           the table was replaced by a longer one
 --     unique_at picture T                 the position of the unique object of a type
 use Rattle.std.specs.Prelude.{◌≡◌, ℕ, ◌+◌, ◌≤◌, List, [], ◌∷◌, ◌++◌, length, ◌⊎◌, Option, Some, None, IsSome, option_map}
-use Rattle.seg_bytes.specs.Bytes.{word, ChangesOnly}
+use Rattle.seg_spec.specs.Bytes.{word, ChangesOnly}
 use Rattle.seg_spec.specs.Header.{allocator_word, next_word, types_start, types_size, KeepsFront}
 use Rattle.seg_spec.specs.Types.{Table, size, longer}
 use Rattle.seg_spec.specs.Value.{copies, default_of}

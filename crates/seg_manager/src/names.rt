@@ -1,5 +1,5 @@
 ghost use Rattle.std.specs.Prelude.{◌≡◌, ◌+◌, ◌*◌, ◌%◌, ◌^◌, ◌<◌, ◌≤◌, false, [], ◌++◌, length, None, Some, Err, IfOk, IfSome, IfNone, MatchResult, IsOkUnless, is_ok, ℕ, List, IsTrue};
-ghost use Rattle.seg_bytes.specs.Bytes.{ChangesOnly};
+ghost use Rattle.seg_spec.specs.Bytes.{ChangesOnly};
 ghost use Rattle.seg_spec.specs.Calls.{Refuses};
 ghost use Rattle.seg_spec.specs.Clearing.{BesideShared};
 ghost use Rattle.seg_spec.specs.Destroying.{Destroys};

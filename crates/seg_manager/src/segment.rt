@@ -1,5 +1,5 @@
 ghost use Rattle.std.specs.Prelude.{◌≡◌, ℕ, ◌+◌, ◌≤◌, ◌↔◌, length, IsOk, IfErr, OnOk, OnErr};
-ghost use Rattle.seg_bytes.specs.Bytes.{word, ChangesOnly};
+ghost use Rattle.seg_spec.specs.Bytes.{word, ChangesOnly};
 ghost use Rattle.seg_spec.specs.Header.{version_word, types_start, types_size};
 ghost use Rattle.seg_spec.specs.Sound.{Picture};
 ghost use Rattle.seg_spec.specs.Types.{AreOfVersion, IsTable, HasTable, Agree, IsFirstDifference, longer};

@@ -1,7 +1,7 @@
 -- A map's cell counts its keys.
 use Rattle.std.proofs.Common.{◌≡◌, ℕ, ◌+◌, List, ℤ, length, map, Option, Some, refl, ap, ◌∙◌}
 use Rattle.std.proofs.lemmas.List.{length-map}
-use Rattle.seg_bytes.specs.Bytes.{signed_long}
+use Rattle.seg_spec.specs.Bytes.{signed_long}
 use Rattle.seg_spec.specs.Types.{Form, Table, form_at}
 use Rattle.seg_spec.specs.Value.{Values, Map}
 use Rattle.seg_spec.specs.Reads.{Place, count_at}

@@ -3,7 +3,7 @@ use Rattle.std.proofs.Common.{◌≡◌, ◌≢◌, ℕ, zero, suc, ◌+◌, ◌
 use Rattle.std.specs.Prelude.{insert, remove, int_lt, unwrap_or, slice_get}
 use Rattle.std.proofs.Math.Nat.{zero-mul, mul-le-mul_right}
 use Rattle.std.proofs.lemmas.List.Sums.{count_by-le-length}
-use Rattle.seg_bytes.specs.Bytes.{signed, signed_long, ChangesOnly, IsSame}
+use Rattle.seg_spec.specs.Bytes.{signed, signed_long, ChangesOnly, IsSame}
 use Rattle.seg_spec.specs.Types.{Form, Table, form_at, size}
 use Rattle.seg_spec.specs.Value.{Value, Values, nil, cons, Map, IsAscending, Selector, nth, change_nth, default_of, with_value_at}
 use Rattle.seg_spec.specs.Heap.{live}
@@ -22,7 +22,7 @@ use Rattle.seg_spec.specs.Owning.{Stands}
 use Rattle.seg_spec.specs.Demand.{Ask}
 use Rattle.seg_spec.specs.Spending.{PlaceBlocks}
 use Rattle.seg_spec.specs.Growing.{Succeeds}
-use Rattle.seg_bytes.proofs.BytesLaws.{number-slice}
+use Rattle.seg_spec.proofs.BytesLaws.{number-slice}
 use Rattle.seg_spec.proofs.Frame.{cell-target, cell-count}
 use Rattle.seg_spec.proofs.SliceLaws.{IsSame-part}
 use Rattle.seg_spec.proofs.TypesLaws.{size_large}

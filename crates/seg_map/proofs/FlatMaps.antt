@@ -9,7 +9,7 @@ use Rattle.std.specs.Ordering.{int_cmp}
 use Rattle.std.specs.Cmp.{int_ranked}
 use Rattle.std.specs.declared.cmp.Ordering.{Ordering}
 use Rattle.std.specs.declared.cmp.Ordering.TheVariants.{Less, Equal, Greater}
-use Rattle.seg_bytes.specs.Bytes.{signed_long}
+use Rattle.seg_spec.specs.Bytes.{signed_long}
 use Rattle.seg_spec.specs.Pointer.{target}
 use Rattle.seg_spec.specs.Types.{Form, Table, form_at, size}
 use Rattle.seg_spec.specs.Value.{index_of, Label, Values, Map, IsAscending, Selector}

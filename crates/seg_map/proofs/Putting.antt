@@ -4,7 +4,7 @@ use Rattle.std.specs.Prelude.{slice_get}
 use Rattle.std.specs.List.{AllByRecursion}
 use Rattle.std.specs.Ordering.{int_cmp, ordering_reverse}
 use Rattle.std.specs.declared.cmp.Ordering.TheVariants.{Equal}
-use Rattle.seg_bytes.specs.Bytes.{set_word, signed_long, ChangesOnly}
+use Rattle.seg_spec.specs.Bytes.{set_word, signed_long, ChangesOnly}
 use Rattle.seg_spec.specs.Types.{Form, Table, form_at, size}
 use Rattle.seg_spec.specs.Value.{Values, Map, Selector}
 use Rattle.seg_spec.specs.Heap.{live, heap_start}

@@ -2,7 +2,7 @@
 -- is kept.
 use Rattle.std.proofs.Common.{◌≡◌, ◌≢◌, ℕ, ◌+◌, ◌-◌, ◌*◌, ◌^◌, ◌<◌, ◌≤◌, ◌⊎◌, inl, inr, List, [], ◌∷◌, length, map, sym, ap, ◌∙◌, subst, arith}
 use Rattle.std.specs.List.{AllByRecursion}
-use Rattle.seg_bytes.specs.Bytes.{set_word, IsSame, ChangesOnly}
+use Rattle.seg_spec.specs.Bytes.{set_word, IsSame, ChangesOnly}
 use Rattle.seg_spec.specs.Pointer.{target}
 use Rattle.seg_spec.specs.Types.{Table}
 use Rattle.seg_spec.specs.Heap.{units_at, link_at, live, IsHeap, heap_start}
@@ -11,7 +11,7 @@ use Rattle.seg_spec.specs.Apart.{Separate, BlocksApart, KeepsBlockAround}
 use Rattle.seg_spec.specs.Shapes.{Tree, nodes_of, IsTree, IsRedBlack}
 use Rattle.seg_spec.specs.Reads.{count_at}
 use Rattle.seg_spec.specs.Sound.{times, positions}
-use Rattle.seg_bytes.proofs.BytesLaws.{number-set_same}
+use Rattle.seg_spec.proofs.BytesLaws.{number-set_same}
 use Rattle.seg_spec.proofs.SliceLaws.{IsSame-trans}
 use Rattle.seg_spec.proofs.Writing.{set_number-changes}
 use Rattle.seg_spec.proofs.Frame.{each_map, each_of_map, each_weaker, each_both, word-same, target-same, IsTree-same}

@@ -5,7 +5,7 @@ use Rattle.std.proofs.lemmas.List.{length-append}
 use Rattle.std.specs.Prelude.{remove, slice_get, Contains}
 use Rattle.std.specs.List.{AllByRecursion}
 use Rattle.std.specs.Ordering.{int_cmp}
-use Rattle.seg_bytes.specs.Bytes.{word, set_word, signed_long, IsSame}
+use Rattle.seg_spec.specs.Bytes.{word, set_word, signed_long, IsSame}
 use Rattle.seg_spec.specs.Types.{Form, Table, form_at, size}
 use Rattle.seg_spec.specs.Value.{Selector, Value, Values, nth, count, append, cons, Map, IsAscending, default_of}
 use Rattle.seg_spec.specs.Heap.{Span, units_at, live, heap_start, IsHeap, IsLive, Gives}

@@ -1,7 +1,7 @@
 -- What writes inside the payloads of several allocated blocks keep, if nothing else was written.
 use Rattle.std.proofs.Common.{◌≡◌, ◌≢◌, ℕ, ◌+◌, ◌*◌, ◌≤◌, inl, List, length, arith}
 use Rattle.std.specs.List.{AllByRecursion}
-use Rattle.seg_bytes.specs.Bytes.{IsSame}
+use Rattle.seg_spec.specs.Bytes.{IsSame}
 use Rattle.seg_spec.specs.Types.{Table}
 use Rattle.seg_spec.specs.Heap.{units_at, link_at, live, IsHeap, heap_start}
 use Rattle.seg_spec.specs.Block.{KeepsHeader, KeepsBlock, IsOwnable}

@@ -5,7 +5,7 @@ use Rattle.std.proofs.lemmas.List.{length-map}
 use Rattle.std.specs.List.{AllByRecursion}
 use Rattle.std.specs.Ordering.{int_cmp, is_eq}
 use Rattle.std.specs.declared.cmp.Ordering.TheVariants.{Greater}
-use Rattle.seg_bytes.specs.Bytes.{signed_long}
+use Rattle.seg_spec.specs.Bytes.{signed_long}
 use Rattle.seg_spec.specs.Types.{Form, Table, form_at, size}
 use Rattle.seg_spec.specs.Value.{Label, Value, Values, Map, Selector, IsAscending}
 use Rattle.seg_spec.specs.Heap.{Span, live, heap_start, units_at}

@@ -5,10 +5,10 @@ ghost use Rattle.std.specs.Ordering.{int_cmp};
 ghost use Rattle.std.specs.Cmp.{on_total, int_cmp_total};
 ghost use Rattle.std.proofs.Common.{arith, inl, inr, ⊎_elim};
 ghost use Rattle.std.proofs.lemmas.Bool.{cases_lt};
-ghost use Rattle.seg_bytes.specs.Bytes.{signed, signed_long};
+ghost use Rattle.seg_spec.specs.Bytes.{signed, signed_long};
 ghost use Rattle.seg_spec.specs.Window.{KeepsHost};
 ghost use Rattle.seg_spec.specs.Shrinking.{KeepsPathsInside};
-ghost use Rattle.seg_bytes.proofs.BytesLaws.{number-slice};
+ghost use Rattle.seg_spec.proofs.BytesLaws.{number-slice};
 ghost use Rattle.seg_spec.proofs.OrderSteps.{steps_up};
 ghost use Rattle.seg_spec.specs.Owning.{Stands};
 ghost use Rattle.seg_spec.specs.Types.{Form, form_at, size};
@@ -71,7 +71,7 @@ fn key_place(node: u32) -> u32
     node.wrapping_add(TREE_WORDS)
 }
 
-#[tactic(auto, unfolding(seg_bytes::specs::Bytes::signed))]
+#[tactic(auto, unfolding(seg_spec::specs::Bytes::signed))]
 fn key_of(view: View, node: u32) -> i64
     ensures { result ≡ signed_long view.entry.bytes.now ((node + 16) % 2 ^ 32) }
 {

@@ -2,9 +2,9 @@
 use Rattle.std.proofs.Common.{◌≡◌, ℕ, ◌+◌, ◌≤◌, List, ◌++◌, length, take, drop, refl, sym, ap, ◌∙◌, arith}
 use Rattle.std.proofs.lemmas.List.{append_assoc, length-append, length-take-le, drop-drop, take_at, drop_at}
 use Rattle.std.specs.List.{length_refill}
-use Rattle.seg_bytes.specs.Bytes.{put}
+use Rattle.seg_spec.specs.Bytes.{put}
 use Rattle.seg_spec.specs.Window.{Placement, region_of, with_bytes}
-use Rattle.seg_bytes.proofs.BytesLaws.{put_in, length-put, take-put, drop-put, part-put_same}
+use Rattle.seg_spec.proofs.BytesLaws.{put_in, length-put, take-put, drop-put, part-put_same}
 use Rattle.seg_raw.specs.Lending.{lent}
 use Rattle.seg_ptr.specs.Lent.{view_of, lent_to}
 use Rattle.seg_ptr.proofs.Places.{region_of_view, length_bytes}

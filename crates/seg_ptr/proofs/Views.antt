@@ -1,8 +1,8 @@
 -- Numbers that are read from a part of the bytes.
 use Rattle.std.proofs.Common.{◌≡◌, ℕ, ◌+◌, ◌*◌, ◌<◌, ◌≤◌, ◌⊎◌, inl, inr, List, [], ◌∷◌, length, get_or, sym, ap, ◌∙◌, arith}
 use Rattle.std.proofs.lemmas.Bool.{cases_lt}
-use Rattle.seg_bytes.specs.Bytes.{slice, number_of, number, byte, half, word, long}
-use Rattle.seg_bytes.proofs.BytesLaws.{length-slice, number_past}
+use Rattle.seg_spec.specs.Bytes.{slice, number_of, number, byte, half, word, long}
+use Rattle.seg_spec.proofs.BytesLaws.{length-slice, number_past}
 
 -- the n bytes from a position on, or none if they aren't all there
 pub record IsPart (bytes : List ℕ) (at n : ℕ) (part : List ℕ) : Type 0 where

@@ -1,6 +1,6 @@
 //! The positions of the fields of an image's header, in bytes, and what all headers have in common.
 ghost use Rattle.std.specs.Prelude.{◌≡◌, ◌↔◌, IsTrue, codes, replicate};
-ghost use Rattle.seg_bytes.specs.Bytes.{slice, put, word, set_word};
+ghost use Rattle.seg_spec.specs.Bytes.{slice, put, word, set_word};
 ghost use Rattle.seg_spec.specs.Header.{IsVersion};
 ghost use Rattle.seg_spec.specs.Images.{upgraded};
 ghost use Rattle.seg_spec.specs.Window.{with_bytes};

@@ -1,5 +1,5 @@
 ghost use Rattle.std.specs.Prelude.{◌≡◌, ◌+◌, ◌<◌, ◌≤◌, ◌↔◌, [], length, IsTrue};
-ghost use Rattle.seg_bytes.specs.Bytes.{slice, byte, half, word, long};
+ghost use Rattle.seg_spec.specs.Bytes.{slice, byte, half, word, long};
 ghost use Rattle.seg_spec.specs.Pointer.{target};
 ghost use Rattle.seg_ptr.specs.declared.window.TheConstants.{MAX_LEN};
 

@@ -2,7 +2,7 @@
 // The slice's address and length stay in registers. A window behind a reference is loaded again after each write.
 
 ghost use Rattle.std.specs.Prelude.{◌≡◌, ◌+◌, ◌≤◌, length};
-ghost use Rattle.seg_bytes.specs.Bytes.{set_word};
+ghost use Rattle.seg_spec.specs.Bytes.{set_word};
 ghost use Rattle.seg_spec.specs.Pointer.{set_pointer};
 
 use crate::pointer::distance;

@@ -1,5 +1,5 @@
 ghost use Rattle.std.specs.Prelude.{◌≡◌, ℕ, ◌+◌, ◌-◌, ◌*◌, ◌^◌, ◌<◌, ◌≤◌, ◌==◌, List, ◌++◌, length, replicate, IfOk, IsOkUnless, vec_len};
-ghost use Rattle.seg_bytes.specs.Bytes.{slice, put, byte, word, long, set_byte, set_word, set_long};
+ghost use Rattle.seg_spec.specs.Bytes.{slice, put, byte, word, long, set_byte, set_word, set_long};
 
 use crate::fault::Fault;
 use std::alloc::Allocator;

@@ -1,11 +1,11 @@
 -- What a write of a word keeps.
 use Rattle.std.proofs.Common.{◌≡◌, ◌≢◌, ℕ, ◌+◌, ◌≤◌, ◌⊎◌, inl, inr, List, [], ◌∷◌, ◌++◌, length, Option, Some, None, refl, sym, ◌∙◌, subst, arith}
 use Rattle.std.specs.List.{AllByRecursion}
-use Rattle.seg_bytes.specs.Bytes.{spelling, set_number, set_word, IsSame}
+use Rattle.seg_spec.specs.Bytes.{spelling, set_number, set_word, IsSame}
 use Rattle.seg_spec.specs.Pointer.{target, distance, set_pointer}
 use Rattle.seg_spec.specs.Apart.{Separate}
 use Rattle.seg_spec.specs.Shapes.{Colour, Tree, leaf, fork, nodes_of, HasColour, IsTree}
-use Rattle.seg_bytes.proofs.BytesLaws.{length-spelling, length-set_number}
+use Rattle.seg_spec.proofs.BytesLaws.{length-spelling, length-set_number}
 use Rattle.seg_spec.proofs.SliceLaws.{slice-put_other}
 use Rattle.seg_spec.proofs.PointerLaws.{target-set_same}
 use Rattle.seg_spec.proofs.Frame.{each_both, word-same, target-same, IsTree-same}

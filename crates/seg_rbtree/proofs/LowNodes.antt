@@ -1,7 +1,7 @@
 -- The nodes of a tree in a segment are low: their positions leave the highest bit of a word.
 use Rattle.std.proofs.Common.{◌≡◌, ℕ, ◌+◌, ◌^◌, ◌<◌, ◌≤◌, ◌⊎◌, inl, inr, List, length, Some, subst, ap, arith}
 use Rattle.std.proofs.lemmas.Bool.{cases_lt}
-use Rattle.seg_bytes.proofs.BytesLaws.{number_past}
+use Rattle.seg_spec.proofs.BytesLaws.{number_past}
 use Rattle.seg_spec.specs.Pointer.{target}
 use Rattle.seg_spec.specs.Shapes.{Colour, Tree, leaf, fork, IsTree}
 use Rattle.seg_spec.proofs.PointerLaws.{target-small}

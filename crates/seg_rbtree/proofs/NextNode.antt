@@ -5,7 +5,7 @@ use Rattle.std.proofs.lemmas.List.{length-append}
 use Rattle.seg_spec.specs.Pointer.{target, distance, set_pointer}
 use Rattle.seg_spec.specs.Apart.{Separate}
 use Rattle.seg_spec.specs.Shapes.{Colour, Tree, leaf, fork, nodes_of, HasColour, IsTree, IsRedBlack}
-use Rattle.seg_bytes.proofs.BytesLaws.{length-set_number}
+use Rattle.seg_spec.proofs.BytesLaws.{length-set_number}
 use Rattle.seg_rbtree.specs.declared.node.Side.TheVariants.{Left, Right}
 use Rattle.seg_rbtree.specs.declared.node.Colour.{Colour as Paint}
 use Rattle.seg_rbtree.specs.declared.node.Colour.TheVariants.{Black, Red}

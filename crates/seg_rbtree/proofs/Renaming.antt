@@ -4,11 +4,11 @@ use Rattle.std.proofs.lemmas.Bool.Decides.{nat_tests}
 use Rattle.std.proofs.lemmas.List.{length-append}
 use Rattle.std.specs.declared.cmp.Ordering.{Ordering}
 use Rattle.seg_spec.specs.Apart.{Separate}
-use Rattle.seg_bytes.specs.Bytes.{word, set_word}
+use Rattle.seg_spec.specs.Bytes.{word, set_word}
 use Rattle.seg_spec.specs.Pointer.{target, distance, set_pointer}
 use Rattle.seg_spec.specs.Search.{IsSearchTree}
 use Rattle.seg_spec.specs.Shapes.{Colour, black, red, colour_word, Tree, fork, nodes_of, HasColour, IsTree, IsRedBlack}
-use Rattle.seg_bytes.proofs.BytesLaws.{length-set_number, number-set_same, number-set_other}
+use Rattle.seg_spec.proofs.BytesLaws.{length-set_number, number-set_same, number-set_other}
 use Rattle.seg_rbtree.specs.declared.node.Side.TheVariants.{Left, Right}
 use Rattle.seg_rbtree.specs.declared.path.Path.{Path}
 use Rattle.seg_rbtree.specs.Nodes.{shade, colour_at, colour_number, with_child, with_colour}

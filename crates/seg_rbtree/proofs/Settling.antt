@@ -1,6 +1,6 @@
 -- One step of the repair of a red node below a red node.
 use Rattle.std.proofs.Common.{◌≡◌, ℕ, suc, ◌+◌, inr, cond, eqb, List, [], ◌∷◌, ◌++◌, length, Some, None, refl, sym, ap, ◌∙◌, subst, length-append, arith}
-use Rattle.seg_bytes.specs.Bytes.{word}
+use Rattle.seg_spec.specs.Bytes.{word}
 use Rattle.seg_spec.specs.Pointer.{target}
 use Rattle.seg_spec.specs.Shapes
 use Rattle.seg_spec.specs.Shapes.{black, red, Tree, leaf, fork, nodes_of, HasColour, IsTree, IsBlack, IsBalanced, IsRedBlack}

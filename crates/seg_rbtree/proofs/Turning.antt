@@ -1,10 +1,10 @@
 -- Changes at a place, and what they mean for the whole tree.
 use Rattle.std.proofs.Common.{◌≡◌, ℕ, ◌+◌, ◌≤◌, ◌<◌, ◌^◌, List, [], ◌∷◌, ◌++◌, length, Option, Some, None, refl, sym, ◌∙◌, subst, inl, inr, arith}
-use Rattle.seg_bytes.specs.Bytes.{word, set_word}
+use Rattle.seg_spec.specs.Bytes.{word, set_word}
 use Rattle.seg_spec.specs.Pointer.{target, distance, set_pointer}
 use Rattle.seg_spec.specs.Apart.{Separate}
 use Rattle.seg_spec.specs.Shapes.{Colour, red, colour_word, Tree, leaf, fork, nodes_of, HasColour, IsTree}
-use Rattle.seg_bytes.proofs.BytesLaws.{length-set_number, number-set_same, number-set_other}
+use Rattle.seg_spec.proofs.BytesLaws.{length-set_number, number-set_same, number-set_other}
 use Rattle.seg_spec.proofs.PointerLaws.{target-set_same}
 use Rattle.seg_rbtree.specs.declared.node.Side.{Side}
 use Rattle.seg_rbtree.specs.declared.node.Side.TheVariants.{Left, Right}

@@ -9,7 +9,7 @@
 --     straightened bytes word grandparent way parent turn      the bytes after two red nodes in a row below a black one
 --                                           were repaired
 use Rattle.std.specs.Prelude.{ℕ, Bool, true, false, ◌+◌, ◌==◌, if◌then◌else◌, List, Option, None, Some}
-use Rattle.seg_bytes.specs.Bytes.{word, set_word}
+use Rattle.seg_spec.specs.Bytes.{word, set_word}
 use Rattle.seg_spec.specs.Pointer.{target, set_pointer}
 use Rattle.seg_spec.specs.Shapes
 use Rattle.seg_spec.specs.Shapes.{black, red}

@@ -4,7 +4,7 @@ ghost use Rattle.std.specs.Cmp.{IsTotalOrder};
 ghost use Rattle.std.specs.declared.cmp.Ordering.{Ordering};
 ghost use Rattle.std.specs.declared.cmp.Ordering.TheVariants.{Less, Equal};
 ghost use Rattle.seg_spec.specs.Apart.{Separate};
-ghost use Rattle.seg_bytes.specs.Bytes.{IsSame};
+ghost use Rattle.seg_spec.specs.Bytes.{IsSame};
 ghost use Rattle.seg_spec.specs.Search.{rank_of};
 ghost use Rattle.seg_rbtree.specs.Parts.{Part};
 ghost use Rattle.seg_rbtree.specs.Paths.{sought_by};

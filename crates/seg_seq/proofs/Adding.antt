@@ -3,7 +3,7 @@ use Rattle.std.proofs.Common.{◌≡◌, ◌≢◌, ℕ, ◌+◌, ◌*◌, ◌%�
 use Rattle.std.specs.List.{AllByRecursion}
 use Rattle.std.proofs.lemmas.Bool.{cases_eq}
 use Rattle.seg_spec.specs.Header.{free_word, back_start, back_size}
-use Rattle.seg_bytes.specs.Bytes.{IsSame}
+use Rattle.seg_spec.specs.Bytes.{IsSame}
 use Rattle.seg_spec.specs.Types.{Form, Table, form_at, size}
 use Rattle.seg_spec.specs.Value.{Values, nil, cons, count, append, default_of, Seq}
 use Rattle.seg_spec.specs.Heap.{live, IsHeap, units_at}

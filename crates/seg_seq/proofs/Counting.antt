@@ -1,13 +1,13 @@
 -- The count in a cell is written, and bytes of the buffer that the cell points to.
 use Rattle.std.proofs.Common.{◌≡◌, ◌≢◌, ℕ, ◌+◌, ◌-◌, ◌*◌, ◌^◌, ◌<◌, ◌≤◌, ◌⊎◌, inl, inr, List, length, Some, refl, ap, ◌∙◌, subst, arith}
-use Rattle.seg_bytes.specs.Bytes.{set_word, IsSame, ChangesOnly}
+use Rattle.seg_spec.specs.Bytes.{set_word, IsSame, ChangesOnly}
 use Rattle.seg_spec.specs.Pointer.{target}
 use Rattle.seg_spec.specs.Types.{Table, IsTable, size}
 use Rattle.seg_spec.specs.Heap.{Span, live, heap_start}
 use Rattle.seg_spec.specs.Block.{IsInside, KeepsBlock, payload_size}
 use Rattle.seg_spec.specs.Reads.{Place, count_at}
 use Rattle.seg_spec.specs.Sound.{times, positions}
-use Rattle.seg_bytes.proofs.BytesLaws.{number-set_same}
+use Rattle.seg_spec.proofs.BytesLaws.{number-set_same}
 use Rattle.seg_spec.proofs.SliceLaws.{IsSame-part}
 use Rattle.seg_spec.proofs.TypesLaws.{size_large}
 use Rattle.seg_spec.proofs.Frame.{target-same, cell-target, cell-count}

@@ -1,11 +1,11 @@
 -- The positions of a string's bytes and of a vector's items.
 use Rattle.std.proofs.Common.{◌≡◌, ℕ, ◌+◌, ◌*◌, ◌%◌, ◌^◌, ◌<◌, ◌≤◌, List, length, take, get_or, Option, Some, None, refl, sym, ap, ◌∙◌, arith, drop-cons}
-use Rattle.seg_bytes.specs.Bytes.{byte, slice, spelled}
+use Rattle.seg_spec.specs.Bytes.{byte, slice, spelled}
 use Rattle.seg_spec.specs.Pointer.{target}
 use Rattle.seg_spec.specs.Types.{Form, size}
 use Rattle.seg_spec.specs.Value.{Values, Seq, Text}
 use Rattle.seg_spec.specs.Reads.{Place, count_at, start}
-use Rattle.seg_bytes.proofs.BytesLaws.{number_in, number-slice}
+use Rattle.seg_spec.proofs.BytesLaws.{number_in, number-slice}
 use Rattle.seg_spec.proofs.SliceLaws.{slice-slice}
 use Rattle.seg_value.specs.Stored.{Stored}
 use Rattle.seg_cells.specs.Places.{object_at}

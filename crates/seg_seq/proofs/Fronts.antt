@@ -2,7 +2,7 @@
 use Rattle.std.proofs.Common.{◌≡◌, ℕ, zero, suc, ◌+◌, ◌-◌, ◌%◌, ◌^◌, ◌<◌, ◌≤◌, inr, List, [], ◌∷◌, ◌++◌, length, map, get_or, Option, Some, None, refl, sym, ap, ◌∙◌, subst, arith, length-append}
 use Rattle.std.specs.Prelude.{slice_get}
 use Rattle.std.specs.List.{AllByRecursion}
-use Rattle.seg_bytes.specs.Bytes.{ChangesOnly, IsSame}
+use Rattle.seg_spec.specs.Bytes.{ChangesOnly, IsSame}
 use Rattle.seg_spec.specs.Pointer.{target, distance, set_pointer}
 use Rattle.seg_spec.specs.Types.{Form, Table, form_at, size}
 use Rattle.seg_spec.specs.Value.{Value, Values, nil, cons, count, append, Seq, Selector}
@@ -13,7 +13,7 @@ use Rattle.seg_spec.specs.Shapes.{IsRing}
 use Rattle.seg_spec.specs.Sound.{times, positions}
 use Rattle.seg_spec.specs.Roots.{ChangesPlace}
 use Rattle.seg_spec.specs.Owning.{Stands}
-use Rattle.seg_bytes.proofs.BytesLaws.{number-set_other}
+use Rattle.seg_spec.proofs.BytesLaws.{number-set_other}
 use Rattle.seg_spec.proofs.Frame.{SamePlace, each_weaker, each_left, each_right, IsBlock-kept, IsRing-same, Holds-kept, HoldsEach-kept, nodes-same, inner-same, shorter}
 use Rattle.seg_spec.proofs.Composing.{around_twice}
 use Rattle.seg_spec.proofs.LiveLaws.{times-same, times-append, there}

@@ -1,7 +1,7 @@
 -- Entries for which a buffer has room, from the results of the calls below.
 use Rattle.std.proofs.Common.{◌≡◌, ℕ, ◌+◌, ◌-◌, ◌*◌, ◌%◌, ◌^◌, ◌<◌, ◌≤◌, ◌⊎◌, inl, inr, min, List, [], length, Option, Some, refl, sym, ◌∙◌, ap, subst, arith, zero-add}
 use Rattle.std.proofs.lemmas.Grind.{common_steps}
-use Rattle.seg_bytes.specs.Bytes.{long, signed, set_word, set_long, ChangesOnly}
+use Rattle.seg_spec.specs.Bytes.{long, signed, set_word, set_long, ChangesOnly}
 use Rattle.seg_spec.specs.Heap.{units_at}
 use Rattle.seg_spec.specs.Block.{block_of}
 use Rattle.seg_spec.specs.Pointer.{target}
@@ -12,7 +12,7 @@ use Rattle.seg_spec.specs.Reads.{Place, Holds, count_at, start}
 use Rattle.seg_spec.specs.Growing.{Reserves}
 use Rattle.seg_spec.specs.Spending.{buffer_asks, units_named}
 use Rattle.seg_spec.proofs.TypesLaws.{size_large, size-form}
-use Rattle.seg_bytes.proofs.BytesLaws.{number-set_same}
+use Rattle.seg_spec.proofs.BytesLaws.{number-set_same}
 use Rattle.seg_spec.proofs.Writing.{number_held, set_number-changes}
 use Rattle.seg_ptr.specs.Lent.{lent_to}
 use Rattle.seg_ptr.proofs.Lent.{lent_same}

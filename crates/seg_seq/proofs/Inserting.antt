@@ -2,13 +2,13 @@
 use Rattle.std.proofs.Common.{◌≡◌, ◌≢◌, ℕ, ◌+◌, ◌%◌, ◌^◌, ◌≤◌, inl, inr, ⊎_elim, min, List, [], ◌∷◌, ◌++◌, length, Some, None, refl, sym, ap, ◌∙◌, subst, arith, length-append}
 use Rattle.std.specs.List.{AllByRecursion}
 use Rattle.std.proofs.lemmas.Bool.{cases_lt}
-use Rattle.seg_bytes.specs.Bytes.{set_word, IsSame}
+use Rattle.seg_spec.specs.Bytes.{set_word, IsSame}
 use Rattle.seg_spec.specs.Pointer.{target, distance, set_pointer}
 use Rattle.seg_spec.specs.Apart.{Separate}
 use Rattle.seg_spec.specs.Reads.{count_at, start}
 use Rattle.seg_spec.specs.Shapes.{AreLinked, IsLinked, IsRing}
 use Rattle.seg_spec.specs.Sound.{times}
-use Rattle.seg_bytes.proofs.BytesLaws.{length-set_number, number-set_same}
+use Rattle.seg_spec.proofs.BytesLaws.{length-set_number, number-set_same}
 use Rattle.seg_spec.proofs.Frame.{IsRing-same, each_weaker}
 use Rattle.seg_spec.proofs.LiveLaws.{times-same, times-more, times-append, there, each_there}
 use Rattle.seg_spec.proofs.RingOwed.{last_of, last_named}

@@ -1,6 +1,6 @@
 -- The results of the calls on vectors, from the results of the calls below.
 use Rattle.std.proofs.Common.{◌≡◌, ℕ, ◌+◌, ◌-◌, ◌*◌, ◌%◌, ◌^◌, ◌<◌, inl, inr, min, List, [], ◌∷◌, length, Option, Some, refl, sym, ap, ◌∙◌, subst, arith, zero-add}
-use Rattle.seg_bytes.specs.Bytes.{set_word, ChangesOnly}
+use Rattle.seg_spec.specs.Bytes.{set_word, ChangesOnly}
 use Rattle.seg_spec.specs.Types.{Form, Table, IsTable, form_at, size}
 use Rattle.seg_spec.specs.Value.{Value, Values, count, Seq, default_of}
 use Rattle.seg_spec.specs.Reads.{count_at, start, Holds}

@@ -2,12 +2,12 @@
 use Rattle.std.proofs.Common.{◌≡◌, ◌≢◌, ℕ, ◌+◌, ◌%◌, ◌^◌, ◌<◌, ◌≤◌, ◌⊎◌, inl, inr, ⊎_elim, List, [], ◌∷◌, ◌++◌, length, Some, refl, sym, ◌∙◌, subst, arith}
 use Rattle.std.specs.List.{AllByRecursion}
 use Rattle.std.proofs.lemmas.Bool.{cases_lt}
-use Rattle.seg_bytes.specs.Bytes.{word, set_word, IsSame}
+use Rattle.seg_spec.specs.Bytes.{word, set_word, IsSame}
 use Rattle.seg_spec.specs.Pointer.{target, distance, set_pointer}
 use Rattle.seg_spec.specs.Apart.{Separate}
 use Rattle.seg_spec.specs.Shapes.{AreLinked, IsLinked}
 use Rattle.seg_spec.specs.Sound.{times}
-use Rattle.seg_bytes.proofs.BytesLaws.{length-set_number, number-set_other}
+use Rattle.seg_spec.proofs.BytesLaws.{length-set_number, number-set_other}
 use Rattle.seg_spec.proofs.PointerLaws.{target-set_same, target-same as word_target}
 use Rattle.seg_spec.proofs.LiveLaws.{times-same, times-more}
 use Rattle.seg_spec.proofs.RingOwed.{last_of}

@@ -3,12 +3,12 @@ use Rattle.std.proofs.Common.{◌≡◌, ◌≢◌, ℕ, suc, ◌+◌, ◌-◌, 
 use Rattle.std.specs.Option.{option_eq}
 use Rattle.std.specs.Prelude.{unwrap_or}
 use Rattle.std.proofs.lemmas.Bool.Decides.{nat_tests}
-use Rattle.seg_bytes.specs.Bytes.{set_word}
+use Rattle.seg_spec.specs.Bytes.{set_word}
 use Rattle.seg_spec.specs.Pointer.{target, distance, set_pointer}
 use Rattle.seg_spec.specs.Reads.{count_at, start}
 use Rattle.seg_spec.specs.Shapes.{IsLinked, IsRing}
 use Rattle.seg_spec.specs.Sound.{times}
-use Rattle.seg_bytes.proofs.BytesLaws.{length-set_number, number-set_same}
+use Rattle.seg_spec.proofs.BytesLaws.{length-set_number, number-set_same}
 use Rattle.seg_spec.proofs.PointerLaws.{target-set_same}
 use Rattle.seg_spec.proofs.Frame.{IsRing-same, each_left, each_right}
 use Rattle.seg_spec.proofs.LiveLaws.{times-same, times-more, times-append, there}

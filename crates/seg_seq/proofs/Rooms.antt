@@ -1,7 +1,7 @@
 -- The buffer to which a place points: its position, and how many entries it has.
 use Rattle.std.proofs.Common.{◌≡◌, ◌≢◌, ℕ, ◌+◌, ◌*◌, ◌≤◌, true, List, [], ◌++◌, length, Some, None, refl, ap, ◌∙◌, arith}
 use Rattle.std.proofs.Math.Nat.{mul-one}
-use Rattle.seg_bytes.specs.Bytes.{slice, IsSame}
+use Rattle.seg_spec.specs.Bytes.{slice, IsSame}
 use Rattle.seg_spec.specs.Pointer.{target}
 use Rattle.seg_spec.specs.Types.{Form, Table, form_at}
 use Rattle.seg_spec.specs.Value.{Value, Text}
@@ -11,7 +11,7 @@ use Rattle.seg_spec.specs.Reads.{Place, count_at, named, start}
 use Rattle.seg_spec.specs.Sound.{times, positions}
 use Rattle.seg_spec.specs.Owning.{Stands}
 use Rattle.seg_spec.specs.Spending.{item_size}
-use Rattle.seg_bytes.proofs.BytesLaws.{length-slice}
+use Rattle.seg_spec.proofs.BytesLaws.{length-slice}
 use Rattle.seg_spec.proofs.SliceLaws.{IsSame-part}
 use Rattle.seg_spec.proofs.TypesLaws.{size_large}
 use Rattle.seg_spec.proofs.Frame.{word-same}

@@ -4,7 +4,7 @@ use Rattle.std.proofs.Math.Nat.{mul-one}
 use Rattle.std.specs.Prelude.{Result, Ok, Err}
 use Rattle.std.proofs.lemmas.Bool.{cases_lt}
 use Rattle.std.proofs.lemmas.List.{take_all}
-use Rattle.seg_bytes.specs.Bytes.{put, set_word, set_byte, set_number}
+use Rattle.seg_spec.specs.Bytes.{put, set_word, set_byte, set_number}
 use Rattle.seg_spec.specs.Pointer.{target}
 use Rattle.seg_spec.specs.Types.{Form, Table, form_at}
 use Rattle.seg_spec.specs.Value.{Text}

@@ -3,7 +3,7 @@ use Rattle.std.proofs.Common.{◌≡◌, ℕ, ◌+◌, ◌*◌, ◌^◌, ◌<◌
 use Rattle.std.proofs.Math.Seq.{take-add}
 use Rattle.std.proofs.lemmas.List.{take-append-drop, length-drop, same_lists, places, append-nil, take_all}
 use Rattle.std.proofs.lemmas.Bool.{cases_lt}
-use Rattle.seg_bytes.specs.Bytes.{slice, put, set_word, IsSame, ChangesOnly}
+use Rattle.seg_spec.specs.Bytes.{slice, put, set_word, IsSame, ChangesOnly}
 use Rattle.seg_spec.specs.Pointer.{target}
 use Rattle.seg_spec.specs.Types.{Form, Table, form_at, size}
 use Rattle.seg_spec.specs.Value.{Value, Text}
@@ -13,7 +13,7 @@ use Rattle.seg_spec.specs.Reads.{Place, count_at, named, start, NamesRoom, Holds
 use Rattle.seg_spec.specs.Owning.{Stands}
 use Rattle.seg_spec.specs.Growing.{Succeeds, Reserves}
 use Rattle.seg_spec.specs.Demand.{Ask}
-use Rattle.seg_bytes.proofs.BytesLaws.{put_in, put_past, length-slice}
+use Rattle.seg_spec.proofs.BytesLaws.{put_in, put_past, length-slice}
 use Rattle.seg_spec.proofs.SliceLaws.{slice-slice, slice-put_same, slice-put_other, put-changes, IsSame-part}
 use Rattle.seg_spec.proofs.CellSteps.{ChangesOnly-none}
 use Rattle.seg_spec.proofs.PlaceSteps.{changes_place}

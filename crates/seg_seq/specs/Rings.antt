@@ -9,7 +9,7 @@
 --     around way n i steps                the index that many steps from index i in a ring of n nodes
 use Rattle.std.specs.Prelude.{◌≡◌, ℕ, ◌+◌, ◌-◌, ◌%◌, ◌^◌, ◌≤◌, nat_le, nat_lt, if◌then◌else◌, List, ◌∷◌, length, Some}
 use Rattle.std.specs.List.{AllByRecursion}
-use Rattle.seg_bytes.specs.Bytes.{IsSame}
+use Rattle.seg_spec.specs.Bytes.{IsSame}
 use Rattle.seg_spec.specs.Pointer.{target, set_pointer}
 use Rattle.seg_spec.specs.Apart.{Separate}
 use Rattle.seg_spec.specs.Reads.{count_at}

@@ -26,7 +26,7 @@
 --     ShowsByte heap place xs index p             the byte of a text at an index is at position p
 --     ShowsItem heap place U index p              the item of a vector or a list at an index is at position p
 use Rattle.std.specs.Prelude.{◌≡◌, ℕ, ℤ, ◌+◌, ◌-◌, ◌*◌, ◌%◌, ◌^◌, ◌<◌, ◌≤◌, List, [], ◌∷◌, length, take, slice_index, Option, Some, None, Result, Err, MatchResult}
-use Rattle.seg_bytes.specs.Bytes.{byte, set_word}
+use Rattle.seg_spec.specs.Bytes.{byte, set_word}
 use Rattle.seg_spec.specs.Types.{Form, form_at, size}
 use Rattle.seg_spec.specs.Value.{Value, Values, nil, cons, Int, Text, Seq, count, nth, append, default_of, Selector}
 use Rattle.seg_spec.specs.Reads.{Place, count_at, start, Leads}

@@ -1,7 +1,7 @@
 //! Appends an item to a vector that has room for it, without an allocation.
 
 ghost use Rattle.std.specs.Prelude.{◌≡◌, ℕ, ◌+◌, List, length, Some, None, IfSome, MatchOption};
-ghost use Rattle.seg_bytes.specs.Bytes.{set_word, set_long};
+ghost use Rattle.seg_spec.specs.Bytes.{set_word, set_long};
 ghost use Rattle.seg_spec.specs.Types.{Form, form_at};
 ghost use Rattle.seg_spec.specs.Value.{Values, Int};
 ghost use Rattle.seg_spec.specs.Window.{KeepsHost};

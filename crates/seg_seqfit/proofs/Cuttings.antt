@@ -2,10 +2,10 @@
 use Rattle.std.proofs.Common.{◌≡◌, ℕ, ◌+◌, ◌-◌, ◌*◌, ◌/◌, ◌%◌, ◌<◌, ◌≤◌, Bool, true, false, List, [], ◌∷◌, ◌++◌, length, Some, None, refl, sym, ap, ◌∙◌, subst, arith, inl, inr, ◌⊎◌, ⊎_elim}
 use Rattle.std.specs.Prelude.{Contains}
 use Rattle.std.proofs.lemmas.List.{append-nil}
-use Rattle.seg_bytes.specs.Bytes.{word, set_word, Agrees}
+use Rattle.seg_spec.specs.Bytes.{word, set_word, Agrees}
 use Rattle.seg_spec.specs.Pointer.{target, distance, set_pointer}
 use Rattle.seg_spec.specs.Heap.{Span, Tile, end_of, is_live_at, Fill, AreHeaders, Links, live_of, free_of, heap_start, tiles, live, IsHeap, Cuts}
-use Rattle.seg_bytes.proofs.BytesLaws.{number-set_same, number-set_other, Agrees-trans, Agrees-set_number, length-set_number}
+use Rattle.seg_spec.proofs.BytesLaws.{number-set_same, number-set_other, Agrees-trans, Agrees-set_number, length-set_number}
 use Rattle.seg_spec.proofs.PointerLaws.{target-set_same, target-same}
 use Rattle.seg_block.proofs.SizeLaws.{IsHeader-set_size, Agrees-set_size, length-set_size}
 use Rattle.seg_spec.proofs.TileLaws.{AreHeaders-front, AreApart-front}

@@ -1,9 +1,9 @@
 -- The last tile gets more units. The list doesn't depend on its size.
 use Rattle.std.proofs.Common.{◌≡◌, ℕ, ◌+◌, ◌*◌, ◌%◌, ◌^◌, ◌≤◌, Bool, true, false, List, [], ◌∷◌, ◌++◌, length, cond, Option, None, refl, sym, ap, ◌∙◌, subst, arith, inl, inr, ◌⊎◌, ⊎_elim}
 use Rattle.std.proofs.lemmas.Bool.{cases_lt}
-use Rattle.seg_bytes.specs.Bytes.{word}
+use Rattle.seg_spec.specs.Bytes.{word}
 use Rattle.seg_spec.specs.Heap.{Tile, span_of, is_live_at, Fill, AreHeaders, HoldsGaps, Links, free_of, heap_start}
-use Rattle.seg_bytes.proofs.BytesLaws.{number-agrees}
+use Rattle.seg_spec.proofs.BytesLaws.{number-agrees}
 use Rattle.seg_spec.proofs.PointerLaws.{target-same}
 use Rattle.seg_spec.proofs.TileLaws.{Fill-le}
 use Rattle.seg_block.specs.Extents.{Enlarges}

@@ -1,9 +1,9 @@
 -- The front of a free tile is allocated, and the rest takes its place in the free list.
 use Rattle.std.proofs.Common.{◌≡◌, ℕ, ◌+◌, ◌*◌, ◌%◌, ◌≤◌, true, false, List, [], ◌∷◌, ◌++◌, length, Some, None, refl, ◌∙◌, subst, arith, inl, inr}
-use Rattle.seg_bytes.specs.Bytes.{word, set_word}
+use Rattle.seg_spec.specs.Bytes.{word, set_word}
 use Rattle.seg_spec.specs.Pointer.{target, distance, set_pointer}
 use Rattle.seg_spec.specs.Heap.{Tile, IsHeader, units_before, link_at, Fill, AreHeaders, Links, heap_start}
-use Rattle.seg_bytes.proofs.BytesLaws.{number-set_same, number-set_other, length-set_number}
+use Rattle.seg_spec.proofs.BytesLaws.{number-set_same, number-set_other, length-set_number}
 use Rattle.seg_spec.proofs.HeaderLaws.{AreHeaders-after, AreHeaders-set_link}
 use Rattle.seg_spec.proofs.PointerLaws.{target-set_same, target-same}
 use Rattle.seg_spec.proofs.TileLaws.{Fill-le, AreHeaders-back, units_after}

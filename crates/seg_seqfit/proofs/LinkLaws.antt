@@ -1,10 +1,10 @@
 -- The free list over tiles.
 use Rattle.std.proofs.Common.{◌≡◌, ℕ, ◌+◌, ◌*◌, ◌%◌, ◌≤◌, true, false, List, [], ◌∷◌, ◌++◌, cond, Option, Some, None, refl, sym, ◌∙◌, subst, arith, inl, inr, ◌⊎◌, ⊎_elim}
 use Rattle.std.specs.Prelude.{Contains}
-use Rattle.seg_bytes.specs.Bytes.{Agrees}
+use Rattle.seg_spec.specs.Bytes.{Agrees}
 use Rattle.seg_spec.specs.Pointer.{target}
 use Rattle.seg_spec.specs.Heap.{Span, Tile, span_of, end_of, Fill, Links, live_of, free_of}
-use Rattle.seg_bytes.proofs.BytesLaws.{Agrees-within}
+use Rattle.seg_spec.proofs.BytesLaws.{Agrees-within}
 use Rattle.seg_spec.proofs.TileLaws.{Fill-le}
 use Rattle.seg_seqfit.specs.Retiling.{link_past}
 use Rattle.seg_block.proofs.LiveTiles.{cons_cases}

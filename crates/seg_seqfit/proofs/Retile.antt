@@ -3,10 +3,10 @@
 use Rattle.std.proofs.Common.{◌≡◌, ◌≢◌, ℕ, ◌+◌, ◌*◌, ◌%◌, ◌≤◌, Bool, true, false, List, [], ◌∷◌, ◌++◌, length, cond, Option, None, refl, ◌∙◌, subst, arith, inl, inr, ◌⊎◌, ⊎_elim}
 use Rattle.std.specs.Prelude.{Contains}
 use Rattle.std.proofs.lemmas.List.Elements.{Contains-append_cases}
-use Rattle.seg_bytes.specs.Bytes.{word, set_word, Agrees}
+use Rattle.seg_spec.specs.Bytes.{word, set_word, Agrees}
 use Rattle.seg_spec.specs.Pointer.{target}
 use Rattle.seg_spec.specs.Heap.{Span, Tile, span_of, end_of, Fill, AreHeaders, Links, live_of, free_of, heap_start}
-use Rattle.seg_bytes.proofs.BytesLaws.{number-agrees, Agrees-trans, Agrees-set_number, length-set_number}
+use Rattle.seg_spec.proofs.BytesLaws.{number-agrees, Agrees-trans, Agrees-set_number, length-set_number}
 use Rattle.seg_spec.proofs.PointerLaws.{target-same}
 use Rattle.seg_block.specs.Sizes.{size_word, set_size}
 use Rattle.seg_spec.proofs.TileLaws.{Fill-le, units_after, live_of-append}

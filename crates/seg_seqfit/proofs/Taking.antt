@@ -1,9 +1,9 @@
 -- A free tile is removed from the free list.
 use Rattle.std.proofs.Common.{◌≡◌, ℕ, ◌+◌, ◌*◌, ◌%◌, ◌≤◌, true, false, List, [], ◌∷◌, ◌++◌, length, Some, None, refl, ◌∙◌, arith, inl, inr, ⊎_elim}
-use Rattle.seg_bytes.specs.Bytes.{word, set_word}
+use Rattle.seg_spec.specs.Bytes.{word, set_word}
 use Rattle.seg_spec.specs.Pointer.{target, distance, set_pointer}
 use Rattle.seg_spec.specs.Heap.{Tile, link_at, units_before, Fill, AreHeaders, heap_start}
-use Rattle.seg_bytes.proofs.BytesLaws.{number-set_same, number-set_other, Agrees-trans, Agrees-set_number, length-set_number}
+use Rattle.seg_spec.proofs.BytesLaws.{number-set_same, number-set_other, Agrees-trans, Agrees-set_number, length-set_number}
 use Rattle.seg_spec.proofs.PointerLaws.{target-set_same, target-same}
 use Rattle.seg_spec.proofs.TileLaws.{Fill-le, AreHeaders-back, units_after}
 use Rattle.seg_block.specs.Sizes.{size_word, set_size}

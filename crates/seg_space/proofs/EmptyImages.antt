@@ -3,7 +3,7 @@ use Rattle.std.proofs.Common.{◌≡◌, ℕ, zero, suc, ◌+◌, ◌-◌, ◌/�
 use Rattle.std.specs.Prelude.{codes}
 use Rattle.std.proofs.lemmas.Bool.{cases_eq}
 use Rattle.std.proofs.lemmas.List.{length-replicate, take-replicate, drop-replicate}
-use Rattle.seg_bytes.specs.Bytes.{slice, put, number, number_of, word, set_word, IsSame, ChangesOnly}
+use Rattle.seg_spec.specs.Bytes.{slice, put, number, number_of, word, set_word, IsSame, ChangesOnly}
 use Rattle.seg_spec.specs.Header.{version_word, units_word, allocator_word, index_kind_word, free_word, next_word, index_cell, back_start, reserved, reserved_size}
 use Rattle.seg_spec.specs.Header.{types_start, types_size, uniques_start, uniques_size, heap_start, min_length, sharing_version}
 use Rattle.seg_spec.specs.Pointer.{target, set_pointer, distance}
@@ -14,7 +14,7 @@ use Rattle.seg_spec.specs.Reads.{count_at}
 use Rattle.seg_spec.specs.Index.{OpensIndex, unique_word}
 use Rattle.seg_spec.specs.Sound.{HasHeader, IsHeld, holds_no_root}
 use Rattle.seg_spec.specs.Faulty.{IsImageLength}
-use Rattle.seg_bytes.proofs.BytesLaws.{number-set_same, number-slice, slice-agrees, length-put}
+use Rattle.seg_spec.proofs.BytesLaws.{number-set_same, number-slice, slice-agrees, length-put}
 use Rattle.seg_spec.proofs.SliceLaws.{slice-slice, slice-put_same, put-changes}
 use Rattle.seg_spec.proofs.PointerLaws.{target-set_same, target-same}
 use Rattle.seg_spec.proofs.CellSteps.{ChangesOnly-trans, ChangesOnly-wider}

@@ -5,10 +5,10 @@ use Rattle.std.specs.List.{AllByRecursion}
 use Rattle.std.proofs.lemmas.Bool.{cases_eq}
 use Rattle.std.proofs.lemmas.Bool.Decides.{nat_tests}
 use Rattle.std.proofs.lemmas.List.{length-take, length-replicate}
-use Rattle.seg_bytes.specs.Bytes.{slice, put, IsSame, Agrees, ChangesOnly}
+use Rattle.seg_spec.specs.Bytes.{slice, put, IsSame, Agrees, ChangesOnly}
 use Rattle.seg_spec.specs.Header.{units_word, free_word, back_start, heap_start, min_length}
 use Rattle.seg_spec.specs.Heap.{Span, Tile, span_of, end_of, tiles, IsHeap, live, live_of, free_of, gaps, gaps_between, run, without_end, after_extend, Extends}
-use Rattle.seg_bytes.proofs.BytesLaws.{Agrees-put, Agrees-trans}
+use Rattle.seg_spec.proofs.BytesLaws.{Agrees-put, Agrees-trans}
 use Rattle.seg_spec.proofs.Frame.{each_weaker, each_left, each_right, word-same}
 use Rattle.seg_spec.proofs.FreeLaws.{gaps-free}
 use Rattle.seg_spec.proofs.KeptLaws.{StatesSpan, live_stated, each_contained}

@@ -5,7 +5,7 @@ use Rattle.std.specs.List.{AllByRecursion}
 use Rattle.std.proofs.lemmas.Bool.{cases_eq, cases_lt}
 use Rattle.std.proofs.lemmas.Bool.Decides.{nat_tests}
 use Rattle.std.proofs.lemmas.List.{length-take, length-drop, length-append, append_assoc, take_all, same_lists, places}
-use Rattle.seg_bytes.specs.Bytes.{word, slice, put, IsSame, Agrees}
+use Rattle.seg_spec.specs.Bytes.{word, slice, put, IsSame, Agrees}
 use Rattle.seg_spec.specs.Header.{version_word, allocator_word, units_word, index_kind_word, free_word, next_word, index_cell, back_start, back_size, reserved, reserved_size}
 use Rattle.seg_spec.specs.Header.{types_start, types_size, uniques_start, uniques_size, heap_start, min_length}
 use Rattle.seg_spec.specs.Types.{Table}
@@ -13,7 +13,7 @@ use Rattle.seg_spec.specs.Heap.{Span, Tile, end_of, units_at, is_live_at, tag_at
 use Rattle.seg_spec.specs.Block.{IsOwnable, KeepsBlock, payload_size}
 use Rattle.seg_spec.specs.Faulty.{IsImageLength}
 use Rattle.seg_spec.specs.Sound.{Picture, HasHeader, IsHeld, times, positions}
-use Rattle.seg_bytes.proofs.BytesLaws.{slice-agrees, length-put, take-put}
+use Rattle.seg_spec.proofs.BytesLaws.{slice-agrees, length-put, take-put}
 use Rattle.seg_spec.proofs.Frame.{word-same, target-same, each_weaker, each_both}
 use Rattle.seg_spec.proofs.FreeLaws.{gaps-free}
 use Rattle.seg_spec.proofs.TileLaws.{Fill-le}

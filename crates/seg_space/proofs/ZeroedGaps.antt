@@ -3,13 +3,13 @@ use Rattle.std.proofs.Common.{◌≡◌, ℕ, ◌+◌, ◌*◌, ◌≤◌, ◌�
 use Rattle.std.proofs.lemmas.Bool.{false≢true}
 use Rattle.std.proofs.lemmas.List.{append_assoc, length-replicate}
 use Rattle.std.specs.List.{AllByRecursion}
-use Rattle.seg_bytes.specs.Bytes.{word, slice, put, IsSame, ChangesOnly}
+use Rattle.seg_spec.specs.Bytes.{word, slice, put, IsSame, ChangesOnly}
 use Rattle.seg_spec.specs.Header.{allocator_word, free_word, back_start, back_size, KeepsFront, KeepsBack}
 use Rattle.seg_spec.specs.Heap.{Span, span, Tile, span_of, end_of, units_at, is_live_at, tiles, Fill, AreHeaders, IsHeap, live, live_of, free_of, gaps, heap_start}
 use Rattle.seg_spec.specs.Block.{IsOwnable, KeepsBlock, payload_size}
 use Rattle.seg_spec.specs.Apart.{Separate}
 use Rattle.seg_spec.specs.Sound.{Picture, IsHeld, times, positions}
-use Rattle.seg_bytes.proofs.BytesLaws.{Agrees-put}
+use Rattle.seg_spec.proofs.BytesLaws.{Agrees-put}
 use Rattle.seg_spec.proofs.Frame.{each_weaker, each_both, each_left, each_right, word-same, target-same}
 use Rattle.seg_spec.proofs.TileLaws.{Fill-le, Fill-append, free_of-append}
 use Rattle.seg_spec.proofs.HeaderLaws.{AreHeaders-agrees}

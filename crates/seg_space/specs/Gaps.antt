@@ -4,7 +4,7 @@
 --     IsZeroed, LiesBeside, ZeroesGaps    these bytes are 0; bytes outside them; a call that zeroes them
 use Rattle.std.specs.Prelude.{◌≡◌, ℕ, ◌+◌, ◌-◌, ◌*◌, max, List, [], ◌∷◌, length, replicate}
 use Rattle.std.specs.List.{AllByRecursion}
-use Rattle.seg_bytes.specs.Bytes.{slice, IsSame}
+use Rattle.seg_spec.specs.Bytes.{slice, IsSame}
 use Rattle.seg_spec.specs.Heap.{Span, live, gaps}
 use Rattle.seg_spec.specs.Apart.{Separate}
 use Rattle.seg_spec.specs.Sound.{Picture}

@@ -4,7 +4,7 @@
 --     IsNew allocator s region base len index
 --                                         an empty segment at a base of a region
 use Rattle.std.specs.Prelude.{◌≡◌, ℕ, ◌+◌, take, drop, List, [], length}
-use Rattle.seg_bytes.specs.Bytes.{word}
+use Rattle.seg_spec.specs.Bytes.{word}
 use Rattle.seg_spec.specs.Header.{version_word, index_kind_word, sharing_version}
 use Rattle.seg_spec.specs.Heap.{live}
 use Rattle.seg_spec.specs.Sound.{Picture}

@@ -4,7 +4,7 @@
 --     Grows allocator old new picture extra      the segment has more bytes at its end, and the same picture
 --     Shrinks allocator old new picture size     the gap at the end was cut, and the picture is the same
 use Rattle.std.specs.Prelude.{◌≡◌, ℕ, ◌+◌, ◌-◌, ◌*◌, ◌/◌, ◌%◌, ◌≤◌, ◌==◌, if◌then◌else◌, length, drop, replicate}
-use Rattle.seg_bytes.specs.Bytes.{slice}
+use Rattle.seg_spec.specs.Bytes.{slice}
 use Rattle.seg_spec.specs.Heap.{live, gaps, after_extend, units_to_cut}
 use Rattle.seg_spec.specs.Block.{KeepsBlock}
 use Rattle.seg_spec.specs.Faulty.{IsImageLength}

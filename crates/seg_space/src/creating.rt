@@ -1,7 +1,7 @@
 //! New segments.
 
 ghost use Rattle.std.specs.Prelude.{◌≡◌, ◌↔◌, ◌⊎◌, [], length, IsOk, IfOk, IfErr};
-ghost use Rattle.seg_bytes.specs.Bytes.{word};
+ghost use Rattle.seg_spec.specs.Bytes.{word};
 ghost use Rattle.seg_spec.specs.Faulty.{IsImageLength};
 ghost use Rattle.seg_spec.specs.Header.{version_word, allocator_word, index_kind_word, sharing_version};
 ghost use Rattle.seg_spec.specs.Heap.{live};

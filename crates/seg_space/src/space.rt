@@ -1,7 +1,7 @@
 //! The free memory of a segment.
 
 ghost use Rattle.std.specs.Prelude.{◌≡◌, ℕ, ◌+◌, ◌*◌, ◌^◌, ◌<◌, ◌≤◌, ◌↔◌, max, IsTrue, [], replicate};
-ghost use Rattle.seg_bytes.specs.Bytes.{put};
+ghost use Rattle.seg_spec.specs.Bytes.{put};
 ghost use Rattle.seg_spec.specs.Heap.{IsHeap, span, live, gaps};
 ghost use Rattle.seg_spec.specs.Sound.{Picture};
 ghost use Rattle.seg_spec.specs.Window.{with_bytes, KeepsHost};

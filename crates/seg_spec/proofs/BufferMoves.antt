@@ -2,7 +2,7 @@
 -- the cell points to it, and the old block is freed.
 use Rattle.std.proofs.Common.{◌≡◌, ◌≢◌, ℕ, ◌+◌, ◌-◌, ◌*◌, ◌%◌, ◌^◌, ◌<◌, ◌≤◌, inr, true, List, [], ◌∷◌, ◌++◌, length, Option, Some, None, option_to_list, option_map, MatchOption, refl, sym, ap, ◌∙◌, subst, arith}
 use Rattle.std.specs.Prelude.{Contains}
-use Rattle.seg_bytes.specs.Bytes.{set_word, IsSame, ChangesOnly}
+use Rattle.seg_spec.specs.Bytes.{set_word, IsSame, ChangesOnly}
 use Rattle.seg_spec.specs.Pointer.{target, set_pointer, distance}
 use Rattle.seg_spec.specs.Types.{Form, Table, form_at, size}
 use Rattle.seg_spec.specs.Value.{Value}
@@ -15,7 +15,7 @@ use Rattle.seg_spec.specs.Cells.{IsWithin}
 use Rattle.seg_spec.specs.Owning.{Stands, StandsBeside}
 use Rattle.seg_spec.specs.Spending.{item_size}
 use Rattle.seg_spec.specs.Growing.{HasRoomFor, MovesBuffer}
-use Rattle.seg_bytes.proofs.BytesLaws.{number-set_other}
+use Rattle.seg_spec.proofs.BytesLaws.{number-set_other}
 use Rattle.seg_spec.proofs.SliceLaws.{IsSame-part}
 use Rattle.seg_spec.proofs.PointerLaws.{target-set_same}
 use Rattle.seg_spec.proofs.Frame.{IsBlock-kept, cell-target, cell-count}

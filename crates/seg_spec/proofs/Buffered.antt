@@ -2,7 +2,7 @@
 use Rattle.std.proofs.Common.{◌≡◌, ℕ, zero, suc, ◌+◌, ◌*◌, ◌%◌, ◌≤◌, ◌⊎◌, inl, inr, true, List, [], ◌∷◌, ◌++◌, length, map, Some, refl, sym, ap, ◌∙◌, subst, arith}
 use Rattle.std.proofs.Math.Nat.{mul-one, mul-le-mul_right}
 use Rattle.std.specs.List.{AllByRecursion}
-use Rattle.seg_bytes.specs.Bytes.{slice, put, signed, signed_long, IsSame, ChangesOnly}
+use Rattle.seg_spec.specs.Bytes.{slice, put, signed, signed_long, IsSame, ChangesOnly}
 use Rattle.seg_spec.specs.Types.{Form, Table, form_at, size, IsTable}
 use Rattle.seg_spec.specs.Value.{Label, Value, node, Values, nil, Text, Seq, Map, IsAscending}
 use Rattle.seg_spec.specs.Heap.{IsHeap}
@@ -11,7 +11,7 @@ use Rattle.seg_spec.specs.Reads.{Place, Opened, count_at, named, start, spaced, 
 use Rattle.seg_spec.specs.Cells.{IsWithin, Shifts}
 use Rattle.seg_spec.specs.Owning.{StandsBeside}
 use Rattle.seg_spec.specs.Spending.{item_size}
-use Rattle.seg_bytes.proofs.BytesLaws.{number-slice, length-slice}
+use Rattle.seg_spec.proofs.BytesLaws.{number-slice, length-slice}
 use Rattle.seg_spec.proofs.SliceLaws.{slice-slice, slice-put_same, put-changes}
 use Rattle.seg_spec.proofs.Frame.{keys_at-same, spaced-same, inner-same, places-same, shorter, HoldsEach-kept}
 use Rattle.seg_spec.proofs.CellSteps.{size_aligned}

@@ -5,7 +5,7 @@ use Rattle.std.specs.Prelude.{nat_le}
 use Rattle.std.specs.List.{AllByRecursion}
 use Rattle.std.proofs.lemmas.Nat.{le-div}
 use Rattle.std.proofs.lemmas.List.{map-append}
-use Rattle.seg_bytes.specs.Bytes.{ChangesOnly}
+use Rattle.seg_spec.specs.Bytes.{ChangesOnly}
 use Rattle.seg_spec.specs.Pointer.{target}
 use Rattle.seg_spec.specs.Types.{Form, Table, form_at, IsTable, size}
 use Rattle.seg_spec.specs.Value.{Label, Value, Values, node}

@@ -6,12 +6,12 @@ use Rattle.std.proofs.lemmas.List.{get_or_past, map-append}
 use Rattle.std.proofs.Math.Nat.{mul-le-mul_right}
 use Rattle.std.proofs.lemmas.List.Sums.{sum_by-cons}
 use Rattle.std.proofs.lemmas.List.Elements.{All-head, All-tail}
-use Rattle.seg_bytes.specs.Bytes.{word, long, IsSame, ChangesOnly}
+use Rattle.seg_spec.specs.Bytes.{word, long, IsSame, ChangesOnly}
 use Rattle.seg_spec.specs.Pointer.{target}
 use Rattle.seg_spec.specs.Types.{Form, Table, form_at, size, IsTable, built, Cell, cells, cells_by, fields_of, fields_by, fields_from}
 use Rattle.seg_spec.specs.Reads.{count_at, spaced}
 use Rattle.seg_spec.specs.Cells.{IsWithin, EachCell, ChangesCells, ChangesEach, IsDefaulted, IsFurther}
-use Rattle.seg_bytes.proofs.BytesLaws.{number-slice}
+use Rattle.seg_spec.proofs.BytesLaws.{number-slice}
 use Rattle.seg_spec.proofs.SliceLaws.{IsSame-part}
 use Rattle.seg_spec.proofs.TypesLaws.{size-form}
 use Rattle.seg_spec.proofs.EntryLaws.{length-built}

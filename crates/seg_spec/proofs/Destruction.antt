@@ -3,7 +3,7 @@ use Rattle.std.proofs.Common.{◌≡◌, ◌≢◌, ℕ, ◌+◌, ◌-◌, ◌*�
 use Rattle.std.specs.List.{AllByRecursion}
 use Rattle.std.proofs.lemmas.Bool.Decides.{nat_tests}
 use Rattle.std.proofs.lemmas.Bool.{cases_eq}
-use Rattle.seg_bytes.specs.Bytes.{IsSame, ChangesOnly}
+use Rattle.seg_spec.specs.Bytes.{IsSame, ChangesOnly}
 use Rattle.seg_spec.specs.Header.{free_word, back_start, back_size, KeepsFront, KeepsBack}
 use Rattle.seg_spec.specs.Pointer.{distance, set_pointer}
 use Rattle.seg_spec.specs.Types.{Table, IsTable, size}

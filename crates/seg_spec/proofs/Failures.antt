@@ -1,13 +1,13 @@
 -- An image with something wrong isn't sound.
 use Rattle.std.proofs.Common.{◌≡◌, ℕ, ◌%◌, List, length, sym, ap, ◌∙◌, subst, arith}
 use Rattle.std.specs.Prelude.{flat_map}
-use Rattle.seg_bytes.specs.Bytes.{word, slice}
+use Rattle.seg_spec.specs.Bytes.{word, slice}
 use Rattle.seg_spec.specs.Types.{Table, form_bytes, padded, Spells}
 use Rattle.seg_spec.specs.Images.{IsSound}
 use Rattle.seg_spec.specs.Header.{version_word}
 use Rattle.seg_spec.proofs.OwnedTags.{tags_of_version}
 use Rattle.seg_spec.specs.Faulty.{HasTiles, HasFront, LacksType, LacksTiles, Failure, Lacks}
-use Rattle.seg_bytes.proofs.BytesLaws.{length-slice}
+use Rattle.seg_spec.proofs.BytesLaws.{length-slice}
 use Rattle.seg_spec.proofs.OneTable.{HasTable-one}
 use Rattle.seg_spec.proofs.RightTables.{valid_right}
 

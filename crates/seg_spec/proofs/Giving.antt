@@ -3,14 +3,14 @@ use Rattle.std.proofs.Common.{◌≡◌, ◌≢◌, ℕ, zero, suc, ◌+◌, ◌
 use Rattle.std.specs.Prelude.{Contains, slice_index_or}
 use Rattle.std.proofs.lemmas.Bool.Decides.{nat_tests}
 use Rattle.std.proofs.lemmas.Bool.{cases_eq}
-use Rattle.seg_bytes.specs.Bytes.{Agrees}
+use Rattle.seg_spec.specs.Bytes.{Agrees}
 use Rattle.seg_spec.specs.Types.{Table, IsTable}
 use Rattle.seg_spec.specs.Heap.{Span, without, IsHeap, live, Gives}
 use Rattle.seg_spec.specs.Block.{KeepsBlock, IsOwnable, payload_size}
 use Rattle.seg_spec.specs.Sound.{times, positions}
 use Rattle.seg_spec.specs.Demand.{after_gives}
 use Rattle.seg_spec.specs.Owing.{Waits}
-use Rattle.seg_bytes.proofs.BytesLaws.{number-agrees}
+use Rattle.seg_spec.proofs.BytesLaws.{number-agrees}
 use Rattle.seg_spec.proofs.PointerLaws.{target-same}
 use Rattle.seg_spec.proofs.LiveLaws.{times-other, times-more, each_there, not_there}
 use Rattle.seg_spec.proofs.KeptLaws.{each_contained, StatesSpan, live_stated, block_kept}

@@ -3,7 +3,7 @@ use Rattle.std.proofs.Common.{◌≡◌, ◌≢◌, ℕ, ◌+◌, ◌*◌, ◌-�
 use Rattle.std.specs.Prelude.{nat_le}
 use Rattle.std.proofs.lemmas.Bool.{false≢true}
 use Rattle.std.specs.List.{AllByRecursion}
-use Rattle.seg_bytes.specs.Bytes.{word, IsSame, ChangesOnly}
+use Rattle.seg_spec.specs.Bytes.{word, IsSame, ChangesOnly}
 use Rattle.seg_spec.specs.Header.{free_word}
 use Rattle.seg_spec.specs.Heap.{Tile, units_at, IsHeader, tiles, AreHeaders, live_of, free_of, live, gaps, HoldsGaps, IsHeap, heap_start}
 use Rattle.seg_spec.specs.Block.{payload_size}

@@ -1,3 +1,4 @@
+pub mod BytesLaws
 pub mod SliceLaws
 pub mod PointerLaws
 pub mod TileLaws

@@ -1,7 +1,7 @@
 -- Loose roots of an image are replaced by others.
 use Rattle.std.proofs.Common.{◌≡◌, ℕ, ◌+◌, ◌≤◌, List, [], ◌∷◌, ◌++◌, length, refl, ap, subst, arith}
 use Rattle.std.specs.List.{AllByRecursion}
-use Rattle.seg_bytes.specs.Bytes.{word}
+use Rattle.seg_spec.specs.Bytes.{word}
 use Rattle.seg_spec.specs.Header.{allocator_word, KeepsFront, KeepsBack}
 use Rattle.seg_spec.specs.Heap.{live, IsHeap}
 use Rattle.seg_spec.specs.Block.{IsOwnable, KeepsBlock}

@@ -2,7 +2,7 @@
 use Rattle.std.proofs.Common.{◌≡◌, ℕ, ◌+◌, ◌*◌, List, [], ◌∷◌, ◌++◌, map, Option, Some, get_or, refl, sym, ap, ◌∙◌, subst, arith, add-zero, add_assoc}
 use Rattle.std.proofs.Math.Nat.{mul-one}
 use Rattle.std.specs.List.{AllByRecursion}
-use Rattle.seg_bytes.specs.Bytes.{signed, IsSame}
+use Rattle.seg_spec.specs.Bytes.{signed, IsSame}
 use Rattle.seg_spec.specs.Pointer.{target}
 use Rattle.seg_spec.specs.Types.{Form, Table, form_at, size, IsTable, built, Cell, shifted, cells, cells_by, cells_of_fields}
 use Rattle.seg_spec.specs.Value.{Label, Value, Values}

@@ -2,12 +2,12 @@
 use Rattle.std.proofs.Common.{◌≡◌, ◌≢◌, ℕ, zero, suc, ◌+◌, ◌-◌, ◌*◌, ◌%◌, ◌^◌, ◌≤◌, ◌<◌, inl, inr, true, false, List, [], ◌∷◌, length, Option, Some, None, MatchOption, option_map, cond, refl, sym, ap, ◌∙◌, subst, arith, min}
 use Rattle.std.specs.Prelude.{Contains, slice_index_or, nat_le, nat_lt}
 use Rattle.std.proofs.lemmas.Bool.Decides.{nat_tests}
-use Rattle.seg_bytes.specs.Bytes.{Agrees, word, set_word, IsSame, ChangesOnly}
+use Rattle.seg_spec.specs.Bytes.{Agrees, word, set_word, IsSame, ChangesOnly}
 use Rattle.seg_spec.specs.Header.{free_word, back_start, back_size, KeepsFront, KeepsBack}
 use Rattle.seg_spec.specs.Heap.{Span, units_at, link_at, with_block, granted, pick, gaps_of, after_take, IsHeap, live, heap_start, Takes}
 use Rattle.seg_spec.specs.Block.{IsBlock, IsInside, payload_size}
 use Rattle.seg_spec.specs.Sound.{times, positions}
-use Rattle.seg_bytes.proofs.BytesLaws.{number-agrees, number-set_same, number-set_other}
+use Rattle.seg_spec.proofs.BytesLaws.{number-agrees, number-set_same, number-set_other}
 use Rattle.seg_spec.proofs.SliceLaws.{IsSame-trans}
 use Rattle.seg_spec.proofs.PointerLaws.{target-same}
 use Rattle.seg_spec.proofs.Frame.{word-same}

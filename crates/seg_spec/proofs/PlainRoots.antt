@@ -1,6 +1,6 @@
 -- A root without words before its values: its block begins with the values.
 use Rattle.std.proofs.Common.{◌≡◌, ℕ, ◌+◌, ◌*◌, List, [], ◌∷◌, length, sym, ap, ◌∙◌, subst, arith}
-use Rattle.seg_bytes.specs.Bytes.{slice}
+use Rattle.seg_spec.specs.Bytes.{slice}
 use Rattle.seg_spec.specs.Types.{Table, size}
 use Rattle.seg_spec.specs.Value.{Values, count}
 use Rattle.seg_spec.specs.Block.{IsBlock, block_of, tag_of}

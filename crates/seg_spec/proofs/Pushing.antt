@@ -2,7 +2,7 @@
 use Rattle.std.proofs.Common.{◌≡◌, ◌≢◌, ℕ, ◌+◌, ◌-◌, ◌*◌, ◌^◌, ◌%◌, ◌<◌, ◌≤◌, inl, inr, ⊎_elim, List, ◌∷◌, ◌++◌, length, Option, Some, sym, ap, subst, arith}
 use Rattle.std.specs.Prelude.{nat_le}
 use Rattle.std.proofs.lemmas.Bool.{cases_eq}
-use Rattle.seg_bytes.specs.Bytes.{word, IsSame, ChangesOnly}
+use Rattle.seg_spec.specs.Bytes.{word, IsSame, ChangesOnly}
 use Rattle.seg_spec.specs.Pointer.{distance, set_pointer}
 use Rattle.seg_spec.specs.Types.{Form, Table, form_at, IsTable}
 use Rattle.seg_spec.specs.Heap.{link_at, IsHeap, live, heap_start}

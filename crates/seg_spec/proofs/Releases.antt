@@ -4,7 +4,7 @@ use Rattle.std.proofs.Common.{◌≡◌, ◌≢◌, ℕ, suc, ◌+◌, ◌-◌, 
 use Rattle.std.specs.Prelude.{nat_le}
 use Rattle.std.specs.List.{AllByRecursion}
 use Rattle.std.proofs.lemmas.List.{append-nil}
-use Rattle.seg_bytes.specs.Bytes.{word, set_word, ChangesOnly, slice}
+use Rattle.seg_spec.specs.Bytes.{word, set_word, ChangesOnly, slice}
 use Rattle.seg_spec.specs.Types.{Table, IsTable, size}
 use Rattle.seg_spec.specs.Value.{Value}
 use Rattle.seg_spec.specs.Heap.{IsHeap, live, heap_start}
@@ -19,7 +19,7 @@ use Rattle.seg_spec.specs.Owing.{KeepsLinked, no_parts, more_parts, owes, no_lin
 use Rattle.seg_spec.specs.Destroying.{AreLive, GoesWith, KeepsOthers, PendsBeside, HoldFrozen, KeepFrozen, Awaits, Adds}
 use Rattle.seg_spec.proofs.Frame.{word-same, target-same, Holds-kept, each_left, each_right}
 use Rattle.seg_spec.proofs.LiveLaws.{times-append, times-same, times-other, there, each_there, LiesIn, live-lie, live-once}
-use Rattle.seg_bytes.proofs.BytesLaws.{number-set_same}
+use Rattle.seg_spec.proofs.BytesLaws.{number-set_same}
 use Rattle.seg_spec.proofs.Writing.{set_number-changes}
 use Rattle.seg_spec.proofs.WriteInside.{KeptBut, live_kept_but}
 use Rattle.seg_spec.proofs.LooseRoots.{each_joined}

@@ -4,7 +4,7 @@ use Rattle.std.specs.List.{AllByRecursion}
 use Rattle.std.proofs.lemmas.Bool.Decides.{nat_tests}
 use Rattle.std.proofs.lemmas.Bool.{cases_eq}
 use Rattle.std.proofs.lemmas.List.{map-append}
-use Rattle.seg_bytes.specs.Bytes.{word, slice, put, ChangesOnly}
+use Rattle.seg_spec.specs.Bytes.{word, slice, put, ChangesOnly}
 use Rattle.seg_spec.specs.Pointer.{target}
 use Rattle.seg_spec.specs.Types.{Form, Table, form_at, size, IsTable, cells}
 use Rattle.seg_spec.specs.Value.{Value, Values}
@@ -17,7 +17,7 @@ use Rattle.seg_spec.specs.Cells.{IsWithin, EachCell, ChangesCells, ChangesEach, 
 use Rattle.seg_spec.specs.Owning.{StandsBeside}
 use Rattle.seg_spec.specs.Cells as cells_words
 use Rattle.seg_spec.proofs.SliceLaws.{slice-slice, slice-put_same, put-changes}
-use Rattle.seg_bytes.proofs.BytesLaws.{number-slice, length-slice}
+use Rattle.seg_spec.proofs.BytesLaws.{number-slice, length-slice}
 use Rattle.seg_spec.proofs.Frame.{each_left, each_right, each_weaker, each_both}
 use Rattle.seg_spec.proofs.CellLaws.{IsOne}
 use Rattle.seg_spec.proofs.LiveLaws.{times-append, times-same, there, each_there, LiesIn, live-lie}

@@ -3,7 +3,7 @@
 use Rattle.std.proofs.Common.{◌≡◌, ◌≢◌, ℕ, ◌+◌, ◌-◌, ◌*◌, ◌^◌, ◌<◌, ◌≤◌, ◌⊎◌, inl, inr, true, List, [], ◌∷◌, length, Some, refl, sym, ap, ◌∙◌, subst, arith}
 use Rattle.std.proofs.lemmas.Bool.{cases_eq}
 use Rattle.std.specs.List.{AllByRecursion}
-use Rattle.seg_bytes.specs.Bytes.{word, set_word, IsSame, ChangesOnly}
+use Rattle.seg_spec.specs.Bytes.{word, set_word, IsSame, ChangesOnly}
 use Rattle.seg_spec.specs.Header.{allocator_word, free_word, back_start, back_size, KeepsFront, KeepsBack}
 use Rattle.seg_spec.specs.Types.{Table, size, form_at}
 use Rattle.seg_spec.specs.Value.{Value}

@@ -1,6 +1,6 @@
 -- An image whose version is set to the one that may have frozen objects has the same content.
 use Rattle.std.proofs.Common.{◌≡◌, ℕ, ◌+◌, ◌-◌, ◌≤◌, inl, inr, List, ◌++◌, length, sym, ap, ◌∙◌, subst, arith}
-use Rattle.seg_bytes.specs.Bytes.{word, ChangesOnly, IsSame}
+use Rattle.seg_spec.specs.Bytes.{word, ChangesOnly, IsSame}
 use Rattle.seg_spec.specs.Header.{version_word, units_word, allocator_word, index_kind_word, free_word, next_word, index_cell, reserved, reserved_size, types_start, types_size, uniques_start, uniques_size, heap_start, sharing_version}
 use Rattle.seg_spec.specs.Types.{Form, version_of}
 use Rattle.seg_spec.specs.Heap.{live}
@@ -8,7 +8,7 @@ use Rattle.seg_spec.specs.Sound.{Picture, HasHeader, IsHeld, times, positions}
 use Rattle.seg_spec.specs.Images.{IsSound, upgraded}
 use Rattle.seg_spec.specs.Counting.{AreCounted}
 use Rattle.seg_spec.proofs.AddTypes.{heap_same, blocks_same}
-use Rattle.seg_bytes.proofs.BytesLaws.{number-set_same}
+use Rattle.seg_spec.proofs.BytesLaws.{number-set_same}
 use Rattle.seg_spec.proofs.Frame.{word-same, each_left, each_right}
 use Rattle.seg_spec.proofs.HeapFrame.{IsHeap-kept, live-kept, IsOwnable-kept}
 use Rattle.seg_spec.proofs.RootFrame.{HoldsRoots-kept, ListsNames-kept, ListsUniques-kept}

@@ -11,7 +11,7 @@
 --     IsFurther old new n at form        the distance in the cell grew by n, unless its pointer is null
 use Rattle.std.specs.Prelude.{◌≡◌, ℕ, ◌+◌, ◌*◌, ◌%◌, ◌^◌, ◌==◌, ◌≤◌, ◌⊎◌, if◌then◌else◌, List, length, map, Option, Some}
 use Rattle.std.specs.List.{AllByRecursion}
-use Rattle.seg_bytes.specs.Bytes.{slice, put, word, long, IsSame, ChangesOnly}
+use Rattle.seg_spec.specs.Bytes.{slice, put, word, long, IsSame, ChangesOnly}
 use Rattle.seg_spec.specs.Pointer.{target}
 use Rattle.seg_spec.specs.Types.{Form, Table, form_at, size, cells}
 use Rattle.seg_spec.specs.Reads.{count_at, spaced}

@@ -32,7 +32,7 @@
 --                                                the frozen objects that stay
 use Rattle.std.specs.Prelude.{◌≡◌, ℕ, ◌+◌, ◌-◌, ◌*◌, ◌/◌, ◌≤◌, List, ◌++◌, length, map, Option}
 use Rattle.std.specs.List.{AllByRecursion}
-use Rattle.seg_bytes.specs.Bytes.{IsSame, ChangesOnly}
+use Rattle.seg_spec.specs.Bytes.{IsSame, ChangesOnly}
 use Rattle.seg_spec.specs.Types.{Table, size}
 use Rattle.seg_spec.specs.Heap.{IsHeap, live, heap_start}
 use Rattle.seg_spec.specs.Sound.{times, SameBlocks, positions, HoldsRoot}

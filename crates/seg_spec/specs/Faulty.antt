@@ -11,7 +11,7 @@
 --     Failure, Lacks bytes failure        a name for each of the first five
 use Rattle.std.specs.Prelude.{◌≡◌, ℕ, ◌%◌, ◌≤◌, true, List, [], ◌++◌, length}
 use Rattle.std.specs.List.{AllByRecursion}
-use Rattle.seg_bytes.specs.Bytes.{word, slice}
+use Rattle.seg_spec.specs.Bytes.{word, slice}
 use Rattle.seg_spec.specs.Types.{Table, IsTable, AreOfVersion, HasTable, IsFirstWrong}
 use Rattle.seg_spec.specs.Heap.{heap_start, tag_at, tiles, Fill, AreHeaders, AreApart, live, gaps, HoldsGaps}
 use Rattle.seg_spec.specs.Block.{Kind, kind_number, IsOwnable}

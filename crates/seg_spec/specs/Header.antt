@@ -10,7 +10,7 @@
 --     back_start, back_size          the bytes between the free structure's word and the heap
 --     KeepsFront, KeepsBack          the bytes before that word are kept; those after it, up to the heap
 use Rattle.std.specs.Prelude.{◌≡◌, ◌⊎◌, ℕ, ◌+◌, ◌-◌, ◌*◌, ◌^◌, List}
-use Rattle.seg_bytes.specs.Bytes.{IsSame}
+use Rattle.seg_spec.specs.Bytes.{IsSame}
 
 -- right after the header
 abbrev pub types_start : ℕ

@@ -3,7 +3,7 @@
 --                        this is what `check` accepts
 --     upgraded bytes     an image after it was opened
 use Rattle.std.specs.Prelude.{◌≡◌, ℕ, List, []}
-use Rattle.seg_bytes.specs.Bytes.{word, set_word}
+use Rattle.seg_spec.specs.Bytes.{word, set_word}
 use Rattle.seg_spec.specs.Header.{next_word, version_word, sharing_version}
 use Rattle.seg_spec.specs.Sound.{Picture, IsHeld}
 use Rattle.seg_spec.specs.Counting.{AreCounted}

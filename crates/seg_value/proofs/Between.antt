@@ -3,7 +3,7 @@ use Rattle.std.proofs.Common.{◌≡◌, ◌≢◌, ℕ, zero, suc, ◌+◌, ◌
 use Rattle.std.specs.Prelude.{insert, remove}
 use Rattle.std.proofs.Math.Nat.{mul-le-mul_left}
 use Rattle.std.specs.List.{AllByRecursion}
-use Rattle.seg_bytes.specs.Bytes.{set_word, signed_long, IsSame, ChangesOnly}
+use Rattle.seg_spec.specs.Bytes.{set_word, signed_long, IsSame, ChangesOnly}
 use Rattle.seg_spec.specs.Pointer.{target}
 use Rattle.seg_spec.specs.Types.{Form, Table, form_at, size}
 use Rattle.seg_spec.specs.Value.{Value, Values, nil, cons, count, append, Map, IsAscending}
@@ -20,7 +20,7 @@ use Rattle.seg_spec.specs.Items.{insert_nth, remove_nth, without_entry}
 use Rattle.seg_spec.specs.Spending.{PlaceBlocks}
 use Rattle.seg_value.specs.Entries.{flat_value, flat_asks, OpensEntry, ClosesEntry}
 use Rattle.seg_spec.specs.Shrinking.{KeepsPathsInside}
-use Rattle.seg_bytes.proofs.BytesLaws.{number-set_same}
+use Rattle.seg_spec.proofs.BytesLaws.{number-set_same}
 use Rattle.seg_spec.proofs.SliceLaws.{IsSame-part}
 use Rattle.seg_spec.proofs.OneReading.{Holds-one}
 use Rattle.seg_spec.proofs.Frame.{cell-target, cell-count, target-same, IsBlock-kept}

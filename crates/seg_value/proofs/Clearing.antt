@@ -3,7 +3,7 @@ use Rattle.std.proofs.Common.{◌≡◌, ℕ, ◌+◌, ◌^◌, ◌<◌, ◌≤�
 use Rattle.std.specs.Prelude.{nat_le}
 use Rattle.std.specs.List.{AllByRecursion}
 use Rattle.seg_spec.specs.Header.{free_word, back_start, back_size}
-use Rattle.seg_bytes.specs.Bytes.{ChangesOnly}
+use Rattle.seg_spec.specs.Bytes.{ChangesOnly}
 use Rattle.seg_spec.specs.Types.{Table, IsTable, form_at, size}
 use Rattle.seg_spec.specs.Value.{Value, default_of}
 use Rattle.seg_spec.specs.Heap.{IsHeap, live, heap_start, tag_at, link_at}

@@ -6,7 +6,7 @@ use Rattle.std.specs.Option.{option_map_or}
 use Rattle.std.proofs.Math.Nat.{mul-one, zero-mul, mul-le-mul_right}
 use Rattle.std.proofs.lemmas.Bool.{cases_eq}
 use Rattle.std.proofs.lemmas.Bool.Decides.{nat_tests}
-use Rattle.seg_bytes.specs.Bytes.{Agrees, IsSame, ChangesOnly}
+use Rattle.seg_spec.specs.Bytes.{Agrees, IsSame, ChangesOnly}
 use Rattle.seg_spec.specs.Header.{KeepsFront, KeepsBack}
 use Rattle.seg_spec.specs.Pointer.{target, set_pointer, distance}
 use Rattle.seg_spec.specs.Types.{Form, Table, IsTable, form_at, size}
@@ -21,7 +21,7 @@ use Rattle.seg_spec.specs.Demand.{need}
 use Rattle.seg_spec.specs.Owning.{Stands}
 use Rattle.seg_spec.specs.Spending.{item_size, units_named, cut_to}
 use Rattle.seg_spec.specs.Shrinking.{KeepsPathsInside, ShrinksPlace}
-use Rattle.seg_bytes.proofs.BytesLaws.{slice-agrees, number-agrees, number-set_other}
+use Rattle.seg_spec.proofs.BytesLaws.{slice-agrees, number-agrees, number-set_other}
 use Rattle.seg_spec.proofs.SliceLaws.{IsSame-part, IsSame-none}
 use Rattle.seg_spec.proofs.PointerLaws.{target-set_same}
 use Rattle.seg_spec.proofs.TypesLaws.{size_large}

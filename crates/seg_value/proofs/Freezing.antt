@@ -1,6 +1,6 @@
 -- An object moves to a new block, and is frozen there.
 use Rattle.std.proofs.Common.{◌≡◌, ◌≢◌, ℕ, suc, ◌+◌, ◌-◌, ◌*◌, ◌%◌, ◌^◌, ◌<◌, ◌≤◌, inl, inr, List, [], ◌∷◌, length, None, refl, sym, ap, ◌∙◌, subst, arith, append-nil}
-use Rattle.seg_bytes.specs.Bytes.{word, set_word, IsSame, ChangesOnly}
+use Rattle.seg_spec.specs.Bytes.{word, set_word, IsSame, ChangesOnly}
 use Rattle.seg_spec.specs.Header.{free_word, back_start, back_size, index_cell, next_word}
 use Rattle.seg_spec.specs.Types.{Table, IsTable, size}
 use Rattle.seg_spec.specs.Value.{Value, Values, nil, cons}
@@ -16,7 +16,7 @@ use Rattle.seg_spec.specs.Owning.{StandsBeside}
 use Rattle.seg_spec.specs.Owing.{KeepsLinked}
 use Rattle.seg_spec.proofs.SliceLaws.{IsSame-part}
 use Rattle.seg_spec.proofs.Frame.{word-same, target-same, Holds-kept, IsBlock-kept, payload-same}
-use Rattle.seg_bytes.proofs.BytesLaws.{number-set_same, number-set_other, length-set_number}
+use Rattle.seg_spec.proofs.BytesLaws.{number-set_same, number-set_other, length-set_number}
 use Rattle.seg_spec.proofs.Writing.{set_number-changes}
 use Rattle.seg_spec.proofs.LiveLaws.{times-same, times-other, times-more, times-without, there, each_there, LiesIn, live-lie, live-once}
 use Rattle.seg_spec.proofs.OneRequest.{counts_one}

@@ -1,7 +1,7 @@
 -- A write before the heap: all blocks stay.
 use Rattle.std.proofs.Common.{◌≡◌, ℕ, ◌+◌, ◌*◌, ◌≤◌, inl, inr, List, [], ◌∷◌, length, true, refl, sym, subst, arith}
 use Rattle.std.specs.List.{AllByRecursion}
-use Rattle.seg_bytes.specs.Bytes.{IsSame, ChangesOnly}
+use Rattle.seg_spec.specs.Bytes.{IsSame, ChangesOnly}
 use Rattle.seg_spec.specs.Types.{Table}
 use Rattle.seg_spec.specs.Heap.{Tile, tiles, Fill, gaps, live, IsHeap, heap_start, free_of, KeepsTiles}
 use Rattle.seg_spec.specs.Block.{IsOwnable, KeepsBlock, payload_size}

@@ -1,6 +1,6 @@
 -- A new block with the default of its value, from what the steps leave.
 use Rattle.std.proofs.Common.{◌≡◌, ℕ, ◌+◌, ◌-◌, ◌*◌, ◌%◌, ◌^◌, ◌<◌, ◌≤◌, List, [], ◌∷◌, length, Some, None, refl, ap, ◌∙◌, arith}
-use Rattle.seg_bytes.specs.Bytes.{set_word, ChangesOnly}
+use Rattle.seg_spec.specs.Bytes.{set_word, ChangesOnly}
 use Rattle.seg_spec.specs.Types.{Table, IsTable, size}
 use Rattle.seg_spec.specs.Value.{default_of}
 use Rattle.seg_spec.specs.Heap.{Span, IsHeap, live, with_block, granted, after_take, Takes}
@@ -10,7 +10,7 @@ use Rattle.seg_spec.specs.Sound.{times, positions}
 use Rattle.seg_spec.proofs.LiveLaws.{times-same, times-with_block}
 use Rattle.seg_spec.proofs.NewBlock.{took, new_live, block_fits, was_free, new_heap, all_kept, is_block, new_length, new_front, new_back, new_link, taken_units}
 use Rattle.seg_spec.specs.Cells.{IsWithin}
-use Rattle.seg_bytes.proofs.BytesLaws.{length-set_number}
+use Rattle.seg_spec.proofs.BytesLaws.{length-set_number}
 use Rattle.seg_value.specs.Contents.{GivesBlock}
 
 module _ (allocator u h tag : ℕ) (old taken new : List ℕ) (heap : IsHeap allocator old) (t : Takes allocator old taken u (Some h)) (at n : ℕ) (low : h + 16 ≤ at) (high : at + n ≤ h + 16 * u)

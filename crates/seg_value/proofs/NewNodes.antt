@@ -1,6 +1,6 @@
 -- A new node of the index's tree, from what the steps leave.
 use Rattle.std.proofs.Common.{◌≡◌, ℕ, ◌+◌, ◌-◌, ◌*◌, ◌%◌, ◌^◌, ◌<◌, ◌≤◌, List, length, Some, refl, ap, ◌∙◌, arith}
-use Rattle.seg_bytes.specs.Bytes.{set_word, ChangesOnly}
+use Rattle.seg_spec.specs.Bytes.{set_word, ChangesOnly}
 use Rattle.seg_spec.specs.Heap.{IsHeap, Takes}
 use Rattle.seg_spec.specs.Demand.{need}
 use Rattle.seg_spec.specs.Block.{Kind, tag_of}

@@ -1,7 +1,7 @@
 -- An own loses its object, from what the writes leave.
 use Rattle.std.proofs.Common.{◌≡◌, ◌≢◌, ℕ, ◌+◌, ◌^◌, ◌<◌, ◌≤◌, List, [], ◌∷◌, Option, Some, None, refl, sym, ap, ◌∙◌, subst, arith}
 use Rattle.std.specs.List.{AllByRecursion}
-use Rattle.seg_bytes.specs.Bytes.{set_word, ChangesOnly}
+use Rattle.seg_spec.specs.Bytes.{set_word, ChangesOnly}
 use Rattle.seg_spec.specs.Pointer.{target, distance, set_pointer}
 use Rattle.seg_spec.specs.Types.{Form, Table, form_at, size}
 use Rattle.seg_spec.specs.Value.{Value, Full}

@@ -2,7 +2,7 @@
 use Rattle.std.proofs.Common.{◌≡◌, ℕ, zero, suc, ◌+◌, ◌*◌, ◌%◌, ◌<◌, ◌≤◌, Some, ℤ, List, [], ◌∷◌, ◌++◌, length, map, refl, sym, ap, ◌∙◌, subst, arith, append_assoc, rules}
 use Rattle.std.specs.Prelude.{insert, remove, slice_get, ◌<ℤ◌}
 use Rattle.std.specs.List.{AllByRecursion}
-use Rattle.seg_bytes.specs.Bytes.{signed_long, IsSame}
+use Rattle.seg_spec.specs.Bytes.{signed_long, IsSame}
 use Rattle.seg_spec.specs.Types.{Form, Table, size, IsTable}
 use Rattle.seg_spec.specs.Value.{Value, Values, nil, cons, count, append, Map, IsAscending}
 use Rattle.seg_spec.specs.Items.{insert_nth, remove_nth}

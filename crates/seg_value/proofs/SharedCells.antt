@@ -1,7 +1,7 @@
 -- A cell is made to share the object of another cell, from what the steps leave.
 use Rattle.std.proofs.Common.{◌≡◌, ℕ, suc, ◌+◌, ◌^◌, ◌<◌, ◌≤◌, List, [], ◌∷◌, ◌++◌, length, Option, Some, None, refl, sym, ap, ◌∙◌, subst, arith}
 use Rattle.std.specs.List.{AllByRecursion}
-use Rattle.seg_bytes.specs.Bytes.{word, set_word, ChangesOnly}
+use Rattle.seg_spec.specs.Bytes.{word, set_word, ChangesOnly}
 use Rattle.seg_spec.specs.Pointer.{target, set_pointer}
 use Rattle.seg_spec.specs.Types.{Form, Table, form_at, size}
 use Rattle.seg_spec.specs.Value.{Value, nil, Empty, node, default_of}
@@ -18,7 +18,7 @@ use Rattle.seg_spec.specs.Destroying.{AreLive, KeepFrozen}
 use Rattle.seg_spec.specs.Clearing.{SharedBeside, BesideShared, ClearsPlace}
 use Rattle.seg_spec.proofs.SliceLaws.{IsSame-part}
 use Rattle.seg_spec.proofs.Frame.{word-same, each_right}
-use Rattle.seg_bytes.proofs.BytesLaws.{number-set_same}
+use Rattle.seg_spec.proofs.BytesLaws.{number-set_same}
 use Rattle.seg_spec.proofs.Writing.{set_number-changes}
 use Rattle.seg_spec.proofs.PointerLaws.{target-small}
 use Rattle.seg_spec.proofs.Defaults.{default-form}

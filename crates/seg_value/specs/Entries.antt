@@ -9,7 +9,7 @@ use Rattle.std.specs.Prelude.{◌≡◌, ℕ, ◌+◌, ◌*◌, ◌%◌, ◌<◌
 use Rattle.seg_spec.specs.Apart.{Separate}
 use Rattle.seg_spec.specs.Block as block
 use Rattle.seg_spec.specs.Block.{tag_of}
-use Rattle.seg_bytes.specs.Bytes.{signed_long, ChangesOnly}
+use Rattle.seg_spec.specs.Bytes.{signed_long, ChangesOnly}
 use Rattle.seg_spec.specs.Cells.{IsWithin}
 use Rattle.seg_spec.specs.Demand.{Ask}
 use Rattle.seg_spec.specs.Growing.{Succeeds}

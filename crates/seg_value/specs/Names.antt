@@ -15,7 +15,7 @@
 --     EmptiesIndex old new table          the buffer was freed
 use Rattle.std.specs.Prelude.{◌≡◌, ℕ, ◌+◌, ◌*◌, ◌%◌, ◌<◌, ◌≤◌, ◌-◌, List, [], length, Some, None, Result, MatchResult}
 use Rattle.std.specs.List.{AllByRecursion}
-use Rattle.seg_bytes.specs.Bytes.{word, IsSame, ChangesOnly, slice}
+use Rattle.seg_spec.specs.Bytes.{word, IsSame, ChangesOnly, slice}
 pub use Rattle.seg_spec.specs.Header.{index_cell}
 use Rattle.seg_spec.specs.Header.{KeepsFront, back_start, reserved, heap_start}
 use Rattle.seg_spec.specs.Pointer.{target}

@@ -1,5 +1,5 @@
 ghost use Rattle.std.specs.Prelude.{◌≡◌, ℕ, ◌+◌, ◌-◌, ◌*◌, ◌/◌, ◌%◌, ◌^◌, ◌<◌, ◌≤◌, [], ◌∷◌, length, List, Some, true, option_map, IfOk, IsOkUnless, MatchResult};
-ghost use Rattle.seg_bytes.specs.Bytes.{set_word};
+ghost use Rattle.seg_spec.specs.Bytes.{set_word};
 ghost use Rattle.seg_spec.specs.Block.{has_buffer};
 ghost use Rattle.seg_block.specs.Blocks.{HasRoom, payload_at};
 ghost use Rattle.seg_spec.specs.Calls.{Refuses};

@@ -1,5 +1,5 @@
 ghost use Rattle.std.specs.Prelude.{◌≡◌, ◌+◌, ◌-◌, ◌≤◌, length};
-ghost use Rattle.seg_bytes.specs.Bytes.{set_word, signed_long, ChangesOnly};
+ghost use Rattle.seg_spec.specs.Bytes.{set_word, signed_long, ChangesOnly};
 ghost use Rattle.seg_spec.specs.Reads.{count_at, start};
 ghost use Rattle.seg_spec.specs.Window.{with_bytes, KeepsHost};
 ghost use Rattle.seg_block.specs.Blocks.{payload_at};

@@ -1,5 +1,5 @@
 ghost use Rattle.std.specs.Prelude.{◌≡◌, ℕ, ◌+◌, ◌*◌, ◌%◌, ◌^◌, ◌<◌, ◌≤◌, List, length};
-ghost use Rattle.seg_bytes.specs.Bytes.{slice, put, ChangesOnly};
+ghost use Rattle.seg_spec.specs.Bytes.{slice, put, ChangesOnly};
 ghost use Rattle.seg_spec.specs.Cells.{IsWithin, Shifts};
 ghost use Rattle.seg_spec.specs.Heap.{IsHeap};
 ghost use Rattle.seg_spec.specs.Owning.{StandsBeside};

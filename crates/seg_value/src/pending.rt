@@ -11,7 +11,7 @@ ghost use Rattle.seg_spec.specs.Owing.{IsPart, AreParts, OwesLinks, entries_at};
 ghost use Rattle.seg_spec.specs.Destroying.{AreLive, GoesWith, Awaits, Pops, Uncouples, DefaultsRest, Destroys};
 ghost use Rattle.seg_spec.specs.Shared.{named_in};
 ghost use Rattle.seg_spec.specs.Frozen.{Frozen};
-ghost use Rattle.seg_bytes.specs.Bytes.{set_word};
+ghost use Rattle.seg_spec.specs.Bytes.{set_word};
 ghost use Rattle.seg_spec.specs.Window.{with_bytes, KeepsHost};
 ghost use Rattle.seg_block.specs.Blocks.{IsSized};
 ghost use Rattle.seg_layout.specs.Forms.{has_cells};

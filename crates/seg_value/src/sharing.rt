@@ -3,7 +3,7 @@
 ghost use Rattle.std.specs.Prelude.{◌≡◌, ℕ, suc, ◌+◌, ◌%◌, ◌^◌, ◌<◌, ◌≤◌, List, [], ◌∷◌, ◌++◌, length, Option, Some, None, Err, option_map, IsOkUnless, MatchResult};
 ghost use Rattle.std.specs.List.{AllByRecursion};
 ghost use Rattle.seg_spec.specs.Block.{block_of};
-ghost use Rattle.seg_bytes.specs.Bytes.{word, set_word};
+ghost use Rattle.seg_spec.specs.Bytes.{word, set_word};
 ghost use Rattle.seg_spec.specs.Header.{next_word};
 ghost use Rattle.seg_spec.specs.Calls.{IsLoose, Refuses};
 ghost use Rattle.seg_spec.specs.Clearing.{ClearsPlace};

@@ -2,7 +2,7 @@
 use Rattle.std.proofs.Common.{◌≡◌, ℕ, ◌+◌, true, false, List, [], ◌∷◌, length, replicate, codes, pos, Bool, Some, None, inl, refl, sym, ◌∙◌, ap, lit<, lit≤}
 use Rattle.std.specs.Prelude.{ℤ, option_map, slice_index_or, if◌then◌else◌}
 use Rattle.std.specs.Fmt.{digits}
-use Rattle.seg_bytes.specs.Bytes.{slice, put, number, number_of, word, set_number, set_long, signed, IsSame}
+use Rattle.seg_spec.specs.Bytes.{slice, put, number, number_of, word, set_number, set_long, signed, IsSame}
 use Rattle.seg_spec.specs.Types.{size}
 use Rattle.seg_spec.specs.Window.{IsPlace}
 use Rattle.seg_spec.specs.Value.{Value, Int, nil, cons}

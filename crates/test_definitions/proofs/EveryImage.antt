@@ -2,7 +2,7 @@
 use Rattle.std.proofs.Common.{◌≡◌, ℕ, zero, suc, inl, ◌<◌, ◌≤◌, Bool, true, false, List, [], ◌∷◌, length, refl, ap, Some, ℤ, pos, negsuc, lit<, lit≤, arith, subst, sym}
 use Rattle.std.proofs.lemmas.List.Elements.{All-cons, All-nil, All-from_recursion}
 use Rattle.std.specs.List.{AllByRecursion}
-use Rattle.seg_bytes.specs.Bytes.{slice, number_of, number, signed, signed_long}
+use Rattle.seg_spec.specs.Bytes.{slice, number_of, number, signed, signed_long}
 use Rattle.seg_spec.specs.Pointer.{target}
 use Rattle.seg_spec.specs.Types.{Form, size, form_at, AreOfVersion, IsForm, IsTable}
 use Rattle.seg_spec.specs.Value.{Int, Text, Seq, Map, Full, nil, cons}

@@ -3,7 +3,7 @@
 use Rattle.std.proofs.Common.{◌≡◌, ℕ, zero, suc, ◌≤◌, true, inl, inr, List, [], ◌∷◌, length, refl, Some, pos, lit<, lit≤, arith, subst, sym}
 use Rattle.std.proofs.lemmas.List.Elements.{All-cons, All-nil}
 use Rattle.std.specs.List.{AllByRecursion}
-use Rattle.seg_bytes.specs.Bytes.{slice, put, number_of, number, set_number, set_byte, signed}
+use Rattle.seg_spec.specs.Bytes.{slice, put, number_of, number, set_number, set_byte, signed}
 use Rattle.seg_spec.specs.Pointer.{target}
 use Rattle.seg_spec.specs.Header.{sharing_version}
 use Rattle.seg_spec.specs.Types.{Form, Table, form_at, size, IsForm, IsTable, AreOfVersion}

@@ -2,7 +2,7 @@
 use Rattle.std.proofs.Common.{◌≡◌, ◌≤◌, true, false, inl, List, [], ◌∷◌, length, refl, pos, lit<, lit≤, arith, subst, sym}
 use Rattle.std.proofs.lemmas.List.Elements.{All-cons, All-nil}
 use Rattle.std.specs.List.{AllByRecursion}
-use Rattle.seg_bytes.specs.Bytes.{slice, number_of, number, word, signed}
+use Rattle.seg_spec.specs.Bytes.{slice, number_of, number, word, signed}
 use Rattle.seg_spec.specs.Pointer.{target}
 use Rattle.seg_spec.specs.Types.{Form, size}
 use Rattle.seg_spec.specs.Value.{Int, Text, nil, cons}

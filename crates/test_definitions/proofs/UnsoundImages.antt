@@ -1,7 +1,7 @@
 -- The small images with a fault aren't sound.
 use Rattle.std.proofs.Common.{◌≡◌, ℕ, zero, suc, ◌+◌, ◌*◌, ◌%◌, ◌==◌, ◌≤◌, true, false, List, [], ◌∷◌, ◌++◌, length, map, get_or, cond, eqb, Some, None, refl, sym, ap, ◌∙◌, subst, lit≤, arith}
 use Rattle.std.specs.List.{AllByRecursion}
-use Rattle.seg_bytes.specs.Bytes.{slice, put, number, number_of, set_number, word, half}
+use Rattle.seg_spec.specs.Bytes.{slice, put, number, number_of, set_number, word, half}
 use Rattle.seg_spec.specs.Pointer.{target}
 use Rattle.seg_spec.specs.Types.{Form, Table, form_at}
 use Rattle.seg_spec.specs.Value.{Value, Values, nil, cons, count}

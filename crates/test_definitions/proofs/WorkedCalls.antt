@@ -1,7 +1,7 @@
 -- Calls on small heaps, byte by byte.
 use Rattle.std.proofs.Common.{◌≡◌, true, false, List, [], ◌∷◌, length, refl, Some, lit≤, subst, arith}
 use Rattle.std.specs.Prelude.{Contains}
-use Rattle.seg_bytes.specs.Bytes.{slice, put, number_of, number, set_number}
+use Rattle.seg_spec.specs.Bytes.{slice, put, number_of, number, set_number}
 use Rattle.seg_spec.specs.Pointer.{target}
 use Rattle.seg_spec.specs.Heap.{Span, span, Tile, live, Fill, AreHeaders, heap_start, Takes, Gives, Expands}
 use Rattle.seg_spec.specs.Fixtures.{empty, taken, widened, given_back}

@@ -9,7 +9,7 @@ ghost use Rattle.seg_spec.specs.Spending.{buffer_asks, entry_asks, object_asks, 
 
 /// A number named x asks an empty heap for 2 units, and for an index of 3 units, 2 at least. A tree has a node of 3 units. An
 /// index that has room for a second name asks for nothing.
-#[tactic(auto, unfolding(seg_spec::specs::Fixtures::counter, seg_spec::specs::Fixtures::empty, seg_bytes::specs::Bytes::slice, seg_bytes::specs::Bytes::number, seg_bytes::specs::Bytes::number_of, seg_spec::specs::Pointer::target, seg_spec::specs::Types::size))]
+#[tactic(auto, unfolding(seg_spec::specs::Fixtures::counter, seg_spec::specs::Fixtures::empty, seg_spec::specs::Bytes::slice, seg_spec::specs::Bytes::number, seg_spec::specs::Bytes::number_of, seg_spec::specs::Pointer::target, seg_spec::specs::Types::size))]
 pub fn named_objects()
     ensures first { object_asks empty (Form.i64 ∷ []) 0 1 (codes "x") ≡
         units_for 2 ∷ record { old = None; preferred = 3; limit = 2 } ∷ [] }
@@ -33,7 +33,7 @@ pub fn room_for_a_named_object()
 {}
 
 /// A text of 2 bytes in a buffer of 16 grows to 16 without a request, and to 17 by one for 3 units.
-#[tactic(auto, unfolding(seg_spec::specs::Fixtures::greeting, seg_bytes::specs::Bytes::slice, seg_bytes::specs::Bytes::number, seg_bytes::specs::Bytes::number_of, seg_spec::specs::Pointer::target))]
+#[tactic(auto, unfolding(seg_spec::specs::Fixtures::greeting, seg_spec::specs::Bytes::slice, seg_spec::specs::Bytes::number, seg_spec::specs::Bytes::number_of, seg_spec::specs::Pointer::target))]
 pub fn texts()
     ensures fits { buffer_asks greeting 720 1 16 ≡ [] }
     ensures grows { buffer_asks greeting 720 1 17 ≡

@@ -3,7 +3,7 @@
 ghost use Rattle.std.specs.Prelude.{◌≡◌, ℕ, ◌+◌, ◌<◌, List, [], ◌++◌, length, Some, All};
 ghost use Rattle.seg_spec.specs.Cells.{EachCell, IsMoved};
 ghost use Rattle.std.specs.List.{AllByRecursion};
-ghost use Rattle.seg_bytes.specs.Bytes.{IsSame};
+ghost use Rattle.seg_spec.specs.Bytes.{IsSame};
 ghost use Rattle.seg_spec.specs.Types.{Table, IsTable, size};
 ghost use Rattle.seg_spec.specs.Value.{Value, Has, default_of, Selector, value_at};
 ghost use Rattle.seg_spec.specs.Block.{KeepsBlock};

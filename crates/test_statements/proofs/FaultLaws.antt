@@ -1,6 +1,6 @@
 -- A sound image has no fault, so a call on it can only run out of memory.
 use Rattle.std.proofs.Common.{◌≡◌, ℕ, List, [], ◌∷◌, refl, sym, ◌∙◌, inl, inr, arith}
-use Rattle.seg_bytes.specs.Bytes.{slice, number, number_of}
+use Rattle.seg_spec.specs.Bytes.{slice, number, number_of}
 use Rattle.seg_spec.specs.Types.{Form, Table}
 use Rattle.seg_spec.specs.Images.{IsSound}
 use Rattle.seg_spec.specs.Faulty.{Failure}

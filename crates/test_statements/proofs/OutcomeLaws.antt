@@ -5,7 +5,7 @@ use Rattle.seg_spec.specs.Images.{IsSound, upgraded}
 use Rattle.seg_spec.specs.Faulty.{IsImageLength}
 use Rattle.seg_spec.proofs.Upgrading.{upgrade_changes, upgraded_sound}
 use Rattle.seg_spec.specs.Fixtures.{counter, greeting, empty, lost_gap, counter_picture, greeting_picture}
-use Rattle.seg_bytes.specs.Bytes.{put, set_number}
+use Rattle.seg_spec.specs.Bytes.{put, set_number}
 use Rattle.test_definitions.proofs.OnePicture.{Held-one}
 use Rattle.test_definitions.proofs.Parts.{lost_gap-lacks}
 use Rattle.test_definitions.proofs.SoundImages.{counter_held, counter_sound, greeting_held, greeting_counted}

@@ -2,7 +2,7 @@
 
 ghost use Rattle.std.specs.Prelude.{◌≡◌, ◌≢◌, ℕ, ◌-◌, ◌/◌, ◌<◌, ◌≤◌, List, [], ◌∷◌, ◌++◌, length};
 ghost use Rattle.std.specs.List.{AllByRecursion};
-ghost use Rattle.seg_bytes.specs.Bytes.{word};
+ghost use Rattle.seg_spec.specs.Bytes.{word};
 ghost use Rattle.seg_spec.specs.Header.{version_word, next_word, sharing_version};
 ghost use Rattle.seg_spec.specs.Value.{Value, Full};
 ghost use Rattle.seg_spec.specs.Heap.{heap_start, span, live, gaps};

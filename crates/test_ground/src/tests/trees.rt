@@ -2,10 +2,10 @@ ghost use Rattle.std.specs.Prelude.{◌≡◌, ◌+◌, [], ◌∷◌, ⊤};
 ghost use Rattle.std.proofs.Common.{inr, arith};
 ghost use Rattle.std.specs.Ordering.{nat_cmp};
 ghost use Rattle.std.specs.Cmp.{on_total, nat_cmp_total};
-ghost use Rattle.seg_bytes.specs.Bytes.{word};
+ghost use Rattle.seg_spec.specs.Bytes.{word};
 ghost use Rattle.seg_rbtree.specs.Parts.{part};
 ghost use Rattle.seg_rbtree.proofs.Keys.{equal_to_one};
-ghost use Rattle.seg_bytes.proofs.BytesLaws.{number-slice};
+ghost use Rattle.seg_spec.proofs.BytesLaws.{number-slice};
 ghost use Rattle.seg_spec.proofs.OrderSteps.{steps_up};
 
 use seg_ptr::{View, Window};

@@ -1,6 +1,6 @@
 use Rattle.std.proofs.Common.{◌≡◌, ◌*◌, sym, ap, ◌∙◌, arith}
 use Rattle.std.specs.Prelude.{flat_map}
-use Rattle.seg_bytes.specs.Bytes.{slice}
+use Rattle.seg_spec.specs.Bytes.{slice}
 use Rattle.seg_spec.specs.Types.{form_bytes}
 use Rattle.client_spec.proofs.FileVersions.{of_sharing}
 use Rattle.client_code.proofs.TypeEntries.{full, are_types, spells_flat, all_used}

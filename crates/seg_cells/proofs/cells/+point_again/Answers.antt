@@ -1,5 +1,5 @@
 use Rattle.std.proofs.Common.{ap, ◌∙◌, sym, refl, arith, subst}
-use Rattle.seg_bytes.specs.Bytes.{word, set_word}
+use Rattle.seg_spec.specs.Bytes.{word, set_word}
 use Rattle.seg_spec.specs.Window.{with_bytes}
 use Rattle.seg_spec.specs.Cells.{ChangesCells, IsFurther, further}
 use Rattle.seg_spec.proofs.CellSteps.{further_local, next_field, field_within, past_fields, whole_struct, no_fields}

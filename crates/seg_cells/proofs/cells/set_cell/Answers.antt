@@ -1,5 +1,5 @@
 use Rattle.std.proofs.Common.{◌≡◌, ℕ, ap, ◌∙◌, sym, subst}
-use Rattle.seg_bytes.specs.Bytes.{set_long}
+use Rattle.seg_spec.specs.Bytes.{set_long}
 use Rattle.seg_spec.specs.Window.{Placement, with_bytes}
 use Rattle.seg_spec.specs.Cells.{ChangesCells, IsDefaulted}
 use Rattle.seg_cells.proofs.CellCases.{cell_of_type, empty_cell, zero_cell}

@@ -1,10 +1,10 @@
 use Rattle.std.proofs.Common.{refl, ◌≡◌, ℕ, ◌+◌, ◌≤◌, List, length, arith, sym, ap, ◌∙◌}
 use Rattle.std.proofs.lemmas.Result.{err_from_is_err_and}
 use Rattle.std.specs.Prelude.{flat_map as flat_map_list}
-use Rattle.seg_bytes.specs.Bytes.{slice}
+use Rattle.seg_spec.specs.Bytes.{slice}
 use Rattle.seg_spec.specs.Types.{Table, HasTable, Spells, padded, form_bytes}
 use Rattle.seg_spec.specs.Sound.{HasHeader}
-use Rattle.seg_bytes.proofs.BytesLaws.{length-slice}
+use Rattle.seg_spec.proofs.BytesLaws.{length-slice}
 use Rattle.seg_check.proofs.checker.check.Goals as goal
 
 -- the bytes after the header, and their types

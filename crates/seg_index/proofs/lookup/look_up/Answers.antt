@@ -1,5 +1,5 @@
 use Rattle.std.proofs.Common.{◌≡◌, ap, ◌∙◌, sym}
-use Rattle.seg_bytes.specs.Bytes.{word}
+use Rattle.seg_spec.specs.Bytes.{word}
 use Rattle.seg_spec.specs.Header.{index_kind_word}
 use Rattle.seg_spec.specs.Window.{Placement}
 use Rattle.seg_index.specs.Lists.{PartedNames, LeadsToName}

@@ -1,5 +1,5 @@
 use Rattle.std.proofs.Common.{◌≡◌, ℕ, Option, ◌+◌, refl, ap, ◌∙◌, sym, subst, Some, None}
-use Rattle.seg_bytes.specs.Bytes.{set_word}
+use Rattle.seg_spec.specs.Bytes.{set_word}
 use Rattle.seg_spec.specs.Header.{index_cell}
 use Rattle.seg_spec.specs.Window.{Placement, with_bytes}
 use Rattle.seg_rbtree.specs.Paths.{node_at}

@@ -1,5 +1,5 @@
 use Rattle.std.proofs.Common.{◌≡◌, ◌+◌, ◌*◌, ◌<◌, ap, refl, arith}
-use Rattle.seg_bytes.specs.Bytes.{put}
+use Rattle.seg_spec.specs.Bytes.{put}
 use Rattle.seg_spec.specs.Window.{Placement}
 use Rattle.seg_manager.proofs.Answering.{host_twice}
 use Rattle.seg_manager.proofs.TableBytes.{none_written, one_written, entry_long, all_written}

@@ -1,7 +1,7 @@
 use Rattle.std.proofs.Common.{◌≡◌, ℕ, ℤ, List, Option, w64, of_z, to_z, SFits, ◌+◌, ◌%◌, ◌^◌, ap, ◌∙◌, Some, None, sym, subst}
 use Rattle.std.proofs.lemmas.Int.{to_z-of_z}
 use Rattle.seg_spec.specs.Window.{Placement}
-use Rattle.seg_bytes.specs.Bytes.{signed_long}
+use Rattle.seg_spec.specs.Bytes.{signed_long}
 use Rattle.seg_rbtree.specs.declared.path.Path.{Path}
 use Rattle.seg_rbtree.specs.Following.{LeadsInside}
 use Rattle.seg_cells.specs.Places.{object_at}

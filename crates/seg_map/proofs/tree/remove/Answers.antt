@@ -1,6 +1,6 @@
 use Rattle.std.proofs.Common.{◌≡◌, refl, ℕ, Option, ◌+◌, ◌*◌, ◌%◌, ◌^◌, ap, ◌∙◌, sym, subst, true, false, Some, None, w64, of_z, to_z}
 use Rattle.std.proofs.lemmas.Int.{to_z-of_z}
-use Rattle.seg_bytes.specs.Bytes.{set_word}
+use Rattle.seg_spec.specs.Bytes.{set_word}
 use Rattle.seg_spec.specs.Heap.{IsHeap, IsLive, Gives}
 use Rattle.seg_spec.specs.Block.{block_of}
 use Rattle.seg_spec.specs.Items.{key_place}

@@ -1,5 +1,5 @@
 use Rattle.std.proofs.Common.{◌+◌, ◌<◌, length, sym, arith}
-use Rattle.seg_bytes.proofs.BytesLaws.{set_number_past}
+use Rattle.seg_spec.proofs.BytesLaws.{set_number_past}
 use Rattle.seg_ptr.proofs.words.put_word.Goals as goal
 
 pub returns-else-saturating_add-bytes-clause-bytes : goal.returns-else-saturating_add-bytes-clause-bytes

@@ -1,6 +1,6 @@
 use Rattle.std.proofs.Common.{rules, ◌≡◌, ◌+◌, ◌≤◌, [], length, sym, ap, ◌∙◌, subst, Err, w64}
 use Rattle.std.proofs.lemmas.Int.{to_z-of_z}
-use Rattle.seg_bytes.specs.Bytes.{signed_long, ChangesOnly}
+use Rattle.seg_spec.specs.Bytes.{signed_long, ChangesOnly}
 use Rattle.seg_spec.specs.Reads.{Holds}
 use Rattle.seg_spec.specs.Types.{Form, Table, form_at, size}
 use Rattle.seg_spec.specs.Value.{Int}

@@ -1,6 +1,6 @@
 use Rattle.std.proofs.Common.{rules, ◌≡◌, ◌+◌, ◌%◌, ◌^◌, refl, sym, ◌∙◌, ap, subst, None, w64, of_z, SFits, ℤ}
 use Rattle.std.proofs.lemmas.Int.{to_z-of_z}
-use Rattle.seg_bytes.specs.Bytes.{signed, set_word, set_long}
+use Rattle.seg_spec.specs.Bytes.{signed, set_word, set_long}
 use Rattle.seg_spec.specs.Types.{Form, size}
 use Rattle.seg_spec.specs.Value.{Int}
 use Rattle.seg_spec.specs.Window.{Placement, KeepsHost}

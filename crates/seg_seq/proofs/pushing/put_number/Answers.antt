@@ -1,7 +1,7 @@
 use Rattle.std.proofs.Common.{◌+◌, ◌<◌, ◌≤◌, length, sym, ap, ◌∙◌, arith}
 use Rattle.std.proofs.lemmas.Grind.{common_steps}
-use Rattle.seg_bytes.specs.Bytes.{set_long}
-use Rattle.seg_bytes.proofs.BytesLaws.{set_number_past}
+use Rattle.seg_spec.specs.Bytes.{set_long}
+use Rattle.seg_spec.proofs.BytesLaws.{set_number_past}
 use Rattle.seg_raw.proofs.Numbers.{put_from, put-spelling, spelling-long}
 use Rattle.seg_seq.proofs.pushing.put_number.Goals as goal
 

@@ -1,5 +1,5 @@
 use Rattle.std.proofs.Common.{◌+◌, ◌%◌, ◌^◌, min, refl, sym, ap, ◌∙◌, subst, Some}
-use Rattle.seg_bytes.specs.Bytes.{set_word}
+use Rattle.seg_spec.specs.Bytes.{set_word}
 use Rattle.seg_spec.specs.Pointer.{target, set_pointer}
 use Rattle.seg_spec.specs.Window.{Placement}
 use Rattle.seg_value.specs.Stored.{Stored}

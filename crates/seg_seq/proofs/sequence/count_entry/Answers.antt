@@ -1,5 +1,5 @@
 use Rattle.std.proofs.Common.{rules, ◌≡◌, ◌+◌, Err}
-use Rattle.seg_bytes.specs.Bytes.{set_word}
+use Rattle.seg_spec.specs.Bytes.{set_word}
 use Rattle.seg_spec.specs.Value.{Seq}
 use Rattle.seg_spec.specs.Window.{with_bytes}
 use Rattle.seg_spec.proofs.Placements.{bytes_of}

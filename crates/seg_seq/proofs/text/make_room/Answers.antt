@@ -1,5 +1,5 @@
 use Rattle.std.proofs.Common.{rules, ◌≡◌, ◌+◌, ◌≤◌, inl, refl, ap, arith, Err}
-use Rattle.seg_bytes.specs.Bytes.{set_word}
+use Rattle.seg_spec.specs.Bytes.{set_word}
 use Rattle.seg_spec.specs.Value.{Text}
 use Rattle.seg_spec.specs.Window.{with_bytes}
 use Rattle.seg_raw.specs.declared.code.Code.TheVariants.{BadAlloc}

@@ -1,5 +1,5 @@
 use Rattle.std.proofs.Common.{rules, ◌≡◌, ◌≤◌, ◌<◌, ◌∷◌, [], length, refl, ap, ◌∙◌, arith, Err}
-use Rattle.seg_bytes.specs.Bytes.{set_byte}
+use Rattle.seg_spec.specs.Bytes.{set_byte}
 use Rattle.seg_spec.specs.Window.{Placement}
 use Rattle.seg_cells.specs.Places.{place_of}
 use Rattle.seg_seq.proofs.TextCalls.{counted_all, all_kept, written_to, one_byte}

@@ -1,5 +1,5 @@
 use Rattle.std.proofs.Common.{◌+◌, ◌*◌, ap, ◌∙◌}
-use Rattle.seg_bytes.specs.Bytes.{set_word}
+use Rattle.seg_spec.specs.Bytes.{set_word}
 use Rattle.seg_seqfit.proofs.free_list.set_free_size.Goals as goal
 
 pub returns-clause-bytes : goal.returns-clause-bytes

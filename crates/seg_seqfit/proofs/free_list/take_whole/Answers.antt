@@ -1,5 +1,5 @@
 use Rattle.std.proofs.Common.{◌≡◌, ◌+◌, true, [], ◌∷◌, List, ℕ, None, sym, ap, ◌∙◌, subst}
-use Rattle.seg_bytes.specs.Bytes.{set_word}
+use Rattle.seg_spec.specs.Bytes.{set_word}
 use Rattle.seg_spec.specs.Heap.{link_at}
 use Rattle.seg_spec.specs.Pointer.{set_pointer}
 use Rattle.seg_block.specs.Tiling.{tile, Retiles}

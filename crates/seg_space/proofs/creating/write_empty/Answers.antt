@@ -1,5 +1,5 @@
 use Rattle.std.proofs.Common.{◌≡◌, ◌≤◌, length, ap, ◌∙◌, refl, arith, None}
-use Rattle.seg_bytes.specs.Bytes.{put}
+use Rattle.seg_spec.specs.Bytes.{put}
 use Rattle.seg_spec.specs.Pointer.{set_pointer}
 use Rattle.seg_spec.specs.Index.{unique_word}
 use Rattle.seg_spec.specs.Heap.{Begins}

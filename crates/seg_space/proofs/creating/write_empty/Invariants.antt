@@ -1,5 +1,5 @@
 use Rattle.std.proofs.Common.{◌≡◌, ℕ, ◌<◌, ◌≤◌, length, None}
-use Rattle.seg_bytes.specs.Bytes.{ChangesOnly}
+use Rattle.seg_spec.specs.Bytes.{ChangesOnly}
 use Rattle.seg_spec.specs.Header.{uniques_start, uniques_size, heap_start}
 use Rattle.seg_spec.specs.Pointer.{target}
 use Rattle.seg_spec.specs.Index.{unique_word}

@@ -2,9 +2,9 @@ use Rattle.std.proofs.Common.{◌≡◌, ◌∙◌, length, false, ap, sym, refl
 use Rattle.std.specs.Result.{OnOk, is_err}
 use Rattle.std.proofs.Common.{Result, Ok, Err}
 use Rattle.std.proofs.lemmas.Bool.{true≢false}
-use Rattle.seg_bytes.specs.Bytes.{put}
+use Rattle.seg_spec.specs.Bytes.{put}
 use Rattle.seg_spec.specs.Window.{Placement}
-use Rattle.seg_bytes.proofs.BytesLaws.{length-put}
+use Rattle.seg_spec.proofs.BytesLaws.{length-put}
 use Rattle.std.proofs.Common.{ℕ, ◌+◌, ◌-◌, ◌/◌, ◌≤◌, List, replicate}
 use Rattle.seg_spec.specs.Heap.{IsHeap, without_end}
 use Rattle.seg_spec.specs.Faulty.{IsImageLength}

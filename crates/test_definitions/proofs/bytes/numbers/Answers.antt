@@ -1,4 +1,4 @@
-use Rattle.seg_bytes.proofs.BytesLaws.{number-set_same, number-set_other}
+use Rattle.seg_spec.proofs.BytesLaws.{number-set_same, number-set_other}
 use Rattle.test_definitions.proofs.bytes.numbers.Goals as goal
 
 pub returns-clause-written : goal.returns-clause-written

@@ -1,6 +1,6 @@
 use Rattle.std.proofs.Common.{[], lit<, lit≤, refl, arith}
 use Rattle.std.specs.Prelude.{codes}
-use Rattle.seg_bytes.specs.Bytes.{slice}
+use Rattle.seg_spec.specs.Bytes.{slice}
 use Rattle.client_spec.specs.Run.{finished}
 use Rattle.client_spec.specs.Safe.{IsFront}
 use Rattle.client_spec.specs.Clients.{IsLeftInPlace}

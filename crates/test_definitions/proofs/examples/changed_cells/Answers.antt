@@ -1,5 +1,5 @@
 use Rattle.std.proofs.Common.{◌≡◌, ℕ, refl}
-use Rattle.seg_bytes.specs.Bytes.{slice, number_of, number}
+use Rattle.seg_spec.specs.Bytes.{slice, number_of, number}
 use Rattle.seg_spec.specs.Pointer.{target}
 use Rattle.seg_spec.specs.Types.{cells, size}
 use Rattle.test_definitions.proofs.examples.changed_cells.Goals as goal

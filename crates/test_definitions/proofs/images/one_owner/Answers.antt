@@ -1,4 +1,4 @@
-use Rattle.seg_bytes.specs.Bytes.{word}
+use Rattle.seg_spec.specs.Bytes.{word}
 use Rattle.seg_spec.proofs.LiveLaws.{owned_once, owns_live}
 use Rattle.test_definitions.proofs.images.one_owner.Goals as goal
 

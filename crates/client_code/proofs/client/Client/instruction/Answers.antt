@@ -1,6 +1,6 @@
 use Rattle.std.proofs.Common.{◌≡◌, ◌+◌, ◌-◌, ◌*◌, ◌<◌, ◌≤◌, length, take, drop, ap, sym, ◌∙◌, subst, arith, Some}
 use Rattle.client_spec.specs.Grammar.{listing}
-use Rattle.seg_bytes.specs.Bytes.{slice}
+use Rattle.seg_spec.specs.Bytes.{slice}
 use Rattle.client_code.specs.Operands.{IsSpelling}
 use Rattle.client_code.proofs.Spelled.{spelled_at}
 use Rattle.client_code.proofs.Whole.{same_instruction, past_instructions}

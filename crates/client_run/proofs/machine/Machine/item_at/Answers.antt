@@ -1,7 +1,7 @@
 use Rattle.std.proofs.Common.{rules, ◌≡◌, ℕ, false, pos, Some, Result, Ok, Err, sym, ◌∙◌, ap, subst}
 use Rattle.std.specs.Prelude.{MatchResult, IsTrue}
 use Rattle.seg_raw.specs.declared.code.Code.{Code}
-use Rattle.seg_bytes.specs.Bytes.{byte}
+use Rattle.seg_spec.specs.Bytes.{byte}
 use Rattle.seg_spec.specs.Types.{Form, form_at}
 use Rattle.client_run.specs.Worlds.{held_in}
 use Rattle.client_run.proofs.IndexLaws.{TellsAt, byte_does, item_does}

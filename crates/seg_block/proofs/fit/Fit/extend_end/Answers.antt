@@ -1,5 +1,5 @@
 use Rattle.std.proofs.Common.{◌-◌, ◌*◌, ◌/◌, length, true, ap, ◌∙◌, arith}
-use Rattle.seg_bytes.proofs.BytesLaws.{length-set_number}
+use Rattle.seg_spec.proofs.BytesLaws.{length-set_number}
 use Rattle.seg_spec.specs.Window.{Placement}
 use Rattle.seg_block.specs.Sizes.{set_size}
 use Rattle.seg_block.proofs.Extents.{extended_zero, end_never, end_units, extended_one, extended_more}

@@ -1,6 +1,6 @@
 use Rattle.std.proofs.Common.{◌≡◌, ℕ, ◌+◌, ◌%◌, ◌^◌, ◌≤◌, false, List, [], length, nat_le, ap, ◌∙◌, arith}
-use Rattle.seg_bytes.specs.Bytes.{slice, word}
-use Rattle.seg_bytes.proofs.BytesLaws.{number-slice, number_past}
+use Rattle.seg_spec.specs.Bytes.{slice, word}
+use Rattle.seg_spec.proofs.BytesLaws.{number-slice, number_past}
 use Rattle.seg_spec.proofs.SliceLaws.{slice-slice}
 use Rattle.seg_block.proofs.header.Header.read.Goals as goal
 

@@ -1,7 +1,7 @@
 use Rattle.std.proofs.Common.{ℕ, List, sym, ap, ◌∙◌, subst}
 use Rattle.std.specs.Prelude.{MatchResult}
 use Rattle.std.proofs.lemmas.Result.{err_from_is_err_and}
-use Rattle.seg_bytes.specs.Bytes.{word}
+use Rattle.seg_spec.specs.Bytes.{word}
 use Rattle.seg_spec.specs.Header.{next_word}
 use Rattle.seg_check.specs.Claiming.{Refuses}
 use Rattle.seg_check.specs.Cells.{AreRight}

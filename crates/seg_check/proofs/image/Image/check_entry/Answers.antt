@@ -1,7 +1,7 @@
 use Rattle.std.proofs.Common.{◌≡◌, ℕ, ◌+◌, ◌≤◌, true, false, List, ◌∷◌, length, Err, sym, ap, ◌∙◌, subst, arith}
 use Rattle.std.specs.Prelude.{IfErr}
 use Rattle.std.proofs.lemmas.Result.{err_from_is_err_and}
-use Rattle.seg_bytes.specs.Bytes.{half, byte}
+use Rattle.seg_spec.specs.Bytes.{half, byte}
 use Rattle.seg_spec.specs.Index.{IsName}
 use Rattle.seg_spec.specs.Pointer.{target}
 use Rattle.seg_entry.specs.Entries.{entry_read}

@@ -2,7 +2,7 @@ use Rattle.std.proofs.Common.{◌≡◌, ℕ, ◌+◌, ◌<◌, ◌++◌, ◌∷
 use Rattle.std.specs.Prelude.{IfErr, IfOk}
 use Rattle.std.proofs.lemmas.Int.{to_z-of_z}
 use Rattle.std.proofs.lemmas.Result.{err_from_is_err_and}
-use Rattle.seg_bytes.specs.Bytes.{signed_long}
+use Rattle.seg_spec.specs.Bytes.{signed_long}
 use Rattle.seg_spec.specs.Shapes.{tree_words}
 use Rattle.seg_spec.specs.Window.{Placement}
 use Rattle.seg_spec.specs.Pointer.{target}

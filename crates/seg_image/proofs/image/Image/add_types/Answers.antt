@@ -1,6 +1,6 @@
 use Rattle.std.proofs.Common.{sym, subst}
 use Rattle.std.specs.Prelude.{OnOk}
-use Rattle.seg_bytes.specs.Bytes.{word}
+use Rattle.seg_spec.specs.Bytes.{word}
 use Rattle.seg_spec.specs.Header.{version_word}
 use Rattle.seg_spec.specs.Sound.{Picture}
 use Rattle.seg_spec.specs.Types.{AreOfVersion}

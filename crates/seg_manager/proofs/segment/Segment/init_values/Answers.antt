@@ -1,5 +1,5 @@
 use Rattle.std.proofs.Common.{◌<◌, [], length, ap, ◌∙◌, subst, rules, arith}
-use Rattle.seg_bytes.specs.Bytes.{ChangesOnly}
+use Rattle.seg_spec.specs.Bytes.{ChangesOnly}
 use Rattle.seg_spec.specs.Cells.{IsWithin}
 use Rattle.seg_spec.specs.Types.{size}
 use Rattle.seg_spec.specs.Value.{default_of}

@@ -1,5 +1,5 @@
 use Rattle.std.proofs.Common.{◌≡◌, ◌+◌, ◌*◌, ◌%◌, ◌^◌, ◌<◌, ◌≤◌, min, Some, refl, ap, ◌∙◌, subst, arith}
-use Rattle.seg_bytes.specs.Bytes.{put, set_word}
+use Rattle.seg_spec.specs.Bytes.{put, set_word}
 use Rattle.seg_spec.specs.Block.{Kind, tag_of}
 use Rattle.seg_spec.specs.Heap.{IsHeap, Takes}
 use Rattle.seg_spec.specs.Demand.{block_for}

@@ -1,5 +1,5 @@
 use Rattle.std.proofs.Common.{ℕ, List, Bor, ◌≡◌, ◌-◌, ap, ◌∙◌, arith, take, drop}
-use Rattle.seg_bytes.specs.Bytes.{slice}
+use Rattle.seg_spec.specs.Bytes.{slice}
 use Rattle.seg_ptr.proofs.view.View.part.Goals.{in-Some, in-None}
 use Rattle.seg_ptr.proofs.view.View.part.Goals as goal
 

@@ -1,6 +1,6 @@
 use Rattle.std.proofs.Common.{◌≡◌, ◌+◌, ◌-◌, min, length, take, drop, refl, arith, ◌∙◌}
-use Rattle.seg_bytes.specs.Bytes.{slice}
-use Rattle.seg_bytes.proofs.BytesLaws.{slice-clamped}
+use Rattle.seg_spec.specs.Bytes.{slice}
+use Rattle.seg_spec.proofs.BytesLaws.{slice-clamped}
 use Rattle.seg_ptr.proofs.view.View.slice.Goals as goal
 
 pub returns : goal.returns

@@ -1,5 +1,5 @@
 use Rattle.std.proofs.Common.{refl, ap, ◌∙◌, arith}
-use Rattle.seg_bytes.specs.Bytes.{slice}
+use Rattle.seg_spec.specs.Bytes.{slice}
 use Rattle.seg_spec.specs.Window.{Placement}
 use Rattle.seg_ptr.proofs.Lent.{length-lent, lent_view}
 use Rattle.seg_ptr.proofs.window.Window.bytes_mut.Goals as goal

@@ -1,5 +1,5 @@
 use Rattle.std.proofs.Common.{◌≡◌, ◌+◌, ◌-◌, min, arith, ◌∙◌, rules}
-use Rattle.seg_bytes.specs.Bytes.{slice}
+use Rattle.seg_spec.specs.Bytes.{slice}
 use Rattle.seg_ptr.proofs.Places.{read_clamped}
 use Rattle.seg_ptr.proofs.window.Window.slice.Goals as goal
 

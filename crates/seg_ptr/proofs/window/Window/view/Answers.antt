@@ -1,6 +1,6 @@
 use Rattle.std.proofs.Common.{◌≤◌, length, ◌∙◌, ap, arith}
 use Rattle.std.proofs.lemmas.List.{take_all, length-take}
-use Rattle.seg_bytes.specs.Bytes.{slice}
+use Rattle.seg_spec.specs.Bytes.{slice}
 use Rattle.seg_ptr.proofs.Places.{length_bytes}
 use Rattle.seg_ptr.proofs.window.Window.view.Goals as goal
 

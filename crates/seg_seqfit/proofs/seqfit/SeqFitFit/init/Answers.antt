@@ -1,5 +1,5 @@
 use Rattle.std.proofs.Common.{◌/◌, false, Some, None, List, ℕ, sym, ap, ◌∙◌, subst, arith}
-use Rattle.seg_bytes.specs.Bytes.{set_word}
+use Rattle.seg_spec.specs.Bytes.{set_word}
 use Rattle.seg_spec.specs.Pointer.{set_pointer}
 use Rattle.seg_spec.specs.Window.{Placement}
 use Rattle.seg_spec.specs.Heap.{Begins}

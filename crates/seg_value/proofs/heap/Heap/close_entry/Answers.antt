@@ -1,6 +1,6 @@
 use Rattle.std.proofs.Common.{◌+◌}
 use Rattle.seg_value.proofs.Named.{name_closed_by}
-use Rattle.seg_bytes.specs.Bytes.{set_word}
+use Rattle.seg_spec.specs.Bytes.{set_word}
 use Rattle.seg_spec.specs.Window.{with_bytes}
 use Rattle.seg_cells.specs.Places.{object_at}
 use Rattle.seg_value.proofs.Between.{closed_by}

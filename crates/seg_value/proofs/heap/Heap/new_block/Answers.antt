@@ -1,6 +1,6 @@
 use Rattle.std.proofs.Common.{◌≡◌, ℕ, ◌+◌, ◌*◌, ◌%◌, ◌^◌, ◌<◌, ◌≤◌, ap, ◌∙◌, sym, subst, Some, length}
 use Rattle.seg_spec.specs.Window.{Placement, with_bytes}
-use Rattle.seg_bytes.specs.Bytes.{set_word}
+use Rattle.seg_spec.specs.Bytes.{set_word}
 use Rattle.seg_spec.specs.Heap.{IsHeap}
 use Rattle.seg_spec.specs.Types.{IsTable}
 use Rattle.seg_block.specs.Tags.{word_of}

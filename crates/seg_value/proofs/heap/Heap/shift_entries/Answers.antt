@@ -1,6 +1,6 @@
 use Rattle.std.proofs.Common.{◌≡◌, ℕ, ◌+◌, ◌*◌, ◌≤◌, ap, ◌∙◌, arith, subst}
 use Rattle.seg_spec.specs.Window.{with_bytes}
-use Rattle.seg_bytes.specs.Bytes.{slice, put}
+use Rattle.seg_spec.specs.Bytes.{slice, put}
 use Rattle.seg_spec.specs.Cells.{IsWithin, Shifts}
 use Rattle.seg_cells.specs.declared.entry.Held.TheVariants as held
 use Rattle.seg_cells.specs.Entries.{IsEntryOf}

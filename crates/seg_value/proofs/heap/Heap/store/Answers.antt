@@ -1,8 +1,8 @@
 use Rattle.std.proofs.Common.{◌≡◌, ◌+◌, ◌≤◌, length, ap, ◌∙◌, subst, ℤ, w64, of_z, SFits}
 use Rattle.std.proofs.lemmas.Int.{to_z-of_z}
 use Rattle.seg_spec.specs.Window.{with_bytes}
-use Rattle.seg_bytes.specs.Bytes.{set_long, signed, signed_long, ChangesOnly}
-use Rattle.seg_bytes.proofs.BytesLaws.{number-set_same}
+use Rattle.seg_spec.specs.Bytes.{set_long, signed, signed_long, ChangesOnly}
+use Rattle.seg_spec.proofs.BytesLaws.{number-set_same}
 use Rattle.seg_spec.proofs.Writing.{set_number-changes}
 use Rattle.seg_value.specs.Stored.{Stored}
 use Rattle.seg_spec.proofs.Placements.{bytes_of}
