@@ -2,7 +2,7 @@ ghost use Rattle.std.specs.Prelude.{◌≡◌, Option, Some, None, true, is_some
 ghost use Rattle.std.specs.Global.{Global};
 ghost use Rattle.client_run.specs.declared.ready.Ready.{Ready};
 
-use box_parts::BoxParts;
+use crate::box_parts::BoxParts;
 use client_vm::Ready;
 use std::alloc::Global;
 use std::marker::Model;

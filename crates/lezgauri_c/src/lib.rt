@@ -2,11 +2,14 @@
 #![tactic(auto)]
 
 mod accepting;
+mod box_parts;
 mod buffer;
 mod checking;
 mod fault;
 mod kept;
+mod lent;
 mod open;
+mod output_log;
 mod prepared;
 mod preparing;
 mod report;
@@ -17,6 +20,7 @@ mod whole;
 
 pub use fault::Fault;
 pub use kept::Kept;
+pub use lent::Lent;
 pub use prepared::Prepared;
 pub use report::Report;
 pub use running::Client;

@@ -6,10 +6,10 @@ ghost use Rattle.lezgauri_c.specs.Told.{no_fault, status_number};
 
 use crate::buffer::Buffer;
 use crate::fault::Fault;
+use crate::lent::Lent;
 use crate::report::Report;
 use crate::run_in_place::verify_and_run;
 use crate::running::status_of;
-use seg_lent::Lent;
 use std::alloc::Global;
 
 /// Runs a client on an image that an earlier call found sound, or changed, without checking the whole image again. Returns `OK`,

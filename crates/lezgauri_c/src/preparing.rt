@@ -13,6 +13,7 @@ ghost use Rattle.lezgauri_c.specs.Told.{no_fault, status_number};
 use crate::accepting::ready;
 use crate::buffer::Buffer;
 use crate::fault::Fault;
+use crate::lent::Lent;
 use crate::prepared::Prepared;
 use crate::report::Report;
 use crate::run_in_place::{open_window, run_again};
@@ -20,7 +21,6 @@ use crate::running::status_of;
 use crate::status::{BAD_ARGUMENT, OK};
 use client_vm::{Ready, Refused};
 use seg_layout::TypeTable;
-use seg_lent::Lent;
 use std::alloc::{Allocator, Global};
 
 /// Verifies a client against the types of an image that an earlier call found sound, or changed, and prepares it to run any

@@ -9,11 +9,11 @@ ghost use Rattle.lezgauri_c.specs.Told.{no_fault, status_number};
 
 use crate::buffer::{Counter, replace};
 use crate::fault::Fault;
+use crate::lent::Lent;
 use crate::report::Report;
 use crate::run_in_place::verify_and_run;
 use crate::status::{OK, OUTPUT_FULL, TOO_SMALL};
 use client_vm::{Refused, Report as Told, Sink};
-use seg_lent::Lent;
 use std::alloc::Global;
 
 /// Runs a client on an image, all or nothing, without checking the whole image again. The client runs to its end on a copy. If

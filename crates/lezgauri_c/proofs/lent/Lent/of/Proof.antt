@@ -35,12 +35,12 @@ use Rattle.std.proofs.alloc.Calls.{Goes-blank}
 use Rattle.std_alloc.specs.contracts.vec.lodged.Vec+T+Lodged.dislodge.Key.{name as callee_name}
 use Rattle.std_alloc.proofs.vec.lodged.Vec+T+Lodged.dislodge.Met as callee
 use Rattle.std_alloc.specs.Vec.Ownership.{lodged}
-use Rattle.seg_lent.specs.contracts.Lent.{the_type, the_row as R}
-use Rattle.seg_lent.proofs.Lodging.{byte_laws, Housed, housed-laws, tells, Dislodges, at_dislodge, dislodge_goes, dislodge_gives}
-use Rattle.seg_lent.specs.contracts.Lent.of as F
-use Rattle.seg_lent.specs.contracts.Lent.of.Key.{name as #self}
-use Rattle.seg_lent.proofs.Lent.of.Statement as stated
-use Rattle.seg_lent.proofs.Lent.of.Code as code
+use Rattle.lezgauri_c.specs.contracts.lent.Lent.{the_type, the_row as R}
+use Rattle.lezgauri_c.proofs.Lodging.{byte_laws, Housed, housed-laws, tells, Dislodges, at_dislodge, dislodge_goes, dislodge_gives}
+use Rattle.lezgauri_c.specs.contracts.lent.Lent.of as F
+use Rattle.lezgauri_c.specs.contracts.lent.Lent.of.Key.{name as #self}
+use Rattle.lezgauri_c.proofs.lent.Lent.of.Statement as stated
+use Rattle.lezgauri_c.proofs.lent.Lent.of.Code as code
 
 abbrev key : Callee
 key = callee_name (layouts (a_type ∷ []) (u8, tt))

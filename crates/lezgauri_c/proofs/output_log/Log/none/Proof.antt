@@ -20,11 +20,11 @@ use denote.Triple.Entry.{on_entry, alive}
 use denote.Triple.Spec.{Meets, triple_of}
 use denote.Triple.Table.{entered}
 use denote.Triple.Walked.{says, Stays, walk_of, Walks, ends_at, walked, walk_Meets}
-use Rattle.output_log.specs.contracts.Log.none.Key.{name as key}
-use Rattle.output_log.specs.contracts.Log.none as f
-use Rattle.output_log.proofs.Log.none.Statement as stated
-use Rattle.output_log.proofs.Log.none.Code as code
-use Rattle.output_log.specs.contracts.Log as made
+use Rattle.lezgauri_c.specs.contracts.output_log.Log.none.Key.{name as key}
+use Rattle.lezgauri_c.specs.contracts.output_log.Log.none as f
+use Rattle.lezgauri_c.proofs.output_log.Log.none.Statement as stated
+use Rattle.lezgauri_c.proofs.output_log.Log.none.Code as code
+use Rattle.lezgauri_c.specs.contracts.output_log.Log as made
 
 abbrev stayed : Stays (f.ended).signature.params (f.ended).kept
 stayed = tt

@@ -1,6 +1,3 @@
-//! The bytes that an output was given, for proofs only: a running program stores none of them.
-#![tactic(auto)]
-
 ghost use Rattle.std.specs.Prelude.{◌≡◌, ℕ, List, [], ◌++◌};
 ghost use Rattle.std.specs.Borrow.{ftrue};
 

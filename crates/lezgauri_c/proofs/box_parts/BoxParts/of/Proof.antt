@@ -37,14 +37,14 @@ use Rattle.std.proofs.alloc.Calls.{token, handle_tells, Goes-blank}
 use Rattle.std_alloc.specs.Box.Ownership.{box_owns}
 use Rattle.std_alloc.proofs.BoxSteps.Form.{Bx, D, τ, R, P, B, word, box_typed}
 use Rattle.std_alloc.proofs.BoxSteps.Steps.{box_out, box_in}
-use Rattle.box_parts.specs.contracts.BoxParts as parts
+use Rattle.lezgauri_c.specs.contracts.box_parts.BoxParts as parts
 use Rattle.std_alloc.specs.contracts.boxed.Box.into_raw_with_allocator as Ra
 use Rattle.std_alloc.proofs.boxed.Box.into_raw_with_allocator.Symbol as raw_sym
 use Rattle.std_alloc.proofs.boxed.Box.into_raw_with_allocator.Met as raw_met
-use Rattle.box_parts.specs.contracts.BoxParts.of as F
-use Rattle.box_parts.specs.contracts.BoxParts.of.Key.{name as #self}
-use Rattle.box_parts.proofs.BoxParts.of.Statement as stated
-use Rattle.box_parts.proofs.BoxParts.of.Code as code
+use Rattle.lezgauri_c.specs.contracts.box_parts.BoxParts.of as F
+use Rattle.lezgauri_c.specs.contracts.box_parts.BoxParts.of.Key.{name as #self}
+use Rattle.lezgauri_c.proofs.box_parts.BoxParts.of.Statement as stated
+use Rattle.lezgauri_c.proofs.box_parts.BoxParts.of.Code as code
 
 module _ (E : Bx) (dx : Dict) where
   abbrev args : Args

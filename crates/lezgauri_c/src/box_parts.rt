@@ -1,6 +1,3 @@
-//! A `Box` split into its pointer and its allocator, for a struct that must store them without other types.
-#![tactic(auto)]
-
 ghost use Rattle.std.specs.Prelude.{◌≡◌};
 ghost use Rattle.std_alloc.specs.Box.Ownership.{box_owns};
 

@@ -1,6 +1,3 @@
-//! Memory that a host lends, seen as a `Vec` that owns its bytes and never grows or frees them.
-#![tactic(auto)]
-
 ghost use Rattle.std.specs.Prelude.{◌≡◌, ℕ, ◌≤◌, ◌<◌, ◌^◌, List, [], length, vec_len, vec_capacity};
 ghost use Rattle.std.specs.Borrow.{sem, u8 as octet};
 ghost use Rattle.std_alloc.specs.Vec.{vec_ptr};

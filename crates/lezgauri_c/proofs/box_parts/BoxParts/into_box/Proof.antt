@@ -35,14 +35,14 @@ use Rattle.std.proofs.alloc.Calls.{token, Goes-blank}
 use Rattle.std_alloc.specs.Box.Ownership.{box_owns}
 use Rattle.std_alloc.proofs.BoxSteps.Form.{Bx, D, R, P, B, args, box_ty, word, box_typed}
 use Rattle.std_alloc.proofs.BoxSteps.Steps.{box_out, box_in}
-use Rattle.box_parts.specs.contracts.BoxParts as parts
+use Rattle.lezgauri_c.specs.contracts.box_parts.BoxParts as parts
 use Rattle.std_alloc.specs.contracts.boxed.Box.from_raw as Fr
 use Rattle.std_alloc.proofs.boxed.Box.from_raw.Symbol as raw_sym
 use Rattle.std_alloc.proofs.boxed.Box.from_raw.Met as raw_met
-use Rattle.box_parts.specs.contracts.BoxParts.into_box as F
-use Rattle.box_parts.specs.contracts.BoxParts.into_box.Key.{name as #self}
-use Rattle.box_parts.proofs.BoxParts.into_box.Statement as stated
-use Rattle.box_parts.proofs.BoxParts.into_box.Code as code
+use Rattle.lezgauri_c.specs.contracts.box_parts.BoxParts.into_box as F
+use Rattle.lezgauri_c.specs.contracts.box_parts.BoxParts.into_box.Key.{name as #self}
+use Rattle.lezgauri_c.proofs.box_parts.BoxParts.into_box.Statement as stated
+use Rattle.lezgauri_c.proofs.box_parts.BoxParts.into_box.Code as code
 
 abbrev rest : Body
 rest = seq (assign (place 0 []) (rv_opd (copy (place 4 [])))) return

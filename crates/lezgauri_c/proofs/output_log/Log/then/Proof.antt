@@ -29,11 +29,11 @@ use denote.Triple.Entry.{on_entry, alive, Args}
 use denote.Triple.Spec.{Meets, triple_of}
 use denote.Triple.Table.{entered}
 use denote.Triple.Walked.{says, stay_none_ref, stay_none_slice, Stays, walk_of, Walks, ends_at, walked, Goes-none_ref, Goes-none_slice, walk_Meets}
-use Rattle.output_log.specs.contracts.Log.then.Key.{name as key}
-use Rattle.output_log.specs.contracts.Log.then as f
-use Rattle.output_log.proofs.Log.then.Statement as stated
-use Rattle.output_log.proofs.Log.then.Code as code
-use Rattle.output_log.specs.contracts.Log as log
+use Rattle.lezgauri_c.specs.contracts.output_log.Log.then.Key.{name as key}
+use Rattle.lezgauri_c.specs.contracts.output_log.Log.then as f
+use Rattle.lezgauri_c.proofs.output_log.Log.then.Statement as stated
+use Rattle.lezgauri_c.proofs.output_log.Log.then.Code as code
+use Rattle.lezgauri_c.specs.contracts.output_log.Log as log
 
 abbrev stayed : Stays (f.ended).signature.params (f.ended).kept
 stayed = (stay_none_ref (0 ∷ []) tt (plain (λ _. log.the_row)) yes, (stay_none_slice (1 ∷ []) tt (plain (λ _. u8)) yes, tt))
