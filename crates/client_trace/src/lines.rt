@@ -3,8 +3,8 @@ use crate::listing::Listing;
 use crate::path::push_bytes;
 use crate::paths::Paths;
 use client_code::{Client, REGISTERS};
-use client_run::{Stepped, Stepper};
 use client_verify::{RegisterType, Registers};
+use client_vm::{Stepped, Stepper};
 use std::alloc::{AllocError, Global};
 use std::fmt::Write;
 

@@ -1,6 +1,6 @@
 use crate::path::{Part, Path, Root};
 use client_code::{Client, Constants, Instruction, Operation, REGISTERS};
-use client_run::Stepper;
+use client_vm::Stepper;
 use seg_block::Fit;
 use seg_manager::Segment;
 use std::alloc::{AllocError, Global};

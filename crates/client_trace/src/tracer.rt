@@ -7,7 +7,7 @@ use crate::paths::Paths;
 use crate::untraced::Untraced;
 use client_code::Client;
 use client_output::{Sink, write_all};
-use client_run::{Ready, Stepper};
+use client_vm::{Ready, Stepper};
 use seg_block::Fit;
 use seg_manager::Segment;
 use std::alloc::{AllocError, Global};

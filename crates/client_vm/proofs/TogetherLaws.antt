@@ -18,7 +18,7 @@ use Rattle.client_sim.proofs.Printing.{took_more}
 use Rattle.client_output.specs.declared.report.Report.{Report}
 use Rattle.client_output.specs.declared.report.Ended.{Ended}
 use Rattle.client_output.specs.declared.report.Ended.TheVariants as ended
-use Rattle.client_run.specs.Runs.{ending_of, given_of, left_of, IsReady, MayRun, HasRun}
+use Rattle.client_vm.specs.Runs.{ending_of, given_of, left_of, IsReady, MayRun, HasRun}
 use Rattle.client_vm.specs.Jobs.{Effect, job_at}
 use Rattle.client_vm.specs.Outcomes.{AreReports, HasOutcome}
 use Rattle.seg_spec.specs.Images.{upgraded}

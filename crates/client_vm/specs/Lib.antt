@@ -1,3 +1,14 @@
+pub mod Moves
+pub mod ReadyClients
+pub mod Runs
+pub mod Machines
+pub mod Worlds
+pub mod Named
+pub mod Positions
+pub mod Courses
+pub mod Owners
+pub mod Passing
+pub mod Stepping
 pub mod Jobs
 pub mod Outcomes
 pub mod Reports

@@ -19,7 +19,7 @@ use Rattle.client_verify.specs.Refusals.{IsRefused}
 use Rattle.client_output.specs.declared.report.Report.{Report}
 use Rattle.client_output.specs.declared.refused.Refused.{Refused}
 use Rattle.client_sim.specs.Writes.{Took}
-use Rattle.client_run.specs.Runs.{ending_of}
+use Rattle.client_vm.specs.Runs.{ending_of}
 use Rattle.client_vm.specs.Jobs.{Job, Effect}
 
 -- ---- the clients ran

@@ -9,7 +9,7 @@ use Rattle.client_spec.specs.Grammar.{SpellsClient}
 use Rattle.client_spec.specs.Run.{bound}
 use Rattle.client_output.specs.declared.report.Report.{Report}
 use Rattle.client_output.specs.declared.report.Ended.{Ended}
-use Rattle.client_run.specs.Runs.{ending_of}
+use Rattle.client_vm.specs.Runs.{ending_of}
 use Rattle.client_program.specs.Paths.{IsPath}
 
 pub record IsReportOf (text : List ℕ) (report : Report) : Type 0 where

@@ -9,15 +9,14 @@ ghost use Rattle.client_spec.specs.Clients.{IsVerified};
 ghost use Rattle.client_spec.specs.Run as definitions;
 ghost use Rattle.client_code.specs.Clients.{OfTree, bytes_of};
 ghost use Rattle.client_verify.specs.Accepted.{client_of};
-ghost use Rattle.client_run.specs.ReadyClients.{client_in};
-ghost use Rattle.client_run.specs.Runs.{MayRun, HasRun};
+ghost use Rattle.client_vm.specs.ReadyClients.{client_in};
+ghost use Rattle.client_vm.specs.Runs.{MayRun, HasRun};
 ghost use Rattle.client_verify.specs.Texts.{IsWrongText};
 ghost use Rattle.seg_image.specs.Images.{segment_of, allocator_of};
 
 use client_code::parse_typed;
-use client_run::{Ready, run as run_on_segment};
 use client_verify::{Verified, verify_typed};
-use client_vm::{Ended, Report, Sink};
+use client_vm::{Ended, Ready, Report, Sink, run as run_on_segment};
 use seg_image::Image;
 use seg_raw::Fault;
 use std::alloc::Allocator;

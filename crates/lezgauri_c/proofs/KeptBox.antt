@@ -8,7 +8,7 @@ use Rattle.std.specs.contracts.impls.GlobalAllocator.TheImpl.{ghosts, dict}
 use Rattle.std.proofs.alloc.Global.TheLaws as heap-laws
 use Rattle.std_alloc.proofs.BoxSteps.Form.{Bx}
 use Rattle.lezgauri_c.specs.contracts.box_parts.BoxParts as parts
-use Rattle.client_run.proofs.ready.Ready.TheLaws as ready
+use Rattle.client_vm.proofs.ready.Ready.TheLaws as ready
 use Rattle.lezgauri_c.specs.Kept.{kept_row}
 use Rattle.lezgauri_c.specs.contracts.kept.Kept as kept
 

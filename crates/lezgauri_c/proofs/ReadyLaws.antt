@@ -11,8 +11,8 @@ use Rattle.client_spec.specs.Grammar.{SpellsClient}
 use Rattle.client_spec.specs.Run.{bound}
 use Rattle.client_spec.specs.Clients.{IsVerified}
 use Rattle.client_verify.specs.declared.verified.TheConstants.{MOST_STEPS}
-use Rattle.client_run.specs.declared.ready.Ready.{Ready}
-use Rattle.client_run.proofs.AcceptedLaws.{accepted_so}
+use Rattle.client_vm.specs.declared.ready.Ready.{Ready}
+use Rattle.client_vm.proofs.AcceptedLaws.{accepted_so}
 use Rattle.client_output.specs.declared.refused.Refused.{Refused}
 use Rattle.client_vm.specs.Admitted.{IsWrong}
 use Rattle.client_vm.proofs.Refusing.{if_wrong}

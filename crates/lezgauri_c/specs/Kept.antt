@@ -10,7 +10,7 @@ use denote.Signature.{static_lft}
 use Rattle.std.specs.contracts.alloc.Global as heap
 use Rattle.std.specs.contracts.impls.GlobalAllocator.TheImpl.{ghosts}
 use Rattle.std_alloc.specs.Box.Ownership.{box_owns}
-use Rattle.client_run.specs.contracts.ready.Ready.{the_row}
+use Rattle.client_vm.specs.contracts.ready.Ready.{the_row}
 
 abbrev pub kept_row : RattleType
 kept_row = the_row static_lft heap.the_row ghosts

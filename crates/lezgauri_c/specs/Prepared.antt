@@ -15,8 +15,8 @@ use Rattle.client_spec.specs.Syntax.{Client}
 use Rattle.client_spec.specs.Grammar.{SpellsClient}
 use Rattle.client_spec.specs.Clients.{IsVerified}
 use Rattle.client_code.specs.Clients.{bytes_of}
-use Rattle.client_run.specs.declared.ready.Ready.{Ready}
-use Rattle.client_run.specs.ReadyClients.{client_in}
+use Rattle.client_vm.specs.declared.ready.Ready.{Ready}
+use Rattle.client_vm.specs.ReadyClients.{client_in}
 use Rattle.client_vm.specs.Jobs.{Effect}
 use Rattle.client_vm.specs.Together.{HaveRunOn}
 use Rattle.lezgauri_c.specs.declared.prepared.Prepared.{Prepared}

@@ -1,6 +1,6 @@
 ghost use Rattle.std.specs.Prelude.{◌≡◌, Option, Some, None, true, is_some};
 ghost use Rattle.std.specs.Global.{Global};
-ghost use Rattle.client_run.specs.declared.ready.Ready.{Ready};
+ghost use Rattle.client_vm.specs.declared.ready.Ready.{Ready};
 
 use crate::box_parts::BoxParts;
 use client_vm::Ready;

@@ -6,7 +6,7 @@ ghost use Rattle.seg_spec.specs.Images.{IsSound};
 ghost use Rattle.seg_spec.specs.Window.{region_of};
 ghost use Rattle.seg_check.specs.Faults.{IsImageOf, IsFaultOf};
 ghost use Rattle.client_code.specs.Clients.{OfTree};
-ghost use Rattle.client_run.specs.ReadyClients.{client_in};
+ghost use Rattle.client_vm.specs.ReadyClients.{client_in};
 ghost use Rattle.client_output.specs.declared.report.Ended.{Ended};
 ghost use Rattle.client_vm.specs.Admitted.{IsWrong};
 ghost use Rattle.client_vm.specs.Outcomes.{HasOutcome};

@@ -1,6 +1,6 @@
 use Rattle.std.proofs.Common.{◌≡◌}
 use Rattle.client_verify.specs.Texts.{texts_of}
-use Rattle.client_run.specs.ReadyClients.{texts_in}
+use Rattle.client_vm.specs.ReadyClients.{texts_in}
 use Rattle.client_vm.proofs.bytes.all_ready.Given as goal
 
 abbrev pub invariant-loop-client : goal.invariant-loop-client

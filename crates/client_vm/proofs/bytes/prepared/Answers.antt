@@ -1,7 +1,7 @@
 use Rattle.std.proofs.Common.{◌≡◌, length, arith, sym, ap, ◌∙◌}
 use Rattle.std.proofs.lemmas.List.{length-map}
 use Rattle.client_code.specs.Clients.{bytes_of}
-use Rattle.client_run.specs.ReadyClients.{client_in}
+use Rattle.client_vm.specs.ReadyClients.{client_in}
 use Rattle.client_verify.specs.Accepted.{client_of}
 use Rattle.client_vm.proofs.bytes.prepared.Goals as goal
 

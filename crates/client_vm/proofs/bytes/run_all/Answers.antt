@@ -3,8 +3,8 @@ use Rattle.std.proofs.Math.Seq.{drop-cons}
 use Rattle.std.proofs.lemmas.List.{drop_all}
 use Rattle.client_code.specs.Clients.{bytes_of}
 use Rattle.client_output.specs.declared.report.Report.{Report}
-use Rattle.client_run.specs.Moves.{moves_of}
-use Rattle.client_run.specs.ReadyClients.{client_in, texts_in}
+use Rattle.client_vm.specs.Moves.{moves_of}
+use Rattle.client_vm.specs.ReadyClients.{client_in, texts_in}
 use Rattle.client_vm.specs.Reports.{AreReportsOf}
 use Rattle.client_vm.proofs.ReportLaws.{pushed_there, program_ran, some_ran}
 use Rattle.client_vm.proofs.TogetherLaws.{Midway, begins, next_ran, stops, ends}

@@ -1,10 +1,10 @@
 use Rattle.std.proofs.Common.{◌≡◌, ◌≤◌, List, [], false, length, take, drop, vec_capacity}
 use Rattle.client_spec.specs.Syntax.{Client}
 use Rattle.client_spec.specs.Clients.{AreAccepted}
-use Rattle.client_run.specs.Moves.{moves_of}
-use Rattle.client_run.specs.ReadyClients.{texts_in}
+use Rattle.client_vm.specs.Moves.{moves_of}
+use Rattle.client_vm.specs.ReadyClients.{texts_in}
 use Rattle.client_vm.specs.Reports.{AreReportsOf}
-use Rattle.client_run.specs.Runs.{IsReady}
+use Rattle.client_vm.specs.Runs.{IsReady}
 use Rattle.client_vm.proofs.TogetherLaws.{Midway}
 use Rattle.client_vm.proofs.bytes.run_all.Given as goal
 

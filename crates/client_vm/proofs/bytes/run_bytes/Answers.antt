@@ -1,5 +1,5 @@
 use Rattle.std.proofs.Common.{List, ℕ, map, None}
-use Rattle.client_run.specs.Moves.{moves_of}
+use Rattle.client_vm.specs.Moves.{moves_of}
 use Rattle.client_vm.specs.Jobs.{job_of, effect_of}
 use Rattle.client_vm.specs.Outcomes.{IsRefusedFor, HasOutcome}
 use Rattle.client_vm.proofs.Refusing.{err_is, refused_for}

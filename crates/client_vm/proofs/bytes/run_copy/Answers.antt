@@ -1,5 +1,5 @@
 use Rattle.std.proofs.Common.{List, ℕ, map}
-use Rattle.client_run.specs.Moves.{moves_of}
+use Rattle.client_vm.specs.Moves.{moves_of}
 use Rattle.client_vm.specs.Jobs.{effect_of}
 use Rattle.client_vm.proofs.TogetherLaws.{has_outcome}
 use Rattle.client_vm.proofs.bytes.run_copy.Goals as goal

@@ -1,7 +1,7 @@
 use Rattle.std.proofs.Common.{List, ℕ, map, sym, subst}
 use Rattle.std.proofs.lemmas.Result.{IfErr-weaker}
 use Rattle.client_spec.specs.Outcome.{CanMove}
-use Rattle.client_run.specs.Moves.{moves_of}
+use Rattle.client_vm.specs.Moves.{moves_of}
 use Rattle.client_vm.specs.Admitted.{IsWrong}
 use Rattle.client_vm.specs.Jobs.{job_at, job_of, effect_of}
 use Rattle.client_vm.specs.Outcomes.{IsFaultOfCall, IsRefusedFor, HasOutcome}

@@ -1,6 +1,6 @@
 use Rattle.std.proofs.Common.{List, ℕ, sym, subst}
 use Rattle.client_spec.specs.Clients.{AreAccepted}
-use Rattle.client_run.specs.Moves.{moves_of}
+use Rattle.client_vm.specs.Moves.{moves_of}
 use Rattle.client_vm.specs.Jobs.{effect_of}
 use Rattle.client_vm.specs.Together.{HaveRunOn}
 use Rattle.client_vm.proofs.bytes.run_in.Goals as goal

@@ -3,9 +3,9 @@ use Rattle.seg_spec.specs.Types.{Table}
 use Rattle.seg_spec.specs.Window.{Placement}
 use Rattle.client_spec.specs.Syntax.{Client}
 use Rattle.client_spec.specs.Clients.{AreAccepted}
-use Rattle.client_run.specs.Moves.{moves_of}
-use Rattle.client_run.specs.ReadyClients.{texts_in}
-use Rattle.client_run.specs.Runs.{ending_of, IsReady}
+use Rattle.client_vm.specs.Moves.{moves_of}
+use Rattle.client_vm.specs.ReadyClients.{texts_in}
+use Rattle.client_vm.specs.Runs.{ending_of, IsReady}
 use Rattle.client_vm.specs.Jobs.{effect_of}
 use Rattle.client_vm.specs.Together.{opened, HaveRun}
 use Rattle.client_vm.proofs.TogetherLaws.{ran_on}

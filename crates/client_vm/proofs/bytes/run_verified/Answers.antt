@@ -4,9 +4,9 @@ use Rattle.client_code.specs.Clients.{bytes_of}
 use Rattle.seg_spec.specs.Window.{Placement}
 use Rattle.client_spec.specs.Run.{Ending}
 use Rattle.client_spec.specs.Clients.{AreAccepted}
-use Rattle.client_run.specs.ReadyClients.{client_in, texts_in}
-use Rattle.client_run.specs.Moves.{moves_of}
-use Rattle.client_run.specs.Runs.{ending_of}
+use Rattle.client_vm.specs.ReadyClients.{client_in, texts_in}
+use Rattle.client_vm.specs.Moves.{moves_of}
+use Rattle.client_vm.specs.Runs.{ending_of}
 use Rattle.client_vm.specs.Reports.{AreReportsOf}
 use Rattle.client_vm.specs.Together.{ending_if, HaveRun}
 use Rattle.client_vm.proofs.TogetherLaws.{ending_failed}

@@ -15,7 +15,7 @@ use Rattle.std.specs.contracts.impls.GlobalAllocator.TheImpl.{ghosts}
 use Rattle.std_alloc.proofs.SendSync.{quiet, lies}
 use Rattle.lezgauri_c.specs.Kept.{kept_row, c_heap, may_own}
 use Rattle.lezgauri_c.specs.contracts.kept.Kept.{the_row, the_type}
-use Rattle.client_run.proofs.ready.Ready.TheSendSync as ready
+use Rattle.client_vm.proofs.ready.Ready.TheSendSync as ready
 
 inside : IsSend kept_row
 inside = ready.the_send static_lft global.the_row ghosts heap.send heap.frees

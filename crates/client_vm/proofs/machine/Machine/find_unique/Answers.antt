@@ -1,0 +1,7 @@
+use Rattle.client_vm.proofs.ObjectLaws.{find_unique_does}
+use Rattle.client_vm.proofs.machine.Machine.find_unique.Goals as goal
+
+pub returns-clause-does : goal.returns-clause-does
+returns-clause-does g c =
+    find_unique_does g.F.Fit.allocator c.args.i.now c.try_refer.result c.args.self.now c.try_refer.new.self c.args.segment.now c.type_id-type_id.result c.find_unique-at.result c.try_refer.ensures.refers
+    c.type_id-type_id.ensures.alone c.find_unique-at.ensures
