@@ -8,15 +8,11 @@ mod discarded;
 
 use crate::clients::{prepare_client, run_client};
 use cli_files::HostFiles;
-use seg_bestfit::BestFit;
-use seg_block::Fit;
-use seg_layout::{ENTRY, Type, TypeId, TypeTable};
-use seg_manager::{IndexKind, Segment};
-use seg_raw::{Code, Fault, Region};
-use seg_seq::Numbers;
-use seg_seqfit::SeqFit;
+use lezgauri::{
+    BestFit, Code, ENTRY, Fault, Fit, Heap, IndexKind, Numbers, Place, Region, Segment, SeqFit,
+    Type, TypeId, TypeTable,
+};
 use seg_space::{create, zero_free_memory};
-use seg_value::{Heap, Place};
 use std::alloc::{Allocator, Global};
 use std::env;
 use std::process::ExitCode;

@@ -4,9 +4,8 @@ use crate::bytes::word;
 use crate::field::entry_flaw;
 use crate::image::Image;
 use crate::sources::type_bytes;
-use seg_layout::ENTRY;
-use seg_ptr::{MAX_LEN, MIN_LEN, header, is_size};
-use seg_raw::Fault;
+use client_code::ENTRY;
+use seg_index::{Fault, MAX_LEN, MIN_LEN, header, is_size};
 use std::alloc::{AllocError, Global};
 use std::fmt::Write;
 

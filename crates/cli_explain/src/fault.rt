@@ -4,9 +4,8 @@ use crate::rejection::{add_bound, add_rejection};
 use crate::sources::Sources;
 use crate::text::add_bad_line;
 use crate::types::TypeWords;
-use seg_layout::{Type, TypeId, TypeTable};
-use seg_ptr::{MAX_LEN, MIN_LEN};
-use seg_raw::Fault;
+use client_code::{Type, TypeId, TypeTable};
+use seg_index::{Fault, MAX_LEN, MIN_LEN};
 use std::alloc::{AllocError, Global};
 use std::fmt::Write;
 

@@ -2,13 +2,13 @@
 
 use crate::location::{Area, Location, Owner};
 use crate::sources::types_of;
+use client_code::{MAX_TYPES, TypeId, TypeTable};
 use seg_block::{Block, HEAP_START, Kind, Tag, UNIT, block_at, block_of, is_live, tag_word};
-use seg_index::{ENTRY, NameEntry, first_name, name_count, next_name, unique};
-use seg_layout::{MAX_TYPES, TypeId, TypeTable};
-use seg_ptr::{MAX_LEN, Window, header};
-use seg_raw::Region;
+use seg_index::{
+    ENTRY, Heap, MAX_LEN, NameEntry, Region, Window, first_name, header, name_count, next_name,
+    unique,
+};
 use seg_seqfit::SeqFit;
-use seg_value::Heap;
 use std::alloc::{AllocError, Global};
 
 /// An image that is only read, so its allocator doesn't matter.

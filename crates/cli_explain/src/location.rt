@@ -1,7 +1,7 @@
 use crate::quoted::Quoted;
+use client_code::{ENTRY, TypeId};
 use seg_block::{Kind, Tag};
-use seg_layout::{ENTRY, TypeId};
-use seg_ptr::header;
+use seg_index::header;
 use std::fmt;
 
 /// The place of a byte in an image.

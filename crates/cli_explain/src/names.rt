@@ -1,8 +1,7 @@
 use crate::quoted::Quoted;
 use crate::types::NumberedType;
-use client_code::{Client, Constant, ConstantKind};
+use client_code::{Client, Constant, ConstantKind, TypeId, TypeTable};
 use client_verify::{Class, RegisterType};
-use seg_layout::{TypeId, TypeTable};
 use std::fmt;
 
 /// The types and the constants of a client, for descriptions.

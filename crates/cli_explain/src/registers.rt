@@ -1,8 +1,7 @@
 use crate::names::Names;
 use crate::types::NumberedType;
-use client_code::{Instruction, Kinds, Need, Operand, REGISTERS};
+use client_code::{Instruction, Kinds, Need, Operand, REGISTERS, Type, TypeId};
 use client_verify::{Reason, RegisterType, Registers, Rule};
-use seg_layout::{Type, TypeId};
 use std::fmt;
 
 /// The registers b and c of an instruction, without repetition.

@@ -1,6 +1,5 @@
-use client_code::{Client, parse};
-use seg_layout::{ENTRY, MAX_TYPES, TypeTable};
-use seg_ptr::header;
+use client_code::{Client, ENTRY, MAX_TYPES, TypeTable, parse};
+use seg_index::header;
 
 /// The files that a refused command read, as far as they can be read again.
 #[derive(Clone, Copy)]

@@ -5,8 +5,9 @@ use crate::outline::{Draft, MOST_CONSTANTS, Outline, operand_words};
 use crate::pieces::Pieces;
 use crate::quoted::Quoted;
 use crate::rule;
-use client_code::{ConstantKind, Instruction, MOST_INSTRUCTIONS, Number, Operand, Operation};
-use seg_layout::MAX_TYPES;
+use client_code::{
+    ConstantKind, Instruction, MAX_TYPES, MOST_INSTRUCTIONS, Number, Operand, Operation,
+};
 use std::alloc::AllocError;
 use std::fmt::Write;
 use std::str;

@@ -1,4 +1,4 @@
-use seg_layout::{Type, TypeId};
+use client_code::{Type, TypeId};
 use std::fmt;
 
 /// A type in words.

@@ -1,7 +1,6 @@
 use cli_files::{FileFailure, FileProblem};
 use cli_words::Misread;
-use client_output::Refused;
-use seg_raw::Fault;
+use client_vm::{Fault, Refused};
 use std::alloc::{AllocError, Global};
 
 /// Why a command failed.

@@ -1,7 +1,7 @@
 ghost use Rattle.std.specs.Prelude.{◌≡◌, false};
 
 use crate::output::tell;
-use client_output::Sink;
+use client_vm::Sink;
 use std::rt::Env;
 use std::{env, io};
 

@@ -8,7 +8,7 @@ mod output;
 mod run;
 mod saving;
 
-pub use client_output::Through;
+pub use client_vm::Through;
 pub use failure::Failure;
 pub use host::{refuse, words};
 pub use inputs::{read_input, slices};

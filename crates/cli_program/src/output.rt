@@ -1,7 +1,7 @@
 ghost use Rattle.std.specs.Prelude.{◌≡◌, false};
 
 use crate::failure::Failure;
-use client_output::{Sink, write_all};
+use client_vm::{Sink, write_all};
 use std::alloc::Global;
 
 /// Prints a text.

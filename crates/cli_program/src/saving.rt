@@ -1,6 +1,6 @@
 use crate::failure::Failure;
 use cli_files::{Files, write_file};
-use client_output::Ended;
+use client_vm::Ended;
 
 /// Writes the saved image, even if the clients' output failed; then that is the failure.
 pub fn save<'a, F: Files>(

@@ -1,5 +1,5 @@
 use seg_block::{Block, HEAP_START, Tag, UNIT, block_at, is_live, tag_word};
-use seg_ptr::Window;
+use seg_manager::Window;
 use std::alloc::{AllocError, Global};
 
 /// All blocks of the heap, with free ones, in ascending order of their positions.

@@ -6,9 +6,7 @@ use crate::parts::Step;
 use crate::roots::{Root, RootName, frozen_number, roots};
 use crate::walk::{Met, Walk, most_turns};
 use seg_block::{Fit, UNIT};
-use seg_layout::Type;
-use seg_manager::Segment;
-use seg_value::{Heap, Place, frozen};
+use seg_manager::{Heap, Place, Segment, Type, frozen};
 use std::alloc::{AllocError, Global};
 
 /// All objects: the named ones in ascending order of their names, the unique ones in order of type, and the frozen ones in

@@ -3,9 +3,7 @@ use crate::extent::Extent;
 use crate::roots::Root;
 use crate::walk::{Met, Walk, most_turns};
 use seg_block::{Block, Fit, Tag};
-use seg_layout::Type;
-use seg_ptr::Window;
-use seg_value::{Heap, Place};
+use seg_manager::{Heap, Place, Type, Window};
 use std::alloc::{AllocError, Global};
 
 /// A block of the heap, its purpose, and the object that it belongs to.

@@ -1,8 +1,7 @@
 use seg_block::Fit;
-use seg_layout::{Type, TypeId};
+use seg_manager::{Heap, Place, Type, TypeId};
 use seg_map::{first_key, get, next_key};
 use seg_seq::{at, next};
-use seg_value::{Heap, Place};
 use std::alloc::Global;
 
 /// A step from a value to a part of it.

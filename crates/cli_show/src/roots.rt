@@ -1,9 +1,9 @@
 use crate::blocks::{blocks, live_tag};
 use seg_block::{Fit, Kind, UNIT};
-use seg_layout::{MAX_TYPES, TypeId};
-use seg_manager::{Named, Segment, first_name, next_name, num_named};
-use seg_ptr::Window;
-use seg_value::{Content, Heap, Place};
+use seg_manager::{
+    Content, Heap, MAX_TYPES, Named, Place, Segment, TypeId, Window, first_name, next_name,
+    num_named,
+};
 use std::alloc::{AllocError, Global};
 
 /// How an object is found.

@@ -1,8 +1,7 @@
 use crate::extent::Extent;
 use crate::parts::{Part, Parts};
 use seg_block::Fit;
-use seg_layout::MAX_TYPES;
-use seg_value::{Heap, Place};
+use seg_manager::{Heap, MAX_TYPES, Place};
 use std::alloc::{AllocError, Global};
 
 /// An event of a walk through a value.

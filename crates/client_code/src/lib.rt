@@ -19,5 +19,6 @@ pub use header::{
 pub use instruction::{Instruction, REGISTERS};
 pub use nesting::{DEPTH, Nesting};
 pub use parser::{parse, parse_typed};
+pub use seg_layout::{ENTRY, Fault, Fields, MAX_TYPES, Type, TypeId, TypeTable};
 pub use typed::TypedClient;
 pub use types::{MOST_TYPES, TYPES_AT};

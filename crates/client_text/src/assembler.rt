@@ -6,8 +6,7 @@ ghost use Rattle.client_spec.specs.Text.{SpellsInText, text_of};
 use crate::item::Item;
 use crate::lines::{Lines, is_skipped};
 use crate::writer::write;
-use client_code::{TYPES_AT, parse};
-use seg_raw::Fault;
+use client_code::{Fault, TYPES_AT, parse};
 use std::alloc::Allocator;
 
 /// Assembles a text into a client file. Fails with `BadLine` and the first line, counted from 1, that is outside the grammar or

@@ -9,10 +9,9 @@ ghost use Rattle.client_text.specs.Texts.{with_spaces, ended_line};
 ghost use Rattle.client_code.specs.Clients.{bytes_of, OfTree};
 
 use crate::escape::{hex_digit, is_plain};
-use client_code::{Client, Constant, ConstantKind, Instruction};
+use client_code::{Client, Constant, ConstantKind, Fault, Instruction};
 use client_spec::table::{Number, Operand};
 use seg_layout::{Type, TypeId, TypeTable};
-use seg_raw::Fault;
 use std::alloc::{AllocError, Allocator};
 use std::fmt::Write;
 

@@ -1,7 +1,7 @@
 ghost use Rattle.std.specs.Prelude.{false, None};
 
 use arrayvec::ArrayVec;
-use client_output::Sink;
+use client_vm::Sink;
 use std::alloc::AllocError;
 use std::fmt::Write;
 

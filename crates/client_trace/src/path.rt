@@ -1,5 +1,5 @@
 use client_code::{Constant, ConstantKind};
-use seg_layout::TypeId;
+use client_vm::TypeId;
 use std::alloc::AllocError;
 use std::fmt::{self, Write};
 

@@ -1,8 +1,6 @@
 use crate::path::{Part, Path, Root};
 use client_code::{Client, Constants, Instruction, Operation, REGISTERS};
-use client_vm::Stepper;
-use seg_block::Fit;
-use seg_manager::Segment;
+use client_vm::{Fit, Segment, Stepper};
 use std::alloc::{AllocError, Global};
 
 const COUNT: usize = REGISTERS as usize;

@@ -6,10 +6,7 @@ use crate::lines::Lines;
 use crate::paths::Paths;
 use crate::untraced::Untraced;
 use client_code::Client;
-use client_output::{Sink, write_all};
-use client_vm::{Ready, Stepper};
-use seg_block::Fit;
-use seg_manager::Segment;
+use client_vm::{Fit, Ready, Segment, Sink, Stepper, write_all};
 use std::alloc::{AllocError, Global};
 
 /// Runs a client on a segment, and writes a line for each instruction that it performs:

@@ -1,8 +1,7 @@
 ghost use Rattle.std.specs.Prelude.{◌≡◌};
 ghost use Rattle.client_trace.specs.declared.untraced.Untraced.TheVariants.{Memory, OutputFailed};
 
-use client_output::Stopped;
-use seg_raw::Fault;
+use client_vm::{Fault, Stopped};
 use std::alloc::AllocError;
 
 /// Why a trace ended before its run did.

@@ -4,9 +4,7 @@ ghost use Rattle.client_spec.specs.Clients.{AreMoves, IsFirstBadMove};
 ghost use Rattle.client_program.specs.Moving.{first_step, MakesNext, MakesDue, Waits};
 ghost use Rattle.client_vm.specs.Moves.{moves_of};
 
-use seg_block::Fit;
-use seg_manager::Segment;
-use seg_ptr::Window;
+use seg_manager::{Fit, Segment, Window};
 use std::alloc::Allocator;
 
 /// A move of the segment to another base of its region, right before a step. Steps are counted from 1.

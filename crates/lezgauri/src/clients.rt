@@ -17,8 +17,7 @@ ghost use Rattle.seg_image.specs.Images.{segment_of, allocator_of};
 use client_code::parse_typed;
 use client_verify::{Verified, verify_typed};
 use client_vm::{Ended, Ready, Report, Sink, run as run_on_segment};
-use seg_image::Image;
-use seg_raw::Fault;
+use seg_image::{Fault, Image};
 use std::alloc::Allocator;
 
 /// Reads a client file, and verifies the client against an image's types. Fails with `BadCode` and the position of the first

@@ -15,12 +15,8 @@ pub use client_vm::{
     run_bytes, run_image, write_all,
 };
 pub use clients::{run, verify};
-pub use seg_bestfit::BestFit;
-pub use seg_image::{AllocatorKind, Error, Image, Unopened, check, type_table};
-pub use seg_layout::{Fields, MAX_TYPES, Type, TypeId, TypeTable};
-pub use seg_manager::{IndexKind, MAX_NAME, MIN_LEN, Named, Segment};
-pub use seg_ptr::MAX_LEN;
-pub use seg_raw::{Code, Fault};
-pub use seg_seq::Numbers;
-pub use seg_seqfit::SeqFit;
-pub use seg_value::Place;
+pub use seg_image::{
+    AllocatorKind, BestFit, Code, ENTRY, Error, Fault, Fields, Fit, Heap, Image, IndexKind,
+    MAX_LEN, MAX_NAME, MAX_TYPES, MIN_LEN, Named, Numbers, Place, Region, Segment, SeqFit, Type,
+    TypeId, TypeTable, Unopened, Window, check, type_table,
+};

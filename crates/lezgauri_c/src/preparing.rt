@@ -20,7 +20,7 @@ use crate::run_in_place::{open_window, run_again};
 use crate::running::status_of;
 use crate::status::{BAD_ARGUMENT, OK};
 use client_vm::{Ready, Refused};
-use seg_layout::TypeTable;
+use lezgauri::TypeTable;
 use std::alloc::{Allocator, Global};
 
 /// Verifies a client against the types of an image that an earlier call found sound, or changed, and prepares it to run any

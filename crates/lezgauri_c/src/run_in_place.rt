@@ -15,15 +15,10 @@ ghost use Rattle.lezgauri_c.specs.Calls.{whole_job, effect_of_one};
 ghost use Rattle.lezgauri_c.specs.Prepared.{text_of, ReadyRan};
 
 use crate::accepting::ready;
-use client_vm::{Ready, Refused, Report as Told, Sink, run};
-use seg_bestfit::BestFit;
-use seg_block::Fit;
+use client_vm::{MAX_LEN, Ready, Refused, Report as Told, Sink, Window, header, run};
+use lezgauri::{BestFit, Fit, Segment, SeqFit, TypeTable};
 use seg_check::read_types;
-use seg_layout::TypeTable;
-use seg_manager::Segment;
-use seg_ptr::{MAX_LEN, Window, header};
 use seg_raw::{Fault as Reason, Region};
-use seg_seqfit::SeqFit;
 use std::alloc::{Allocator, Global};
 
 /// Verifies a client and runs it on an image in place. If it is refused, nothing is written, and the image is returned unchanged.

@@ -22,4 +22,5 @@ pub use header::{
     units, units_before, units_in,
 };
 pub use rules::{expanded, granted, preferred, shrunk};
+pub use seg_ptr::{Code, Fault, MAX_LEN, MIN_LEN, Region, View, Window};
 pub use tag::{Kind, Tag};

@@ -4,7 +4,7 @@ ghost use Rattle.std.specs.Prelude.{◌≡◌};
 ghost use Rattle.seg_spec.specs.Bytes.{signed_long};
 ghost use Rattle.seg_spec.specs.Reads.{count_at, start};
 
-use seg_ptr::Window;
+use seg_block::Window;
 use std::alloc::Allocator;
 
 /// The count in a cell, after its pointer: the number of bytes, items or nodes.

@@ -13,8 +13,8 @@ ghost use Rattle.seg_cells.specs.Pointers.{PointsAgain};
 
 use crate::entry::{Entry, Held};
 use crate::place::Place;
+use seg_block::Window;
 use seg_layout::{MAX_TYPES, TypeId, TypeTable};
-use seg_ptr::Window;
 use std::alloc::Allocator;
 
 /// The distance in a null pointer.

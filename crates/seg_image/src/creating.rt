@@ -5,9 +5,7 @@ ghost use Rattle.seg_image.specs.Images.{segment_of, allocator_of, number_of};
 
 use crate::image::Image;
 use seg_bestfit::BestFit;
-use seg_block::Fit;
-use seg_manager::{IndexKind, Segment};
-use seg_ptr::MAX_LEN;
+use seg_manager::{Fit, IndexKind, MAX_LEN, Segment};
 use seg_raw::{Fault, Region};
 use seg_seqfit::SeqFit;
 use std::alloc::Allocator;

@@ -11,8 +11,7 @@ ghost use Rattle.seg_image.specs.Images.{segment_of, allocator_of, bytes_in, IsO
 use seg_bestfit::BestFit;
 use seg_check::save;
 use seg_layout::TypeTable;
-use seg_manager::Segment;
-use seg_ptr::Window;
+use seg_manager::{Segment, Window};
 use seg_raw::Fault;
 use seg_seqfit::SeqFit;
 use std::alloc::Allocator;

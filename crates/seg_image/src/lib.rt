@@ -23,4 +23,11 @@ pub use creating::AllocatorKind;
 pub use error::Error;
 pub use image::Image;
 pub use opening::{Unopened, check};
+pub use seg_bestfit::BestFit;
+pub use seg_manager::{
+    Code, ENTRY, Fault, Fields, Fit, Heap, IndexKind, MAX_LEN, MAX_NAME, MAX_TYPES, MIN_LEN, Named,
+    Place, Region, Segment, Type, TypeId, TypeTable, Window,
+};
+pub use seg_seq::Numbers;
+pub use seg_seqfit::SeqFit;
 pub use table::type_table;

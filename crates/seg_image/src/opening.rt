@@ -8,10 +8,8 @@ ghost use Rattle.seg_image.specs.Images.{segment_of, allocator_of};
 
 use crate::image::Image;
 use seg_bestfit::BestFit;
-use seg_block::Fit;
 use seg_layout::TypeTable;
-use seg_manager::Segment;
-use seg_ptr::{MAX_LEN, Window, header};
+use seg_manager::{Fit, MAX_LEN, Segment, Window, header};
 use seg_raw::{Fault, Region};
 use seg_seqfit::SeqFit;
 use std::alloc::Allocator;

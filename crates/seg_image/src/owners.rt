@@ -15,8 +15,8 @@ ghost use Rattle.seg_image.specs.Places.{position_of, object_type, content_place
 
 use crate::image::{Image, on};
 use crate::places::placed;
-use seg_block::Fit;
 use seg_layout::TypeId;
+use seg_manager::Fit;
 use seg_raw::Code;
 use seg_value::{Content, Heap, Place, set_own};
 use std::alloc::Allocator;

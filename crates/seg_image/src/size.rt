@@ -10,9 +10,7 @@ ghost use Rattle.seg_image.specs.Growth.{Lengthens};
 
 use crate::image::{Image, on};
 use core::mem::replace_with;
-use seg_block::Fit;
-use seg_manager::Segment;
-use seg_ptr::{MAX_LEN, Window};
+use seg_manager::{Fit, MAX_LEN, Segment, Window};
 use seg_raw::{Fault, Region};
 use std::alloc::{AllocError, Allocator};
 

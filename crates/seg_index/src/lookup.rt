@@ -4,11 +4,9 @@ ghost use Rattle.seg_spec.specs.Window.{KeepsHost};
 ghost use Rattle.seg_index.specs.Lists.{WhereNames, IsOccupied, IsVacant, IsRootOf, MayEnter, EntersOrNot, LeavesName};
 
 use crate::{flat, tree};
-use seg_block::Fit;
 use seg_entry::{IndexKind, NameEntry};
-use seg_raw::Code;
 use seg_rbtree::Path;
-use seg_value::Heap;
+use seg_value::{Code, Fit, Heap};
 use std::alloc::Allocator;
 
 /// Where a search for a name ended.

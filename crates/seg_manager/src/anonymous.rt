@@ -6,10 +6,8 @@ ghost use Rattle.seg_spec.specs.Calls.{Refuses};
 ghost use Rattle.seg_manager.specs.Segments.{IsSegment, one_value, MakesLoose, LosesLoose};
 
 use crate::segment::Segment;
-use seg_block::Fit;
-use seg_layout::TypeId;
 use seg_raw::Code;
-use seg_value::Content;
+use seg_value::{Content, Fit, TypeId};
 use std::alloc::Allocator;
 
 /// Objects without a name. The caller must give each an owner or destroy it.

@@ -8,10 +8,9 @@ ghost use Rattle.seg_map.specs.EitherMap.{has_keys, WhereMaps};
 ghost use Rattle.seg_map.specs.Maps.{first_of, keys_above};
 
 use crate::segment::Segment;
-use seg_block::Fit;
 use seg_map::{first_key_by, next_key_by};
 use seg_raw::Code;
-use seg_value::Place;
+use seg_value::{Fit, Place};
 use std::alloc::Allocator;
 
 impl<F: Fit, A: Allocator> Segment<F, A> {

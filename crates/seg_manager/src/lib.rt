@@ -12,5 +12,8 @@ mod uniques;
 pub use listing::{Named, first_name, next_name, num_named};
 pub use names::Found;
 pub use seg_index::{IndexKind, MAX_NAME};
-pub use seg_ptr::MIN_LEN;
+pub use seg_value::{
+    Code, Content, ENTRY, Fault, Fields, Fit, Heap, MAX_LEN, MAX_TYPES, MIN_LEN, Place, Region,
+    Type, TypeId, TypeTable, View, Window, frozen, header, is_size,
+};
 pub use segment::Segment;

@@ -6,9 +6,8 @@ ghost use Rattle.seg_manager.specs.Segments.{IsSegment};
 ghost use Rattle.seg_manager.specs.NamedObjects.{Says};
 
 use crate::Segment;
-use seg_block::Fit;
 use seg_index::{NameEntry, name_count};
-use seg_layout::TypeId;
+use seg_value::{Fit, TypeId};
 use std::alloc::Allocator;
 
 /// A name of a segment, with the type of its object and the number of its values.

@@ -20,11 +20,9 @@ ghost use Rattle.seg_manager.specs.LeavingNamed.{IsUnlisted, LosesNamed};
 ghost use Rattle.seg_manager.specs.Segments.{IsSegment, new_root};
 
 use crate::segment::Segment;
-use seg_block::{Fit, Kind, Tag, UNIT, need};
 use seg_index::{MAX_NAME, NameEntry, Vacant, find, look_up};
-use seg_layout::TypeId;
 use seg_raw::Code;
-use seg_value::Place;
+use seg_value::{Fit, Kind, Place, Tag, TypeId, UNIT, need};
 use std::alloc::Allocator;
 
 /// A named object: the position of its first value, and the number of its values.

@@ -7,11 +7,8 @@ ghost use Rattle.seg_spec.specs.Window.{region_of, KeepsHost};
 ghost use Rattle.seg_manager.specs.Segments.{IsSegment, AddsTypes};
 
 use crate::cursor::Cursor;
-use seg_block::Fit;
-use seg_layout::{ENTRY, MAX_TYPES, TypeId, TypeTable};
-use seg_ptr::{Window, header};
 use seg_raw::{Fault, Region};
-use seg_value::Heap;
+use seg_value::{ENTRY, Fit, Heap, MAX_TYPES, TypeId, TypeTable, Window, header};
 use std::alloc::Allocator;
 use std::marker::Model;
 

@@ -4,10 +4,9 @@ ghost use Rattle.seg_spec.specs.Sound.{Picture};
 ghost use Rattle.seg_manager.specs.Segments.{IsSegment, unique_at, MakesUnique, FindsOrMakes, RefusesUnique, LosesUnique};
 
 use crate::segment::Segment;
-use seg_block::Fit;
 use seg_index::{set_unique, unique};
-use seg_layout::{MAX_TYPES, TypeId};
 use seg_raw::Code;
+use seg_value::{Fit, MAX_TYPES, TypeId};
 use std::alloc::Allocator;
 
 /// Unique objects: at most one for each type.

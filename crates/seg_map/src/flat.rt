@@ -11,9 +11,8 @@ ghost use Rattle.seg_cells.specs.Entries.{IsEntryOf};
 ghost use Rattle.seg_value.specs.Entries.{NamesFlatMap, flat_asks};
 ghost use Rattle.seg_map.specs.Maps.{WhereMap, FindsValue, PutsKey, RemovesKey, KeepsLowerKeys, first_of, keys_above};
 
-use seg_block::Fit;
 use seg_raw::Code;
-use seg_value::{Content, Entry, Heap, binary_search};
+use seg_value::{Content, Entry, Fit, Heap, binary_search};
 use std::alloc::Allocator;
 
 /// `Ok` with the index of a key's entry, or `Err` with the index to insert it at.

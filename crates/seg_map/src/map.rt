@@ -12,10 +12,9 @@ ghost use Rattle.seg_map.specs.EitherMap.{has_keys, IsMapOf, WhereMaps, key_asks
 ghost use Rattle.seg_map.specs.Maps.{FindsValue, PutsKey, RemovesKey, first_of, keys_above};
 
 use crate::{flat, tree};
-use seg_block::Fit;
 use seg_raw::Code;
 use seg_rbtree::Path;
-use seg_value::{Content, Heap, KEY, Place, Shape};
+use seg_value::{Content, Fit, Heap, KEY, Place, Shape};
 use std::alloc::Allocator;
 
 /// The two kinds of maps, with the layout of what the map's cell points to.

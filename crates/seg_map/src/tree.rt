@@ -24,11 +24,9 @@ ghost use Rattle.seg_cells.specs.Places.{object_at};
 ghost use Rattle.seg_map.specs.Maps.{WhereMap, FindsValue, PutsKey, RemovesKey, first_of, keys_above};
 ghost use Rattle.seg_map.specs.Trees.{VALUE, NamesTree, KeepsOtherKeys};
 
-use seg_block::Fit;
-use seg_ptr::View;
 use seg_raw::Code;
 use seg_rbtree::{NodeOrder, Path, TREE_WORDS, Tree, UniqueKeys};
-use seg_value::{Content, Entry, Heap};
+use seg_value::{Content, Entry, Fit, Heap, View};
 use std::alloc::Allocator;
 use std::cmp::Ordering;
 

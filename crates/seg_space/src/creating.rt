@@ -11,10 +11,9 @@ ghost use Rattle.seg_space.specs.NewSegments.{nothing, word_of_kind, IsNew};
 
 use seg_block::{Fit, UNIT};
 use seg_index::set_unique;
-use seg_layout::{MAX_TYPES, TypeId, TypeTable};
-use seg_manager::{IndexKind, Segment};
-use seg_ptr::{Window, header, is_size};
-use seg_raw::{Fault, Region};
+use seg_manager::{
+    Fault, IndexKind, MAX_TYPES, Region, Segment, TypeId, TypeTable, Window, header, is_size,
+};
 use std::alloc::Allocator;
 
 /// A new, empty segment of `size` bytes at a base of a region. All its bytes are 0, except in the header and in the

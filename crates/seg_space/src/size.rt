@@ -7,9 +7,7 @@ ghost use Rattle.seg_manager.specs.Segments.{IsSegment};
 ghost use Rattle.seg_space.specs.Sizes.{MayGrowTo, used_front, Grows, Shrinks};
 
 use seg_block::{Fit, UNIT};
-use seg_manager::Segment;
-use seg_ptr::is_size;
-use seg_raw::Fault;
+use seg_manager::{Fault, Segment, is_size};
 use std::alloc::Allocator;
 
 /// How many of `extra` new bytes at the front the heap may write: the header of a free block, and what the allocator

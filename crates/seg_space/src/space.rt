@@ -9,8 +9,7 @@ ghost use Rattle.seg_space.specs.Gaps.{bytes_of, largest_of, spare_start, spare_
 ghost use Rattle.seg_manager.specs.Segments.{IsSegment};
 
 use seg_block::{Block, Fit, HEAP_START, UNIT, block_at, is_live};
-use seg_manager::Segment;
-use seg_ptr::Window;
+use seg_manager::{Segment, Window};
 use std::alloc::Allocator;
 
 /// The bytes of the free blocks of a heap: of all together, and of the largest.

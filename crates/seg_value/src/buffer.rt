@@ -31,7 +31,7 @@ use crate::entry::need;
 use crate::heap::Heap;
 use seg_block::{Fit, Grant, UNIT, block_of, preferred, request};
 use seg_cells::{Content, Entry, Place, Shape};
-use seg_raw::Code;
+use seg_ptr::Code;
 use std::alloc::Allocator;
 
 /// Blocks of entries, and the buffers that cells point to.

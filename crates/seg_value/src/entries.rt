@@ -12,7 +12,7 @@ ghost use Rattle.seg_cells.specs.Places.{object_at as place_at};
 use crate::heap::Heap;
 use seg_block::Fit;
 use seg_cells::Content;
-use seg_raw::Code;
+use seg_ptr::Code;
 use std::alloc::Allocator;
 
 /// Inserting and removing entries of a buffer, for flat maps and the flat index.

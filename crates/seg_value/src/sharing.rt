@@ -25,8 +25,8 @@ use crate::{Content, FROZEN_WORDS, Heap};
 use seg_block::Fit;
 use seg_cells::Place;
 use seg_layout::{Type, TypeId};
+use seg_ptr::Code;
 use seg_ptr::header::NEXT_NUMBER;
-use seg_raw::Code;
 use std::alloc::Allocator;
 
 /// The position of the value of the frozen object that a cell points to, if it points to one.

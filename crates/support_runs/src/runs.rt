@@ -1,19 +1,14 @@
 //! Segments of each kind, and runs of clients on them.
 
 use crate::windows::window;
-use client_code::parse;
 use client_text::assemble;
-use client_verify::{Verified, verify};
 use client_vm::{
-    Ended, Move, Outcome, Ready, Refused, Report, Schedule, Through, Unrun, prepare, run_bytes,
-    run_image,
+    Ended, Move, Outcome, Ready, Refused, Report, Schedule, Through, Unrun, Verified, parse,
+    prepare, run_bytes, run_image, verify,
 };
 use seg_bestfit::BestFit;
-use seg_block::Fit;
 use seg_check::{check, save};
-use seg_layout::TypeTable;
-use seg_manager::{IndexKind, Segment, num_named};
-use seg_raw::{Fault, Region};
+use seg_manager::{Fault, Fit, IndexKind, Region, Segment, TypeTable, num_named};
 use seg_seqfit::SeqFit;
 use seg_space::{create, free_memory, largest_gap};
 use std::alloc::Global;

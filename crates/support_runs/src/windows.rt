@@ -1,10 +1,7 @@
 //! Images in windows, and segments that are opened there.
 
-use seg_block::Fit;
 use seg_check::open;
-use seg_manager::Segment;
-use seg_ptr::Window;
-use seg_raw::{Fault, Region};
+use seg_manager::{Fault, Fit, Region, Segment, Window};
 use std::alloc::Global;
 
 /// An image at a base of a region.

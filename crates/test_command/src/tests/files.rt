@@ -2,8 +2,7 @@
 
 use cli_commands::command;
 use cli_files::{FileFault, FileProblem, Files};
-use client_text::assemble;
-use client_vm::Through;
+use lezgauri::{Through, assemble};
 use std::alloc::{AllocError, Global};
 use std::process::Abort;
 use std::str;

@@ -1,5 +1,5 @@
 use seg_layout::{Cell, TypeId, TypeTable};
-use seg_raw::Fault;
+use seg_ptr::Fault;
 use std::alloc::{AllocError, Global};
 use std::process::Abort;
 use std::test::Fail;

@@ -1,5 +1,4 @@
-use seg_ptr::Window;
-use seg_raw::Region;
+use seg_ptr::{Region, Window};
 use std::alloc::Global;
 use std::test::Fail;
 

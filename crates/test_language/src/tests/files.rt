@@ -1,7 +1,6 @@
 use crate::tests::every;
-use client_code::{Instruction, Operation, parse};
+use client_code::{Fault, Instruction, Operation, parse};
 use client_text::{assemble, print};
-use seg_raw::Fault;
 use std::alloc::{AllocError, Global};
 use std::process::Abort;
 use std::test::Fail;

@@ -1,8 +1,6 @@
 use crate::tests::support::verdict;
-use client_code::parse;
+use client_code::{Fault, TypeTable, parse};
 use client_verify::verify;
-use seg_layout::TypeTable;
-use seg_raw::Fault;
 use std::process::Abort;
 use std::test::Fail;
 use support_data::{INCREMENT, INCREMENT_FILE, chain};

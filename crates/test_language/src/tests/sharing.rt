@@ -1,5 +1,5 @@
 use crate::tests::support::{Accepted, Rejected, check_accepted, check_rejected, verdict};
-use seg_raw::Fault;
+use client_code::Fault;
 
 // Frozen objects that are made, named and read.
 static ACCEPTED: [Accepted; 20] = [

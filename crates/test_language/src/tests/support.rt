@@ -1,8 +1,6 @@
-use client_code::parse;
+use client_code::{Fault, TypeTable, parse};
 use client_text::assemble;
 use client_verify::verify;
-use seg_layout::TypeTable;
-use seg_raw::Fault;
 use std::alloc::Global;
 use std::process::Abort;
 

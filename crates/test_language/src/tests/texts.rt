@@ -1,6 +1,5 @@
-use client_code::parse;
+use client_code::{Fault, parse};
 use client_text::{assemble, print};
-use seg_raw::Fault;
 use std::alloc::{AllocError, Global};
 use std::process::Abort;
 use std::test::Fail;

@@ -1,4 +1,4 @@
-use seg_layout::TypeTable;
+use lezgauri::TypeTable;
 use std::process::Abort;
 use std::test::Fail;
 use support_data::{INCREMENT_FILE, counter};

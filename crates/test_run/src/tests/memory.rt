@@ -1,14 +1,12 @@
 //! Calls while the host is out of memory: each reports it, and then has written nothing.
 
-use client_code::parse;
-use client_text::{assemble, print};
 use client_vm::{Refused, Schedule, Through, run_bytes};
-use lezgauri::{AllocatorKind, Image, IndexKind, Unopened};
+use lezgauri::{
+    AllocatorKind, Fault, Image, IndexKind, Region, SeqFit, Unopened, assemble, parse, print,
+};
 use linked_list_allocator::LocalHeap;
 use seg_check::{check, open, save};
-use seg_ptr::Window;
-use seg_raw::{Fault, Region};
-use seg_seqfit::SeqFit;
+use seg_manager::Window;
 use std::alloc::Global;
 use std::process::Abort;
 use std::test::Fail;

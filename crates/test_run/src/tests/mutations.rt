@@ -1,11 +1,8 @@
 use crate::tests::sizes::MAKE_EACH_KIND;
 use arrayvec::ArrayVec;
-use seg_bestfit::BestFit;
-use seg_block::Fit;
+use lezgauri::{BestFit, Fit, SeqFit};
 use seg_check::save;
-use seg_manager::{Segment, first_name, num_named};
-use seg_ptr::header;
-use seg_seqfit::SeqFit;
+use seg_manager::{Segment, first_name, header, num_named};
 use seg_space::all_memory_deallocated;
 use std::alloc::Global;
 use std::process::Abort;

@@ -4,9 +4,8 @@
 use crate::tests::left::leaves;
 use crate::tests::plays::plays;
 use client_vm::Ended;
+use lezgauri::{Fault, TypeTable};
 use seg_check::check;
-use seg_layout::TypeTable;
-use seg_raw::Fault;
 use std::alloc::Global;
 use std::process::Abort;
 use std::test::Fail;

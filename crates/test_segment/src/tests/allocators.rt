@@ -2,7 +2,7 @@ use crate::tests::support::one_gap;
 use crate::tests::tiles::live_are;
 use seg_bestfit::{BestFit, locate};
 use seg_block::{Fit, Grant, request, units};
-use seg_ptr::Window;
+use seg_manager::Window;
 use seg_seqfit::SeqFit;
 use std::alloc::Global;
 use std::process::Abort;

@@ -1,7 +1,7 @@
 //! The checker on small images: with each byte changed to each other value, and cut at each length.
 
 use crate::tests::image::Image;
-use seg_raw::Fault;
+use seg_manager::Fault;
 use std::alloc::Global;
 use std::ops::Range;
 use std::process::Abort;

@@ -5,8 +5,8 @@ use crate::tests::support::{I64, STR, Spelled, flat_map_of, list_of, map_of, own
 use crate::tests::tiles::is_one_gap;
 use seg_bestfit::BestFit;
 use seg_block::Fit;
+use seg_manager::Code;
 use seg_map::{first_key, get, next_key, put, remove};
-use seg_raw::Code;
 use seg_seq::{
     append, assign, at, next, pop_back, pop_front, prev, push_back, push_byte, push_front,
 };

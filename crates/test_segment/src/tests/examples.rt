@@ -7,10 +7,9 @@ use crate::tests::support::{
 use seg_bestfit::BestFit;
 use seg_block::Fit;
 use seg_check::{open, save};
-use seg_layout::TypeId;
-use seg_manager::{Found, IndexKind, Segment, first_name, next_name, num_named};
-use seg_ptr::Window;
-use seg_raw::{Code, Fault};
+use seg_manager::{
+    Code, Fault, Found, IndexKind, Segment, TypeId, Window, first_name, next_name, num_named,
+};
 use seg_seqfit::SeqFit;
 use seg_space::{
     all_memory_deallocated, create, free_memory, grow, largest_gap, shrink_to_fit, zero_free_memory,

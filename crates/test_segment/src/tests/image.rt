@@ -14,9 +14,8 @@
 //! owners, `unowned` or `value`; `sound` is no fault. An image has version 1, unless 8=2 sets another.
 
 use crate::tests::support::{first_fault, window};
-use seg_ptr::Window;
-use seg_ptr::header::{SIZE, TYPES, UNIQUES};
-use seg_raw::Fault;
+use seg_manager::header::{SIZE, TYPES, UNIQUES};
+use seg_manager::{Fault, Window};
 use std::alloc::Global;
 use std::test::Fail;
 use support_data::{change, number};

@@ -4,8 +4,7 @@ use seg_block::{Fit, Kind, Tag, UNIT, need};
 use seg_index::{
     IndexKind, NameEntry, find, first_name, look_up, name_count, next_name, set_unique, unique,
 };
-use seg_ptr::header;
-use seg_raw::Code;
+use seg_manager::{Code, header};
 use seg_seqfit::SeqFit;
 use std::process::Abort;
 use std::test::Fail;

@@ -1,8 +1,7 @@
 use crate::tests::support::{I64, NUMBER, map_of, place_of, segment};
 use seg_bestfit::BestFit;
-use seg_manager::IndexKind;
+use seg_manager::{Code, IndexKind};
 use seg_map::{put, remove};
-use seg_raw::Code;
 use std::test::Fail;
 
 /// A key is removed between two steps over the keys.

@@ -6,9 +6,7 @@ use crate::tests::support::{
 };
 use seg_bestfit::BestFit;
 use seg_block::Fit;
-use seg_layout::TypeId;
-use seg_manager::IndexKind;
-use seg_raw::{Code, Fault};
+use seg_manager::{Code, Fault, IndexKind, TypeId};
 use seg_seq::{assign, pop_back, pop_front, push_back, push_front};
 use seg_seqfit::SeqFit;
 use seg_value::{Content, Heap, Place, set_own, take_own};

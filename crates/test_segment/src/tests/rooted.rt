@@ -1,6 +1,6 @@
 use crate::tests::support::{Spelled, one_gap, place_of, table};
 use seg_block::Fit;
-use seg_layout::TypeId;
+use seg_manager::TypeId;
 use seg_value::{Heap, Place};
 use std::alloc::Global;
 use std::test::Fail;

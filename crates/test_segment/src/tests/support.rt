@@ -1,9 +1,6 @@
 use seg_block::Fit;
 use seg_check::check;
-use seg_layout::{TypeId, TypeTable};
-use seg_manager::{IndexKind, Segment};
-use seg_ptr::Window;
-use seg_raw::{Code, Fault, Region};
+use seg_manager::{Code, Fault, IndexKind, Region, Segment, TypeId, TypeTable, Window};
 use seg_space::create;
 use seg_value::Place;
 use std::alloc::{AllocError, Global};

@@ -1,8 +1,8 @@
 //! The blocks of a heap as a list.
 
 use seg_block::{HEAP_START, UNIT, block_at, is_live, tag_word};
-use seg_ptr::Window;
-use seg_ptr::header::FREE;
+use seg_manager::Window;
+use seg_manager::header::FREE;
 use std::alloc::{AllocError, Global};
 use std::process::Abort;
 use std::test::Fail;

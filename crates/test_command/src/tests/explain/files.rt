@@ -1,6 +1,6 @@
 use crate::tests::explain::sources::{clients_alone, is};
 use cli_explain::explain;
-use client_code::parse;
+use lezgauri::parse;
 use std::alloc::Global;
 use std::test::Fail;
 use support_data::{INCREMENT_FILE, front, write};

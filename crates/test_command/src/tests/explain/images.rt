@@ -1,8 +1,7 @@
 use crate::tests::explain::sources::{clients_alone, image_alone, is};
 use crate::tests::files::FROZEN_PAIR;
 use cli_explain::explain;
-use lezgauri::check;
-use seg_raw::Fault;
+use lezgauri::{Fault, check};
 use std::alloc::Global;
 use std::test::Fail;
 use support_data::counter_where;

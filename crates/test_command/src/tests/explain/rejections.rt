@@ -1,10 +1,7 @@
 use crate::tests::explain::sources::{clients_alone, is, parts, run_of};
 use cli_explain::explain;
-use client_code::parse;
-use client_text::assemble;
 use client_verify::verify;
-use seg_layout::TypeTable;
-use seg_raw::Fault;
+use lezgauri::{Fault, TypeTable, assemble, parse};
 use std::alloc::Global;
 use std::test::Fail;
 use support_data::counter;

@@ -1,6 +1,6 @@
 use crate::tests::explain::sources::{is, parts};
 use cli_explain::{Sources, explain};
-use client_text::assemble;
+use lezgauri::assemble;
 use std::alloc::Global;
 use std::test::Fail;
 
