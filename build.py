@@ -17,7 +17,7 @@ ROOT = Path(__file__).resolve().parent
 PROGRAMS = ("segtool", "bench_calls")
 LIBRARY = "lezgauri_c"
 NO_TOOLCHAIN = """The command `rt` of Rattle's toolchain isn't on the path, so nothing can be proved or built.
-README.md says under "What is trusted" which release of it this repository is proved with."""
+README.md says under "What is proved" which release of it this repository is proved with."""
 
 
 def read_crates():
