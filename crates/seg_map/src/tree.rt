@@ -35,7 +35,8 @@ struct ByKey;
 impl NodeOrder<i64> for ByKey {
     ghost exact = { ⊤ };
 
-    ghost compare = { λ _ bytes x y. int_cmp (signed_long bytes ((x + 16) % 2 ^ 32)) (signed_long bytes ((y + 16) % 2 ^ 32)) };
+    ghost compare = { λ _ bytes x y. int_cmp (signed_long bytes ((x + 16) % 2 ^ 32))
+        (signed_long bytes ((y + 16) % 2 ^ 32)) };
 
     ghost compare_key = { λ _ bytes x key. int_cmp (signed_long bytes ((x + 16) % 2 ^ 32)) key };
 
@@ -49,18 +50,27 @@ impl NodeOrder<i64> for ByKey {
         key_of(view, node).cmp(&key)
     }
 
-    ghost total = { λ _ _ bytes. on_total (λ x. signed_long bytes ((x + 16) % 2 ^ 32)) int_cmp_total };
+    ghost total = { λ _ _ bytes. on_total (λ x. signed_long bytes ((x + 16) % 2 ^ 32))
+        int_cmp_total };
 
-    ghost keyed = { λ _ _ bytes x y key less. steps_up int_cmp_total (signed_long bytes ((x + 16) % 2 ^ 32)) (signed_long bytes ((y + 16) % 2 ^ 32)) key less };
+    ghost keyed = { λ _ _ bytes x y key less. steps_up int_cmp_total
+        (signed_long bytes ((x + 16) % 2 ^ 32)) (signed_long bytes ((y + 16) % 2 ^ 32)) key less };
 
-    ghost apart = { λ _ _ _ x low _. (⊎_elim (λ before. inl (omega (arith, before))) (λ following. inr (omega (arith, following))) (cases_lt ((x + 16) % 2 ^ 32 + 7) x), tt) };
+    ghost apart = { λ _ _ _ x low _. (
+      ⊎_elim (λ before. inl (omega (arith, before)))
+          (λ following. inr (omega (arith, following))) (cases_lt ((x + 16) % 2 ^ 32 + 7) x),
+      tt,
+    ) };
 
-    ghost steady = { λ _ _ old new x y same_x same_y i. int_cmp (signed (number-slice 8 old new ((x + 16) % 2 ^ 32) ((x + 16) % 2 ^ 32) same_x.0 i))
+    ghost steady = { λ _ _ old new x y same_x same_y i. int_cmp
+        (signed (number-slice 8 old new ((x + 16) % 2 ^ 32) ((x + 16) % 2 ^ 32) same_x.0 i))
         (signed (number-slice 8 old new ((y + 16) % 2 ^ 32) ((y + 16) % 2 ^ 32) same_y.0 i)) };
 }
 
 impl UniqueKeys<i64> for ByKey {
-    ghost one = { λ _ _ bytes x y key first second. equal_to_one int_cmp_total (signed_long bytes ((x + 16) % 2 ^ 32)) (signed_long bytes ((y + 16) % 2 ^ 32)) key first second };
+    ghost one = { λ _ _ bytes x y key first second. equal_to_one int_cmp_total
+        (signed_long bytes ((x + 16) % 2 ^ 32)) (signed_long bytes ((y + 16) % 2 ^ 32))
+        key first second };
 }
 
 fn key_place(node: u32) -> u32

@@ -45,15 +45,19 @@ impl NodeOrder<u32> for ByNumber {
 
     ghost total = { λ _ _ bytes. on_total (λ x. word bytes (x + 16)) nat_cmp_total };
 
-    ghost keyed = { λ _ _ bytes x y key less. steps_up nat_cmp_total (word bytes (x + 16)) (word bytes (y + 16)) key less };
+    ghost keyed = { λ _ _ bytes x y key less. steps_up nat_cmp_total (word bytes (x + 16))
+        (word bytes (y + 16)) key less };
 
     ghost apart = { λ _ _ _ x low _. (inr (omega arith), tt) };
 
-    ghost steady = { λ _ _ old new x y same_x same_y i. nat_cmp (number-slice 4 old new (x + 16) (x + 16) same_x.0 i) (number-slice 4 old new (y + 16) (y + 16) same_y.0 i) };
+    ghost steady = { λ _ _ old new x y same_x same_y i. nat_cmp
+        (number-slice 4 old new (x + 16) (x + 16) same_x.0 i)
+        (number-slice 4 old new (y + 16) (y + 16) same_y.0 i) };
 }
 
 impl UniqueKeys<u32> for ByNumber {
-    ghost one = { λ _ _ bytes x y key. equal_to_one nat_cmp_total (word bytes (x + 16)) (word bytes (y + 16)) key };
+    ghost one = { λ _ _ bytes x y key. equal_to_one nat_cmp_total (word bytes (x + 16))
+        (word bytes (y + 16)) key };
 }
 
 /// A window with the root word at 0, and room for nodes from 32 on.
