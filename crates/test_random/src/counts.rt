@@ -42,5 +42,5 @@ fn count(clients: &mut u32, is_one: bool) {
 
 /// Whether more than `least` clients a round were counted.
 fn is_over(counted: u32, least: u32, rounds: u32) -> bool {
-    u64::from(counted) > u64::from(least) * u64::from(rounds)
+    u64::from(counted) > u64::from(least).wrapping_mul(u64::from(rounds))
 }

@@ -25,7 +25,7 @@ struct Retraced {
 const TURN: u32 = 10;
 
 /// Clients of a seed: a turn on a segment of each kind and size.
-pub(crate) const ROUND: u32 = KINDS.len() as u32 * SEGMENTS.len() as u32 * TURN;
+pub(crate) const ROUND: u32 = 320;
 
 /// Where an image has the number of the next object that is frozen.
 const NEXT_NUMBER: usize = 28;
@@ -231,6 +231,9 @@ pub(crate) fn follow_rounds(
                 left -= turn;
             }
         }
+    }
+    if left > 0 {
+        return Err(Fail::new("a round has fewer clients than it should"));
     }
     Ok(counts)
 }
