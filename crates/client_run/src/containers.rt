@@ -10,7 +10,7 @@ ghost use Rattle.seg_spec.specs.Reads.{count_at};
 ghost use Rattle.seg_spec.specs.Window.{KeepsHost};
 ghost use Rattle.client_spec.specs.declared.table.Operation.{Operation};
 ghost use Rattle.client_run.specs.Machines.{KeepsLoops};
-ghost use Rattle.client_run.specs.Worlds.{Acts, Opens, CountsOr};
+ghost use Rattle.client_run.specs.Worlds.{KeepsAround, Acts, Opens, CountsOr};
 
 use crate::machine::Machine;
 use crate::values::{held_type, is_text};
@@ -115,9 +115,7 @@ impl Machine<'_> {
         segment: &mut Segment<F, A>,
         i: &Instruction,
     ) -> Jump
-        ensures loops { KeepsLoops self.old self.new }
-        ensures window { KeepsHost segment.old.window segment.new.window }
-        ensures types { segment.new.types ≡ segment.old.types }
+        ensures around { KeepsAround self.old self.new segment.old segment.new }
         ensures does { Opens Operation.PushBack F.allocator i.now result self.old self.new
             segment.old segment.new }
     {
@@ -136,9 +134,7 @@ impl Machine<'_> {
         segment: &mut Segment<F, A>,
         i: &Instruction,
     ) -> Jump
-        ensures loops { KeepsLoops self.old self.new }
-        ensures window { KeepsHost segment.old.window segment.new.window }
-        ensures types { segment.new.types ≡ segment.old.types }
+        ensures around { KeepsAround self.old self.new segment.old segment.new }
         ensures does { Opens Operation.PushBack F.allocator i.now result self.old self.new
             segment.old segment.new }
     {
@@ -154,9 +150,7 @@ impl Machine<'_> {
         segment: &mut Segment<F, A>,
         i: &Instruction,
     ) -> Jump
-        ensures loops { KeepsLoops self.old self.new }
-        ensures window { KeepsHost segment.old.window segment.new.window }
-        ensures types { segment.new.types ≡ segment.old.types }
+        ensures around { KeepsAround self.old self.new segment.old segment.new }
         ensures does { Opens Operation.PushFront F.allocator i.now result self.old self.new
             segment.old segment.new }
     {
@@ -172,9 +166,7 @@ impl Machine<'_> {
         segment: &mut Segment<F, A>,
         i: &Instruction,
     ) -> Jump
-        ensures loops { KeepsLoops self.old self.new }
-        ensures window { KeepsHost segment.old.window segment.new.window }
-        ensures types { segment.new.types ≡ segment.old.types }
+        ensures around { KeepsAround self.old self.new segment.old segment.new }
         ensures does { Opens Operation.PopBack F.allocator i.now result self.old self.new
             segment.old segment.new }
     {
@@ -188,9 +180,7 @@ impl Machine<'_> {
         segment: &mut Segment<F, A>,
         i: &Instruction,
     ) -> Jump
-        ensures loops { KeepsLoops self.old self.new }
-        ensures window { KeepsHost segment.old.window segment.new.window }
-        ensures types { segment.new.types ≡ segment.old.types }
+        ensures around { KeepsAround self.old self.new segment.old segment.new }
         ensures does { Opens Operation.PopFront F.allocator i.now result self.old self.new
             segment.old segment.new }
     {
@@ -218,9 +208,7 @@ impl Machine<'_> {
         segment: &mut Segment<F, A>,
         i: &Instruction,
     ) -> Jump
-        ensures loops { KeepsLoops self.old self.new }
-        ensures window { KeepsHost segment.old.window segment.new.window }
-        ensures types { segment.new.types ≡ segment.old.types }
+        ensures around { KeepsAround self.old self.new segment.old segment.new }
         ensures does { Opens Operation.SetStr F.allocator i.now result self.old self.new
             segment.old segment.new }
     {
@@ -236,9 +224,7 @@ impl Machine<'_> {
         segment: &mut Segment<F, A>,
         i: &Instruction,
     ) -> Jump
-        ensures loops { KeepsLoops self.old self.new }
-        ensures window { KeepsHost segment.old.window segment.new.window }
-        ensures types { segment.new.types ≡ segment.old.types }
+        ensures around { KeepsAround self.old self.new segment.old segment.new }
         ensures does { Opens Operation.AddStr F.allocator i.now result self.old self.new
             segment.old segment.new }
     {
@@ -254,9 +240,7 @@ impl Machine<'_> {
         segment: &mut Segment<F, A>,
         i: &Instruction,
     ) -> Jump
-        ensures loops { KeepsLoops self.old self.new }
-        ensures window { KeepsHost segment.old.window segment.new.window }
-        ensures types { segment.new.types ≡ segment.old.types }
+        ensures around { KeepsAround self.old self.new segment.old segment.new }
         ensures does { Opens Operation.AddByte F.allocator i.now result self.old self.new
             segment.old segment.new }
     {

@@ -1,10 +1,9 @@
 //! Flat maps and maps.
 
 ghost use Rattle.std.specs.Prelude.{◌≡◌};
-ghost use Rattle.seg_spec.specs.Window.{KeepsHost};
 ghost use Rattle.client_spec.specs.declared.table.Operation.{Operation};
 ghost use Rattle.client_run.specs.Machines.{KeepsLoops};
-ghost use Rattle.client_run.specs.Worlds.{Acts, Opens};
+ghost use Rattle.client_run.specs.Worlds.{KeepsAround, Acts, Opens};
 
 use crate::machine::Machine;
 use crate::values::held_type;
@@ -37,9 +36,7 @@ impl Machine<'_> {
         segment: &mut Segment<F, A>,
         i: &Instruction,
     ) -> Jump
-        ensures loops { KeepsLoops self.old self.new }
-        ensures window { KeepsHost segment.old.window segment.new.window }
-        ensures types { segment.new.types ≡ segment.old.types }
+        ensures around { KeepsAround self.old self.new segment.old segment.new }
         ensures does { Opens Operation.PutKey F.allocator i.now result self.old self.new
             segment.old segment.new }
     {
@@ -54,9 +51,7 @@ impl Machine<'_> {
         segment: &mut Segment<F, A>,
         i: &Instruction,
     )
-        ensures loops { KeepsLoops self.old self.new }
-        ensures window { KeepsHost segment.old.window segment.new.window }
-        ensures types { segment.new.types ≡ segment.old.types }
+        ensures around { KeepsAround self.old self.new segment.old segment.new }
         ensures does { Acts Operation.DeleteKey F.allocator i.now self.old self.new
             segment.old segment.new }
     {

@@ -10,7 +10,7 @@ ghost use Rattle.client_code.specs.declared.instruction.TheConstants.{REGISTERS}
 ghost use Rattle.client_program.specs.Paths.{number_at};
 ghost use Rattle.client_run.specs.Machines.{KeepsLoops};
 ghost use Rattle.client_run.specs.Named.{NamedIn, optional_in, IsOptional, FindsItem};
-ghost use Rattle.client_run.specs.Worlds.{Acts, Opens, content_at};
+ghost use Rattle.client_run.specs.Worlds.{KeepsAround, Acts, Opens, content_at};
 
 use crate::machine::Machine;
 use crate::name::{Name, name_of};
@@ -54,9 +54,7 @@ impl Machine<'_> {
         segment: &mut Segment<F, A>,
         i: &Instruction,
     ) -> Jump
-        ensures loops { KeepsLoops self.old self.new }
-        ensures window { KeepsHost segment.old.window segment.new.window }
-        ensures types { segment.new.types ≡ segment.old.types }
+        ensures around { KeepsAround self.old self.new segment.old segment.new }
         ensures does { Opens Operation.Make F.allocator i.now result self.old self.new
             segment.old segment.new }
     {
@@ -114,9 +112,7 @@ impl Machine<'_> {
         segment: &mut Segment<F, A>,
         i: &Instruction,
     ) -> Jump
-        ensures loops { KeepsLoops self.old self.new }
-        ensures window { KeepsHost segment.old.window segment.new.window }
-        ensures types { segment.new.types ≡ segment.old.types }
+        ensures around { KeepsAround self.old self.new segment.old segment.new }
         ensures does { Opens Operation.FindOrMake F.allocator i.now result self.old self.new
             segment.old segment.new }
     {
@@ -148,9 +144,7 @@ impl Machine<'_> {
         segment: &mut Segment<F, A>,
         i: &Instruction,
     )
-        ensures loops { KeepsLoops self.old self.new }
-        ensures window { KeepsHost segment.old.window segment.new.window }
-        ensures types { segment.new.types ≡ segment.old.types }
+        ensures around { KeepsAround self.old self.new segment.old segment.new }
         ensures does { Acts Operation.Kill F.allocator i.now self.old self.new segment.old
             segment.new }
     {
@@ -167,9 +161,7 @@ impl Machine<'_> {
         segment: &mut Segment<F, A>,
         i: &Instruction,
     ) -> Jump
-        ensures loops { KeepsLoops self.old self.new }
-        ensures window { KeepsHost segment.old.window segment.new.window }
-        ensures types { segment.new.types ≡ segment.old.types }
+        ensures around { KeepsAround self.old self.new segment.old segment.new }
         ensures does { Opens Operation.MakeUnique F.allocator i.now result self.old self.new
             segment.old segment.new }
     {
@@ -199,9 +191,7 @@ impl Machine<'_> {
         segment: &mut Segment<F, A>,
         i: &Instruction,
     ) -> Jump
-        ensures loops { KeepsLoops self.old self.new }
-        ensures window { KeepsHost segment.old.window segment.new.window }
-        ensures types { segment.new.types ≡ segment.old.types }
+        ensures around { KeepsAround self.old self.new segment.old segment.new }
         ensures does { Opens Operation.FindOrMakeUnique F.allocator i.now result self.old self.new
             segment.old segment.new }
     {
@@ -216,9 +206,7 @@ impl Machine<'_> {
         segment: &mut Segment<F, A>,
         i: &Instruction,
     )
-        ensures loops { KeepsLoops self.old self.new }
-        ensures window { KeepsHost segment.old.window segment.new.window }
-        ensures types { segment.new.types ≡ segment.old.types }
+        ensures around { KeepsAround self.old self.new segment.old segment.new }
         ensures does { Acts Operation.KillUnique F.allocator i.now self.old self.new
             segment.old segment.new }
     {
@@ -235,9 +223,7 @@ impl Machine<'_> {
         segment: &mut Segment<F, A>,
         i: &Instruction,
     ) -> Jump
-        ensures loops { KeepsLoops self.old self.new }
-        ensures window { KeepsHost segment.old.window segment.new.window }
-        ensures types { segment.new.types ≡ segment.old.types }
+        ensures around { KeepsAround self.old self.new segment.old segment.new }
         ensures does { Opens Operation.New F.allocator i.now result self.old self.new
             segment.old segment.new }
     {
@@ -252,9 +238,7 @@ impl Machine<'_> {
         segment: &mut Segment<F, A>,
         i: &Instruction,
     )
-        ensures loops { KeepsLoops self.old self.new }
-        ensures window { KeepsHost segment.old.window segment.new.window }
-        ensures types { segment.new.types ≡ segment.old.types }
+        ensures around { KeepsAround self.old self.new segment.old segment.new }
         ensures does { Acts Operation.Drop F.allocator i.now self.old self.new
             segment.old segment.new }
     {
@@ -263,9 +247,7 @@ impl Machine<'_> {
 
     #[inline(never)]
     pub(crate) fn put<F: Fit, A: Allocator>(&mut self, segment: &mut Segment<F, A>, i: &Instruction)
-        ensures loops { KeepsLoops self.old self.new }
-        ensures window { KeepsHost segment.old.window segment.new.window }
-        ensures types { segment.new.types ≡ segment.old.types }
+        ensures around { KeepsAround self.old self.new segment.old segment.new }
         ensures does { Acts Operation.Put F.allocator i.now self.old self.new
             segment.old segment.new }
     {
@@ -279,9 +261,7 @@ impl Machine<'_> {
         segment: &mut Segment<F, A>,
         i: &Instruction,
     ) -> Jump
-        ensures loops { KeepsLoops self.old self.new }
-        ensures window { KeepsHost segment.old.window segment.new.window }
-        ensures types { segment.new.types ≡ segment.old.types }
+        ensures around { KeepsAround self.old self.new segment.old segment.new }
         ensures does { Opens Operation.Take F.allocator i.now result self.old self.new
             segment.old segment.new }
     {
@@ -325,9 +305,7 @@ impl Machine<'_> {
         segment: &mut Segment<F, A>,
         i: &Instruction,
     ) -> Jump
-        ensures loops { KeepsLoops self.old self.new }
-        ensures window { KeepsHost segment.old.window segment.new.window }
-        ensures types { segment.new.types ≡ segment.old.types }
+        ensures around { KeepsAround self.old self.new segment.old segment.new }
         ensures does { Opens Operation.Freeze F.allocator i.now result self.old self.new
             segment.old segment.new }
     {
