@@ -58,7 +58,7 @@ fn requests_are_met(rt: HostRuntime) -> Result<(), Fail> {
     meets_requests::<BestFit>(&rt)
 }
 
-/// Where best fit would look for a block, and at how many gaps.
+/// The gap that best fit would take, and how many gaps it looks at.
 #[test]
 fn best_fit_locates_a_gap(rt: HostRuntime) -> Result<(), Fail> {
     let w = with_a_gap::<BestFit>(&rt)?;
