@@ -182,7 +182,7 @@ impl<'a> File<'a> {
             None => Flaw::Number(
                 "",
                 usize::from(spelled.first().copied().unwrap_or_default()),
-                " is no operation: they are 1 to 52",
+                " is no operation",
             ),
         }
     }
