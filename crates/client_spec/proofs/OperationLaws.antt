@@ -1,11 +1,11 @@
--- The laws of each operation, an entry for each.
---     goes      the row keeps what its rule says of registers
---     alike     an instruction that stands by itself leaves the same in both parts
---     bares     where b isn't only read, the rule finds the same without what is only read
---     kept      cells that share are left, where no reference of their class ends
---     spared    a class of which a reference is only read still is none that ends
---     same      from the trees of a state there is the same row
---     follows   the row keeps the types, and writes at the output's end alone
+-- The laws of each operation: one entry for each.
+--     goes      after the row, registers hold what the rule states
+--     alike     the rule of an instruction without an else part leaves the same in both parts
+--     bares     if b isn't read-only, the rule finds the same when all that is read-only is left out
+--     kept      the row keeps shared cells, if no reference of their class ends
+--     spared    a class does not end if a read-only reference of it stays known
+--     same      the row from a state is also the row from its trees
+--     follows   the row keeps the types, and writes at the output's end only
 use Rattle.std.proofs.Common.{◌≡◌, ℕ, ℤ, pos, negsuc, ◌<◌, List, length, Bool, refl, sym, ◌∙◌, ap, subst}
 use Rattle.std.specs.Prelude.{⊤, Ok, Err, not, slice_get, slice_set, nat_abs, ◌==◌}
 use Rattle.seg_spec.specs.Value.{Value, Full, count}
@@ -646,7 +646,7 @@ module _ (types : Table) (constants : List Constant) (ks : RegisterTypes) (b : �
 pub rows : (s : State) (constants : List Constant) (op : Operation) (a b c : ℕ) (number : ℤ) (room : Bool) → Fine s (effect constants op a b c number room s)
 rows s constants op = (laws op).follows constants s
 
--- where nothing is known of b then, the rule is that alone
+-- if the row forgets what b holds, its rule does that and nothing else
 pub forgotten_rule : (types : Table) (constants : List Constant) (op : Operation) (a b c : ℕ) (number : ℤ) (ks : RegisterTypes) → (row_of op).gives ≡ Gives.Forgotten
     → rule types constants op a b c number ks ≡ typed.◌>>=◌ (assigned b RegisterType.Undefined ks) known_after
 unfolding rule
