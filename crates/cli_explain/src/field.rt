@@ -184,7 +184,7 @@ impl<'a> File<'a> {
             None => Flaw::Number(
                 "",
                 usize::from(spelled.first().copied().unwrap_or_default()),
-                " isn't an operation: they are 1 to 52",
+                " isn't an operation",
             ),
         }
     }

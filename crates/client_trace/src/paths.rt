@@ -1,5 +1,5 @@
 use crate::path::{Part, Path, Root};
-use client_code::{Client, Constants, Instruction, Operation, REGISTERS};
+use client_code::{Client, Constants, Gives, Instruction, Operation, REGISTERS};
 use client_vm::{Fit, Segment, Stepper};
 use std::alloc::{AllocError, Global};
 
@@ -50,61 +50,36 @@ impl<'a> Paths<'a> {
         segment: &Segment<F, Global>,
     ) -> Option<Path> {
         let whole = self.get(i.b);
-        match i.operation {
-            Operation::Mov => Some(whole),
-            Operation::Make | Operation::FindOrMake => Some(named(i, run)),
-            Operation::Find => Some(value(i, run)),
-            Operation::MakeUnique | Operation::FindUnique | Operation::FindOrMakeUnique => {
-                Some(Path::new(Root::Unique(i.type_id())))
-            }
-            Operation::Ref => Some(Path::new(Root::Owned(i.b))),
-            Operation::Content => Some(whole.part(Part::Content)),
-            Operation::Field => Some(whole.part(Part::Field(i.number))),
-            Operation::At => Some(whole.part(Part::Item(run.number(i.c)))),
-            Operation::PushBack => {
-                let len = segment.heap().count(run.place(i.b).at);
-                Some(whole.part(Part::Item(i64::from(len))))
-            }
-            Operation::PushFront => Some(whole.part(Part::Item(0))),
-            Operation::GetKey | Operation::PutKey => Some(whole.part(Part::Key(run.number(i.c)))),
-            Operation::Const
-            | Operation::Add
-            | Operation::Sub
-            | Operation::Mul
-            | Operation::Less
-            | Operation::Equal
-            | Operation::If
-            | Operation::While
-            | Operation::Else
-            | Operation::End
-            | Operation::OutInt
-            | Operation::OutStr
-            | Operation::OutConst
-            | Operation::GetByte
-            | Operation::Count
-            | Operation::Kill
-            | Operation::KillUnique
-            | Operation::New
-            | Operation::Drop
-            | Operation::Put
-            | Operation::Take
-            | Operation::Clear
-            | Operation::Forget
-            | Operation::Load
-            | Operation::Store
-            | Operation::Len
-            | Operation::PopBack
-            | Operation::PopFront
-            | Operation::SetStr
-            | Operation::AddStr
-            | Operation::AddByte
-            | Operation::Shrink
-            | Operation::DeleteKey
-            | Operation::FirstKey
-            | Operation::NextKey
-            | Operation::Freeze
-            | Operation::Share => None,
+        match i.operation.row().gives {
+            Gives::Copy => Some(whole),
+            Gives::Named if i.operation == Operation::Find => Some(value(i, run)),
+            Gives::Named => Some(named(i, run)),
+            Gives::Unique => Some(Path::new(Root::Unique(i.type_id()))),
+            Gives::Owned => Some(Path::new(Root::Owned(i.b))),
+            Gives::Part => part(i, run, segment).map(|part| whole.part(part)),
+            Gives::Nothing | Gives::Int | Gives::Owner | Gives::Content | Gives::Forgotten => None,
         }
+    }
+}
+
+/// The part of register b's value to which an instruction that gives a part refers.
+fn part<F: Fit>(
+    i: Instruction,
+    run: &Stepper<Global>,
+    segment: &Segment<F, Global>,
+) -> Option<Part> {
+    match i.operation {
+        Operation::Content => Some(Part::Content),
+        Operation::Field => Some(Part::Field(i.number)),
+        Operation::At => Some(Part::Item(run.number(i.c))),
+        Operation::PushBack => {
+            let len = segment.heap().count(run.place(i.b).at);
+            Some(Part::Item(i64::from(len)))
+        }
+        Operation::PushFront => Some(Part::Item(0)),
+        Operation::GetKey | Operation::PutKey => Some(Part::Key(run.number(i.c))),
+        // No other operation gives a part.
+        _ => None,
     }
 }
 

@@ -1,4 +1,5 @@
 use client_code::{Number, Operand, Operation, Role, parse};
+use client_spec::table::OPERATIONS;
 use client_text::{assemble, print};
 use std::alloc::AllocError;
 use std::process::Abort;
@@ -86,7 +87,7 @@ impl Writer<'_> {
     /// The statements of a part that may have parts so deep.
     fn part(&mut self, depth: u32) -> Result<(), AllocError> {
         for _ in 0..self.random.below(4) {
-            let number = self.random.below(52) as u8 + 1;
+            let number = (self.random.below(OPERATIONS as u32) as u8).wrapping_add(1);
             let Some(operation) = Operation::from_number(number) else {
                 continue;
             };

@@ -48,9 +48,9 @@ byte 36 of the client file begins constant 0
 === 103 39 51
 byte 39 of the client file begins instruction 0
 only a client with a type `shared` may have this operation
-=== 103 39 53
+=== 103 39 255
 byte 39 of the client file begins instruction 0
-53 isn't an operation: they are 1 to 52
+255 isn't an operation
 === 103 48 16
 byte 47 of the client file begins instruction 1
 operand a should be a register, r0 to r15
