@@ -17,7 +17,7 @@ use Rattle.seg_spec.proofs.Writing.{set_number-changes}
 use Rattle.seg_spec.proofs.Frame.{each_map, each_of_map, each_weaker, each_both, word-same, target-same, IsTree-same}
 use Rattle.seg_spec.proofs.LiveLaws.{LiesIn, there, each_there, live-lie, live-apart, OneOrApart, apart_once, not_there}
 use Rattle.seg_spec.proofs.SeveralWrites.{Range, Beside, IsWritable, heap_same, live_same, ownable_same, header_then, part_same, whole_then}
-use Rattle.seg_value.proofs.Header.{header_fits}
+use Rattle.seg_value.proofs.HeaderLaws.{header_fits}
 use Rattle.seg_rbtree.specs.Changes.{NodesApart, StandApart, Leaves}
 
 -- the tree words of a node

@@ -25,7 +25,7 @@ use Rattle.seg_spec.proofs.LiveLaws.{times-same, there, each_there, LiesIn, live
 use Rattle.seg_spec.proofs.RootLaws.{HoldsRoots-only}
 use Rattle.seg_spec.proofs.RootFrame.{HoldsRoot-kept}
 use Rattle.seg_value.specs.Stored.{Stored}
-use Rattle.seg_value.proofs.Header.{header_fits}
+use Rattle.seg_value.proofs.HeaderLaws.{header_fits}
 use Rattle.seg_manager.specs.Segments.{IsSegment, Becomes, new_root, MakesLoose, unique_at, MakesUnique, LosesUnique}
 use Rattle.seg_spec.proofs.LooseRoots.{its, holds_its, its_live}
 use Rattle.seg_manager.proofs.LooseObjects.{lost, lost_owned}

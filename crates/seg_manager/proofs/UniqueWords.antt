@@ -19,7 +19,7 @@ use Rattle.seg_spec.proofs.PointerLaws.{target-set_same}
 use Rattle.seg_spec.proofs.RootFrame.{HoldsRoots-kept, ListsNames-kept}
 use Rattle.seg_spec.proofs.StretchLaws.{stretches_come_apart}
 use Rattle.seg_spec.proofs.Writing.{set_number-changes}
-use Rattle.seg_value.proofs.Header.{header_heap, header_live, header_ownable, header_kept}
+use Rattle.seg_value.proofs.HeaderLaws.{header_heap, header_live, header_ownable, header_kept}
 use Rattle.seg_spec.proofs.AddTypes.{header_same}
 use Rattle.seg_spec.proofs.LooseRoots.{each_joined}
 use Rattle.seg_spec.proofs.UniqueLaws.{unique_added, unique_removed}

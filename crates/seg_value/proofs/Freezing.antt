@@ -30,7 +30,7 @@ use Rattle.seg_spec.proofs.Destruction.{heap_written, payload_written}
 use Rattle.seg_spec.proofs.Releases.{there_frozen}
 use Rattle.seg_value.specs.Contents.{GivesBlock}
 use Rattle.seg_spec.specs.Sharing.{frozen_now, MovesFrozen}
-use Rattle.seg_value.proofs.Header.{header_fits, header_heap, header_live, header_kept}
+use Rattle.seg_value.proofs.HeaderLaws.{header_fits, header_heap, header_live, header_kept}
 use Rattle.seg_value.proofs.Turns.{is_live}
 
 -- a block is there again, with its link

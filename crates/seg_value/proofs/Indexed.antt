@@ -30,7 +30,7 @@ use Rattle.seg_value.specs.Names.{index_cell, name_entry, FindsNames, ChangesInd
 use Rattle.seg_cells.specs.Pointers.{MovesPointers}
 use Rattle.seg_spec.proofs.Resized.{resized_here, resized_other}
 use Rattle.seg_value.proofs.Inside.{given_counts, given_linked, given_ownable, given_front, wrote_heap, wrote_live, wrote_ownable, wrote_other, wrote_block}
-use Rattle.seg_value.proofs.Header.{header_fits, header_heap, header_live, header_ownable, header_kept}
+use Rattle.seg_value.proofs.HeaderLaws.{header_fits, header_heap, header_live, header_ownable, header_kept}
 use Rattle.seg_value.proofs.Named.{same_entry, name_block, name_room}
 
 -- entries stay if the cell and the buffer are kept

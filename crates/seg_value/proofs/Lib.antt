@@ -12,7 +12,7 @@ pub mod Cutting
 pub mod Runs
 pub mod Inside
 pub mod Between
-pub mod Header
+pub mod HeaderLaws
 pub mod Named
 pub mod Indexed
 pub mod IndexGrows

@@ -26,7 +26,7 @@ use Rattle.seg_spec.proofs.WriteInside.{low_kept}
 use Rattle.seg_value.specs.Names.{index_cell, FindsNames, ChangesIndex, IsSameEntry, KeepsNames, ReservesIndex, AddsName, OpensName, ClosesName, EmptiesIndex}
 use Rattle.seg_cells.specs.Pointers.{MovesPointers}
 use Rattle.seg_value.proofs.Inside.{given_counts, given_linked, given_ownable, given_front, wrote_heap, wrote_live, wrote_ownable, wrote_other, wrote_block}
-use Rattle.seg_value.proofs.Header.{header_fits, header_heap, header_live, header_ownable, header_kept}
+use Rattle.seg_value.proofs.HeaderLaws.{header_fits, header_heap, header_live, header_ownable, header_kept}
 
 pub same_entry : (old new : List ℕ) (q : ℕ) → IsSame old new q 8 → IsSameEntry old new q q
 same_entry old new q s = (target-same old new q (IsSame-part old new q 8 q 4 (omega arith) (omega arith) s), IsSame-part old new q 8 (q + 4) 4 (omega arith) (omega arith) s)
