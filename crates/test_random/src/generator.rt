@@ -400,7 +400,7 @@ impl Generator {
         self.fill(t)
     }
 
-    /// Gives the innermost part's value, which is new, a text or a first number.
+    /// Gives the innermost part's value, which is new, a text or a number, so that values differ.
     fn fill(&mut self, t: usize) -> Result<(), AllocError> {
         let (b, n) = (self.next_register().saturating_sub(1), self.number());
         match shape_of(t) {
@@ -412,11 +412,8 @@ impl Generator {
                 self.text,
                 "FIELD r15 r{b} 0\nSTORE r15 r{n}\nLOAD r15 r15\n"
             ),
-            Shape::Number
-            | Shape::Sequence(_)
-            | Shape::Keyed(_)
-            | Shape::Own(_)
-            | Shape::Shared(_) => Ok(()),
+            Shape::Number => write!(self.text, "STORE r{b} r{n}\n"),
+            Shape::Sequence(_) | Shape::Keyed(_) | Shape::Own(_) | Shape::Shared(_) => Ok(()),
         }
     }
 
@@ -539,7 +536,8 @@ impl Generator {
             _ => return self.read_sequence(part, item),
         }
         self.end_others(part.class, b);
-        self.open_inside(part, item)
+        self.open_inside(part, item)?;
+        self.fill(item)
     }
 
     fn read_sequence(&mut self, part: Part, item: usize) -> Result<(), AllocError> {
@@ -566,7 +564,8 @@ impl Generator {
             0..=2 => {
                 write!(self.text, "PUTK r{a} r{b} r{n}\n")?;
                 self.end_others(part.class, b);
-                self.open_inside(part, item)
+                self.open_inside(part, item)?;
+                self.fill(item)
             }
             3 => {
                 self.end_others(part.class, b);
