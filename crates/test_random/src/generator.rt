@@ -537,7 +537,23 @@ impl Generator {
         }
         self.end_others(part.class, b);
         self.open_inside(part, item)?;
-        self.fill(item)
+        self.fill(item)?;
+        self.print_first(b, item)
+    }
+
+    /// Prints the first item of a sequence, which tells at which end an item was added.
+    fn print_first(&mut self, b: usize, item: usize) -> Result<(), AllocError> {
+        let printed = match shape_of(item) {
+            Shape::Number => "LOAD r15 r15\nOUTI r15\n",
+            Shape::Text => "OUTS r15\nOUTC k6\n",
+            Shape::Sequence(_)
+            | Shape::Keyed(_)
+            | Shape::Own(_)
+            | Shape::Shared(_)
+            | Shape::Struct(_) => return Ok(()),
+        };
+        write!(self.text, "CONST r15 0\nAT r15 r{b} r15\n{printed}")?;
+        self.text.push_str("ELSE\nOUTI r15\nEND\n")
     }
 
     fn read_sequence(&mut self, part: Part, item: usize) -> Result<(), AllocError> {
