@@ -59,7 +59,8 @@ pub fn refused()
         (record { client = Some 0; fault = Fault.BadCode 0 }) }
     ensures first_client { IsRefusedFor (job_at counter ([] ∷ []) [] 2048 0 [])
         (record { client = Some 1; fault = Fault.BadCode 0 }) → ⊥ }
-    ensures other_types { IsRefusedFor (job_at greeting (client_bytes increment ∷ []) [] 2048 0 [])
+    ensures other_types { IsRefusedFor
+        (job_at greeting (client_bytes increment ∷ []) [] 2048 0 [])
         (record { client = Some 0; fault = Fault.TypeMismatch 0 }) }
     ensures its_types { IsRefusedFor (job_at counter (client_bytes increment ∷ []) [] 2048 0 [])
         (record { client = Some 0; fault = Fault.TypeMismatch 0 }) → ⊥ }
