@@ -54,7 +54,7 @@ impl Demand {
 
 /// The type of the value in the own or shared cell that a register refers to.
 fn held_content(names: &Names, holds: RegisterType) -> Option<TypeId> {
-    let (_, to) = holds.led()?;
+    let (_, to) = holds.referred()?;
     match names.types().kind(to)? {
         Type::Own(content) | Type::Shared(content) => Some(content),
         Type::I64

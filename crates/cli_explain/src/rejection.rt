@@ -286,7 +286,7 @@ or if it was defined before the loop",
 
     /// Says how to get a reference again that has ended.
     fn add_again(&self, text: &mut String, held: RegisterType) -> Result<(), AllocError> {
-        match held.led() {
+        match held.referred() {
             Some((Class::Name(_), _)) => text.push_str(
                 "; get it again, by FIND or from its container",
             ),

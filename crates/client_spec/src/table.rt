@@ -309,7 +309,7 @@ impl Operation {
     pub fn word(self) -> &'static str
         ensures { result.now ≡ mnemonic self }
     {
-        rows()[usize::from(self.number()) - 1].0
+        rows()[self as usize - 1].0
     }
 
     /// The operation's row of the table.
@@ -317,7 +317,7 @@ impl Operation {
         ensures row { result ≡ row_of self }
         ensures own { result.operation ≡ self }
     {
-        rows()[usize::from(self.number()) - 1].1
+        rows()[self as usize - 1].1
     }
 
     /// The operation with a number, or `None` if no operation has it.

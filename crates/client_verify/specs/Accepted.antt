@@ -4,4 +4,4 @@ use Rattle.client_code.specs.declared.client.Client.{Client}
 use Rattle.client_verify.specs.declared.verified.Verified.{Verified}
 
 abbrev pub client_of : Verified → Client
-client_of verified = verified.client
+client_of verified = verified.typed.client

@@ -7,18 +7,16 @@ use Rattle.std.specs.Prelude.{ℕ, Option}
 use Rattle.std.specs.Option.{option_map}
 use Rattle.client_spec.specs.Typed as typed
 use Rattle.client_verify.specs.declared.after.After.{After}
-use Rattle.client_verify.specs.Views.{class_of, known_of}
-use Rattle.client_verify.specs.Checking.{ended_with, frozen_from, changed, changed_by}
-
-abbrev pub led_of : After → Option (typed.Class × ℕ)
-led_of after = option_map (λ x. (class_of x.0, x.1)) after.led
+use Rattle.client_verify.specs.Views.{known_of}
+use Rattle.client_verify.specs.Checking.{referred, ended_with, frozen_from, changed, changed_by}
 
 abbrev pub given_of : After → Option (ℕ × typed.RegisterType)
 given_of after = option_map (λ x. (x.0, known_of x.1)) after.given
 
 abbrev pub ended_after : After → typed.RegisterTypes → typed.RegisterTypes
 ended_after after ks =
-    ended_with after.b after.c after.constant after.type_id (led_of after) after.ends ks
+    ended_with after.b after.c after.constant after.type_id
+    (referred (typed.known ks after.b)) after.ends ks
 
 abbrev pub success_after : After → typed.RegisterTypes → typed.RegisterTypes
 success_after after ks = changed (given_of after) (frozen_from after.ends after.c ks)

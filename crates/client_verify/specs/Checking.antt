@@ -43,6 +43,16 @@ referred RegisterType.Int = None
 referred (RegisterType.Reference x t) = Some (sharing x, t)
 referred (RegisterType.Owner t) = None
 
+-- the type of the object that a register owns
+abbrev pub owned_by : RegisterType → Option ℕ
+owned_by (RegisterType.Owner t) = Some t
+owned_by k = None
+
+-- the type of the value that a reference refers to and may change
+abbrev pub changeable_by : RegisterType → Option ℕ
+changeable_by (RegisterType.Reference x t) = if is_frozen x then None else Some t
+changeable_by k = None
+
 abbrev pub field_at : ℤ → List ℕ → Option ℕ
 field_at (pos n) fields = slice_get fields n
 field_at (negsuc n) fields = None
@@ -273,17 +283,16 @@ module _ (s : Step) where
   abbrev pub ended_in : RegisterTypes
   ended_in = ended_by (referred held) s.row.ends
 
-  -- the first reason to refuse: x is what register b refers to, and the other argument what a
-  -- register gets
-  abbrev pub checked_by : Option (Class × ℕ) → Option (ℕ × RegisterType) → Checked (⊤)
-  checked_by x changes = do
+  -- the first reason to refuse, if a register gets this
+  abbrev pub checked_by : Option (ℕ × RegisterType) → Checked (⊤)
+  checked_by changes = do
     _ ← required (meets s.row.needs_b s.b) Reason.WrongOperand
     _ ← required (meets s.row.needs_c s.c) Reason.WrongOperand
-    _ ← required (not (is_inside s.row.ends x s.c)) Reason.PutIntoItself
+    _ ← required (not (is_inside s.row.ends (referred held) s.c)) Reason.PutIntoItself
     required (not (is_lost changes s.before)) Reason.OwnerLost
 
   abbrev pub checked_first : Checked (⊤)
-  checked_first = checked_by (referred held) given
+  checked_first = checked_by given
 
   -- in the success part, and in the else part
   abbrev pub known_in_parts : RegisterTypes × RegisterTypes

@@ -1,3 +1,4 @@
+pub mod Packing
 pub mod Views
 pub mod Passing
 pub mod Verifiers

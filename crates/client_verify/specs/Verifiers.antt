@@ -3,6 +3,7 @@
 --     PassesBy role old instruction new result   how an instruction of this role changes it
 use Rattle.std.specs.Prelude.{◌≡◌, ⊤, ℕ, List, map, reverse, Result}
 use Rattle.client_spec.specs.Syntax.{Constant}
+use Rattle.client_spec.specs.Typed as typed
 use Rattle.client_spec.specs.declared.table.Role.{Role}
 use Rattle.client_spec.specs.Operations.{row_of}
 use Rattle.client_spec.specs.Grammar.{IsInstruction}
@@ -16,13 +17,13 @@ use Rattle.client_verify.specs.declared.verifier.Verifier.{Verifier}
 use Rattle.client_verify.specs.Views.{registers_of, checked}
 use Rattle.client_verify.specs.Passing as passing
 
-abbrev pub open_part : Part → (before : ℕ) → passing.Open
-open_part (part.Success otherwise) before = passing.in_success (registers_of otherwise) before
-open_part (part.Else success steps) before = passing.in_else (registers_of success) steps before
-open_part (part.Body found turns) before = passing.in_body (registers_of found) turns before
+abbrev pub open_part : Part → typed.RegisterTypes → (before : ℕ) → passing.Open
+open_part part.Success ks before = passing.in_success ks before
+open_part (part.Else steps) ks before = passing.in_else ks steps before
+open_part (part.Body turns) ks before = passing.in_body ks turns before
 
 abbrev pub open_of : Open → passing.Open
-open_of part = open_part part.part part.steps
+open_of part = open_part part.part (registers_of part.registers) part.steps
 
 abbrev pub progress_of : Verifier → passing.Progress
 progress_of verifier = record {

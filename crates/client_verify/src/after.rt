@@ -1,6 +1,6 @@
 ghost use Rattle.std.specs.Prelude.{◌≡◌};
 
-use crate::register::{Class, RegisterType};
+use crate::packed::{PackedClass, PackedRegister};
 use crate::registers::Registers;
 use client_code::{Ends, Role};
 use seg_layout::TypeId;
@@ -10,21 +10,19 @@ use seg_layout::TypeId;
 pub struct After {
     pub(crate) role: Role,
     pub(crate) ends: Ends,
-    // what register b leads to
-    pub(crate) led: Option<(Class, TypeId)>,
     pub(crate) b: u8,
     pub(crate) c: u8,
     // what the number names
     pub(crate) type_id: TypeId,
     pub(crate) constant: u8,
-    // the register that changes, and what it holds after success
-    pub(crate) given: Option<(u8, RegisterType)>,
+    // the register that changes, and what it contains after success
+    pub(crate) given: Option<(u8, PackedRegister)>,
 }
 
 impl After {
     ghost use Rattle.client_verify.specs.Views.{known_of, registers_of};
-    ghost use Rattle.client_verify.specs.Checking.{others, otherwise_by};
-    ghost use Rattle.client_verify.specs.Changes.{led_of, ended_after, success_after, otherwise_after};
+    ghost use Rattle.client_verify.specs.Checking.{otherwise_by};
+    ghost use Rattle.client_verify.specs.Changes.{ended_after, success_after, otherwise_after};
 
     /// Ends references, and empties a register. Both parts begin with what is known then.
     #[inline(always)]
@@ -33,28 +31,18 @@ impl After {
     {
         match self.ends {
             Ends::Nothing => {}
-            Ends::Others => self.end_others(registers),
-            Ends::Name => registers.end(Class::Name(self.constant)),
-            Ends::Unique => registers.end(Class::Unique(self.type_id)),
+            Ends::Others => registers.end_others(self.b),
+            Ends::Name => registers.end(PackedClass::name(self.constant)),
+            Ends::Unique => registers.end(PackedClass::unique(self.type_id)),
             Ends::Dropped => registers.empty(self.b),
             Ends::Moved => {
-                self.end_others(registers);
+                registers.end_others(self.b);
                 registers.empty(self.c);
             }
             Ends::Frozen => {
-                self.end_others(registers);
-                registers.end(Class::Register(self.c));
+                registers.end_others(self.b);
+                registers.end(PackedClass::register(self.c));
             }
-        }
-    }
-
-    /// Ends the references of the class of the one in register b, but for that one.
-    fn end_others(&self, registers: &mut Registers)
-        ensures { registers_of registers.new
-            ≡ others (led_of self.now) self.now.b (registers_of registers.old) }
-    {
-        if let Some((class, _)) = self.led {
-            registers.end_others(class, self.b);
         }
     }
 
@@ -64,10 +52,10 @@ impl After {
         ensures { registers_of registers.new ≡ success_after self.now (registers_of registers.old) }
     {
         if self.ends == Ends::Frozen {
-            registers.set(self.c, RegisterType::Undefined);
+            registers.set_packed(self.c, PackedRegister::undefined());
         }
-        if let Some((register, holds)) = self.given {
-            registers.set(register, holds);
+        if let Some((register, given)) = self.given {
+            registers.set_packed(register, given);
         }
     }
 
@@ -76,18 +64,18 @@ impl After {
         ensures { registers_of registers.new
             ≡ otherwise_after self.now (registers_of registers.old) }
     {
-        if let Some((register, holds)) = self.given {
-            registers.set(register, self.otherwise(holds));
+        if let Some((register, given)) = self.given {
+            registers.set_packed(register, self.otherwise(given));
         }
     }
 
-    /// What the register that changes holds in the else part: the code.
-    fn otherwise(&self, holds: RegisterType) -> RegisterType
-        ensures { known_of result ≡ otherwise_by self.now.role (known_of holds) }
+    /// What the register that changes contains in the else part: the code.
+    fn otherwise(&self, given: PackedRegister) -> PackedRegister
+        ensures { known_of result ≡ otherwise_by self.now.role (known_of given) }
     {
         match self.role {
-            Role::Opener => RegisterType::Int,
-            Role::Plain | Role::Loop | Role::Else | Role::End => holds,
+            Role::Opener => PackedRegister::int(),
+            Role::Plain | Role::Loop | Role::Else | Role::End => given,
         }
     }
 }

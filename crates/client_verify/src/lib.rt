@@ -3,6 +3,7 @@
 
 mod after;
 mod files;
+mod packed;
 mod reason;
 mod register;
 mod registers;
@@ -12,6 +13,7 @@ mod verifier;
 
 pub use after::After;
 pub use files::verify_all;
+pub use packed::{PackedClass, PackedRegister};
 pub use reason::Reason;
 pub use register::{Class, RegisterType};
 pub use registers::Registers;

@@ -1,14 +1,13 @@
 ghost use Rattle.std.specs.Prelude.{◌≡◌};
-ghost use Rattle.client_spec.specs.Typed as typed;
 ghost use Rattle.std.specs.Option.{option_map};
-ghost use Rattle.seg_layout.specs.Forms.{form_of};
-ghost use Rattle.client_verify.specs.Views.{class_of, known_of, checked};
-ghost use Rattle.client_verify.specs.Checking.{referred, part_below};
+ghost use Rattle.client_spec.specs.Typed as typed;
+ghost use Rattle.client_verify.specs.Views.{class_of, class_shown, known_shown};
+ghost use Rattle.client_verify.specs.Checking.{referred};
 
-use crate::reason::Reason;
-use seg_layout::{Type, TypeId};
+use crate::packed::PackedClass;
+use seg_layout::TypeId;
 
-/// What a reference leads into. References of one class may lead to one value.
+/// What a reference refers into. References of one class may refer to one value.
 #[derive(Debug, Clone, Copy, PartialEq, Eq)]
 pub enum Class {
     /// The objects of a name constant.
@@ -19,17 +18,29 @@ pub enum Class {
     Register(u8),
 }
 
+impl Class {
+    pub fn pack(self) -> PackedClass
+        ensures { class_of result ≡ class_shown self }
+    {
+        match self {
+            Class::Name(constant) => PackedClass::name(constant),
+            Class::Unique(type_id) => PackedClass::unique(type_id),
+            Class::Register(register) => PackedClass::register(register),
+        }
+    }
+}
+
 /// What is known of a register.
 #[derive(Debug, Clone, Copy, PartialEq, Eq, Default)]
 pub enum RegisterType {
     /// Nothing. The register may not be used.
     #[default]
     Undefined,
-    /// It holds a number.
+    /// It contains a number.
     Int,
-    /// It leads to a value of this type.
+    /// It refers to a value of this type.
     Reference(Class, TypeId),
-    /// It leads to a value of this type in a frozen object that the class shares, which is only read.
+    /// It refers to a value of this type in a frozen object that the class shares, which may only be read.
     ReadOnly(Class, TypeId),
     /// It owns an object of this type.
     Owner(TypeId),
@@ -38,27 +49,14 @@ pub enum RegisterType {
 impl RegisterType {
     /// Whether the register owns an object.
     pub fn is_owner(self) -> bool
-        ensures { result ≡ typed.is_owner (known_of self) }
+        ensures { result ≡ typed.is_owner (known_shown self) }
     {
         matches!(self, RegisterType::Owner(_))
     }
 
-    /// The same, unless it is a reference of the class, or into a frozen object that this shares: of that nothing is known any
-    /// more.
-    pub fn without(self, class: Class) -> RegisterType
-        ensures { known_of result ≡ typed.without_class (class_of class) (known_of self) }
-    {
-        match self {
-            RegisterType::Reference(own, _) | RegisterType::ReadOnly(own, _) if own == class => {
-                RegisterType::Undefined
-            }
-            _ => self,
-        }
-    }
-
-    /// What it leads to, also where that is only read: the class, and the type.
-    pub fn led(self) -> Option<(Class, TypeId)>
-        ensures { option_map (λ x. (class_of x.0, x.1)) result ≡ referred (known_of self) }
+    /// What it refers to, also if that may only be read: the class and the type.
+    pub fn referred(self) -> Option<(Class, TypeId)>
+        ensures { option_map (λ x. (class_shown x.0, x.1)) result ≡ referred (known_shown self) }
     {
         match self {
             RegisterType::Reference(class, to) | RegisterType::ReadOnly(class, to) => {
@@ -66,46 +64,5 @@ impl RegisterType {
             }
             RegisterType::Undefined | RegisterType::Int | RegisterType::Owner(_) => None,
         }
-    }
-
-    /// A reference to a part of what it leads to. Behind a `shared` it is only read, and so is a part of what is only read.
-    pub fn part(self, of: Type, part: TypeId) -> RegisterType
-        ensures { known_of result ≡ part_below (form_of of) part (known_of self) }
-    {
-        match (self, of) {
-            (RegisterType::Reference(class, _), Type::Shared(_))
-            | (RegisterType::ReadOnly(class, _), _) => RegisterType::ReadOnly(class, part),
-            (RegisterType::Reference(class, _), _) => RegisterType::Reference(class, part),
-            (RegisterType::Undefined | RegisterType::Int | RegisterType::Owner(_), _) => {
-                RegisterType::Undefined
-            }
-        }
-    }
-
-    /// At the `END` of an opener: what is known in both parts. `OwnerLost` where an owner is in one only.
-    pub fn joined(self, other: RegisterType) -> Result<RegisterType, Reason>
-        ensures { checked known_of result ≡ typed.joined_one (known_of self) (known_of other) }
-    {
-        if self == other {
-            Ok(self)
-        } else if self.is_owner() || other.is_owner() {
-            Err(Reason::OwnerLost)
-        } else {
-            Ok(RegisterType::Undefined)
-        }
-    }
-
-    /// At the `END` of a loop's body, where this was known in front of it: whether that may be known now.
-    pub fn keeps(self, after: RegisterType) -> Result<(), Reason>
-        ensures { checked (λ x. x) result ≡ typed.kept_one (known_of self) (known_of after) }
-    {
-        if self == RegisterType::Undefined {
-            if after.is_owner() {
-                return Err(Reason::OwnerLost);
-            }
-        } else if self != after {
-            return Err(Reason::ChangedInLoop);
-        }
-        Ok(())
     }
 }

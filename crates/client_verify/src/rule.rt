@@ -8,8 +8,8 @@ ghost use Rattle.client_verify.specs.Views.{registers_of, checked};
 ghost use Rattle.client_verify.specs.Passing.{rule_at};
 
 use crate::after::After;
+use crate::packed::{PackedClass, PackedRegister};
 use crate::reason::Reason;
-use crate::register::{Class, RegisterType};
 use crate::registers::Registers;
 use client_code::{Ends, Gives, Instruction, Kinds, Need, Role, Row};
 use seg_layout::{Fields, Type, TypeId, TypeTable};
@@ -37,9 +37,9 @@ impl<'a> Rule<'a> {
     ghost use Rattle.std.specs.Option.{option_map};
     ghost use Rattle.seg_spec.specs.Types.{form_at};
     ghost use Rattle.seg_layout.specs.Forms.{form_of};
-    ghost use Rattle.client_verify.specs.Views.{class_of, known_of};
+    ghost use Rattle.client_verify.specs.Views.{known_of};
     ghost use Rattle.client_verify.specs.Checking.{referred, field_at, part_of, is_kind, is_kind_at, is_inside, is_lost, shares, part_known, borrowed_from, held, part_held as part_in, meets as meets_in, given as given_in, checked_by, known_in_parts};
-    ghost use Rattle.client_verify.specs.Changes.{led_of, given_of, known_by};
+    ghost use Rattle.client_verify.specs.Changes.{given_of, known_by};
     ghost use Rattle.client_verify.specs.Steps.{types_of, before_of, instruction_in, step_by};
 
     /// The rule of an instruction, in front of which this is known.
@@ -80,7 +80,6 @@ impl<'a> Rule<'a> {
     /// What the instruction changes where there is no reason to reject it.
     #[inline(always)]
     fn after(&self) -> After
-        ensures led { led_of result ≡ referred (held (step_by self.now)) }
         ensures given { given_of result ≡ given_in (step_by self.now) }
         ensures known { known_by (registers_of self.now.before.now) result
             ≡ known_in_parts (step_by self.now) }
@@ -88,7 +87,6 @@ impl<'a> Rule<'a> {
         After {
             role: self.row.role,
             ends: self.row.ends,
-            led: self.reference(),
             b: self.instruction.b,
             c: self.instruction.c,
             type_id: self.type_id,
@@ -101,13 +99,13 @@ impl<'a> Rule<'a> {
     #[inline(always)]
     fn check(&self, after: &After) -> Result<(), Reason>
         ensures { checked (λ x. x) result
-            ≡ checked_by (step_by self.now) (led_of after.now) (given_of after.now) }
+            ≡ checked_by (step_by self.now) (given_of after.now) }
     {
         let Instruction { b, c, .. } = self.instruction;
         if !self.meets(self.row.needs_b, b) || !self.meets(self.row.needs_c, c) {
             return Err(Reason::WrongOperand);
         }
-        if self.is_inside(after) {
+        if self.is_inside() {
             return Err(Reason::PutIntoItself);
         }
         if self.loses_owner(after) {
@@ -117,13 +115,14 @@ impl<'a> Rule<'a> {
     }
 
     /// Whether the object of register c is to be put into a part of itself.
-    fn is_inside(&self, after: &After) -> bool
-        ensures { result ≡ is_inside (step_by self.now).row.ends (led_of after.now)
-            self.now.instruction.c }
+    #[inline]
+    fn is_inside(&self) -> bool
+        ensures { result ≡ is_inside (step_by self.now).row.ends
+            (referred (held (step_by self.now))) self.now.instruction.c }
     {
         match self.row.ends {
-            Ends::Moved | Ends::Frozen => match after.led {
-                Some((class, _)) => class == Class::Register(self.instruction.c),
+            Ends::Moved | Ends::Frozen => match self.held().referred() {
+                Some((class, _)) => class == PackedClass::register(self.instruction.c),
                 None => false,
             },
             Ends::Nothing | Ends::Others | Ends::Name | Ends::Unique | Ends::Dropped => false,
@@ -135,36 +134,36 @@ impl<'a> Rule<'a> {
         ensures { result ≡ is_lost (given_of after.now) (registers_of self.now.before.now) }
     {
         match after.given {
-            Some((register, _)) => self.before.get(register).is_owner(),
+            Some((register, _)) => self.before.packed(register).is_owner(),
             None => false,
         }
     }
 
-    /// Whether a register holds what is needed.
+    /// Whether a register contains what is needed.
     #[inline(always)]
     fn meets(&self, need: Need, register: u8) -> bool
         ensures { result ≡ meets_in (step_by self.now) need register }
     {
-        let holds = self.before.get(register);
+        let before = self.before;
         match need {
             Need::Nothing => true,
-            Need::Int => holds == RegisterType::Int,
-            Need::IntOrNone => register == Instruction::NONE || holds == RegisterType::Int,
-            Need::Copyable => holds == RegisterType::Int || holds.led().is_some(),
-            Need::Owner => holds.is_owner(),
-            Need::Content => match holds {
-                RegisterType::Owner(owned) => self.part() == Some(owned),
-                _ => false,
+            Need::Int => before.packed(register).is_int(),
+            Need::IntOrNone => register == Instruction::NONE || before.packed(register).is_int(),
+            Need::Copyable => before.packed(register).is_copyable(),
+            Need::Owner => before.packed(register).is_owner(),
+            Need::Content => match before.packed(register).owned() {
+                Some(owned) => self.part() == Some(owned),
+                None => false,
             },
-            Need::Reference(kinds) => match holds.led() {
+            Need::Reference(kinds) => match before.packed(register).referred() {
                 Some((_, to)) => self.is_of(kinds, to),
                 None => false,
             },
-            Need::Changeable(kinds) => match holds {
-                RegisterType::Reference(_, to) => self.is_of(kinds, to),
-                _ => false,
+            Need::Changeable(kinds) => match before.packed(register).changeable() {
+                Some(to) => self.is_of(kinds, to),
+                None => false,
             },
-            Need::Alike => match holds.led() {
+            Need::Alike => match before.packed(register).referred() {
                 Some((_, to)) => self.is_alike(to),
                 None => false,
             },
@@ -246,68 +245,76 @@ impl<'a> Rule<'a> {
         }
     }
 
-    /// What the reference in register b leads to, also where that is only read.
-    fn reference(&self) -> Option<(Class, TypeId)>
-        ensures { option_map (λ x. (class_of x.0, x.1)) result
-            ≡ referred (held (step_by self.now)) }
+    /// What is known of register b.
+    #[inline]
+    fn held(&self) -> PackedRegister
+        ensures { known_of result ≡ held (step_by self.now) }
     {
-        self.before.get(self.instruction.b).led()
+        self.before.packed(self.instruction.b)
     }
 
-    /// The type of a part of what register b leads to.
+    /// The type of a part of what register b refers to.
     fn part(&self) -> Option<TypeId>
         ensures { result ≡ part_in (step_by self.now) }
     {
-        let (_, to) = self.reference()?;
+        let (_, to) = self.held().referred()?;
         self.part_of(self.types.kind(to)?)
     }
 
-    /// The register that changes, and what it holds after success.
+    /// The register that changes, and what it contains after success.
     #[inline(always)]
-    fn given(&self) -> Option<(u8, RegisterType)>
+    fn given(&self) -> Option<(u8, PackedRegister)>
         ensures { option_map (λ x. (x.0, known_of x.1)) result ≡ given_in (step_by self.now) }
     {
         let Instruction { a, b, .. } = self.instruction;
-        let holds = match self.row.gives {
+        let given = match self.row.gives {
             Gives::Nothing => return None,
-            Gives::Forgotten => return Some((b, RegisterType::Undefined)),
-            Gives::Int => RegisterType::Int,
-            Gives::Copy => self.before.get(b),
-            Gives::Named => RegisterType::Reference(Class::Name(self.constant), self.type_id),
-            Gives::Unique => RegisterType::Reference(Class::Unique(self.type_id), self.type_id),
-            Gives::Owner => RegisterType::Owner(self.type_id),
-            Gives::Owned => self.owned(),
+            Gives::Forgotten => return Some((b, PackedRegister::undefined())),
+            Gives::Int => PackedRegister::int(),
+            Gives::Copy => self.held(),
+            Gives::Named => {
+                PackedRegister::reference(PackedClass::name(self.constant), self.type_id)
+            }
+            Gives::Unique => {
+                PackedRegister::reference(PackedClass::unique(self.type_id), self.type_id)
+            }
+            Gives::Owner => PackedRegister::owner(self.type_id),
+            Gives::Owned => self.borrowed(),
             Gives::Content => self
                 .part()
-                .map_or(RegisterType::Undefined, RegisterType::Owner),
+                .map_or(PackedRegister::undefined(), PackedRegister::owner),
             Gives::Part => self.part_reference(),
         };
-        Some((a, holds))
+        Some((a, given))
     }
 
     /// A reference to the object that register b owns.
-    fn owned(&self) -> RegisterType
+    fn borrowed(&self) -> PackedRegister
         ensures { known_of result ≡ borrowed_from self.now.instruction.b (held (step_by self.now)) }
     {
-        let b = self.instruction.b;
-        match self.before.get(b) {
-            RegisterType::Owner(owned) => RegisterType::Reference(Class::Register(b), owned),
-            _ => RegisterType::Undefined,
+        match self.held().owned() {
+            Some(owned) => {
+                PackedRegister::reference(PackedClass::register(self.instruction.b), owned)
+            }
+            None => PackedRegister::undefined(),
         }
     }
 
-    /// A reference to a part of what register b leads to. A part of a text is a number.
-    fn part_reference(&self) -> RegisterType
+    /// A reference to a part of what register b refers to. A part of a text is a number.
+    fn part_reference(&self) -> PackedRegister
         ensures { known_of result ≡ part_known self.now.types.now self.now.instruction.number
             (held (step_by self.now)) }
     {
-        let holds = self.before.get(self.instruction.b);
-        let Some((_, to)) = holds.led() else {
-            return RegisterType::Int;
+        let held = self.held();
+        let Some((_, to)) = held.referred() else {
+            return PackedRegister::int();
         };
-        match (self.types.kind(to), self.part()) {
-            (Some(kind), Some(part)) => holds.part(kind, part),
-            _ => RegisterType::Int,
+        let Some(kind) = self.types.kind(to) else {
+            return PackedRegister::int();
+        };
+        match self.part_of(kind) {
+            Some(part) => held.part(kind, part),
+            None => PackedRegister::int(),
         }
     }
 }

@@ -5,7 +5,7 @@ ghost use Rattle.client_spec.specs.Safe.{IsAccepted, NeverGoesWrong};
 ghost use Rattle.client_code.specs.Clients.{OfTree};
 ghost use Rattle.client_verify.specs.declared.verified.TheConstants.{MOST_STEPS};
 
-use client_code::Client;
+use client_code::{Client, TypedClient};
 use seg_layout::TypeTable;
 
 mod accepting;
@@ -18,13 +18,11 @@ pub const MOST_STEPS: u64 = 1_000_000_000;
 /// A client that the verifier accepted.
 #[derive(Drop)]
 pub struct Verified<'a> {
-    client: Client<'a>,
-    types: TypeTable,
+    typed: TypedClient<'a>,
     bound: u64,
     ghost within: { bound ≤ MOST_STEPS },
-    ghost same_types: { OfTree client (λ tree. types ≡ tree.types) },
-    ghost accepted: { OfTree client (λ tree. ∥ IsAccepted tree ∥₁) },
-    ghost bounded: { OfTree client (λ tree. bound ≡ run.bound tree.code) },
+    ghost accepted: { OfTree typed.client (λ tree. ∥ IsAccepted tree ∥₁) },
+    ghost bounded: { OfTree typed.client (λ tree. bound ≡ run.bound tree.code) },
 }
 
 impl<'a> Verified<'a> {
@@ -36,14 +34,14 @@ impl<'a> Verified<'a> {
         ensures client { result ≡ client_of self.now }
         ensures safe { OfTree result NeverGoesWrong }
     {
-        self.client
+        self.typed.client
     }
 
     /// The client's types.
     pub fn types(&self) -> &TypeTable
         ensures { OfTree (client_of self.now) (λ tree. result.now ≡ tree.types) }
     {
-        &self.types
+        &self.typed.types
     }
 
     /// The steps that a run of the client takes at most.
@@ -58,6 +56,6 @@ impl<'a> Verified<'a> {
     pub fn fits(&self, table: &TypeTable) -> bool
         ensures { OfTree (client_of self.now) (λ tree. IsTrue result ↔ Agree table.now tree.types) }
     {
-        table.agrees(&self.types).is_ok()
+        table.agrees(self.types()).is_ok()
     }
 }

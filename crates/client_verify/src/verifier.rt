@@ -15,31 +15,32 @@ use arrayvec::ArrayVec;
 use client_code::{DEPTH, Instruction, Role};
 use seg_layout::TypeTable;
 
-/// A part of the code that is open, and what its end needs.
+/// The kind of an open part of the code.
 #[derive(Debug, Clone, Copy)]
 enum Part {
-    /// A success part. This is known where its else part begins.
-    Success { otherwise: Registers },
-    /// An else part. This is known where the success part ended, and these are that part's steps.
-    Else { success: Registers, steps: u64 },
-    /// The body of a loop of so many turns. This was known in front of it.
-    Body { before: Registers, turns: u64 },
+    Success,
+    /// An else part, after a success part of so many steps.
+    Else { steps: u64 },
+    /// The body of a loop of so many turns.
+    Body { turns: u64 },
 }
 
-/// An open part, and the steps of the code in front of it.
+/// An open part, and what its end needs.
 #[derive(Debug, Clone, Copy)]
 struct Open {
     part: Part,
+    // the steps of the code before the part
     steps: u64,
+    // what is known where the else part begins, where the success part ended, or before the loop
+    registers: Registers,
 }
 
 impl Default for Open {
     fn default() -> Open {
         Open {
-            part: Part::Success {
-                otherwise: Registers::new(),
-            },
+            part: Part::Success,
             steps: 0,
+            registers: Registers::new(),
         }
     }
 }
@@ -125,10 +126,9 @@ impl<'a> Verifier<'a> {
     {
         let after = Rule::new(self.types, &self.registers, instruction).apply()?;
         after.end(&mut self.registers);
-        let mut otherwise = self.registers;
-        after.fail(&mut otherwise);
+        after.fail(&mut self.registers);
+        self.push(Part::Success);
         after.succeed(&mut self.registers);
-        self.push(Part::Success { otherwise });
         Ok(())
     }
 
@@ -138,23 +138,25 @@ impl<'a> Verifier<'a> {
     {
         Rule::new(self.types, &self.registers, instruction).apply()?;
         let turns = u64::from(instruction.number.unsigned_abs());
-        self.push(Part::Body {
-            before: self.registers,
-            turns,
-        });
+        self.push(Part::Body { turns });
         Ok(())
     }
 
-    /// Opens a part after an instruction. There is room, since a client's nesting has a limit.
+    /// Opens a part after an instruction, which keeps what is known here. There is room, since a client's nesting has a limit.
     fn push(&mut self, part: Part)
         ensures types { self.new.types.now ≡ self.old.types.now }
+        ensures registers { self.new.registers ≡ self.old.registers }
         ensures inside { progress_of self.new
             ≡ inside (registers_of self.old.registers)
-            (open_part part (at_most (self.old.steps + 1)))
+            (open_part part (registers_of self.old.registers) (at_most (self.old.steps + 1)))
             (progress_of self.old).parts }
     {
-        let steps = self.steps.saturating_add(1);
-        let _ = self.parts.try_push(Open { part, steps });
+        let open = Open {
+            part,
+            steps: self.steps.saturating_add(1),
+            registers: self.registers,
+        };
+        let _ = self.parts.try_push(open);
         self.steps = 0;
     }
 
@@ -164,21 +166,14 @@ impl<'a> Verifier<'a> {
         ensures turned { progress_of self.new
             ≡ turned (progress_of self.old) (progress_of self.old).parts }
     {
-        if let Some(
-            Open {
-                part: Part::Success { otherwise },
-                steps,
-            },
-        ) = self.parts.pop()
-        {
-            let part = Part::Else {
-                success: self.registers,
-                steps: self.steps,
-            };
-            let _ = self.parts.try_push(Open { part, steps });
-            self.registers = otherwise;
-            self.steps = 0;
-        }
+        let Some(open) = self.parts.as_mut_slice().last_mut() else {
+            return;
+        };
+        let success = self.registers;
+        self.registers = open.registers;
+        open.registers = success;
+        open.part = Part::Else { steps: self.steps };
+        self.steps = 0;
     }
 
     /// After an `END`.
@@ -187,22 +182,22 @@ impl<'a> Verifier<'a> {
         ensures closed { checked (λ _. progress_of self.new) result
             ≡ closed (progress_of self.old) (progress_of self.old).parts }
     {
-        let Some(Open { part, steps }) = self.parts.pop() else {
+        let Some(open) = self.parts.pop() else {
             return Ok(());
         };
-        let inside = match part {
-            Part::Success { .. } => self.steps,
-            Part::Else { success, steps } => {
-                self.registers.join(&success)?;
+        let inside = match open.part {
+            Part::Success => self.steps,
+            Part::Else { steps } => {
+                self.registers.join(&open.registers)?;
                 self.steps.max(steps)
             }
-            Part::Body { before, turns } => {
-                before.keeps(&self.registers)?;
-                self.registers = before;
+            Part::Body { turns } => {
+                open.registers.keeps(&self.registers)?;
+                self.registers = open.registers;
                 turns.saturating_mul(self.steps.saturating_add(1))
             }
         };
-        self.steps = steps.saturating_add(inside);
+        self.steps = open.steps.saturating_add(inside);
         Ok(())
     }
 }

@@ -32,17 +32,12 @@ pub fn verify_typed<'a>(typed: TypedClient<'a>, table: &TypeTable) -> Result<Ver
     ensures refused { IfErr result (λ fault. OfTree typed.entry.client
         (λ tree. IsRefused table.now tree fault)) }
 {
-    let TypedClient { client, types } = typed;
-    table.agrees(&types)?;
-    let bound = bound_of(client, &types)?;
+    table.agrees(&typed.types)?;
+    let bound = bound_of(typed.client, &typed.types)?;
     if bound > MOST_STEPS {
         return Err(Fault::TooLong);
     }
-    Ok(Verified {
-        client,
-        types,
-        bound,
-    })
+    Ok(Verified { typed, bound })
 }
 
 /// The most steps of a client's code, or the first instruction that is rejected.
