@@ -47,7 +47,7 @@ pairs_push cs c pairs differs i j d l h =
           )
     ]
 
--- one more constant
+-- if another constant follows some constants, then with it they are constants too
 pub one_more : (file : List ℕ) (at next following : ℕ) (cs : List Constant) (c : Constant) → AreConstants file at cs next
     → drop next file ≡ constant_bytes c ++ drop following file → IsConstant c → following ≡ next + length (constant_bytes c) → All (λ other. Differ other c) cs
     → AreConstants file at (cs ++ c ∷ []) following
@@ -63,7 +63,6 @@ one_more file at next following cs c so_far spelled right place differs =
       different = pairs_push cs c so_far.different differs;
     }
 
--- the last of some constants
 pub last_of : (P : Constant → Type 0) (cs more : List Constant) (c : Constant) → All P (cs ++ c ∷ more) → P c
 last_of P cs more c all =
     let long = length-append cs (c ∷ more) in

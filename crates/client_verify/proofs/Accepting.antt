@@ -24,7 +24,7 @@ use Rattle.client_verify.proofs.Walking.{followed, walked}
 
 -- ---- instructions
 
--- valid, and of the right role for its place
+-- the instruction is valid and has the role that its place needs
 abbrev pub Right : Table → List Constant → Instruction → Type 0
 Right types constants i = IsInstruction types constants (row_of i.operation).role i
 
@@ -99,7 +99,7 @@ module _ (tree : Client) (valid : IsClient tree) where
       ∙ ap (λ now. now >>= λ q. passes_all tree.types tree.constants q (x ∷ [])) to
       ∙ ap (λ now. now >>= λ q. Ok q) (right_here (right_at i x e))
 
-  -- a client that is refused at one instruction is refused
+  -- if the rules refuse an instruction, they refuse the client
   pub rejected : (i : ℕ) (reason : Reason) → WalksTo tree i (Err reason) → IsRejected tree reason
   rejected i reason to =
       refused (known_in_parts tree) (at_most (bound tree.code)) reason (
