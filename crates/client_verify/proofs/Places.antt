@@ -1,9 +1,9 @@
 -- Lists that a loop changes or tests element by element.
--- map_more                             setting one more element to its image
--- JoinedTo, joined_more, joined_all    what is known at two ends: up to an element, for one more,
--- and for all
--- joined_stays, joined_lost            one more element, if nothing is known of it at the second
--- end
+--     map_more                             setting one more element to its image
+--     JoinedTo, joined_more, joined_all    what is known at two ends: up to an element, for one more,
+--                                          and for all
+--     joined_stays, joined_lost            one more element, if nothing is known of it at the second
+--                                          end
 --     KeptTo, kept_more, kept_all          the same for what a body kept
 use Rattle.std.proofs.Common.{◌≡◌, ℕ, ◌+◌, ◌<◌, ◌≤◌, List, [], ◌∷◌, ◌++◌, length, map, take, drop, get_or, set, refl, sym, ap, ◌∙◌, arith, drop-cons, add-one, suc, append_assoc, append-nil, subst, true, false, rules, Ok, Err}
 use Rattle.std.specs.Prelude.{⊤}
