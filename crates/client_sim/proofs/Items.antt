@@ -302,7 +302,7 @@ no_first : (a : ℕ) (p : Path) (vs : Values) (s : State) → count vs ≡ 0 →
 no_first a p nil s none = refl
 no_first a p (cons v vs) s none = absurd (omega (arith, none))
 
--- the row of POPF at a list
+-- POPF has this row at a list
 front_row : (constants : List Constant) (a b c : ℕ) (number : ℤ) (room : Bool) (s : State) (path : Path) (form : Form) (U : ℕ) (vs : Values) → path_of s b ≡ Some path → path_form s path ≡ Some form → list_item form ≡ Some U
     → (path_value s path >>= items_in) ≡ Some vs → effect constants Operation.PopFront a b c number room s ≡ pop_first a path vs s
 unfolding effect
@@ -311,7 +311,7 @@ front_row constants a b c number room s path form U vs is form_is item there =
     ∙ ap (λ x. x >>= λ _. (path_value s path >>= items_in) >>= λ vs. pop_first a path vs s) (ap (λ x. x >>= list_item) form_is ∙ item)
     ∙ ap (λ x. x >>= λ vs. pop_first a path vs s) there
 
--- the rows of PUSHB and PUSHF
+-- PUSHB and PUSHF have these rows
 back_row : (constants : List Constant) (a b c : ℕ) (number : ℤ) (room : Bool) (s : State) (path : Path) (form : Form) (U : ℕ) (vs : Values) → path_of s b ≡ Some path → path_form s path ≡ Some form → vec_or_list_item form ≡ Some U
     → (path_value s path >>= items_in) ≡ Some vs
     → effect constants Operation.PushBack a b c number room s ≡ with_room room a s (refer a (extend path (Selector.item (count vs))) (put_at s path (Seq (append vs (cons (default_of s.types U) nil)))))

@@ -62,7 +62,7 @@ module _ {others : List Root} {s : State} {old : List ℕ} (pictured : Pictures 
   abbrev first_value : Option Root → Option Value
   first_value o = option_and_then (λ (x : Root). nth x.values 0) o
 
-  -- the unique objects of the state, with another one for one type
+  -- the state's unique objects change for one type, if the roots do
   uniques_with : (T : ℕ) (v : Option Value) (roots : List Root) → first_value (root_of_type roots T) ≡ v → ((U : ℕ) → (U == T) ≡ false → root_of_type roots U ≡ root_of_type pictured.picture.uniques U)
       → (U : ℕ) → with_unique s.uniques T v U ≡ first_value (root_of_type roots U)
   uniques_with T v roots is beside U = choose (U == T) refl

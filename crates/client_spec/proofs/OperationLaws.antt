@@ -1,5 +1,5 @@
 -- The laws of each operation: one entry for each.
---     goes      after the row, registers hold what the rule states
+--     goes      after the row, registers contain what the rule states
 --     alike     the rule of an instruction without an else part leaves the same in both parts
 --     bares     if b isn't read-only, the rule finds the same when all that is read-only is left out
 --     kept      the row keeps shared cells, if no reference of their class ends

@@ -78,7 +78,7 @@ pub word_next : (line : List ℕ) → 0 < length (drop (before_space false line)
 word_next [] some = absurd (omega arith)
 word_next (b ∷ line) some = word_after (b == 32) b line refl (word_next line) some
 
--- the rest of a line from a position on
+-- the slice from a position to the end of a line is the rest of the line
 pub rest_from : (line : List ℕ) (n : ℕ) → take (length line - n) (drop n line) ≡ drop n line
 rest_from line n = take_all (length line - n) (drop n line) (let l = length-drop n line in omega arith)
 

@@ -89,7 +89,7 @@ module _ (tree : Client) (valid : IsClient tree) where
   right_at : (i : ℕ) (x : Instruction) → slice_get (listing tree.code) i ≡ Some x → Right tree.types tree.constants x
   right_at i x e = one_of (Right tree.types tree.constants) (listing tree.code) i x (all_right tree valid) e
 
-  -- the progress after one more instruction, or its refusal
+  -- one more instruction changes the progress, or is refused
   pub goes_on : (types : Table) → types ≡ tree.types → (i : ℕ) (p : Progress) (x : Instruction) (r : Checked Progress) → slice_get (listing tree.code) i ≡ Some x → WalksTo tree i (Ok p)
       → (Right types tree.constants x → passes types tree.constants p x ≡ r) → WalksTo tree (i + 1) (r >>= λ q. Ok q)
   goes_on types same i p x r e to here =

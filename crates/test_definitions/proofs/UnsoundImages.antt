@@ -102,7 +102,7 @@ red_root-unsound s =
 
 -- ---- the index
 
--- the entries of a flat index
+-- a flat index has these entries
 flat_entries : (bytes : List ℕ) (names : List Root) (blocks : List ℕ) → word bytes 20 ≡ 0 → ListsNames bytes names blocks → AreEntries bytes (spaced (start bytes 32) 8 (count_at bytes 32)) names
 flat_entries bytes names blocks flat l =
     let opens = subst (λ k. OpensIndex bytes k l.index) flat l.opens in

@@ -196,8 +196,8 @@ fn leaves_nothing_on_each_size(rt: HostRuntime) -> Result<(), Fail> {
     Ok(())
 }
 
-/// A vector of numbers tells its length after a push, or the code. The object has 2 units, or 3; the index 2 or 3; and the
-/// vector's buffer 3 for four numbers, or 2 for one.
+/// Prints the length of a vector after a push, or the code. The object has 2 units, or 3; the index 2 or 3; and the vector's
+/// buffer 3 for four numbers, or 2 for one.
 #[test]
 fn first_push_by_size(rt: HostRuntime) -> Result<(), Fail> {
     plays(
