@@ -14,7 +14,8 @@ use Rattle.client_code.specs.declared.constant.ConstantKind.TheVariants as kind
 use Rattle.client_code.specs.Views.{constant_by, kind_of}
 use Rattle.client_code.specs.Files.{AreConstants}
 
--- two lists with the same spelling after a common front are equal, if each element has one spelling
+-- two lists with the same spelling after a common prefix are equal, if each element has one
+-- spelling
 pub fronts : {A : Type 0} (f : A → List ℕ) (P : A → Type 0) → ((x y : A) (us vs : List ℕ) → P x → P y → f x ++ us ≡ f y ++ vs → (x ≡ y) × (us ≡ vs))
     → (xs ys : List A) (us vs : List ℕ) → AllByRecursion P xs → AllByRecursion P ys → length xs ≤ length ys → flat_map f xs ++ us ≡ flat_map f ys ++ vs
     → (more : List A) × (ys ≡ xs ++ more) × (us ≡ flat_map f more ++ vs)

@@ -85,7 +85,7 @@ module _ (bytes : List ℕ) (table : Table) (valid : IsTable table) where
       let inside : AreAligned (m.xs ++ (m.zs ++ m.ys)) = subst AreAligned m.blocks_are (each_right _ opened.blocks opens_as.owned all) in
       leads_aligned rest m.holds_it (each_at (λ (q : Place). Aligned q.at) opened.parts i part parts part_is) (each_left _ m.zs m.ys (each_right _ m.xs (m.zs ++ m.ys) inside))
 
-  -- so does a path from an item of a root without words before its values
+  -- a path from an item of a root without words before its values ends at an aligned place
   pub root_aligned : (root : Root) (blocks : List ℕ) → root.words ≡ [] → HoldsRoot bytes table root blocks → AreAligned blocks → (j : ℕ) → j < count root.values
       → {path : List Selector} {inner : Place} → Leads bytes table (item_of table root j) path inner → Aligned inner.at
   root_aligned root blocks no_words h b j within leads =

@@ -153,7 +153,7 @@ module _ (allocator : ℕ) (old new : List ℕ) (table : Table) (valid : IsTable
       go zero without with_it k = without k
       go (suc n) without with_it k = (own_paths (with_count g (suc n)) (ap (λ (x : Frozen). with_count x (suc n)) same.0) k.0, with_it k.1)
 
--- so they are in an image
+-- in an image, paths in the frozen objects that remain are kept, whatever their counts
 frozen_left_of : (old new : List ℕ) (picture : Picture) → IsHeld old picture → (theirs : ℕ → List ℕ) → HoldFrozen old picture.table theirs picture.frozen → (gone : List Place) (gs : List Frozen) → Recounted picture.frozen gs
     → KeepFrozen old new theirs (left gone gs) → KeepsFrozenPaths old new picture.table (left gone gs)
 frozen_left_of old new picture held theirs hold gone gs recounted keep =
@@ -169,7 +169,7 @@ pub frozen_left : (old new : List ℕ) (picture : Picture) → IsHeld old pictur
     → KeepsFrozenPaths old new picture.table (left gone picture.frozen)
 frozen_left old new picture held theirs hold gone keep = frozen_left_of old new picture held theirs hold gone picture.frozen (recounted_same picture.frozen) keep
 
--- so they are if other cells were added before
+-- in an image, they are kept if other cells were added before
 pub frozen_left_shared : (old new : List ℕ) (picture : Picture) → IsHeld old picture → (theirs : ℕ → List ℕ) → HoldFrozen old picture.table theirs picture.frozen → (gone names : List Place)
     → KeepFrozen old new theirs (left gone (raised_by names picture.frozen)) → KeepsFrozenPaths old new picture.table (left gone (raised_by names picture.frozen))
 frozen_left_shared old new picture held theirs hold gone names keep =

@@ -253,7 +253,8 @@ module _ (root : Root) (j : ℕ) (item : Value) (item_is : nth root.values j ≡
       let around = beside_part root j item item_is path v value_is in
       names_then now.cells (names_then (names_joined (root_names root j item item_is path v value_is) (names_same (cells_append some rest))) (names_between (names_in v) around (cells_in some) (cells_in rest)))
 
-  -- so they are after the place gets another value
+  -- after the place gets another value, the cells of all owners are those of the new value, and the
+  -- others
   pub names_after : (other : Picture) (come rest : List Root) (w : Value) → Reorders (with_item root j (with_value_at path w) ∷ (come ++ rest)) (owners_in other)
       → SameNames ((names_in w ++ cells_in come) ++ other_cells rest) (cells_in (owners_in other))
   unfolding other_cells

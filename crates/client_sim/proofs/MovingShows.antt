@@ -209,7 +209,7 @@ module _ {others : List Root} {types : Table} {constants : List Constant} (one :
     | inr p ↦ inr (p.0, record { apart = p.1; goes_on = λ o begins ends. none o ends })
   ]
 
-  -- so they do if the paths from register a end too
+  -- the registers stay known if the paths from register a end too
   pub stays_released : ((o : Origin) → Ends o → o ≡ Origin.Owned a) → (r : ℕ) → a ≢ r → Stays r (known ks r) (known (ended (Class.Register a) known_put) r)
   stays_released its r far =
       let at : known (ended (Class.Register a) known_put) r ≡ without_class (Class.Register a) (known known_put r) = known_ended (Class.Register a) known_put r in

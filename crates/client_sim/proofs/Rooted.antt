@@ -59,7 +59,7 @@ module _ (old new : List ℕ) (picture : Picture) (held : IsHeld old picture) (g
   pub all_frozen : ((h : ℕ) → times h gone ≤ times h held.index_blocks) → KeepsFrozenPaths old new picture.table picture.frozen
   all_frozen few = frozen_of_roots old new picture (each_right (KeepsPaths old new picture.table) (owners_in picture) (frozen_roots picture) (all_roots few))
 
-  -- all other roots do if blocks of one root and of frozen objects are too
+  -- all other roots keep their paths if blocks of one root and of frozen objects are in `gone` too
   pub other_paths : (which : Listed) (before : List Root) (root : Root) (after : List Root) → roots_in picture which ≡ before ++ root ∷ after → (objects : List ℕ) → HoldsRoot old picture.table root objects
       → (theirs : ℕ → List ℕ) → HoldFrozen old picture.table theirs picture.frozen → ((h : ℕ) → times h gone ≤ times h objects + times h held.index_blocks + times h (blocks_by theirs picture.frozen))
       → AllByRecursion (KeepsPaths old new picture.table) (roots_before picture which before ++ owners_after picture which after)

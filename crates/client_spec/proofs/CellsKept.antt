@@ -196,7 +196,7 @@ module _ (constants : List Constant) (one : OneEach constants) (class : Class) w
   pub record Keeps (s : State) (o : Outcome) : Type 0 where
     pub each : (code : Answer) (s' : State) → o ≡ Some (code, s') → Kept s s'
 
-  -- a value that has a number is a number; likewise for texts
+  -- a value that has a number is a number, and a value that has a text is a text
   number_of : (v : Value) (k : ℤ) → number_in v ≡ Some k → v ≡ Int k
   number_of (node (Label.int l) nil) k e = ap Int (Some_inj e)
   number_of v k e = cc
@@ -439,7 +439,8 @@ module _ (types : Table) (constants : List Constant) (ks : RegisterTypes) (b : �
     abbrev pub IsSpared : Operation → ℕ → ℤ → Type 0
     IsSpared = Spared constants one (Class.Frozen class) types (bare ks) s h b
 
-    -- neither is it if the rule then sets register a
+    -- if b's class ends except for b, and register a is set, b's class isn't the class that stays
+    -- known
     pub opens_far : {A : Type 0} (f : Form → Option A) (rest : Class × ℕ → A → Rule) (good bad : RegisterTypes) → IsBare (known ks b)
         → ((x : Class × ℕ) (y : A) → reference_needed (known ks b) ≡ Ok x → rest x y ≡ Ok (good, bad) → FrozenFrom (others_ended x.0 b ks) good × FrozenFrom (others_ended x.0 b ks) bad)
         → typed.◌>>=◌ (reference_needed (known ks b)) (λ x. typed.◌>>=◌ (form_needed f types x.1) (rest x)) ≡ Ok (good, bad) → StillRead good bad

@@ -96,7 +96,7 @@ module _ (m : ℕ → Value) (constants : List Constant) (s : State) where
   seen a p None = fail_same m a null_or_none s
   seen a p (Some v) = refer_same m a (extend p Selector.content) s trees refl
 
-  -- so does giving a reference to an indexed part, or a code
+  -- giving a reference to an indexed part, or a code, commutes with unfolding
   indexed : (a : ℕ) (vs : Values) (x : ℤ) (p : ℕ → Path) → Same m (option_map_or (λ i. refer a (p i) s) (index_below (count vs) x) (fail a out_of_range s))
       (option_map_or (λ i. refer a (p i) trees) (index_below (count (replaced_each m vs)) x) (fail a out_of_range trees))
   indexed a vs x p =
