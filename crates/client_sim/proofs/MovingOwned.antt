@@ -109,7 +109,7 @@ module _ {others : List Root} {s : State} {bytes : List ℕ} (pictured : Picture
     pub leads : (other : Path) (target : Place) (x : Value) → path_value s other ≡ Some x → LeadsInImage pictured other target
         → Ends other.origin ⊎ (((other.origin ≡ path.origin) × GoesOnAfter path.selectors other.selectors) ⊎ LeadsInImage later other target)
 
-  -- and no object became frozen
+  -- the same, and no object became frozen
   pub record Moved (s' : State) (Ends : Origin → Type 0) : Type 0 where
     pub to : MovedPaths s' Ends
     pub stays : KeepsFrozen bytes new pictured.picture.table pictured.picture.frozen to.later.picture.frozen
