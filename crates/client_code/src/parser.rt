@@ -23,7 +23,7 @@ use seg_raw::Fault;
 /// The kinds of a client's constants, in order.
 type Kinds = ArrayVec<ConstantKind, 256>;
 
-/// Whether a constant differs from each of the `count` constants that begin at a position.
+/// Whether a constant differs from each of `count` constants, from a position on.
 fn differs_from(file: &[u8], at: u32, count: u32, constant: Constant) -> bool
     requires first { at ≤ 1000 }
     requires few { count ≤ MOST_CONSTANTS }

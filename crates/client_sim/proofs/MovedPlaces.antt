@@ -246,14 +246,15 @@ module _ (root : Root) (j : ℕ) (item : Value) (item_is : nth root.values j ≡
   pub other_cells : List Root → List Place
   other_cells rest = beside_part root j item item_is path v value_is ++ cells_in rest
 
-  -- the cells of all owners are those of the place, of some owners, and the others
+  -- the cells of all owners are the cells of the place, of some owners, and the others
   pub names_now : (picture : Picture) (some rest : List Root) → Reorders (owners_in picture) (root ∷ (some ++ rest)) → SameNames (cells_in (owners_in picture)) ((names_in v ++ cells_in some) ++ other_cells rest)
   unfolding other_cells
   names_now picture some rest now =
       let around = beside_part root j item item_is path v value_is in
       names_then now.cells (names_then (names_joined (root_names root j item item_is path v value_is) (names_same (cells_append some rest))) (names_between (names_in v) around (cells_in some) (cells_in rest)))
 
-  -- after the place gets another value, the cells of all owners are those of the new value, and the
+  -- after the place gets another value, the cells of all owners are the cells of the new value, and
+  -- the others
   -- others
   pub names_after : (other : Picture) (come rest : List Root) (w : Value) → Reorders (with_item root j (with_value_at path w) ∷ (come ++ rest)) (owners_in other)
       → SameNames ((names_in w ++ cells_in come) ++ other_cells rest) (cells_in (owners_in other))

@@ -207,7 +207,7 @@ fn follow_turn(
     Ok(())
 }
 
-/// Runs random clients with all operations. Their output, steps and codes must be those of the model. Each round has a seed that
+/// Runs random clients with all operations. Their output, steps and codes must be as in the model. Each round has a seed that
 /// is one higher than in the round before.
 pub(crate) fn follow_rounds(
     rt: &(impl Eprint + AllocGlobal),

@@ -55,7 +55,7 @@ pub fn shared_objects()
         (gaps saved ≡ span heap_start ((length saved - heap_start) / 16) ∷ [])) }
 {}
 
-/// A client begins on the trees of the image's objects, and ends on those of the image that it leaves. These trees contain no
+/// A client begins on the trees of the image's objects, and ends on the trees of the image that it leaves. These trees contain no
 /// positions.
 pub fn runs_of_trees()
     ensures objects { (client : Client) (given : Given) (left : Left) →
