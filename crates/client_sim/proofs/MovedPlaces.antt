@@ -255,7 +255,6 @@ module _ (root : Root) (j : ℕ) (item : Value) (item_is : nth root.values j ≡
 
   -- after the place gets another value, the cells of all owners are the cells of the new value, and
   -- the others
-  -- others
   pub names_after : (other : Picture) (come rest : List Root) (w : Value) → Reorders (with_item root j (with_value_at path w) ∷ (come ++ rest)) (owners_in other)
       → SameNames ((names_in w ++ cells_in come) ++ other_cells rest) (cells_in (owners_in other))
   unfolding other_cells

@@ -176,7 +176,7 @@ module _ (allocator : ℕ) (constants : List Constant) (role : Role) (a b c : �
     said : {P : Picture → Type 0} → OfPicture allocator w (λ p. T < length w.table → P p) → P h.pictured.picture
     said {P} says = of_picture h (λ p. T < length w.table → P p) says (subst (λ (z : Table). T < length z) (sym h.table_is) known_type.1)
 
-    -- a row that makes a unique object is done
+    -- the machine does a row that makes a unique object
     made : (operation : Operation) (at : ℕ) → JoinsUniques allocator w.image new w.table h.pictured.picture T at → (asked : Asks constants (of operation) h.pictured (asks_one w.table)) → Returns constants (of operation) h.pictured []
         → (GrantsAsks constants (of operation) h.pictured new → ChangesBlocks constants (of operation) h.pictured success new)
         → outcome constants (of operation) true s ≡ add_unique a T true s
@@ -202,7 +202,7 @@ module _ (allocator : ℕ) (constants : List Constant) (role : Role) (a b c : �
         (row ∙ answer_is types constants ks s' more.as_known success a (Register.Reference path_is) its.0) (changes blocks) call.becomes.length_kept call.becomes.front_kept refl shows
         (frame_reference others types constants first allocator ks s' (with_image w new) more a _ _ _ _ _ _ _ _ _ _ (frame_more one h T d fits none root new come call.becomes.front_kept)))
 
-    -- a row that finds the unique object is done
+    -- the machine does a row that finds the unique object
     found : (operation : Operation) (at : ℕ) → begins_unique h.pictured.picture T ≡ Some at → new ≡ w.image → ((v : Value) → s.uniques T ≡ Some v → GrantsAsks constants (of operation) h.pictured w.image)
         → (GrantsAsks constants (of operation) h.pictured w.image → ChangesBlocks constants (of operation) h.pictured success w.image)
         → ((v : Value) → s.uniques T ≡ Some v → outcome constants (of operation) true s ≡ refer a path_is s)
@@ -218,7 +218,7 @@ module _ (allocator : ℕ) (constants : List Constant) (role : Role) (a b c : �
         (row u.plain.value u.there ∙ answer_is types constants ks s h.as_known success a (Register.Reference path_is) its.0) (changes (granted u.plain.value u.there)) refl refl refl shows
         (frame_reference others types constants first allocator ks s w h a _ _ _ _ _ _ _ _ _ _ (frame_same _ _ _))))
 
-    -- a row that fails is done
+    -- the machine does a row that fails
     refused : (operation : Operation) (answer : Answer) (room : Bool) (code : ℕ) → code ≡ answer_number answer → new ≡ w.image → ChangesBlocks constants (of operation) h.pictured answer w.image
         → outcome constants (of operation) room s ≡ fail a answer s
         → Acts others types constants first allocator (of operation) answer bad s w (with_number (with_image w new) a (pos code))
@@ -238,7 +238,7 @@ module _ (allocator : ℕ) (constants : List Constant) (role : Role) (a b c : �
         ap asks_one h.table_is
         ∙ sym (ap (λ n. if_absent (s.uniques n) (block_for (size s.types n) ∷ [])) known_type.0 ∙ ap (λ (o : Option Value). if_absent o (asks_one s.types)) (none_unique h T none))
 
-    -- the row if there is a unique object
+    -- if there is a unique object, the row takes the first branch
     row_there : (f g : ℕ → Outcome) (v : Value) → s.uniques T ≡ Some v → (if is_some (s.uniques (nat_abs number)) then f (nat_abs number) else g (nat_abs number)) ≡ f T
     row_there f g v there = ap (λ n. if is_some (s.uniques n) then f n else g n) known_type.0 ∙ ap (λ (o : Option Value). if is_some o then f T else g T) there
 
