@@ -5,19 +5,19 @@ use crate::registers::Registers;
 use client_code::{Ends, Role};
 use seg_layout::TypeId;
 
-/// What an instruction changes of what is known of the registers, where there is no reason to reject it.
+/// How an instruction that isn't rejected changes what is known of the registers.
 #[derive(Debug, Clone, Copy)]
 pub struct After {
     pub(crate) role: Role,
     pub(crate) ends: Ends,
-    // what register b leads to
+    // what register b refers to
     pub(crate) led: Option<(Class, TypeId)>,
     pub(crate) b: u8,
     pub(crate) c: u8,
-    // what the number names
+    // the type that the number refers to
     pub(crate) type_id: TypeId,
     pub(crate) constant: u8,
-    // the register that changes, and what it holds after success
+    // the register that changes, and what it has after success
     pub(crate) given: Option<(u8, RegisterType)>,
 }
 
@@ -26,7 +26,7 @@ impl After {
     ghost use Rattle.client_verify.specs.Checking.{others, otherwise_by};
     ghost use Rattle.client_verify.specs.Changes.{led_of, ended_after, success_after, otherwise_after};
 
-    /// Ends references, and empties a register. Both parts begin with what is known then.
+    /// Ends references, and empties a register. Both parts begin with the result.
     #[inline(always)]
     pub fn end(&self, registers: &mut Registers)
         ensures { registers_of registers.new ≡ ended_after self.now (registers_of registers.old) }
@@ -48,7 +48,7 @@ impl After {
         }
     }
 
-    /// Ends the references of the class of the one in register b, but for that one.
+    /// Ends the references of the class of register b's reference, except the one in b.
     fn end_others(&self, registers: &mut Registers)
         ensures { registers_of registers.new
             ≡ others (led_of self.now) self.now.b (registers_of registers.old) }
@@ -58,7 +58,7 @@ impl After {
         }
     }
 
-    /// What is known in the success part, or after an instruction without parts.
+    /// Adds what is known in the success part, or after an instruction without parts.
     #[inline(always)]
     pub fn succeed(&self, registers: &mut Registers)
         ensures { registers_of registers.new ≡ success_after self.now (registers_of registers.old) }
@@ -71,7 +71,7 @@ impl After {
         }
     }
 
-    /// What is known in the else part.
+    /// Adds what is known in the else part.
     pub fn fail(&self, registers: &mut Registers)
         ensures { registers_of registers.new
             ≡ otherwise_after self.now (registers_of registers.old) }
@@ -81,7 +81,7 @@ impl After {
         }
     }
 
-    /// What the register that changes holds in the else part: the code.
+    /// What the changed register has in the else part. For an opener this is the code.
     fn otherwise(&self, holds: RegisterType) -> RegisterType
         ensures { known_of result ≡ otherwise_by self.now.role (known_of holds) }
     {

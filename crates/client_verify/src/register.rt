@@ -8,12 +8,12 @@ ghost use Rattle.client_verify.specs.Checking.{referred, part_below};
 use crate::reason::Reason;
 use seg_layout::{Type, TypeId};
 
-/// What a reference leads into. References of one class may lead to one value.
+/// What a reference refers into. Two references of the same class may refer to the same value.
 #[derive(Debug, Clone, Copy, PartialEq, Eq)]
 pub enum Class {
-    /// The objects of a name constant.
+    /// An object with the name that a constant gives.
     Name(u8),
-    /// The unique instance of a type.
+    /// The unique object of a type.
     Unique(TypeId),
     /// The object that a register owns.
     Register(u8),
@@ -22,14 +22,14 @@ pub enum Class {
 /// What is known of a register.
 #[derive(Debug, Clone, Copy, PartialEq, Eq, Default)]
 pub enum RegisterType {
-    /// Nothing. The register may not be used.
+    /// Nothing is known. The register may not be used.
     #[default]
     Undefined,
-    /// It holds a number.
+    /// It contains a number.
     Int,
-    /// It leads to a value of this type.
+    /// It refers to a value of this type.
     Reference(Class, TypeId),
-    /// It leads to a value of this type in a frozen object that the class shares, which is only read.
+    /// It refers to a value of this type in a frozen object that objects of the class share. The value can only be read.
     ReadOnly(Class, TypeId),
     /// It owns an object of this type.
     Owner(TypeId),
@@ -43,8 +43,8 @@ impl RegisterType {
         matches!(self, RegisterType::Owner(_))
     }
 
-    /// The same, unless it is a reference of the class, or into a frozen object that this shares: of that nothing is known any
-    /// more.
+    /// What is known after the references of a class have ended: nothing, if this is a reference of the class, or into a frozen
+    /// object that the class shares.
     pub fn without(self, class: Class) -> RegisterType
         ensures { known_of result ≡ typed.without_class (class_of class) (known_of self) }
     {
@@ -56,7 +56,7 @@ impl RegisterType {
         }
     }
 
-    /// What it leads to, also where that is only read: the class, and the type.
+    /// The class and the type of what a reference refers to, read-only or not.
     pub fn led(self) -> Option<(Class, TypeId)>
         ensures { option_map (λ x. (class_of x.0, x.1)) result ≡ referred (known_of self) }
     {
@@ -68,7 +68,8 @@ impl RegisterType {
         }
     }
 
-    /// A reference to a part of what it leads to. Behind a `shared` it is only read, and so is a part of what is only read.
+    /// A reference to a part of the value that this one refers to. It is read-only if this one is, or if it passes through a
+    /// `shared`.
     pub fn part(self, of: Type, part: TypeId) -> RegisterType
         ensures { known_of result ≡ part_below (form_of of) part (known_of self) }
     {
@@ -82,7 +83,8 @@ impl RegisterType {
         }
     }
 
-    /// At the `END` of an opener: what is known in both parts. `OwnerLost` where an owner is in one only.
+    /// What is known at the `END` of an opener, from what is known after each part. Fails with `OwnerLost` if the register owns
+    /// an object after one part only.
     pub fn joined(self, other: RegisterType) -> Result<RegisterType, Reason>
         ensures { checked known_of result ≡ typed.joined_one (known_of self) (known_of other) }
     {
@@ -95,7 +97,7 @@ impl RegisterType {
         }
     }
 
-    /// At the `END` of a loop's body, where this was known in front of it: whether that may be known now.
+    /// Tests at the `END` of a loop's body, where `after` is known, that what was known before the loop is still true.
     pub fn keeps(self, after: RegisterType) -> Result<(), Reason>
         ensures { checked (λ x. x) result ≡ typed.kept_one (known_of self) (known_of after) }
     {

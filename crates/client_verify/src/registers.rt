@@ -8,14 +8,14 @@ use client_code::REGISTERS;
 
 const COUNT: usize = REGISTERS as usize;
 
-/// What is known of each register at a place of the code.
+/// What is known of each register at a place in the code.
 #[derive(Debug, Clone, Copy, PartialEq, Eq)]
 pub struct Registers {
     types: [RegisterType; COUNT],
 }
 
 impl Registers {
-    /// Nothing is known of any register.
+    /// The registers of which nothing is known.
     pub fn new() -> Registers
         ensures { registers_of result ≡ replicate 16 typed.RegisterType.Undefined }
     {
@@ -24,7 +24,7 @@ impl Registers {
         }
     }
 
-    /// What is known of a register; nothing of one past the last.
+    /// What is known of a register. `Undefined` if there is no such register.
     pub fn get(&self, register: u8) -> RegisterType
         ensures { known_of result ≡ typed.known (registers_of self.now) register }
     {
@@ -34,7 +34,7 @@ impl Registers {
             .unwrap_or_default()
     }
 
-    /// Makes it known that a register holds this.
+    /// Records that a register has this type.
     pub fn set(&mut self, register: u8, to: RegisterType)
         ensures { registers_of self.new ≡ slice_set (registers_of self.old) register (known_of to) }
     {
@@ -53,7 +53,7 @@ impl Registers {
         }
     }
 
-    /// Ends the references of a class, but for the one in a register.
+    /// Ends the references of a class, except the one in a register.
     pub fn end_others(&mut self, class: Class, register: u8)
         ensures { registers_of self.new
             ≡ typed.others_ended (class_of class) register (registers_of self.old) }
@@ -63,7 +63,7 @@ impl Registers {
         self.set(register, kept);
     }
 
-    /// Ends the references into the object of a register, which owns it no more.
+    /// Ends the references into a register's object, which the register no longer owns.
     pub fn empty(&mut self, register: u8)
         ensures { registers_of self.new
             ≡ slice_set (typed.ended (typed.Class.Register register) (registers_of self.old))
@@ -73,7 +73,7 @@ impl Registers {
         self.set(register, RegisterType::Undefined);
     }
 
-    /// After the `END` of an opener: keeps what is known at the end of its success part too.
+    /// Joins at the `END` of an opener: keeps only what is also known at the end of the success part.
     pub fn join(&mut self, success: &Registers) -> Result<(), Reason>
         ensures { checked (λ _. registers_of self.new) result
             ≡ typed.joined (registers_of success.now) (registers_of self.old) }
@@ -90,7 +90,7 @@ impl Registers {
         Ok(())
     }
 
-    /// Whether a loop's body, which found these registers, may leave those.
+    /// Tests that a loop's body that began with these registers may end with those.
     pub fn keeps(&self, after: &Registers) -> Result<(), Reason>
         ensures { checked (λ x. x) result
             ≡ typed.kept (registers_of self.now) (registers_of after.now) }

@@ -15,18 +15,18 @@ use arrayvec::ArrayVec;
 use client_code::{DEPTH, Instruction, Role};
 use seg_layout::TypeTable;
 
-/// A part of the code that is open, and what its end needs.
+/// An open part of the code, and what its end needs.
 #[derive(Debug, Clone, Copy)]
 enum Part {
-    /// A success part. This is known where its else part begins.
+    /// A success part. `otherwise` is known at the beginning of its else part.
     Success { otherwise: Registers },
-    /// An else part. This is known where the success part ended, and these are that part's steps.
+    /// An else part. `success` is known at the end of the success part, which has `steps` steps.
     Else { success: Registers, steps: u64 },
-    /// The body of a loop of so many turns. This was known in front of it.
+    /// The body of a loop with at most `turns` iterations. `before` is known before the loop.
     Body { before: Registers, turns: u64 },
 }
 
-/// An open part, and the steps of the code in front of it.
+/// An open part, and the number of steps before it.
 #[derive(Debug, Clone, Copy)]
 struct Open {
     part: Part,
@@ -44,18 +44,18 @@ impl Default for Open {
     }
 }
 
-/// The verifier at a place of a client's code: it goes past one instruction after the other, from the first.
+/// The verifier at a place in a client's code. It passes the instructions one by one, from the first.
 #[derive(Drop)]
 pub struct Verifier<'a> {
     types: &'a TypeTable,
     registers: Registers,
-    // the steps of the innermost part so far, at most; the largest number where there are more
+    // an upper bound of the steps of the innermost part so far; u64::MAX if there are more
     steps: u64,
     parts: ArrayVec<Open, DEPTH>,
 }
 
 impl<'a> Verifier<'a> {
-    /// In front of the code.
+    /// The verifier before the first instruction.
     pub fn new(types: &'a TypeTable) -> Verifier<'a>
         ensures types { result.types.now ≡ types.now }
         ensures start { progress_of result ≡ initial_progress }
@@ -75,14 +75,14 @@ impl<'a> Verifier<'a> {
         self.steps
     }
 
-    /// What is known of the registers here.
+    /// What is known of the registers at this place.
     pub fn registers(&self) -> &Registers
         ensures { result.now ≡ self.now.registers }
     {
         &self.registers
     }
 
-    /// Goes past an instruction.
+    /// Passes an instruction, or returns why it is rejected.
     pub fn pass(&mut self, instruction: Instruction) -> Result<(), Reason>
         ensures types { self.new.types.now ≡ self.old.types.now }
         ensures passed { IfOk result (λ _. (constants : List syntax.Constant) →
@@ -145,7 +145,7 @@ impl<'a> Verifier<'a> {
         Ok(())
     }
 
-    /// Opens a part after an instruction. There is room, since a client's nesting has a limit.
+    /// Opens a part after an instruction. There is always room, since the nesting of a client has a limit.
     fn push(&mut self, part: Part)
         ensures types { self.new.types.now ≡ self.old.types.now }
         ensures inside { progress_of self.new
@@ -158,7 +158,7 @@ impl<'a> Verifier<'a> {
         self.steps = 0;
     }
 
-    /// From the success part to the else part.
+    /// Continues with the else part after the success part.
     fn turn(&mut self)
         ensures types { self.new.types.now ≡ self.old.types.now }
         ensures turned { progress_of self.new
@@ -181,7 +181,7 @@ impl<'a> Verifier<'a> {
         }
     }
 
-    /// After an `END`.
+    /// Closes the innermost part at its `END`.
     fn close(&mut self) -> Result<(), Reason>
         ensures types { self.new.types.now ≡ self.old.types.now }
         ensures closed { checked (λ _. progress_of self.new) result
