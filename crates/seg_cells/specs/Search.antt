@@ -4,6 +4,6 @@ use Rattle.std.specs.Prelude.{◌≡◌, ℕ, ◌-◌, ◌⊎◌}
 use Rattle.std.specs.declared.cmp.Ordering.{Ordering}
 use Rattle.std.specs.declared.cmp.Ordering.TheVariants.{Less, Greater}
 
--- the first and the last index need only one of the two
+-- at the first index the item before isn't compared, and at the last index none is
 abbrev pub IsBetween : (ℕ → Ordering → Type 0) → ℕ → ℕ → Type 0
 IsBetween compares n i = ((i ≡ 0) ⊎ compares (i - 1) Less) × ((i ≡ n) ⊎ compares i Greater)
