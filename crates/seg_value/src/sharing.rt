@@ -174,7 +174,7 @@ fn raise<F: Fit, A: Allocator>(heap: &mut Heap<F, A>, object: Option<u32>)
     w.put32(payload as usize, count);
 }
 
-/// Makes a cell point to a frozen object, or to none.
+/// Makes a cell point to a frozen object, or makes its pointer null.
 fn name<F: Fit, A: Allocator>(heap: &mut Heap<F, A>, cell: u32, object: Option<u32>)
     ensures window { heap.new.window ≡ with_bytes heap.old.window (set_word
         (set_pointer heap.old.window.bytes cell object) (cell + 4) (cell_count object)) }
