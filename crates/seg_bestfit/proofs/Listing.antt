@@ -153,7 +153,7 @@ module _ (old new : List ℕ) (xs : List Span) (g r : Span) (ys : List Span) (lo
 
 -- ---- from what the calls of the tree ensure
 
--- a gap has room for its node
+-- if there is a gap, the bytes reach the start of the heap
 pub room_of : (bytes : List ℕ) (xs : List Span) (g : Span) (ys : List Span) → AreFreeBlocks bytes 704 (xs ++ g ∷ ys) → 704 ≤ length bytes
 room_of bytes xs g ys free = let s = each_pick (Stands bytes) xs g ys (each_stands bytes 704 (xs ++ g ∷ ys) (omega arith) free) in omega (arith, s.low, s.fits)
 

@@ -98,7 +98,7 @@ Spares-trans a b c ts x y = record {
   tiles_kept = λ s h. Agrees-trans a b c (s.at + 8) (end_of s) (x.tiles_kept s h) (y.tiles_kept s h);
 }
 
--- what is spared depends only on the allocated tiles
+-- which bytes are spared depends only on the allocated tiles
 pub Spares-same : (a b : List ℕ) (ts us : List Tile) → live_of us ≡ live_of ts → Spares a b ts → Spares a b us
 Spares-same a b ts us e s = record {
   front_kept = s.front_kept;

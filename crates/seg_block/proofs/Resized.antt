@@ -214,7 +214,7 @@ granted_part n u h = grind (arith, nat_tests)
 expanded_same : (x room u : ℕ) → u ≤ x → expanded x room u ≡ Some x
 expanded_same x room u h = rw (le-leb u x h) refl
 
--- ---- what the calls leave
+-- ---- the results of the calls
 
 module _ {allocator : ℕ} (old : List ℕ) (at u need : ℕ) (h : IsHeap allocator old) (held : Contains (live old) (record { at = at; units = u })) where
   pub expands_not : expanded u (room_at (gaps old) (at + 16 * u)) need ≡ None → Expands allocator old old at u need false

@@ -10,13 +10,13 @@ use Rattle.seg_spec.proofs.HeaderLaws.{IsHeader-same}
 use Rattle.seg_block.specs.Tiling.{tile, IsTiled, Replaces}
 use Rattle.seg_block.proofs.LiveTiles.{live_within}
 
--- a fact is true of the ranges of each tile's size, size before and tag
+-- a fact about ranges is true of the first 12 bytes of each tile's header
 abbrev pub EachHeader : (ℕ → ℕ → Type 0) → List Tile → Type 0
 EachHeader misses [] = ⊤
 EachHeader misses (t ∷ ts) = misses t.at (t.at + 12) × EachHeader misses ts
 
 -- The places that an allocator uses for its free structure may change, and so may the bytes from lo
--- up to hi and the word 4 after hi. `misses` says that a range has none of those places.
+-- up to hi and the word 4 after hi. `misses` states that a range has none of those places.
 module _ (old new : List ℕ) (misses : ℕ → ℕ → Type 0) (part_misses : (from to low high : ℕ) → misses from to → from ≤ low → high ≤ to → misses low high) (lo hi : ℕ) (le : lo ≤ hi)
     (kept : (from to : ℕ) → misses from to → (to ≤ lo) ⊎ (hi ≤ from) → (to ≤ hi + 4) ⊎ (hi + 8 ≤ from) → Agrees old new from to) where
   headers_front : (xs : List Tile) (from before : ℕ) → EachHeader misses xs → Fill from xs lo → AreHeaders old before xs → AreHeaders new before xs

@@ -1,4 +1,4 @@
--- An own gets a new object: a new block becomes its own, and its previous object is destroyed.
+-- An own gets a new object in a new block, and its previous object is destroyed.
 use Rattle.std.proofs.Common.{◌≡◌, ◌≢◌, ℕ, ◌+◌, ◌≤◌, ◌⊎◌, inl, inr, List, [], ◌∷◌, ◌++◌, length, Some, sym, ◌∙◌, subst, arith, add-zero}
 use Rattle.std.proofs.lemmas.Bool.{cases_eq}
 use Rattle.seg_spec.specs.Types.{Form, Table, form_at, size}

@@ -215,7 +215,7 @@ module _ (allocator : ℕ) (bytes : List ℕ) (table : Table) (names : List Root
           leads = subst (λ r. Leads bytes table r) root_is (subst (λ t. Leads bytes t root) table_is (subst (λ bs. Leads bs here root) same leads));
         }
 
--- the result of a search, with a spot that doesn't depend on whether the name is there
+-- the result of a search, with a spot that doesn't depend on whether the index has the name
 looks_by : (o : Option Root) (found : Option NameEntry) (P : Type 0) → found ≡ option_map entry_of o → P → MatchOption o ((found ≡ None) × P) (λ root. (found ≡ Some (entry_of root)) × P)
 looks_by None found P e p = (e, p)
 looks_by (Some root) found P e p = (e, p)

@@ -122,7 +122,7 @@ impl TypeTable {
         Entry::size_at(&self.entries, t)
     }
 
-    /// The number of fields of this type, or 0 if it is no struct.
+    /// The number of fields of this type, or 0 if it isn't a struct.
     pub fn field_count(&self, t: TypeId) -> u32
         ensures count { result ≡ length (fields_of self.now t) }
         ensures few { result ≤ 8 }

@@ -58,7 +58,7 @@ is_found T root found e = go (cases_eq root.type T)
         let none : Ok found ≡ Err code.OtherType = rw test at e in
         absurd (let no : Ok found ≡ Err code.OtherType = none in cc)
 
--- a search found no object of the type
+-- if a search finds no object of the type, no object is destroyed
 pub not_killed : (T : ℕ) (o : Option Root) → is_ok (found_as T o) ≡ false → killed o T ≡ None
 not_killed T None e = refl
 not_killed T (Some root) e = go (cases_eq root.type T)

@@ -91,7 +91,7 @@ climbed_all layers items e s = go s.upper s.layers_are (sym e ∙ s.steps_are)
 
 -- ---- the nodes after a place
 
--- no nodes of such layers are after the place
+-- layers whose places are on their right sides have no nodes after the place
 following_on : (lower upper : List Layer) → AreRight lower → following (lower ++ upper) ≡ following upper
 unfolding following nodes_after
 following_on [] upper r = refl
@@ -230,7 +230,7 @@ module _ (order : ℕ → ℕ → Ordering) (turn : ℕ → Ordering) (node : �
 
 -- ---- the first node with a property
 
--- a path goes left at nodes that have the property, and right at others
+-- all later nodes have the property too; a path goes left at nodes that have it, and right at others
 module _ (order : ℕ → ℕ → Ordering) (p : ℕ → Bool) (turn : ℕ → Ordering) (up : (x y : ℕ) → order x y ≡ Less → p x ≡ true → p y ≡ true) (lefts : (x : ℕ) → turn x ≡ Less → p x ≡ true) (rights : (x : ℕ) → turn x ≡ Greater → p x ≡ false) where
   -- if a node doesn't have the property, the first node that has it comes later
   none_below : (xs : List ℕ) (at : ℕ) (ys : List ℕ) → Ascend order (xs ++ at ∷ ys) → p at ≡ false → first_where p (xs ++ at ∷ ys) ≡ first_where p ys

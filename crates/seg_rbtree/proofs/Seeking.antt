@@ -14,7 +14,7 @@ use Rattle.seg_rbtree.specs.Paths.{FindsEqual}
 use Rattle.seg_rbtree.proofs.Depth.{tall, deep-64, layers-deep}
 use Rattle.seg_rbtree.proofs.Paths.{at_end, finds_first}
 
--- some steps lead to a place whose subtree remains to be searched
+-- after some steps the subtree at a place remains to be searched
 pub record IsSeeking (bytes : List ℕ) (turn : ℕ → Ordering) (shape : Tree) (place : Option ℕ) (count : ℕ) : Type 0 where
   pub layers : List Layer
   pub rest : Tree

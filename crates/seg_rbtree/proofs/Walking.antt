@@ -18,7 +18,7 @@ pub length-steps : (layers : List Layer) → length (steps_of layers) ≡ length
 length-steps [] = refl
 length-steps (layer ∷ layers) = omega (arith, length-append (steps_of layers) (step_of layer ∷ []), length-steps layers)
 
--- some steps lead to the place with this pointer word, whose subtree remains to be searched
+-- after some steps the subtree at this pointer word remains to be searched
 pub record IsWalking (root : ℕ) (turn : ℕ → Ordering) (shape : Tree) (steps : List Step) (word count : ℕ) : Type 0 where
   pub layers : List Layer
   pub rest : Tree

@@ -1,5 +1,5 @@
 -- The rules of colours around a place in a tree.
---     IsBelowBlack layers      the node above the place is black, if there is one
+--     IsBelowBlack layers      the node above the place is black
 --     Wants layers height      a balanced tree of this black height at the place makes the whole tree balanced
 use Rattle.std.specs.Prelude.{◌≡◌, ℕ, suc, ⊤, List, [], ◌∷◌}
 use Rattle.seg_spec.specs.Shapes.{Colour, black, red, Tree, IsBlack, IsBalanced}

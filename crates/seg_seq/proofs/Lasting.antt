@@ -19,9 +19,9 @@ use Rattle.seg_spec.proofs.WriteInside.{tiles_kept, low_kept, KeptBut, live_kept
 use Rattle.seg_spec.proofs.Composing.{around_kept}
 use Rattle.seg_spec.proofs.Standing.{Frames, frames_twice, stands_after}
 
--- The heap is well-formed with these allocated blocks. The place owns `others` in place of
--- `blocks`, and the sum of allocated blocks differs by exactly these. Everything around them is
--- kept.
+-- The heap is well-formed with these allocated blocks. The place, with the frozen objects that it
+-- releases, owned `blocks` and now owns `others`. The allocated blocks changed by exactly these.
+-- Everything around the place is kept.
 pub record Leaves (allocator : ℕ) (old mid : List ℕ) (table : Table) (place : Place) (blocks others : List ℕ) (spans : List Span) : Type 0 where
   pub allocator_is : word old 16 ≡ allocator
   pub heap : IsHeap allocator mid

@@ -24,7 +24,7 @@ pub record HasHome (bytes : List ℕ) (p : ℕ) : Type 0 where
   pub home_live : 1 ≤ times home (positions (live bytes))
 
 module _ (allocator : ℕ) (old new : List ℕ) (places : List ℕ) (heap : IsHeap allocator old) (changes : ChangesAt old new places) (homes : AllByRecursion (HasHome old) places) where
-  -- a range that overlaps the payload of no allocated block overlaps none of the places
+  -- a range is kept if it overlaps no 8 bytes in the payload of an allocated block
   beside : (q m : ℕ) → ((h p : ℕ) → 1 ≤ times h (positions (live old)) → IsInside old h p 8 → Separate q m p 8) → IsSame old new q m
   beside q m f = changes.others q m (each_weaker (HasHome old) (λ p. Separate q m p 8) (λ p w. f w.home p w.home_live w.inside) places homes)
 

@@ -38,7 +38,7 @@ pub record HasList (allocator : ℕ) (heap : Stored) (list : Place) (U : ℕ) (v
 abbrev pub IsNoList : Table → ℕ → Type 0
 IsNoList table T = (U : ℕ) → form_at table T ≢ Some (Form.list U)
 
--- a path from an item reaches the same place, from the item's new index, if the item is still there
+-- a path from an item reaches the same place, from the item's new index, if the item wasn't removed
 abbrev pub MovesItems : List ℕ → List ℕ → Table → Place → (ℕ → Option ℕ) → Type 0
 MovesItems old new table list to = (i : ℕ) (path : List Selector) (inner : Place) →
     Leads old table list (Selector.item i ∷ path) inner →

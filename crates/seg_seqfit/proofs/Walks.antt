@@ -37,8 +37,8 @@ first_fit-passed g gs u h = rw (leb_no u g.units h) refl
 first_fit-here : (g : Span) (gs : List Span) (u : ℕ) → u ≤ g.units → first_fit (g ∷ gs) u ≡ Some g
 first_fit-here g gs u h = rw (le-leb u g.units h) refl
 
--- A walk reads the position `at` of a pointer word's target. The word isn't null: it points to a
--- free block from `low` on.
+-- The pointer word isn't null. If its target is a block at `low` or above, `at` is the position of
+-- this block.
 abbrev pub Reads : List ℕ → ℕ → ℕ → ℕ → Type 0
 Reads bytes link low at =
     (target bytes link ≡ None → ⊥) × ((g : Span) → target bytes link ≡ Some (g.at + 16) → IsSized bytes g → low ≤ g.at → at ≡ g.at)

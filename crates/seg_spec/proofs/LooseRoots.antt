@@ -16,8 +16,8 @@ pub each_joined : {X : Type 0} (Q : X → Type 0) (xs ys : List X) → AllByRecu
 each_joined Q [] ys a b = b
 each_joined Q (x ∷ xs) ys a b = (a.0, each_joined Q xs ys a.1 b)
 
--- The new heap is well-formed. The blocks `its` are no longer allocated, and the blocks `theirs`
--- are.
+-- The new heap is well-formed. From the allocated blocks `its` were removed, and `theirs` were added.
+-- The other blocks are kept.
 pub record Trades (old new : List ℕ) (picture : Picture) (its theirs : List ℕ) : Type 0 where
   pub length_kept : length new ≡ length old
   pub front_kept : KeepsFront old new

@@ -5,7 +5,7 @@
 --     AreCounted next picture  each frozen object counts its cells; the objects' numbers are below next,
 --                              and don't rise along the list
 --     without_cells gone picture   the picture without the cells that point to `gone`, and without the frozen
---                               objects whose last cell is among them
+--                              objects whose last cell is among them
 --     FrozenGone bytes picture gone blocks     the blocks of these frozen objects
 use Rattle.std.specs.Prelude.{◌≡◌, ℕ, List, [], ◌∷◌, ◌++◌}
 use Rattle.seg_spec.specs.Reads.{Place}

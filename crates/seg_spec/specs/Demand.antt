@@ -5,7 +5,7 @@
 --     Ask                                 a request: the block that may grow, the preferred and the least
 --                                         size in units
 --     block_for n, growth old item n m    the request for a new block; the request for a buffer of n items
---                                          that needs room for m
+--                                         that needs room for m
 --     after_asks allocator bs end asks    the allocated blocks after all requests, if all are granted
 --     NoRoom allocator bs end asks        a request isn't granted, but the requests before it are
 --     FindsNoGap bs end ask, IsDenied     no free block is large enough for a request; the first such

@@ -1,6 +1,6 @@
 -- Sound images: the bytes of a segment that can be saved and opened.
 --     IsSound bytes      a well-formed image without loose objects, whose frozen objects count their cells;
---                         `check` accepts exactly these
+--                        `check` accepts exactly these
 --     upgraded bytes     the image after it was opened
 use Rattle.std.specs.Prelude.{◌≡◌, ℕ, List, []}
 use Rattle.seg_spec.specs.Bytes.{word, set_word}

@@ -9,15 +9,15 @@
 --     named_in v                           the positions of these objects
 --     IsBelow n frozen place               one of the objects has this place, and a number below n
 --     IsCounted next frozen cells          each object counts the cells that point to it: these, and the cells
---                                           in the objects; each object points only to objects with lower
---                                           numbers; `next` is greater than all numbers
+--                                          in the objects; each object points only to objects with lower
+--                                          numbers; `next` is greater than all numbers
 --     unfolded n frozen v                  the value as a tree: each shared cell owns a copy of its object
 --     raised p frozen                      the objects after one more cell points to the object at position p
 --     raised_by names frozen               the objects after one more cell points to each of these
 --     IsReleasing kept final names now     cells that point to these positions remain to be released, and
---                                           others are kept; in the end the objects are `final`
+--                                          others are kept; in the end the objects are `final`
 --     left gone frozen, freed gone frozen  the objects that remain if cells that point to `gone` are released,
---                                           and the objects that are freed because no cell points to them
+--                                          and the objects that are freed because no cell points to them
 use Rattle.std.specs.Prelude.{◌≡◌, ◌≢◌, ℕ, zero, suc, ◌-◌, ◌<◌, ◌≤◌, ◌==◌, ◌⊎◌, ⊤, if◌then◌else◌, List, [], ◌∷◌, ◌++◌, map, Option, Some, None}
 use Rattle.std.specs.List.{AllByRecursion}
 use Rattle.seg_spec.specs.Value.{Label, Value, node, Values, nil, cons, Empty, Full}

@@ -139,7 +139,7 @@ module _ (allocator : ℕ) (old : List ℕ) (table : Table) (place : Place) (for
   solid : (h : ℕ) → 1 ≤ times h (positions (live old)) → 2 ≤ units_at old h
   solid h some = (there (LiesIn old heap_start (length old)) h (positions (live old)) (live-lie old allocator s.heap) some).size
 
-  -- a place without a buffer stays as it is
+  -- a place without a buffer doesn't change
   pub left_alone : target old place.at ≡ None → Left old
   left_alone e = (
     blocks,

@@ -97,7 +97,7 @@ module _ (allocator : ℕ) (a b c d : List ℕ) (table : Table) (valid : IsTable
   one : 1 * size table T ≡ size table T
   one = omega arith
 
-  -- the place of the value isn't in its own blocks
+  -- the place of the value isn't in the value's blocks
   stands_b : StandsBeside b own (p + 8) (1 * size table T) inside
   stands_b = record {
     inside = subst (IsInside b (block_of p) (p + 8)) (sym one) place_inside;

@@ -120,7 +120,7 @@ module _ (allocator : ℕ) (old : List ℕ) (table : Table) (own : Place) (U : �
   home_apart : (times s.home blocks ≡ 0) × (times s.home shares ≡ 0)
   home_apart = let c = counts s.home in let t = times-same s.home [] in let o = once s.home in (omega arith, omega arith)
 
-  -- the frozen objects that are kept own no blocks beside these
+  -- the blocks of the remaining frozen objects are among the blocks of all of them
   few : (h : ℕ) → times h those ≤ times h shares
   few h = subst (λ fs. times h (blocks_by theirs fs) ≤ times h shares) b.releasing.leaves (left_fewer theirs b.releasing.pending now h)
 

@@ -64,8 +64,8 @@ pub fn share<F: Fit, A: Allocator>(heap: &mut Heap<F, A>, to: Place, from: Place
 
 /// Freezes an object, given by the position of its value. The object must not have an owner, and must not reach the
 /// cell. The cell then points to the frozen object, and the object that it pointed to before is released; the cell must
-/// be outside frozen objects. `NumbersUsedUp` if there is no number for one more, `BadAlloc` if no free block is large
-/// enough; then nothing changes.
+/// be outside frozen objects. `NumbersUsedUp` if there isn't a number for one more, `BadAlloc` if no free block is
+/// large enough; then nothing changes.
 pub fn freeze<F: Fit, A: Allocator>(
     heap: &mut Heap<F, A>,
     cell: Place,
