@@ -193,10 +193,10 @@ part_there bytes path shape layers rest is steps t = record { steps_are = steps;
 apart_nodes : (xs ls : List ℕ) (at : ℕ) (rs ys : List ℕ) → xs ++ ((ls ++ at ∷ rs) ++ ys) ≡ (xs ++ ls) ++ at ∷ (rs ++ ys)
 apart_nodes xs ls at rs ys = ap (λ zs. xs ++ zs) (append_assoc ls (at ∷ rs) ys) ∙ sym (append_assoc xs ls (at ∷ rs ++ ys))
 
--- `turn` compares a key with nodes: it is less than all nodes after a node, greater than all before
--- it, and equals it
+-- `turn` compares a sought node or key with nodes. It is less than all nodes after `node`, greater
+-- than all nodes before it, and equals it.
 module _ (order : ℕ → ℕ → Ordering) (turn : ℕ → Ordering) (node : ℕ) (above : (y : ℕ) → order node y ≡ Less → turn y ≡ Less) (below : (x : ℕ) → order x node ≡ Less → turn x ≡ Greater) (equal : turn node ≡ Equal) where
-  -- at the layers above the node, the path goes to the key's side
+  -- at the layers above the node, the path goes to the side of the sought node or key
   lead_by : (layers : List Layer) → AllByRecursion (λ x. order x node ≡ Less) (before layers) → AllByRecursion (λ y. order node y ≡ Less) (following layers) → LeadBy turn layers
   unfolding before following nodes_before nodes_after
   lead_by [] lows highs = tt
@@ -209,7 +209,7 @@ module _ (order : ℕ → ℕ → Ordering) (turn : ℕ → Ordering) (node : �
           let last = (each_right _ (nodes_of layer.other) (layer.at ∷ []) (each_right _ (before layers) (nodes_of layer.other ++ layer.at ∷ []) low)).0 in
           (below layer.at last, each_left _ (before layers) (nodes_of layer.other ++ layer.at ∷ []) low, high)
 
-  -- a path to the node is a path to the key
+  -- a path to the node is a path to the sought node or key
   pub leads_by : (bytes : List ℕ) (path : Path) (shape : Tree) → IsSearchTree bytes path.root shape → Ascend order (nodes_of shape) → IsWayIn shape path → node_at bytes path ≡ Some node → LeadsTo turn shape path
   leads_by bytes path shape t a way named =
       let s = part_there bytes path shape way.layers way.rest way.shape_is way.steps_are t in
@@ -337,7 +337,7 @@ goes_inside bytes path new result same on inside shape t =
     let way = inside shape u in
     subst (λ x. IsWayIn x new) way.shape_is (on way.layers way.rest (part_there bytes path shape way.layers way.rest way.shape_is way.steps_are u)).way
 
--- a path to a key is in the tree
+-- a path to a sought node or key is in the tree
 pub leads_inside : (turn : ℕ → Ordering) (shape : Tree) (path : Path) → LeadsTo turn shape path → IsWayIn shape path
 leads_inside turn shape path way = record { layers = way.layers; rest = way.rest; shape_is = way.shape_is; steps_are = way.steps_are }
 

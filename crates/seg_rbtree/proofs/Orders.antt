@@ -70,7 +70,7 @@ module _ (order : ℕ → ℕ → Ordering) (node : ℕ) where
   with_node-right [] at ys h e = later at ys (not_less at e)
   with_node-right (x ∷ xs) at ys h e = later x (xs ++ at ∷ ys) (not_less x h.0) ∙ ap (λ zs. x ∷ zs) (with_node-right xs at ys h.1 e)
 
-  -- ---- a fact about each node, also the new one
+  -- ---- a fact about each node, including the new one
 
   pub each_with : (P : ℕ → Type 0) (ns : List ℕ) → P node → AllByRecursion P ns → AllByRecursion P (with_node order node ns)
   each_with P [] p h = (p, tt)

@@ -108,7 +108,8 @@ ends_same : (turn other : ℕ → Ordering) (rest : Tree) → AllByRecursion (λ
 ends_same turn other leaf same e = tt
 ends_same turn other (fork left at colour right) same e = sym (each_right _ (nodes_of left) (at ∷ nodes_of right) same).0 ∙ e
 
--- a path still reaches the same place as long as the key compares with each node as before
+-- a path still reaches the same place as long as the sought node or key compares with each node as
+-- before
 pub leads_same : (turn other : ℕ → Ordering) (shape : Tree) (path : Path) → AllByRecursion (λ x. turn x ≡ other x) (nodes_of shape) → LeadsTo turn shape path → LeadsTo other shape path
 leads_same turn other shape path same way =
     let both = leads_by_same turn other way.layers way.rest (subst (λ s. AllByRecursion (λ x. turn x ≡ other x) (nodes_of s)) (sym way.shape_is) same) way.leads in

@@ -33,7 +33,7 @@ top_branch : (side : Side) (at : ℕ) (colour : Colour) (near far : Tree) (layer
 top_branch side at black near far layers r = inl (black-branch side at near far)
 top_branch side at red near far layers r = inr (r refl)
 
--- a node of any colour over two black trees
+-- a node of any colour with two black subtrees
 pub coloured_whole : (side : Side) (at : ℕ) (colour : Colour) (near far : Tree) (h : ℕ) (layers : List Layer) → IsBalanced near h → IsBalanced far h → IsBlack near → IsBlack far → (colour ≡ red → IsBelowBlack layers)
     → Wants layers (height_above colour h) → IsRedBlack (plug (branch side at colour near far) layers)
 coloured_whole side at colour near far h layers n f bn bf r w =

@@ -1,7 +1,7 @@
 -- Searches in a tree, and changes at the end of a path.
 --     WhereOrdered compare w root claim      the claim is true of each search tree at a pointer word whose nodes are in order
 --     before_first found                     how the empty place before all nodes at or above a key compares with a node
---     sought_by nodes key sought             how the key compares with a node
+--     sought_by nodes key sought             how the sought node or key compares with a node
 --     end_word path, word_after steps path   the position of the pointer at the end of a path, and after some of its steps
 --     node_at bytes path                     the node at the end of a path
 --     AddsAt old new path node               a node was added at the end of a path

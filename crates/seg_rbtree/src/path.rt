@@ -18,9 +18,9 @@ use std::alloc::Allocator;
 /// room for fewer than 2^26 nodes: at most 52 on a path.
 pub const DEPTH: usize = 64;
 
-/// A path from the root of a tree to a place: the nodes above the place. The place has a node or is empty. The path doesn't
-/// borrow the window, so other bytes may change before a node is added or removed at its end. Any other change of the
-/// tree makes it out of date.
+/// A path from the root of a tree to a place: the nodes above the place. The place has a node or is empty. The path
+/// doesn't borrow the window, so other bytes may change before a node is added or removed at its end. Any other change
+/// of the tree makes it out of date.
 #[derive(Drop)]
 pub struct Path {
     pub(crate) root: usize,
