@@ -413,7 +413,7 @@ module _ (R : List ℕ → List ℕ → ℕ → Option Form → Type 0) (local :
       let k' = rw (types, all_fields Us n (omega arith)) at k in
       struct_changed R local table valid a b at T Us f k'
 
-  -- at an index past the fields, all fields changed before
+  -- if an index is past the fields, all fields were changed before it
   pub past_fields : (n : ℕ) → slice_get (fields_of table T) n ≡ None → (b : List ℕ) → ChangesFields R local table valid a b at (take n (field_types table T)) → ChangesFields R local table valid a b at (take (n + 1) (field_types table T))
   past_fields n e b k =
       let types = field_types_struct table T Us f in
