@@ -1,6 +1,6 @@
-/* What a user would call in place of a prepared client: a prepared SELECT of one row in SQLite, and a function in Lua.
+/* The peers of a prepared client: a prepared SELECT of one row in SQLite, and a function in Lua.
  *   clients WORK TIMES PASSES      WORK: sqlite-prepare, sqlite-step, lua-load, lua-call, lua-empty
- * Prints the nanoseconds of one call. Under callgrind (--instr-atstart=no) the calls alone are counted.
+ * Prints the nanoseconds of one call. Under callgrind (--instr-atstart=no) only the calls are counted.
  * cc -O2 clients.c -o clients -lsqlite3 -llua5.4 */
 #include <lauxlib.h>
 #include <lua.h>
@@ -64,7 +64,7 @@ static double sqlite(long times, int step)
     return spent;
 }
 
-/* The work of examples/increment.text: a number is looked up by its name, 1 is added, it is stored and given out as text. */
+/* The same work as examples/increment.text: looks up a number by its name, adds 1, stores it, and returns it as text. */
 static const char *const CODE =
     "local t = {x = 41}\n"
     "local out\n"

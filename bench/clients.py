@@ -1,12 +1,12 @@
 #!/usr/bin/env python3
-"""What it costs to prepare and to run a client on an open image, beside a prepared statement of SQLite and a function of Lua.
+"""Compares preparing and running a client on an open image with a prepared statement of SQLite and a function of Lua.
 
     clients.py SEGTOOL BENCH_CALLS.. [--time ROUNDS] [--no-count]
 
-BENCH_CALLS is the program that build.py makes (bench_calls); with several, before and after a change, each has its rows, and all
-run by turns. It does a work for some passes and for twice as many, and the difference is what is told, so that its start, the
-check of the image and the first touch of memory don't count. Instructions are counted by callgrind, and times are the least of
-ROUNDS rounds.
+BENCH_CALLS is the program that build.py makes (bench_calls). Several of them, for example from before and after a change, run
+in turn, and each has its own rows. The program runs a workload for some passes and for twice as many, and the difference is
+reported, so its start, the check of the image and the first access to memory don't count. Callgrind counts the instructions,
+and a time is the shortest of ROUNDS rounds.
 
 Needs valgrind, cc, libsqlite3-dev and liblua5.4-dev."""
 import argparse
@@ -16,14 +16,14 @@ from functools import partial
 
 from operations import HERE, instructions, least, run, seconds
 
-# the clients, with the texts that they are made of
+# the texts of the clients
 CLIENTS = {
     "empty": f"{HERE}/clients/empty.text",
     "increment": f"{HERE}/../examples/increment.text",
     "cache": f"{HERE}/../examples/cache.text",
 }
 
-# the works, by the client, and the peers' works beside them
+# the workloads: the work, the client, and the peers' works for comparison
 WORKS = [
     ("prepare", "empty", ()),
     ("prepare", "increment", ("sqlite-prepare", "lua-load")),
@@ -32,7 +32,7 @@ WORKS = [
     ("run", "increment", ("sqlite-step", "lua-call")),
 ]
 
-# how often a work is done in a pass where instructions are counted, and where times are taken
+# how often a workload is repeated in a pass, to count instructions and to measure times
 COUNTED, TIMED = 2000, 200000
 
 
@@ -53,7 +53,7 @@ def made(segtool, folder):
 
 
 def counted(command):
-    """The instructions of one time that a work is done."""
+    """The number of instructions of one repetition."""
     return (instructions(command(COUNTED, 2)) - instructions(command(COUNTED, 1))) / COUNTED
 
 

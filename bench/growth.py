@@ -1,5 +1,5 @@
 #!/usr/bin/env python3
-"""How operations grow: instructions of one at several sizes (callgrind, clients less their bases).
+"""Counts the instructions of operations at several sizes, by callgrind: those of a client without those of its base.
 
     growth.py SEGTOOL"""
 import os
@@ -9,7 +9,7 @@ import tempfile
 from operations import WORKS, Bench, Work, instructions
 
 WORKS.update({
-    # every second of N named objects is destroyed: the free list gets N/2 gaps
+    # every second of N named objects is destroyed, so the free list gets N/2 free blocks
     "free_even": Work("free_even", "base_half", 0, 1, "named_construct", 0),
     "alloc_behind_gaps": Work("alloc_behind_gaps", "base_thousand", 0, 1, "gaps", 0),
     "list_at": Work("list_at", "base_loop", 0, 1, "nodes", 0),
@@ -17,7 +17,7 @@ WORKS.update({
     "map_kill": Work("map_kill", "empty", 0, 1, "map_put", 0),
 })
 
-# the work, the image, the sizes, the MiB of the image
+# the workload, the kind of image, the sizes, and the image's length in MiB
 ROWS = [
     ("map_put", "best+tree", (10000, 40000, 160000), 16),
     ("map_walk", "best+tree", (10000, 40000), 8),
@@ -38,7 +38,7 @@ ROWS = [
     ("map_kill", "best+tree", (1000, 4000, 16000), 4),
 ]
 
-# how many operations a client performs where that isn't the size
+# how many operations a client performs, if that isn't the size
 OPERATIONS = {"free_even": lambda size: size / 2, "alloc_behind_gaps": lambda size: 1000}
 
 

@@ -1,10 +1,10 @@
 #!/usr/bin/env bash
-# What whole images take: runs of an empty client on 1 KiB, 1 MiB and 64 MiB, checks of 64 MiB with few and with many
-# blocks, and beside them the machine's own copying and reading of such a file.
+# Measures whole images: runs of an empty client on 1 KiB, 1 MiB and 64 MiB, checks of 64 MiB with few and with many blocks,
+# and for comparison copying and reading a file of 64 MiB.
 #
 #   images.sh SEGTOOL
 #
-# Prints the least of ROUNDS runs (5 if not set) in milliseconds, wall, user and system, then page faults and MiB.
+# Prints the fastest of ROUNDS runs (by default 5): wall, user and system time in milliseconds, page faults, and MiB.
 set -euo pipefail
 segtool=${1:?the program segtool}
 rounds=${ROUNDS:-5}
@@ -12,7 +12,7 @@ here=$(cd "$(dirname "${BASH_SOURCE[0]}")" && pwd)
 work=$(mktemp -d)
 trap 'rm -rf "$work"' EXIT
 
-# a row: its name, and the command
+# prints a row: takes its name, and the command
 row() {
   local name=$1
   shift
@@ -33,7 +33,7 @@ P
   done | sort -n | head -1
 }
 
-# assembles a client of bench/clients with a number of turns
+# assembles a client of bench/clients with this number of iterations
 client() {
   sed "s/@N/$2/g" "$here/clients/$1.text" > "$work/$1.text"
   "$segtool" asm "$work/$1.text" "$work/$1"

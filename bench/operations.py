@@ -1,18 +1,18 @@
 #!/usr/bin/env python3
-"""Compares the clients of segtool, and a host's own calls, with Boost.Interprocess and Lua, an operation at a time.
+"""Compares single operations of clients, and of a host's own calls, with Boost.Interprocess and Lua.
 
     operations.py SEGTOOL.. [--calls BENCH_CALLS..] [--time ROUNDS] [--only WORK,..] [--configs best+tree,seq+flat] [--no-count]
 
-With several SEGTOOLs, before and after a change say, each has its row, and all run by turns.
+Several SEGTOOLs, for example from before and after a change, run in turn, and each has its own row.
 
-Each work is a client and a base: the same loop without the library's operations. Both run on the same image; the
-difference, divided by the operations, is what one takes. Instructions are counted by callgrind, which is exact whatever
-else the machine does; times are the least of ROUNDS rounds in which client, base and peer run by turns. A work of few
-milliseconds is done several times over for them, since what the program does beside it varies by a millisecond.
+Each workload is a client and a base, which is the same loop without the library's operations. Both run on the same image.
+The difference, divided by the number of operations, is the cost of one. Callgrind counts the instructions, exactly and
+whatever else the machine does. A time is the shortest of ROUNDS rounds, in which client, base and peer run in turn. Short
+workloads are repeated to measure times, since the time of the rest of the program varies by a millisecond.
 
-The works of hosts are no client's: the program BENCH_CALLS, which build.py makes (bench_calls), pushes numbers, or takes a
-block and gives it back, by the library's own calls. What it takes for some passes is the base of what it takes for twice as
-many, so its loop counts, as the peer's does. Without --calls they are left out.
+The workloads of hosts have no client. The program BENCH_CALLS, which build.py makes (bench_calls), pushes numbers, or
+allocates and frees a block, by calls of the library. It runs for some passes and for twice as many, and the difference
+counts; so its loop counts too, like the peer's. Without --calls these workloads are left out.
 
 Needs valgrind, lua5.4, g++ and libboost-dev."""
 import argparse
@@ -24,7 +24,7 @@ from functools import partial
 
 HERE = os.path.dirname(os.path.abspath(__file__))
 
-# glibc's large clears and copies are one instruction a byte to callgrind where they use rep stosb and rep movsb
+# callgrind counts one instruction per byte for rep stosb and rep movsb, which glibc uses for large clears and copies
 TUNABLES = "glibc.cpu.x86_rep_stosb_threshold=1000000000:glibc.cpu.x86_rep_movsb_threshold=1000000000"
 
 
@@ -33,10 +33,10 @@ class Work:
     client: str
     base: str
     turns: int
-    operations: int  # in a turn
+    operations: int  # in an iteration
     before: str | None  # a client that runs on the image first
     size: int  # of the image, in MiB
-    passes: int = 1  # how often the work is done where it is timed
+    passes: int = 1  # how often the workload is repeated to measure its time
 
 
 WORKS = {
@@ -55,19 +55,19 @@ WORKS = {
     "chain": Work("chain", "base_loop", 20000, 1, None, 2, 10),
 }
 
-# the steps of a turn of the loops that Lua runs too
+# the steps in an iteration of the loops that Lua runs too
 LOOPS = {"loop_count": 3, "loop_mixed": 9}
 
 
 @dataclass
 class Host:
-    words: dict[str, str]  # what the program is to do, by the allocator and the index
-    peer: str  # the peer's work beside it
+    words: dict[str, str]  # the program's argument, by the allocator and the index
+    peer: str  # the peer's workload
     times: int  # in a pass
     passes: int  # of the base
 
 
-# the works of a host, which runs no client
+# the workloads of a host, without a client
 HOSTS = {
     "push_host": Host({"best+tree": "push"}, "vec_push", 1000000, 10),
     "block_host": Host({"best+tree": "best", "seq+flat": "seq"}, "new_drop", 1000000, 2),
@@ -79,7 +79,7 @@ def run(*words):
 
 
 def instructions(words, flags=()):
-    """How many instructions a command executes."""
+    """The number of instructions that a command executes."""
     with tempfile.NamedTemporaryFile() as out:
         valgrind = ["valgrind", "--tool=callgrind", f"--callgrind-out-file={out.name}", *flags]
         subprocess.run(
@@ -90,7 +90,7 @@ def instructions(words, flags=()):
 
 
 def seconds(words):
-    """The processor time of a command, which other jobs disturb less than the time of the clock."""
+    """The processor time of a command. Other jobs disturb it less than the elapsed time."""
     child = subprocess.Popen(words, stdout=subprocess.DEVNULL)
     _, status, used = os.wait4(child.pid, 0)
     child.returncode = os.waitstatus_to_exitcode(status)
@@ -100,19 +100,19 @@ def seconds(words):
 
 
 def peer_time(words):
-    """The nanoseconds of an operation that the peer prints."""
+    """The peer's time for an operation in nanoseconds, as it prints it."""
     return float(run(*words).stdout.split()[3])
 
 
 class Bench:
-    """The clients and the images, made where they are first asked for, in a folder."""
+    """The clients and images in a folder. Each is made when it is first needed."""
 
     def __init__(self, segtool, folder):
         self.segtool, self.folder = segtool, folder
         os.makedirs(folder, exist_ok=True)
 
     def client(self, name, turns, passes=1):
-        """A client with so many turns a pass. One whose text has no passes makes as many turns in a row."""
+        """A client with this many iterations per pass. If its text has no passes, it has one loop with all iterations."""
         made = f"{self.folder}/{name}.{turns}.{passes}"
         if not os.path.exists(made):
             text = open(f"{HERE}/clients/{name}.text").read()
@@ -135,7 +135,7 @@ class Bench:
         return [self.segtool, "run", image, f"{self.folder}/saved", client]
 
     def pair(self, work, config, turns, passes=1):
-        """The commands of a work's client and of its base."""
+        """The commands that run a workload's client and its base."""
         image = self.image(config, work.size << 20, work.before, turns if work.before != "churn.setup" else 0)
         clients = self.client(work.client, turns, passes), self.client(work.base, turns, passes)
         return [self.command(image, client) for client in clients]
@@ -151,13 +151,13 @@ def row(name, config, ours, our_time, peer, peer_time):
 
 
 def count(pair, operations):
-    """The instructions of an operation that a command has beyond its base."""
+    """The instructions of an operation: those of a command without those of its base."""
     whole, base = pair
     return (instructions(whole) - instructions(base)) / operations
 
 
 def least(measures, rounds):
-    """The least of each measure. They are taken by turns."""
+    """The least result of each measure. The measures run in turn."""
     found = [1e9] * len(measures)
     for _ in range(rounds):
         found = [min(before, measure()) for before, measure in zip(found, measures)]
@@ -165,7 +165,7 @@ def least(measures, rounds):
 
 
 def time_pairs(pairs, operations, rounds, others=()):
-    """The least times, in nanoseconds, of an operation that each command has beyond its base; then those of other measures."""
+    """The shortest time of an operation in nanoseconds, for each command without its base; then the results of other measures."""
     timers = [partial(seconds, command) for pair in pairs for command in pair]
     found = least([*timers, *others], rounds)
     ends = len(timers)
@@ -174,7 +174,7 @@ def time_pairs(pairs, operations, rounds, others=()):
 
 
 def rows(name, config, counts, times):
-    """A row for each build of ours, beside the peer, which comes last."""
+    """Prints a row for each of our builds, compared with the peer, which comes last in both lists."""
     *our_counts, peer_count = counts
     *our_times, peer_time = times
     for ours, our_time in zip(our_counts, our_times):
@@ -182,7 +182,7 @@ def rows(name, config, counts, times):
 
 
 def compare_loop(benches, name, rounds, counts):
-    """A loop of a client beside the same loop in Lua: what a step takes."""
+    """Compares a step of a client's loop with the same loop in Lua."""
 
     def pairs(turns, base):
         ours = [[it.command(it.image("seq+flat", 65536), it.client(name, n)) for n in (turns, base)] for it in benches]
@@ -194,14 +194,14 @@ def compare_loop(benches, name, rounds, counts):
 
 
 def count_beside(pairs, operations, other, others, counts):
-    """The instructions of an operation by each pair of commands, then of one of the peer's. 0 where none are counted."""
+    """The instructions of an operation by each pair of commands, and then by the peer; 0 without counting."""
     if not counts:
         return [0] * (len(pairs) + 1)
     return [*(count(it, operations) for it in pairs), instructions(other, ["--instr-atstart=no"]) / others]
 
 
 def compare_work(benches, peer, name, config, rounds, counts):
-    """A client beside Boost.Interprocess."""
+    """Compares a client with Boost.Interprocess."""
     work = WORKS[name]
     operations = work.turns * work.operations
     other = [peer, name, config, str(operations)]
@@ -213,7 +213,7 @@ def compare_work(benches, peer, name, config, rounds, counts):
 
 
 def compare_host(calls, peer, name, config, rounds, counts):
-    """A host's own calls beside Boost.Interprocess."""
+    """Compares a host's own calls with Boost.Interprocess."""
     work = HOSTS[name]
     word, times, operations = work.words[config], str(work.times), work.times * work.passes
     pairs = [[[it, word, times, str(n)] for n in (2 * work.passes, work.passes)] for it in calls]
@@ -232,7 +232,7 @@ def main():
     parser.add_argument("--no-count", action="store_true")
     words = parser.parse_args()
     only, configs = words.only.split(","), words.configs.split(",")
-    # in memory where the system has such a folder, so that no time goes to a disk
+    # in memory if the system has such a folder, so that no disk takes time
     with tempfile.TemporaryDirectory(dir="/dev/shm" if os.path.isdir("/dev/shm") else None) as folder:
         peer = f"{folder}/peer"
         benches = [Bench(os.path.abspath(it), f"{folder}/{i}") for i, it in enumerate(words.segtool)]

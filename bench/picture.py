@@ -16,16 +16,16 @@ from pathlib import Path
 DOCS = Path(__file__).resolve().parent.parent / "docs"
 PAGE, PICTURE = DOCS / "SPEED.md", DOCS / "speed.svg"
 
-# A class has one colour, which fills shapes and letters. Readers who see few colours can tell the bars apart too.
+# A class has one colour for shapes and letters. Colour-blind readers can tell the bars apart too.
 LIGHT = {"page": "#ffffff", "stripe": "#f4f6f8", "grid": "#d3d9df", "ink": "#1f2328", "quiet": "#59636e"}
 LIGHT |= {"bar0": "#0072b2", "bar1": "#e69f00", "alone": "#009e73"}
 DARK = {"page": "#0d1117", "stripe": "#161b22", "grid": "#3d444d", "ink": "#f0f6fc", "quiet": "#9198a1"}
 DARK |= {"bar0": "#56b4e9", "bar1": "#e69f00", "alone": "#2fb98c"}
 
-# In pixels: the picture, the part with the bars, and a bar's distance to the next one.
+# In pixels: the width of the picture, the edges of the part with the bars, and the distance between bars.
 WIDTH, LEFT, RIGHT, TOP, LANE = 880, 280, 730, 112, 12
 
-# Where the columns of numbers end.
+# The right edges of the columns of numbers.
 INSTRUCTIONS, TIMES = 818, 864
 
 # The ends of the scale, as powers of two.
@@ -52,7 +52,7 @@ class Ratio:
 
 
 def bounds(number):
-    """The least and the most that is rounded to a number."""
+    """The bounds of the numbers that are rounded to this number."""
     digits = number.replace(",", "")
     half = 0.5 * 10.0 ** -len(digits.partition(".")[2])
     return float(digits) - half, float(digits) + half
@@ -103,7 +103,7 @@ def write(kind, x, y, words, size, more=""):
 
 
 def tick(x, y, height):
-    """A tick with a rim, so that it shows on a bar too."""
+    """A tick with a rim, which makes it visible on a bar."""
     return box("page", x - 2.5, y, 5, height) + box("ink", x - 1, y, 2, height)
 
 
@@ -118,7 +118,7 @@ def bar(kind, y, ratio, time):
 
 
 def sentence(work, row, times):
-    """A row of the picture in words."""
+    """The text of a row of the picture."""
     ratios = []
     for build, ratio in row.items():
         name = f" with {build}" if build else ""

@@ -1,8 +1,8 @@
 #!/usr/bin/env bash
-# Builds the examples for C and C++ and checks/calls.c with the library for C, runs each by itself and under valgrind, and
-# compares what the examples print; runs checks/calls.c with the address and undefined behaviour sanitizers too, checks/stack.c, and
-# an example with each request for memory refused. Needs a C and a C++ compiler with sanitizers, make, valgrind, the library that
-# `rt lib` leaves in crates/lezgauri_c/out, and the program that `rt run` leaves in crates/segtool/out, or another that is given.
+# Tests the library for C. Builds the examples for C and C++ and checks/calls.c, runs each with and without valgrind, and compares
+# what the examples print. Also runs checks/calls.c with the address and undefined behaviour sanitizers, checks/stack.c, and an
+# example with each request for memory refused. Needs a C and a C++ compiler with sanitizers, make, valgrind, the library that
+# `rt lib` builds in crates/lezgauri_c/out, and the program that `rt run` builds in crates/segtool/out, or another given program.
 set -eu
 here=$(cd "$(dirname "$0")" && pwd)
 root=$(dirname "$here")
@@ -16,7 +16,7 @@ make -s -C "$root/examples/c" OUT="$work" SEGTOOL="$segtool" all "$work/cache.im
 cc=(${CC:-cc} -std=c11 -Wall -Wextra -Wpedantic -Werror -O1 -g -I"$library/include" -pthread)
 wrapped=(-Wl,--wrap=malloc,--wrap=realloc)
 "${cc[@]}" "${wrapped[@]}" -o "$work/calls" "$here/calls.c" "$library/out/liblezgauri.a"
-# the calls of the header are built once more, since the library's aren't instrumented
+# lezgauri.c is compiled again here, since the library has it without the sanitizers
 "${cc[@]}" "${wrapped[@]}" -fsanitize=address,undefined -fno-sanitize-recover=all -o "$work/calls.sanitized" \
   "$here/calls.c" "$library/include/lezgauri.c" "$library/out/liblezgauri.a"
 "${cc[@]}" -o "$work/stack" "$here/stack.c" "$library/out/liblezgauri.a"
@@ -26,7 +26,7 @@ cache=("$work/cache" "$work/cache.image" "$work/cache.client")
 counted=("$root/examples/counter.image" "$root/examples/increment.client")
 calls=("$work/calls" "${counted[@]}")
 
-# an image whose table of types is full, each a struct of the one before
+# an image with a full type table, in which each struct contains the one before
 {
   echo "type i64"
   for n in $(seq 0 30); do echo "type struct t$n"; done
@@ -37,14 +37,14 @@ calls=("$work/calls" "${counted[@]}")
 "$segtool" run "$work/deep.image" "$work/deep.image" "$work/deep.client"
 under=(valgrind --quiet --leak-check=full --errors-for-leak-kinds=all --error-exitcode=9)
 
-# 41 goes up by one in each of three runs, of six instructions each
+# three runs of six steps, each of which adds 1 to the number, 41 at first
 cat > "$work/counter.wanted" <<'EOF'
 6 steps at most
 6 steps: 42
 6 steps: 43
 6 steps: 44
 EOF
-# the squares of 65, 66 and 67, and six bytes of `hit 4225`
+# the squares of 65, 66 and 67, and the first six bytes of `hit 4225`
 cat > "$work/cache.wanted" <<'EOF'
 miss 4225
 miss 4356
@@ -63,7 +63,7 @@ EOF
 "$work/calls.sanitized" "${counted[@]}"
 "$work/stack" "${counted[@]}" "$work/cache.image" "$work/cache.client" "$work/deep.image" "$work/deep.client"
 
-# each request for memory refused: the program says so and fails, or does without
+# refuses each request for memory in turn: the program reports that and fails, or doesn't need the memory
 cc -O1 -shared -fPIC -o "$work/refuse.so" "$here/refuse.c" -ldl
 REQUESTS="$work/requests" LD_PRELOAD="$work/refuse.so" "${counter[@]}" > "$work/out"
 all=$(cat "$work/requests")

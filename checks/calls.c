@@ -1,12 +1,11 @@
 /*
- * Calls of the library with arguments that it can't take, and at the ends of what it can: null pointers, lengths that nothing has,
- * pointers that aren't aligned, each place that a call writes laid over each other memory of the call, memory that is a byte too
- * small, an image that changes while it is opened, and segments that are used by two calls at once. Prints each that answers
- * something else than it should, and at the end how many there were.
+ * Calls the library with invalid and extreme arguments: null pointers, lengths that no memory has, pointers that aren't aligned,
+ * overlap of what a call writes with each other memory of the call, memory that is a byte too small, an image that changes while
+ * it is opened, and segments that two calls use at once. Prints each wrong result, and at the end how many results are wrong.
  *
  *   calls IMAGE CLIENT     the image of 784 bytes whose number `x`, at 720, is 41, and the client that adds 1 and prints it
  *
- * Link with -Wl,--wrap=malloc,--wrap=realloc: some calls are made, and bytes changed, within the library's requests for memory.
+ * Link with -Wl,--wrap=malloc,--wrap=realloc: some calls are made, and bytes changed, during the library's requests for memory.
  */
 #include <lezgauri.h>
 
@@ -29,14 +28,14 @@ static void expect(const char *call, uint64_t got, uint64_t wanted)
     }
 }
 
-/* ---- what the library asks of malloc */
+/* ---- the library's requests for memory */
 
 void *__real_malloc(size_t size);
 void *__real_realloc(void *block, size_t size);
 
 static size_t asked;
 static size_t requests;
-static size_t image_requests; /* those for as many bytes as the image has */
+static size_t image_requests; /* the requests for exactly the image's length */
 static size_t image_len;
 static void (*at_request)(size_t request);
 
@@ -62,7 +61,7 @@ void *__wrap_realloc(void *block, size_t size)
     return __real_realloc(block, size);
 }
 
-/* What the next call asks for is counted from 0, and this is called at each request. */
+/* Counts requests from 0 again, and makes this call at each of them. */
 static void watch(void (*call)(size_t request))
 {
     asked = 0;
@@ -80,7 +79,7 @@ static void *room(size_t len)
     return block;
 }
 
-/* A file's bytes in a block of exactly their length, so that a read of one more is seen. */
+/* A file's bytes in a block of exactly their length, so that a read after the end is noticed. */
 static uint8_t *read_file(const char *name, size_t *len)
 {
     static uint8_t bytes[4096];
@@ -100,7 +99,7 @@ static uint8_t *image;
 static uint8_t *client;
 static size_t client_len;
 
-/* ---- each call by itself */
+/* ---- each call alone */
 
 static void check_calls(void)
 {
@@ -307,7 +306,7 @@ static void run_whole_calls(void)
     lezgauri_close(handle);
 }
 
-/* What runs on an open segment ask of malloc: no copy of the image, unless they run whole, and no room for the output. */
+/* Runs on an open segment request no copy of the image, except lezgauri_run_whole, and no memory for the output. */
 static void memory_of_runs(void)
 {
     lezgauri_handle *handle = opened();
@@ -340,7 +339,7 @@ static lezgauri_client *prepared_on(const lezgauri_handle *handle)
     return prepared;
 }
 
-/* What two segments hold. */
+/* Whether two segments have the same image. */
 static bool are_same(lezgauri_handle *one, lezgauri_handle *other)
 {
     uint8_t *saved = room(2 * image_len);
@@ -372,7 +371,7 @@ static void prepare_calls(void)
     lezgauri_close(handle);
 }
 
-/* Runs of a client that is kept do what runs of its bytes do. */
+/* Runs of a prepared client do the same as runs of its bytes. */
 static void run_client_calls(void)
 {
     lezgauri_handle *handle = opened();
@@ -421,7 +420,7 @@ static void run_client_calls(void)
 
 enum { TYPED_CLIENT = 52 };
 
-/* A client without instructions whose types are i64, and another of a kind with no parts. */
+/* A client without instructions, with the type i64 and another type, of this kind and without parts. */
 static void put_typed_client(uint8_t bytes[TYPED_CLIENT], uint8_t kind)
 {
     static const uint8_t header[20] = {'S', 'E', 'G', 'C', 1, 0, 0, 0, 2};
@@ -431,7 +430,7 @@ static void put_typed_client(uint8_t bytes[TYPED_CLIENT], uint8_t kind)
     bytes[36] = kind;
 }
 
-/* A client that is kept runs where the types agree with its own, which another client may change. */
+/* A prepared client runs if the segment's types agree with its own. Another client may add types that don't. */
 static void client_types(void)
 {
     lezgauri_handle *handle = opened();
@@ -468,7 +467,7 @@ static void client_types(void)
     lezgauri_close(other);
 }
 
-/* An export and the memory that it takes, as include/lezgauri.c declares them. */
+/* An export, and memory that is lent to it, as in include/lezgauri.c. */
 typedef struct lent {
     uint8_t *at;
     size_t len;
@@ -483,7 +482,7 @@ static void came_back(const char *name, lent memory, const uint8_t *at, size_t l
     expect(name, memory.at == at && memory.len == len && memory.room == capacity, 1);
 }
 
-/* Memory that the library is lent comes back where it was, with an image as long as before. */
+/* Memory that is lent to the library is returned at the same address, and an image has the same length. */
 static void lent_memory(void)
 {
     uint8_t *bytes = room(image_len);
@@ -527,9 +526,9 @@ static void save_calls(void)
     lezgauri_close(handle);
 }
 
-/* ---- each argument of each call that it can't take */
+/* ---- each invalid argument of each call */
 
-/* A pointer that a call takes: how long its memory is, how it is aligned, and what the call does with it. */
+/* A pointer argument: the length of its memory, its alignment, and what the call does with it. */
 typedef struct argument {
     const char *name;
     uint8_t *at;
@@ -543,15 +542,15 @@ typedef struct argument {
 
 enum { MOST_ARGUMENTS = 8 };
 
-/* A call, and memory that it succeeds on. All of it is in one block, each part right after the one before, but for an open segment and a
- * client that is kept. */
+/* A call, and memory with which it succeeds. The memory is in one block, part after part, except an open segment and a prepared
+ * client. */
 typedef struct call {
     const char *name;
     uint32_t (*make)(const argument *arguments);
     size_t count;
     argument arguments[MOST_ARGUMENTS];
-    bool has_fault; /* as its first argument */
-    size_t outside; /* the last arguments, which lie outside of the block */
+    bool has_fault; /* its first argument is *fault */
+    size_t outside; /* how many arguments, the last ones, are outside the block */
 } call;
 
 static uint8_t *block;
@@ -616,7 +615,7 @@ static uint32_t make_save(const argument *a)
     return lezgauri_save((lezgauri_handle *)a[2].at, a[1].at, a[1].len, (size_t *)a[0].at);
 }
 
-/* Whether a place that a refused call writes was written: *fault, which then has the status, or *handle or *prepared, which is null. */
+/* Whether a refused call wrote *fault, which then has the status, or *handle or *prepared, which then is null. */
 typedef enum telling { TOLD, UNTOLD, EITHER } telling;
 
 static void told_in(const char *name, uint8_t *at, size_t len, bool is_right, telling how)
@@ -629,7 +628,7 @@ static void told_in(const char *name, uint8_t *at, size_t len, bool is_right, te
     }
 }
 
-/* Makes a call, and expects a status; then the block is as before, but for the places that a refusal is told in. */
+/* Makes a call, and expects a status. The block must be unchanged, except where the call reports the refusal. */
 static void refused(const call *of, const char *how, const char *with, const argument *arguments, uint32_t status,
                     telling fault_is, telling handle_is)
 {
@@ -649,7 +648,7 @@ static void refused(const call *of, const char *how, const char *with, const arg
     memcpy(block, before, block_len);
 }
 
-/* Lays each place that a call writes over the start, and over the end, of each other memory of the call. */
+/* Makes each argument that a call writes overlap the start, and then the end, of each other memory of the call. */
 static void overlaps(const call *of)
 {
     for (size_t i = 0; i < of->count - of->outside; i++) {
@@ -668,7 +667,7 @@ static void overlaps(const call *of)
             over->at = under->at;
             refused(of, "", with, changed, LEZGAURI_BAD_ARGUMENT, fault_is, handle_is);
             over->at = under->at + (under->len - 1) / over->align * over->align;
-            /* it may be over what comes next too */
+            /* it may overlap the next argument too */
             bool is_outside = j + of->outside >= of->count;
             refused(of, "the end: ", with, changed, LEZGAURI_BAD_ARGUMENT, is_outside ? EITHER : fault_is,
                     j == 0 ? EITHER : handle_is);
@@ -723,7 +722,7 @@ static void lengths(const call *of)
     }
 }
 
-/* Lays the memory of a call out in the block, an image and a client where it has some. */
+/* Puts the memory of a call into the block, with an image and a client if the call has them. */
 static void lay_out(call *of)
 {
     size_t at = 0;
@@ -845,7 +844,7 @@ static void spoil(size_t request)
     }
 }
 
-/* At whichever request for memory another process spoils the image, what is opened is sound. */
+/* If another process spoils the image at any request for memory, an opened segment is sound. */
 static void changing_image(void)
 {
     watch(NULL);
@@ -902,7 +901,7 @@ static void use_meanwhile(size_t request)
     expect("save of a busy segment", lezgauri_save(shared, whole, image_len, NULL), LEZGAURI_BUSY);
 }
 
-/* Within a run that asks for memory, each other call on its segment is told that it is busy. */
+/* While a call that requests memory runs, each other call on its segment returns LEZGAURI_BUSY. */
 static void busy_calls(void)
 {
     shared = opened();
@@ -951,7 +950,7 @@ static uint64_t number_of(lezgauri_handle *handle)
     return number;
 }
 
-/* A thread's own segment, and how many runs of the client that is kept it made there; -1 is a wrong status. */
+/* A thread's own segment, and how often it ran the prepared client there; -1 after a wrong status. */
 typedef struct own_runs {
     lezgauri_handle *handle;
     int ran;
@@ -972,7 +971,7 @@ static void *count_client_runs(void *given)
     return NULL;
 }
 
-/* Two threads that run one client, each on a segment of its own: each run that says that it ran has counted. */
+/* Two threads run one client, each on its own segment. Each run that returns LEZGAURI_OK has counted. */
 static void client_threads(void)
 {
     own_runs own[2] = {{opened(), 0}, {opened(), 0}};
@@ -990,7 +989,7 @@ static void client_threads(void)
     lezgauri_client_close(shared_client);
 }
 
-/* Two threads at once: each run that says that it ran has counted. Then a segment that one thread after the other uses. */
+/* Two threads run a client on one segment at once. Each run that returns LEZGAURI_OK has counted. Then one thread runs it. */
 static void threads(void)
 {
     int counted[2] = {0, 0};

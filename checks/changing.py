@@ -1,6 +1,6 @@
 #!/usr/bin/env python3
-"""Finds each file that goes through the operations, the types, the commands or the fields of an image's header, and fails if
-docs/CHANGING.md doesn't name it in the section about that change."""
+"""Finds each file that lists the operations, the types, the commands or the fields of an image's header, and fails if
+docs/CHANGING.md doesn't name the file in the section about that change."""
 import re
 import subprocess
 import sys
@@ -15,13 +15,13 @@ def read(path):
 
 
 def items(path, opening):
-    """The names that a block of a file declares, a line each."""
+    """The names that a block of a file declares, one per line."""
     block = read(path).partition(opening)[2].partition("\n}")[0]
     return re.findall(r"^ +(\w+)(?:\([^)]*\))?(?: = \d+)?,", block, re.M)
 
 
 def subjects():
-    """Each section of the page: the names whose lists are looked for, how a file cites one, and how many make a list."""
+    """For each section of the page: how a file cites a name, the names, and how many of them make a list."""
     operations = items("crates/client_spec/src/table.rt", "pub enum Operation {")
     types = items("crates/seg_layout/src/kind.rt", "pub enum Type {")
     forms = [re.sub(r"(?<=[a-z])(?=[A-Z])", "_", name).lower() for name in types]
@@ -40,7 +40,7 @@ def section(title):
 
 
 def is_named(path, said):
-    """Whether a section names a file: by its path, or without its ending in a row that begins with its folder."""
+    """Whether a section names a file: by its path, or by its name without the suffix in a line with its folder."""
     folder, _, file = path.removeprefix("crates/").rpartition("/")
     stem = file.rpartition(".")[0]
     if f"{folder}/{file}" in said:

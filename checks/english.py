@@ -15,13 +15,13 @@ ROOT = Path(__file__).resolve().parent.parent
 LIMITS = Path(__file__).with_suffix(".limits")
 FILES = ("README.md", "docs/*.md", "crates/*/CALLING.md", "crates/*/README.md", "crates/*/src/**/*.rt", "crates/*/specs/**/*.antt", "crates/*/proofs/**/*.antt")
 
-# What begins a comment, by the file's suffix.
+# The pattern of a comment, by the file's suffix.
 COMMENTS = {".rt": r"(?:^|\s)//[/!]? ?(.*)", ".antt": r"(?:^|\s)-- ?(.*)"}
 
-# Articles and pronouns: after them a verb has an object, so `names the` is no noun.
+# Articles and pronouns that begin an object: before one of them, `names` is a verb and not a noun.
 OBJECT = r"(?:an?|the|its?|no|none|nothing|what|this|that|another|each|all|one|two|them)"
 
-# A word, the pattern that finds it, and what to write instead. A pattern with a capital letter is found in that case alone.
+# A word, the pattern that finds it, and what to write instead. A pattern with a capital letter is case-sensitive.
 WORDS = (
     ("stands", r"stands?|stood|standing", "is, lies, lives in"),
     ("names the", rf"names? {OBJECT}|is named by", "points to, refers to"),
@@ -42,7 +42,7 @@ WORDS = (
 
 
 def prose(path):
-    """A document, or a file's comments, with the lines where the file has them. Code is left out."""
+    """The lines of a document, or the comments of a file. Lines of code become `.`, so line numbers stay the same."""
     lines, fenced = [], False
     comment = COMMENTS.get(path.suffix)
     for line in path.read_text(encoding="utf-8").splitlines():
@@ -63,7 +63,7 @@ def texts():
 
 
 def places(pattern, files):
-    """Where a pattern is found: the file, the line, and the words there."""
+    """The places of a pattern: the file, the line, and the words there."""
     spaced = pattern.replace(" ", r"\s+")
     find = re.compile(rf"(?<![\w-])(?:{spaced})(?![\w-])", re.IGNORECASE if pattern.islower() else 0)
     for path, text in files:

@@ -1,5 +1,5 @@
-// Loaded before the C library: of the calls that finish a file, the one that FAIL names fails, and each is written to the file that
-// CALLS names.
+// Loaded before the C library. Of the calls that finish a file, the one with the name in FAIL fails. The name of each such call
+// is written to the file in CALLS.
 #define _GNU_SOURCE
 #include <dlfcn.h>
 #include <errno.h>

@@ -1,7 +1,7 @@
 #!/usr/bin/env bash
-# Runs the program where its files are links, devices, kept from others, past what the disk takes, or files that shouldn't be
-# written over, and prints each thing that isn't as it should be. Needs a C compiler, and the program that `rt run` leaves in crates/segtool/out, or another that is given.
-# Where root starts it, the program runs as a user without rights, since a folder that may not be written does not hold root back.
+# Runs the program on links, devices, files without permission, a full disk, and files that it shouldn't overwrite. Prints each
+# result that is wrong. Needs a C compiler, and the program that `rt run` builds in crates/segtool/out, or another given program.
+# If root starts this, the program runs as a user without rights, because root may also write to a write-protected folder.
 set -u
 here=$(cd "$(dirname "$0")" && pwd)
 program=$(realpath "${1:-$here/../crates/segtool/out/segtool}") || exit 2
@@ -22,7 +22,7 @@ install -m 644 "$here/../examples/increment.text" "$work/text"
 cc -O1 -shared -fPIC -o "$work/fail.so" "$here/fail.c" -ldl || exit 2
 chmod 755 "$work/fail.so"
 
-# the image behind the client: its version, at 8, is 2, and its number, at 720, is 42
+# the image that the client saves: its version, at 8, is 2, and its number, at 720, is 42
 cp "$work/image" "$work/saved"
 printf '\2' | dd of="$work/saved" bs=1 seek=8 conv=notrunc status=none
 printf '\52' | dd of="$work/saved" bs=1 seek=720 conv=notrunc status=none
@@ -30,7 +30,7 @@ printf '\52' | dd of="$work/saved" bs=1 seek=720 conv=notrunc status=none
 cases=0
 failed=0
 
-# begins a case: its name, in a fresh folder that holds the image
+# begins a case with this name, in a new folder with the image
 case_of() {
   name=$1
   cases=$((cases + 1))
@@ -41,14 +41,14 @@ case_of() {
   own
 }
 
-# what the case has made so far is the user's
+# gives the files of the case so far to the user
 own() {
   if [ "$(id -u)" = 0 ]; then
     chown -hR 65534:65534 "$now"
   fi
 }
 
-# expects that a command succeeds: what is said where it doesn't, and the command
+# runs a command, and prints the given message if it fails
 expect() {
   local what=$1
   shift
@@ -63,7 +63,7 @@ segtool() {
   "${as_user[@]}" "$work/segtool" "$@" < /dev/null > "$work/out" 2> "$work/err" || status=$?
 }
 
-# runs the client on the image of the case and saves to this file, with further words
+# runs the client on the image of the case, and saves to this file; takes more arguments
 save_to() {
   segtool run image "$1" "$work/client" "${@:2}"
 }
@@ -83,20 +83,20 @@ saved() {
   expect "$1 hasn't the saved image" cmp -s "$work/saved" "$1"
 }
 
-# the command said which file failed, and the image is as it was
+# the command reported which file failed, and the image is unchanged
 refused() {
   expect "not refused" has_status 3
   expect "not told of as $1" says "file $1" "$work/err"
   expect "the image has changed" cmp -s "$work/image" image
 }
 
-# the command, with --explain, said which file failed and why
+# the command, with --explain, reported which file failed and why
 explained() {
   expect "not refused" has_status 3
   expect "not told of as $1, which $2" says "file $1"$'\n'"\`$1\` $2" "$work/err"
 }
 
-# nothing was printed, and the client and its text, the image and the notes of the case are as they were
+# nothing was printed, and the client, its text, the image and the notes of the case are unchanged
 kept() {
   expect "something was printed" [ ! -s "$work/out" ]
   expect "the image has changed" cmp -s "$work/image" image
@@ -105,7 +105,7 @@ kept() {
   expect "the notes have changed" says notes notes
 }
 
-# begins a case whose folder also holds the client, its text and notes
+# begins a case whose folder also has the client, its text and notes
 case_with_files() {
   case_of "$1"
   cp "$work/client" client
@@ -313,7 +313,7 @@ expect "something is left" holds . "image "
 
 case_of "the standard output as a pipe"
 status=0
-# the pipe is the user's own
+# the user owns the pipe
 "${as_user[@]}" bash -c '"$@" | cat; exit "${PIPESTATUS[0]}"' bash \
   "$work/segtool" run image /dev/stdout "$work/client" > "$work/out" 2> "$work/err" || status=$?
 expect "failed" has_status 0
@@ -330,7 +330,7 @@ expect "no pipe any more" [ -p out ]
 
 is_input="is a file that the command reads, under this name or another, so it wasn't written; name another file"
 
-# expects what is said of a file of another format: its name, the format and how that begins
+# expects the refusal of a file with another format: the file, the format, and the first bytes of the format
 other_format() {
   explained "$1" "isn't empty and isn't $2, which begins with \`$3\`, so nothing was written over it; name another file, or add --force"
 }

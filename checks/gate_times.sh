@@ -1,20 +1,20 @@
 #!/usr/bin/env bash
-# Where the gate's time goes. Works on a fresh clone of the last commit, and wants the machine for itself.
+# Measures the time of the gate. Works on a new clone of the last commit. No other job should run on the machine.
 #
 #   gate_times.sh gate                  runs the gate, and prints a table: the processor minutes of each crate's proof, of its
-#                                       edits and of its tests. What the gate itself says goes to the error output
+#                                       edits and of its tests. The gate's own output goes to the error output
 #   gate_times.sh functions [SECONDS]   checks each crate and each crate of tests by itself, on one processor, and lists the
-#                                       functions that take at least so many seconds, 10 if left out. Needs make
+#                                       functions that take at least SECONDS, by default 10. Needs make
 set -euo pipefail
 here=$(cd "$(dirname "${BASH_SOURCE[0]}")" && pwd)
 tab=$'\t'
 
-# The crates, one a line.
+# The crates, one per line.
 crates() {
   awk -F: '!/^#/ && NF {sub(/ .*/, "", $1); print $1}' crates.txt
 }
 
-# For each process of the prover that runs now: its number, what it is for, the crate, and its processor time in hundredths.
+# For each running process of the prover: its number, its purpose, the crate, and its processor time in hundredths of a second.
 provers() {
   local it words what crate
   for it in $(pgrep -f 'rattle (check|build) --crate-name' || true); do
@@ -31,7 +31,7 @@ provers() {
   done 2> /dev/null
 }
 
-# A row of the table for each crate, from what the provers had taken when they were last seen.
+# Prints the table, with a row for each crate, from the last known processor time of each prover.
 table() {
   local minutes
   minutes=$(awk -F "$tab" -v OFS="$tab" '{last[$1 OFS $2 OFS $3] = $4}
@@ -56,13 +56,13 @@ gate() {
   printf '\nThe gate ended with status %s after %s minutes on %s processors.\n' "$status" "$(((SECONDS - start) / 60))" "$(nproc)"
 }
 
-# Whether a crate of the clone stands on this one.
+# Whether another crate of the clone depends on this one.
 is_below_another() {
   grep -q "^[^#]*:.* $1\( \|\$\)" "$room/clone/crates.txt"
 }
 
-# Checks one crate on one processor, in a copy with links to the libraries made so far, since checks that stand on one
-# library wait for each other. Its lines go to a log, each after the time when it came.
+# Checks one crate on one processor, in a copy with links to the libraries built so far, since checks that use the same library
+# wait for each other. Writes a log of the output's lines, each with its time.
 check_crate() {
   local crate=$1 copy it
   copy=$(mktemp -d "$room/part.XXXXXX")
@@ -83,7 +83,7 @@ check_crate() {
   rm -rf "$copy"
 }
 
-# A rule for each crate, after those below it.
+# Prints a make rule for each crate, which depends on the crates that it uses.
 rules() {
   local crate below it
   while IFS=: read -r crate below; do
@@ -97,7 +97,7 @@ rules() {
   printf 'all: %s\n' "$(crates | tr '\n' ' ')"
 }
 
-# The first function of a log has the reading of the libraries in its time, and isn't listed.
+# The time of a log's first function includes reading the libraries, so that function isn't listed.
 functions() {
   mkdir "$room"/{built,logs}
   cd "$room/clone"

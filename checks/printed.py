@@ -1,10 +1,10 @@
 #!/usr/bin/env python3
-"""Runs the commands of docs/TUTORIAL.md, and compares what they print with what stands there.
+"""Runs the commands of docs/TUTORIAL.md, and compares their output with the page.
 
     printed.py SEGTOOL
 
-A block begins with ```console. Its lines that begin with `$ ` are commands, with the lines up to EOF where one ends in <<'EOF'; the
-others are what the command before them prints, on either output."""
+A block begins with ```console. Its lines that begin with `$ ` are commands; if one ends in <<'EOF', it continues up to EOF. The
+other lines are the output of the command before them, on both outputs."""
 import os
 import re
 import shutil

@@ -1,5 +1,5 @@
 #!/usr/bin/env bash
-# Runs random clients on segments and on a model without bytes, far more than the gate does: checks/random.sh COUNT [SEED]
+# Runs random clients on segments and on a model without bytes, many more than the gate does: checks/random.sh COUNT [SEED]
 # COUNT is the number of clients. A round is 320 clients, and the rounds have the seeds SEED, SEED + 1 and so on; SEED is 1 if it
 # isn't given. Prints a line for each ten rounds, and for a failure the command that repeats it. First proves and builds the program,
 # by `rt run` in crates/test_random. With PROGRAM set, runs that program.
@@ -24,7 +24,7 @@ fi
 err=$(mktemp)
 trap 'rm -f "$err"' EXIT
 
-# ten rounds at a time, so that the progress shows
+# ten rounds at a time, to show the progress
 done=0
 begun=$SECONDS
 while [ "$done" -lt "$count" ]; do

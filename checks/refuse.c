@@ -1,5 +1,5 @@
-// Loaded before the C library: refuses the request for memory whose number REFUSE gives, and writes the number of all
-// requests to the file that REQUESTS names.
+// Loaded before the C library. Refuses the request for memory with the number in REFUSE, and writes how many requests there were
+// to the file in REQUESTS.
 #define _GNU_SOURCE
 #include <dlfcn.h>
 #include <stdio.h>

@@ -1,7 +1,7 @@
 #!/usr/bin/env bash
 # Runs each command of the program once for each request for host memory that it makes, with that request refused. Then the
-# status is 1, the error `fault 1`, and each file as before; or, where the program can do without, all is as with that memory.
-# Needs a C compiler, and the program that build.py leaves in crates/segtool/out, or another that is given.
+# status is 1, the error is `fault 1`, and no file has changed; or the program doesn't need the memory, and all is as usual.
+# Needs a C compiler, and the program that build.py makes in crates/segtool/out, or another given program.
 set -eu
 here=$(cd "$(dirname "$0")" && pwd)
 segtool=$(realpath "${1:-$here/../crates/segtool/out/segtool}")
@@ -13,7 +13,7 @@ mkdir "$work/files"
 cp "$here"/../examples/{counter.image,increment.client,increment.text} "$work/files"
 "$segtool" new "$work/files/table.image" 1024 best tree
 
-# a fresh copy of the files
+# makes a new copy of the files
 renew() {
   rm -rf "$work/now"
   cp -r "$work/files" "$work/now"
@@ -28,7 +28,7 @@ is_done() {
   [ "$1" = 0 ] && cmp -s "$work/wanted_out" "$work/out" && diff -r "$work/wanted" "$work/now" > "$work/diff"
 }
 
-# tries a command: first with all memory, which counts the requests, and then once for each of them
+# tries a command, first with all memory, which counts the requests, and then with each request refused
 try() {
   local all n status refused=0
   renew

@@ -1,8 +1,9 @@
 /*
- * How much stack each call touches, beside what lezgauri.h states. Each call runs on a thread whose stack is painted before; where the
- * paint is gone afterwards the call wrote. Prints a line for each call, and fails if one touches more than its stated number.
+ * Compares how much stack each call touches with the limits in lezgauri.h. Each call runs on a thread whose stack is filled with
+ * one byte before; afterwards the other bytes show how far the call wrote. Prints a line for each call, and fails if a call
+ * touches more than its limit.
  *
- *   stack IMAGE CLIENT [IMAGE CLIENT]..     what the calls work on; each client must be accepted on its image
+ *   stack IMAGE CLIENT [IMAGE CLIENT]..     images and clients for the calls; each client must be accepted on its image
  */
 #define _DEFAULT_SOURCE
 #include <lezgauri.h>
@@ -15,7 +16,7 @@
 
 enum { STACK = 8 << 20, PAINT = 0xC5, MOST_OUTPUT = 1 << 16 };
 
-/* What a call works on, and what it answered. */
+/* The arguments of a call, and its status. */
 typedef struct work {
     const uint8_t *image;
     size_t len;
@@ -132,7 +133,7 @@ static void *close_segment(void *given)
     return NULL;
 }
 
-/* The calls in the order in which they are made, and the most that each may touch. */
+/* The calls in the order in which they are made, and their limits in bytes. */
 static const struct {
     const char *name;
     void *(*call)(void *given);
@@ -175,7 +176,7 @@ static uint8_t *read_file(const char *name, size_t *len)
     return bytes;
 }
 
-/* How many bytes at the end of a painted stack a call wrote, or wrote beyond. */
+/* How many bytes of the stack a call touched: from the lowest byte that it wrote to the end. */
 static size_t touched(void *(*call)(void *given), work *of)
 {
     uint8_t *stack = mmap(NULL, STACK, PROT_READ | PROT_WRITE, MAP_PRIVATE | MAP_ANONYMOUS, -1, 0);

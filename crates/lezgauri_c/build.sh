@@ -1,6 +1,6 @@
 #!/usr/bin/env bash
 # Proves and builds the library for C, out/liblezgauri.a: the exports, the calls of include/lezgauri.h over them, and the requests for
-# memory, which go to the C library's malloc, realloc and free. Wants the toolchain `rt` and a C compiler.
+# memory, which go to the C library's malloc, realloc and free. Needs the toolchain `rt` and a C compiler.
 set -euo pipefail
 cd "$(dirname "$0")"
 kit=$(dirname "$(rt doc)")

@@ -1,5 +1,5 @@
-// Asks a cache that lives in an image for the bytes of two inputs, one run after the other: what the first run entered, the
-// second one finds. Then asks with room for only a few bytes of output.
+// Runs a client with a cache in an image on two inputs, one after the other: the second run finds what the first one entered.
+// Then runs it with room for only a few bytes of output.
 //
 //   cache IMAGE CLIENT
 #include <lezgauri.h>
@@ -28,7 +28,7 @@ static Bytes read_file(const char *name)
 // An image in memory, on which clients run.
 class Segment {
 public:
-    // Takes a sound image; throws the first fault of another.
+    // Takes a sound image. Throws the first fault of any other.
     explicit Segment(Bytes image) : image_(std::move(image))
     {
         lezgauri_fault fault;
@@ -37,7 +37,8 @@ public:
         }
     }
 
-    // What a client prints on an input: at most `room` bytes, and whether there was more. The image is the saved one then.
+    // Runs a client on an input. Returns at most `room` bytes of its output, and whether there was more. The saved image replaces
+    // the image.
     std::pair<std::string, bool> run(const Bytes &client, const std::string &input, std::size_t room)
     {
         const lezgauri_bytes clients[] = {{client.data(), client.size()}};

@@ -8,8 +8,7 @@ use cli_words::{ImageTask, Request};
 use lezgauri::{Refused, Sink};
 use std::alloc::{AllocError, Global};
 
-/// Explains why a command failed, in words. For that the files are read again; if one can't be read any more, the explanation
-/// does without it.
+/// Explains why a command failed, in words. For that it reads the files again, and leaves out a file that can't be read any more.
 pub fn explain_failure<'a, F: Files, E: Sink>(
     alloc: Global,
     request: &Request<'a>,

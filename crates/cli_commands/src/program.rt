@@ -44,7 +44,7 @@ fn answer<F: Files, O: Sink, E: Sink>(
         Err(failure) => {
             let status = report(alloc, &failure, err);
             if asked.explained && !err.failed() {
-                // without memory for an explanation, the printed line is all
+                // if there is no memory for an explanation, only the line is printed
                 let _ = explain_failure(alloc, &asked.request, &failure, files, err);
             }
             status

@@ -132,7 +132,7 @@ impl Outline {
     }
 }
 
-/// For a constant that an instruction refers to and that doesn't exist.
+/// The explanation if an instruction refers to a constant that doesn't exist.
 const ABSENT: &str = " doesn't exist";
 
 fn is_operand(operand: Operand, n: u8) -> bool {

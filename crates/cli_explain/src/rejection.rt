@@ -284,7 +284,7 @@ or if it was defined before the loop",
         )
     }
 
-    /// Says how to get a reference again that has ended.
+    /// Explains how to get a reference again that has ended.
     fn add_again(&self, text: &mut String, held: RegisterType) -> Result<(), AllocError> {
         match held.referred() {
             Some((Class::Name(_), _)) => text.push_str(

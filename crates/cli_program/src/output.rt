@@ -14,8 +14,8 @@ pub fn print<'a, O: Sink>(out: &mut O, text: &[u8]) -> Result<(), Failure<'a>>
     }
 }
 
-/// Writes the message for a failure, and returns the status. Without memory for the message, or if the error output fails, the
-/// status is all.
+/// Writes the message for a failure, and returns the status. If there is no memory for the message, or the error output fails,
+/// only the status reports the failure.
 pub fn report<E: Sink>(alloc: Global, failure: &Failure, err: &mut E) -> u8
     requires works { E.has_failed err.old ≡ false }
 {

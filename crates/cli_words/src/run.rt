@@ -2,8 +2,8 @@ use crate::line::{Argument, Takes, number, word};
 use clap::ArgMatches;
 use std::alloc::{AllocError, Global};
 
-/// Clients to run one after the other on an image, in a region of `room` bytes, or one just large enough for the image if that is
-/// `None`.
+/// Clients to run one after the other on an image, in a region of `room` bytes. If `room` is `None`, the region is just large
+/// enough for the image at its base.
 #[derive(Drop)]
 pub struct Run<'a> {
     pub image: &'a str,

@@ -14,7 +14,8 @@ use Rattle.client_code.specs.declared.constant.ConstantKind.TheVariants as kind
 use Rattle.client_code.specs.Views.{constant_by, kind_of}
 use Rattle.client_code.specs.Files.{AreConstants}
 
--- two lists with the same spelling after a common front are equal, if each element has one spelling
+-- two lists with the same spelling after a common prefix are equal, if each element has one
+-- spelling
 pub fronts : {A : Type 0} (f : A → List ℕ) (P : A → Type 0) → ((x y : A) (us vs : List ℕ) → P x → P y → f x ++ us ≡ f y ++ vs → (x ≡ y) × (us ≡ vs))
     → (xs ys : List A) (us vs : List ℕ) → AllByRecursion P xs → AllByRecursion P ys → length xs ≤ length ys → flat_map f xs ++ us ≡ flat_map f ys ++ vs
     → (more : List A) × (ys ≡ xs ++ more) × (us ≡ flat_map f more ++ vs)
@@ -47,7 +48,7 @@ pairs_push cs c pairs differs i j d l h =
           )
     ]
 
--- one more constant
+-- if another constant follows some constants, then with it they are constants too
 pub one_more : (file : List ℕ) (at next following : ℕ) (cs : List Constant) (c : Constant) → AreConstants file at cs next
     → drop next file ≡ constant_bytes c ++ drop following file → IsConstant c → following ≡ next + length (constant_bytes c) → All (λ other. Differ other c) cs
     → AreConstants file at (cs ++ c ∷ []) following
@@ -63,7 +64,6 @@ one_more file at next following cs c so_far spelled right place differs =
       different = pairs_push cs c so_far.different differs;
     }
 
--- the last of some constants
 pub last_of : (P : Constant → Type 0) (cs more : List Constant) (c : Constant) → All P (cs ++ c ∷ more) → P c
 last_of P cs more c all =
     let long = length-append cs (c ∷ more) in

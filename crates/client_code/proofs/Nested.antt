@@ -121,7 +121,7 @@ module _ (types : Table) (constants : List Constant) where
   Closes (part.Else ∷ parts) is = (cs : Statements) × (rest : List Instruction) × Fits cs (length parts + 1) × (is ≡ listing cs ++ mark Operation.End ∷ rest) × Closes parts rest
   Closes (part.Body ∷ parts) is = (cs : Statements) × (rest : List Instruction) × Fits cs (length parts + 1) × (is ≡ listing cs ++ mark Operation.End ∷ rest) × Closes parts rest
 
-  -- one more statement in front
+  -- a statement in front of the instructions closes the same open parts
   in_front : (c : Statement) (parts : List Part) (is : List Instruction) → IsStatement types constants c → length parts + depth_one c ≤ 8 → Closes parts is → Closes parts (listing_one c ++ is)
   unfolding listing
   in_front c [] is h d r = (next c r.0, more_fits c r.0 0 h d r.1, ap (λ xs. listing_one c ++ xs) r.2)
@@ -172,7 +172,7 @@ module _ (types : Table) (constants : List Constant) where
   closes [] all (part ∷ parts) few p = cc
   closes (i ∷ is) all parts few p = step i is all.0 (closes is all.1) (role_of i) refl parts few p
 
-  -- the tree with these instructions as its listing
+  -- the instructions are the listing of some tree
   pub code_of : (is : List Instruction) → AllByRecursion Right is → passed_all [] (roles is) ≡ Some [] → (cs : Statements) × IsCode types constants cs × (depth cs ≤ 8) × (is ≡ listing cs)
   code_of is all p = let r = closes is all [] (omega arith) p in (r.0, (r.1).code, (let s = (r.1).shallow in omega arith), r.2)
 
@@ -205,7 +205,7 @@ module _ (types : Table) (constants : List Constant) where
         ∙ ap (option_and_then (λ now. passed_all now (roles (listing s) ++ Role.End ∷ rest))) (opened_room parts part.Body (omega arith))
         ∙ listed s (part.Body ∷ parts) (Role.End ∷ rest) h.1 (omega arith)
 
--- the open parts after more instructions
+-- passing two lists of instructions is passing the first, and then the second
 pub passed_more : (parts : List Part) (xs ys : List Role) → passed_all parts (xs ++ ys) ≡ option_and_then (λ now. passed_all now ys) (passed_all parts xs)
 passed_more parts [] ys = refl
 passed_more parts (x ∷ xs) ys = following (passed parts x) (λ q. passed_more q xs ys)

@@ -1,4 +1,4 @@
--- The code of a client spells instructions, so that nothing of it is tested again.
+-- The code of a client encodes instructions, so they can be decoded without tests.
 use Rattle.std.proofs.Common.{◌≡◌, ℕ, ◌+◌, ◌*◌, ◌<◌, ◌≤◌, List, length, take, drop, refl, sym, ap, ◌∙◌, subst, arith}
 use denote.Struct.Props.{props}
 use Rattle.std.proofs.Math.Logic.{∥∥₁_elim}
@@ -25,7 +25,7 @@ spelled_in file tree spells i place h e =
     let same : take 8 (drop place file) ≡ instruction_bytes there.0 = ap (λ n. take 8 (drop n file)) e ∙ there.5 in
     (let room = there.4 in omega arith, subst IsSpelling (sym same) (spelling there.0 there.3))
 
--- at the place of each instruction
+-- the 8 bytes of each instruction are well-formed
 pub spelled_at : (client : program.Client) (i : ℕ) → i < client.header.instructions → SpelledAt client.file.now (client.code + 8 * i)
 spelled_at client i h =
     ∥∥₁_elim client.spelled (hlevel props) (λ found.

@@ -20,7 +20,7 @@ spelled_four (a ∷ b ∷ c ∷ []) e = absurd (omega arith)
 spelled_four (a ∷ b ∷ c ∷ d ∷ []) e = refl
 spelled_four (a ∷ b ∷ c ∷ d ∷ f ∷ s) e = absurd (omega arith)
 
--- a word of four bytes
+-- four bytes are the word at their position
 pub word_at : (file s : List ℕ) (at n : ℕ) → at + 4 ≤ length file → s ≡ slice file at 4 → n ≡ slice_index s 0 + 256 * (slice_index s 1 + 256 * (slice_index s 2 + 256 * (slice_index s 3 + 0))) → n ≡ number 4 file at
 unfolding slice
 word_at file s at n h same e =
@@ -78,7 +78,7 @@ eight (b0 ∷ b1 ∷ b2 ∷ b3 ∷ b4 ∷ b5 ∷ b6 ∷ b7 ∷ []) n l h e = ap 
     (sym (word_of_four b4 b5 b6 b7 n (let f = h 4 in omega arith) (let f = h 5 in omega arith) (let f = h 6 in omega arith) (let f = h 7 in omega arith) e))
 eight (b0 ∷ b1 ∷ b2 ∷ b3 ∷ b4 ∷ b5 ∷ b6 ∷ b7 ∷ b8 ∷ bytes) n l h e = absurd (omega arith)
 
--- the instruction that 8 bytes encode
+-- bytes that decode to an instruction are the encoding of it
 pub decoded : (r : Option Instruction) (file field : List ℕ) (at : ℕ)
     → at + 8 ≤ length file → field ≡ slice file at 8 → IfSome r (λ i. field ≡ instruction_bytes (instruction_of i))
     → IfSome r (λ i. (at + 8 ≤ length file) × (slice file at 8 ≡ instruction_bytes (instruction_of i)))

@@ -53,7 +53,7 @@ split_at : (file : List ℕ) (at n : ℕ) → drop at file ≡ slice file at n +
 unfolding slice
 split_at file at n = sym (take-append-drop n (drop at file)) ∙ ap (λ xs. take n (drop at file) ++ xs) (drop-drop n at file)
 
--- a word after a front
+-- the word at the end of a prefix is the number that follows it
 word_after : (file front rest : List ℕ) (at n : ℕ) → file ≡ front ++ (word_bytes n ++ rest) → length front ≡ at → n < 256 ^ 4 → number 4 file at ≡ n
 word_after file front rest at n e l small =
     let long = ap length e ∙ length-append front (word_bytes n ++ rest) in
@@ -285,7 +285,7 @@ types_again file tree spells table n m e types = types_same file table tree.type
 pub types_there_again : (file : List ℕ) (tree : Client) → SpellsClient file tree → (n : ℕ) → n ≡ length tree.types → ((table : Table) → length table ≡ n → AreTypes file table → ⊥) → ⊥
 types_there_again file tree spells n m wrong = wrong tree.types (sym m) (spelled_parts file tree spells).types
 
--- the position of the constants
+-- reading the constants begins after the type entries
 pub constants_begin : (file : List ℕ) (tree : Client) → SpellsClient file tree → (at t : ℕ) → t ≡ length tree.types → at ≡ 20 + 16 * t → Walk file tree.constants (code_place tree) at []
 constants_begin file tree spells at t n e =
     walk_starts file at (code_place tree) tree.constants (subst (λ x. AreConstants file x tree.constants (code_place tree)) (ap (λ x. 20 + 16 * x) (sym n) ∙ sym e) (spelled_parts file tree spells).constants)
@@ -308,7 +308,7 @@ one_of P [] i j all e = cc
 one_of P (x ∷ is) zero j all e = subst P (Some_inj e) all.0
 one_of P (x ∷ is) (suc i) j all e = one_of P is i j all.1 e
 
--- the instruction at an index
+-- the instruction at an index is encoded at its place in the file
 pub instruction_there : (file : List ℕ) (tree : Client) → SpellsClient file tree → (i : ℕ)
     → i < length (listing tree.code) → (j : Instruction) × (slice_get (listing tree.code) i ≡ Some j) × IsWord j × HasOperands j × (code_place tree + 8 * i + 8 ≤ length file)
     × (slice file (code_place tree + 8 * i) 8 ≡ instruction_bytes j)
@@ -333,7 +333,7 @@ past_instructions (x ∷ is) (suc i) h = past_instructions is i (omega arith)
 pub end_there : (file : List ℕ) (tree : Client) → SpellsClient file tree → (place n : ℕ) → place ≡ code_place tree → n ≡ length (listing tree.code) → place + 8 * n ≡ length file
 end_there file tree spells place n e m = let ends = (spelled_parts file tree spells).code.ends in omega arith
 
--- decoding at the place of an instruction gives that instruction
+-- decoding the bytes at an instruction's place returns that instruction
 pub same_instruction : (file : List ℕ) (tree : Client) → SpellsClient file tree → (i place : ℕ) (r : Option program.Instruction) → i < length (listing tree.code)
     → place ≡ code_place tree + 8 * i → IfSome r (λ j. (place + 8 ≤ length file) × (slice file place 8 ≡ instruction_bytes (instruction_of j)))
     → IfSome r (λ j. FitsSigned w32 j.number)
@@ -346,7 +346,7 @@ same_instruction file tree spells i place (Some r) h e found range none =
     let same = sym found.1 ∙ ap (λ n. slice file n 8) e ∙ there.5 in
     ap Some (instruction_front (instruction_of r) there.0 [] [] range there.2 (ap (λ xs. xs ++ []) same)).0 ∙ sym there.1
 
--- the positions of the parts of a client
+-- the header and the constants determine the counts of a client and the position of its code
 pub read_places : (file : List ℕ) (tree : Client)
     → SpellsClient file tree → (t c i at place : ℕ) (cs : List Constant) → IsFileHeader file t c i → at ≡ 20 + 16 * t → length cs ≡ c → AreConstants file at cs place
     → (t ≡ length tree.types) × (c ≡ length tree.constants) × (i ≡ length (listing tree.code)) × (place ≡ code_place tree)

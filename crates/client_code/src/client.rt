@@ -76,7 +76,7 @@ impl<'a> Client<'a> {
         constants
     }
 
-    /// The constants, in memory for exactly so many.
+    /// The constants, in memory of exactly their size.
     pub fn constants_in<A: Allocator>(&self, alloc: A) -> Result<Vec<Constant<'a>, A>, AllocError>
         ensures { IfOk result (λ constants.
             OfTree self.now (λ tree. constants_of constants.items ≡ tree.constants)) }
@@ -113,7 +113,7 @@ impl<'a> Client<'a> {
         Some(Instruction::of_bytes(&self.file[place..place + Instruction::SIZE]))
     }
 
-    /// The position of an instruction, or of what follows the last one.
+    /// The position of an instruction, or the end of the code for the number of instructions.
     fn place_of(&self, i: u32) -> u32
         requires { i ≤ self.now.header.instructions }
         ensures { result ≡ self.now.code + 8 * i }

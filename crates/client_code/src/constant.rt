@@ -11,10 +11,10 @@ pub const LONGEST: usize = 255;
 /// The most bytes of an object's name.
 pub const LONGEST_NAME: usize = 63;
 
-/// The most bytes of the front of a family's names: `#` and 20 digits make 63.
+/// The most bytes of the prefix of a family's names: with `#` and 20 digits a name has 63.
 pub const LONGEST_FAMILY: usize = 42;
 
-/// What a constant is. The discriminant is the number that stands for it in a client file.
+/// The kind of a constant. The discriminant is the kind's number in a client file.
 #[derive(Debug, Clone, Copy, PartialEq, Eq, Default)]
 pub enum ConstantKind {
     /// Any bytes.
@@ -22,12 +22,12 @@ pub enum ConstantKind {
     Text = 1,
     /// The name of an object.
     Name,
-    /// The front of the names of a family: `#` and a register's number in decimal follow it in each name.
+    /// The prefix of the names of a family: each name has `#` and a register's number in decimal after it.
     Family,
 }
 
 impl ConstantKind {
-    /// The number that stands for the kind in a client file.
+    /// The kind's number in a client file.
     pub fn number(self) -> u8
         ensures { (bytes : List ℕ) → constant_bytes (constant_by self bytes)
             ≡ result ∷ length bytes ∷ bytes }
@@ -35,7 +35,7 @@ impl ConstantKind {
         self as u8
     }
 
-    /// The kind of a number.
+    /// The kind with a number, or `None` if no kind has it.
     pub fn from_number(number: u8) -> Option<ConstantKind>
         ensures found { IfSome result (λ kind. (bytes : List ℕ) →
             constant_bytes (constant_by kind bytes) ≡ number ∷ length bytes ∷ bytes) }
@@ -83,8 +83,8 @@ fn may_be(kind: ConstantKind, bytes: &[u8]) -> bool
 }
 
 impl<'a> Constant<'a> {
-    /// The constant whose spelling, a kind, a length and bytes, begins at a position of a file, and the position after it. Its
-    /// bytes may be wrong ones for its kind.
+    /// The constant that is encoded at a position of a file (a kind, a length and bytes), and the position after it. Its bytes
+    /// may be invalid for its kind.
     pub(crate) fn spelled_at(file: &'a [u8], at: u32) -> Option<(Constant<'a>, u32)>
         requires { at ≤ 2 ^ 31 }
         ensures spelled { IfSome result (λ found. drop at file.now
@@ -103,7 +103,7 @@ impl<'a> Constant<'a> {
         Some((Constant { kind, bytes }, at + 2 + u32::from(*len)))
     }
 
-    /// The same, if its bytes are right for its kind.
+    /// Like `spelled_at`, but `None` if the bytes are invalid for the kind.
     pub fn read(file: &'a [u8], at: u32) -> Option<(Constant<'a>, u32)>
         requires { at ≤ 2 ^ 31 }
         ensures spelled { IfSome result (λ found. drop at file.now
@@ -122,7 +122,7 @@ impl<'a> Constant<'a> {
         Some((constant, following))
     }
 
-    /// Whether no two names of objects are the same. Texts always differ.
+    /// Whether the two constants aren't the same name. Texts always differ.
     pub fn differs(self, other: Constant) -> bool
         ensures { IsTrue result ↔ Differ (constant_of self.entry) (constant_of other.entry) }
     {
@@ -141,7 +141,8 @@ pub(crate) fn is_text(kinds: &[ConstantKind], n: usize) -> bool
     }
 }
 
-/// Whether the constant with this number names objects, with register b: a family's number is there, and an exact name has none.
+/// Whether an instruction may refer to objects by the constant with this number and register b. A family needs its number in b;
+/// for an exact name b must be `NONE`.
 pub(crate) fn names_by(kinds: &[ConstantKind], n: usize, b: u8) -> bool
     ensures { (constants : List syntax.Constant) → map kind_of constants ≡ kinds.now →
         (IsTrue result ↔ NamesBy (slice_get constants n) b) }

@@ -13,10 +13,10 @@ use seg_raw::Fault;
 /// The first bytes of a client file.
 pub const MAGIC: &[u8; 4] = b"SEGC";
 
-/// The version of files whose types share nothing.
+/// The version of files whose types have no shared cells.
 pub const FIRST_VERSION: u32 = 1;
 
-/// The version of files that have types of cells that share.
+/// The version of files whose types have shared cells.
 pub const SHARING_VERSION: u32 = 2;
 
 /// The most constants of a client.
@@ -25,7 +25,7 @@ pub const MOST_CONSTANTS: u32 = 256;
 /// The most instructions of a client.
 pub const MOST_INSTRUCTIONS: u32 = 4096;
 
-/// What the header of a client file says: how many types, constants and instructions follow.
+/// The counts in the header of a client file: how many types, constants and instructions follow.
 #[derive(Debug, Clone, Copy, PartialEq, Eq)]
 pub struct Header {
     pub types: u32,
@@ -44,7 +44,7 @@ fn word(file: &[u8], at: u32) -> Option<u32>
     Some(LittleEndian::read_u32(bytes))
 }
 
-/// Tests that the header says the version of these types.
+/// Tests that the header has the version that these types need.
 pub fn check_version(file: &[u8], types: &TypeTable) -> Result<(), Fault>
     ensures found { OnOk result (bytes.word file.now 4 ≡ file_version types.now) }
     ensures wrong { IfErr result (λ fault. 8 ≤ length file.now →
@@ -58,7 +58,7 @@ pub fn check_version(file: &[u8], types: &TypeTable) -> Result<(), Fault>
     }
 }
 
-/// The word at a position, which is a number of entries.
+/// The word at a position, if it is at most `most`.
 fn count(file: &[u8], at: u32, most: u32) -> Result<u32, Fault>
     requires { at ≤ 16 }
     ensures found { IfOk result (λ n. (n ≤ most) × (at + 4 ≤ length file.now)
@@ -74,7 +74,7 @@ fn count(file: &[u8], at: u32, most: u32) -> Result<u32, Fault>
 }
 
 impl Header {
-    /// The header of a file, or the position of the first field that is wrong or cut.
+    /// The header of a file. Fails with the position of the first field that is wrong or cut off.
     pub fn read(file: &[u8]) -> Result<Header, Fault>
         ensures found { IfOk result
             (λ h. IsFileHeader file.now h.types h.constants h.instructions) }

@@ -14,11 +14,11 @@ use seg_layout::TypeId;
 /// The number of registers.
 pub const REGISTERS: u8 = 16;
 
-/// The most turns of one run of a loop.
+/// The most iterations of one run of a loop.
 pub const TURNS: usize = 1_000_000_000;
 
-/// An instruction: its operation, three operands and a number. An operand is a register, `NONE`, or 0 where the operation
-/// doesn't use it; so is an unused number.
+/// An instruction: its operation, three operands and a number. An operand is a register, `NONE`, or 0 if the operation doesn't
+/// use it. An unused number is 0.
 #[derive(Debug, Clone, Copy, PartialEq, Eq)]
 pub struct Instruction {
     pub operation: Operation,
@@ -43,13 +43,14 @@ impl Instruction {
     ghost use Rattle.client_code.specs.Views.{kind_of, instruction_of};
     ghost use Rattle.client_code.specs.Operands.{HasOperands, IsSpelling};
 
-    /// The operand that stands for no register.
+    /// The operand for no register.
     pub const NONE: u8 = REGISTERS;
 
-    /// The bytes of an instruction in a client file.
+    /// The size of an instruction in a client file, in bytes.
     pub const SIZE: usize = 8;
 
-    /// The instruction that 8 bytes spell, if they are 8, their operation is known and no operand is above `NONE`.
+    /// The instruction that 8 bytes encode. `None` if the slice has another length, the operation is unknown, or an operand is
+    /// above `NONE`.
     pub fn decode(bytes: &[u8]) -> Option<Instruction>
         ensures found { IfSome result (λ i. bytes.now ≡ instruction_bytes (instruction_of i)) }
         ensures none { IfNone result ((i : syntax.Instruction) → HasOperands i →
@@ -72,7 +73,7 @@ impl Instruction {
         })
     }
 
-    /// The instruction that 8 bytes spell, where they are known to spell one: nothing is tested.
+    /// The instruction that 8 bytes encode. They must encode one: nothing is tested.
     #[inline]
     pub(crate) fn of_bytes(bytes: &[u8]) -> Instruction
         requires { IsSpelling bytes.now }
@@ -88,7 +89,7 @@ impl Instruction {
         }
     }
 
-    /// The 8 bytes that spell the instruction.
+    /// The 8 bytes that encode the instruction.
     pub fn encode(self) -> [u8; Self::SIZE]
         ensures { result ≡ instruction_bytes (instruction_of self) }
     {
@@ -105,7 +106,7 @@ impl Instruction {
         ]
     }
 
-    /// The same instruction, of another operation.
+    /// The same instruction with another operation.
     pub fn with_operation(self, operation: Operation) -> Instruction
         ensures { result ≡ record self { operation = operation } }
     {
@@ -118,7 +119,7 @@ impl Instruction {
         }
     }
 
-    /// The type that the number names, by itself or before a constant.
+    /// The type that the number refers to, alone or with a constant.
     pub fn type_id(self) -> TypeId
         ensures before { (row_of self.operation).number ≡ number.TypedName → (n : ℕ) →
             self.number ≡ pos n → result ≡ n / 256 % 256 }
@@ -132,7 +133,7 @@ impl Instruction {
         }
     }
 
-    /// The constant that the number names, by itself or after a type.
+    /// The constant that the number refers to, alone or with a type.
     pub fn constant(self) -> u8
         ensures { (n : ℕ) → self.number ≡ pos n → result ≡ n % 256 }
     {
@@ -140,8 +141,8 @@ impl Instruction {
         low
     }
 
-    /// Whether the operation, the operands and the number may stand in a client file of this version, with so many types and
-    /// constants of these kinds.
+    /// Whether the instruction is valid in a client file of this version, with this number of types and with constants of these
+    /// kinds.
     pub fn is_valid(self, version: u32, types: usize, kinds: &[ConstantKind]) -> bool
         ensures { (table : Table) (constants : List syntax.Constant) →
             file_version table ≡ version → length table ≡ types →

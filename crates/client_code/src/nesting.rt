@@ -4,10 +4,10 @@ ghost use Rattle.arrayvec.specs.ArrayVec.{array_vec_len};
 use arrayvec::ArrayVec;
 use client_spec::table::Role;
 
-/// A part of code that is open.
+/// An open part of code.
 #[derive(Debug, Clone, Copy, PartialEq, Eq, Default)]
 pub enum Part {
-    /// The part after an opener.
+    /// The part after an opener, up to `ELSE`.
     #[default]
     Success,
     /// The part after `ELSE`.
@@ -16,10 +16,10 @@ pub enum Part {
     Body,
 }
 
-/// The most parts that are open at one place.
+/// The most open parts at one place.
 pub const DEPTH: usize = 8;
 
-/// The parts that are open at a place of the code, the innermost last.
+/// The open parts at a place in the code, the innermost last.
 #[derive(Debug, Drop)]
 pub struct Nesting {
     parts: ArrayVec<Part, DEPTH>,
@@ -45,7 +45,7 @@ impl Nesting {
         self.parts.is_empty()
     }
 
-    /// Opens a part, if there is room.
+    /// Opens a part. Returns false if too many parts are open.
     fn open(&mut self, part: Part) -> bool
         ensures { MatchBool result (opened (open_parts self.old) part ≡ Some (open_parts self.new))
             (opened (open_parts self.old) part ≡ None) }
@@ -53,7 +53,7 @@ impl Nesting {
         self.parts.try_push(part).is_ok()
     }
 
-    /// Goes past an instruction: opens and closes what it opens and closes. False where it may not stand here.
+    /// Passes an instruction, which may open or close parts. Returns false if it isn't allowed here.
     pub fn pass(&mut self, role: Role) -> bool
         ensures { MatchBool result (passed (open_parts self.old) role ≡ Some (open_parts self.new))
             (passed (open_parts self.old) role ≡ None) }

@@ -23,7 +23,7 @@ use seg_raw::Fault;
 /// The kinds of a client's constants, in order.
 type Kinds = ArrayVec<ConstantKind, 256>;
 
-/// Whether a constant differs from each of those that stand from a position on, which are so many.
+/// Whether a constant differs from each of `count` constants, from a position on.
 fn differs_from(file: &[u8], at: u32, count: u32, constant: Constant) -> bool
     requires first { at ≤ 1000 }
     requires few { count ≤ MOST_CONSTANTS }
@@ -47,7 +47,7 @@ fn differs_from(file: &[u8], at: u32, count: u32, constant: Constant) -> bool
     true
 }
 
-/// Finds the constants that begin at a position, and adds the kind of each. Returns the position after them.
+/// Reads `count` constants from a position on, and adds the kind of each. Returns the position after them.
 fn find_constants(file: &[u8], at: u32, count: u32, kinds: &mut Kinds) -> Result<u32, Fault>
     requires first { at ≤ 1000 }
     requires few { count ≤ MOST_CONSTANTS }
@@ -74,7 +74,7 @@ fn find_constants(file: &[u8], at: u32, count: u32, kinds: &mut Kinds) -> Result
     Ok(next)
 }
 
-/// The instruction whose 8 bytes begin at a position.
+/// The instruction that the 8 bytes at a position encode.
 pub fn instruction_at(file: &[u8], at: u32) -> Option<Instruction>
     requires { at ≤ 2 ^ 31 }
     ensures found { IfSome result (λ i. (at + 8 ≤ length file.now)
@@ -87,7 +87,7 @@ pub fn instruction_at(file: &[u8], at: u32) -> Option<Instruction>
     Instruction::decode(file.get(place..place + Instruction::SIZE)?)
 }
 
-/// Tests each instruction where it stands, by the kinds of the constants, and that the file ends where the code does.
+/// Tests each instruction in the code, by the kinds of the constants, and that the file ends with the code.
 fn check_code(
     file: &[u8],
     at: u32,
@@ -125,8 +125,8 @@ fn check_code(
     Ok(())
 }
 
-/// The client whose file this is, or `BadCode` with the start of the first field that is wrong or cut, with the first byte
-/// too many, or with the file's length where an `END` is missing.
+/// Parses a client file. Fails with `BadCode` and a position: the start of the first field that is wrong or cut off, the first
+/// byte after the end of the code, or the file's length if an `END` is missing.
 pub fn parse(file: &[u8]) -> Result<Client<'_>, Fault>
     ensures file { IfOk result (λ client. bytes_of client ≡ file.now) }
     ensures found { IfOk result (λ client. (tree : syntax.Client) × SpellsClient file.now tree) }
@@ -137,7 +137,7 @@ pub fn parse(file: &[u8]) -> Result<Client<'_>, Fault>
     Ok(parse_typed(file)?.client)
 }
 
-/// The client as `parse` finds it, with its types, which are read once.
+/// Like `parse`, but also returns the client's types, which are read only once.
 pub fn parse_typed(file: &[u8]) -> Result<TypedClient<'_>, Fault>
     ensures file { IfOk result (λ typed. bytes_of typed.client ≡ file.now) }
     ensures found { IfOk result (λ typed. (tree : syntax.Client) × SpellsClient file.now tree) }

@@ -4,7 +4,7 @@ ghost use Rattle.client_code.specs.Clients.{OfTree};
 use crate::client::Client;
 use seg_layout::TypeTable;
 
-/// A client, and its types as a table.
+/// A client with its types as a table.
 #[derive(Drop)]
 pub struct TypedClient<'a> {
     pub client: Client<'a>,
@@ -13,7 +13,7 @@ pub struct TypedClient<'a> {
 }
 
 impl<'a> TypedClient<'a> {
-    /// A client, with the types that its file has.
+    /// The client with the types in its file.
     pub fn of(client: Client<'a>) -> TypedClient<'a>
         ensures { result.client ≡ client.entry }
     {

@@ -8,18 +8,18 @@ use crate::header::{FIRST_VERSION, SHARING_VERSION};
 use seg_layout::{MAX_TYPES, Type, TypeId, TypeTable};
 use seg_raw::Fault;
 
-/// The bytes of a type entry.
+/// The size of a type entry, in bytes.
 pub const ENTRY: u32 = seg_layout::ENTRY as u32;
 
 /// The most types of a client.
 pub const MOST_TYPES: u32 = MAX_TYPES as u32;
 
-/// Where the type entries begin in a client file.
+/// The position of the type entries in a client file.
 pub const TYPES_AT: u32 = 20;
 
 const I64_KIND: u8 = 1;
 
-/// An entry, if the file has all of it.
+/// The bytes of entry `i`. `None` if the file ends before the end of the entry.
 fn entry(file: &[u8], i: u32) -> Option<&[u8]>
     requires { i ≤ MOST_TYPES }
     ensures { IfSome result (λ bytes. length bytes.now ≡ ENTRY) }
@@ -28,7 +28,7 @@ fn entry(file: &[u8], i: u32) -> Option<&[u8]>
     file.get(at..at + ENTRY as usize)
 }
 
-/// The first entry that is cut or unused, or the number of entries.
+/// The first entry that is cut off or unused, or the number of entries.
 fn first_missing(file: &[u8], count: u32) -> u32
     requires { count ≤ MOST_TYPES }
     ensures { result ≤ count }
@@ -42,7 +42,7 @@ fn first_missing(file: &[u8], count: u32) -> u32
     count
 }
 
-/// The entries as a table, with `i64` for those that are cut, since an entry in front may name them.
+/// The entries as a table. Entries that are cut off become `i64`, since earlier entries may refer to them.
 fn entries(file: &[u8], count: u32) -> [u8; 512]
     requires { count ≤ MOST_TYPES }
 {
@@ -57,7 +57,7 @@ fn entries(file: &[u8], count: u32) -> [u8; 512]
     table
 }
 
-/// Where the first entry begins that is wrong or cut.
+/// The position of the first entry that is wrong or cut off.
 fn first_wrong(file: &[u8], count: u32) -> u32
     requires { count ≤ MOST_TYPES }
 {
@@ -90,7 +90,7 @@ fn used_entries(file: &[u8], count: u32) -> Option<&[u8]>
     Some(bytes)
 }
 
-/// The types of a client file, or the position of the first entry that is wrong or cut.
+/// The types of a client file. Fails with the position of the first entry that is wrong or cut off.
 pub fn read_types(file: &[u8], count: u32) -> Result<TypeTable, Fault>
     requires { count ≤ MOST_TYPES }
     ensures count { IfOk result (λ table. length table ≡ count) }
@@ -107,7 +107,7 @@ pub fn read_types(file: &[u8], count: u32) -> Result<TypeTable, Fault>
     Err(Fault::BadCode(first_wrong(file, count)))
 }
 
-/// The version of a client file that has these types.
+/// The version that a client file with these types has.
 pub fn version_of(types: &TypeTable) -> u32
     ensures { result ≡ file_version types.now }
 {

@@ -61,7 +61,7 @@ module _ (bytes : List ℕ) (table : Table) (valid : IsTable table) where
   same_parts : (a b : Opened) → a ≡ b → (AreAligned b.blocks → AlignedPlaces b.parts) → AreAligned a.blocks → AlignedPlaces a.parts
   same_parts a b e f = subst (λ (o : Opened). AreAligned o.blocks → AlignedPlaces o.parts) (sym e) f
 
-  -- one step
+  -- the parts of an aligned place are aligned
   parts_aligned : (place : Place) (form : Form) (opened : Opened) → Opens bytes table place form opened → Aligned place.at → AreAligned opened.blocks → AlignedPlaces opened.parts
   parts_aligned place Form.i64 opened o a = same_parts _ _ o (λ b. tt)
   parts_aligned place Form.str opened o a = same_parts _ _ o.opened_is (λ b. tt)
@@ -74,7 +74,7 @@ module _ (bytes : List ℕ) (table : Table) (valid : IsTable table) where
   parts_aligned place (Form.shared U) opened o a = same_parts _ _ o.opened_is (λ b. tt)
   parts_aligned place (Form.struct Us) opened o a = same_parts _ _ o (λ b. fields_aligned place.at Us a)
 
-  -- a path
+  -- a path from an aligned place ends at an aligned place
   pub leads_aligned : {place inner : Place} {path : List Selector} {v : Value} {blocks : List ℕ} → Leads bytes table place path inner → Holds bytes table place v blocks → Aligned place.at → AreAligned blocks → Aligned inner.at
   leads_aligned here h a b = a
   leads_aligned {place = place} (into form opened i part f o index part_is rest) h a b =
@@ -85,7 +85,7 @@ module _ (bytes : List ℕ) (table : Table) (valid : IsTable table) where
       let inside : AreAligned (m.xs ++ (m.zs ++ m.ys)) = subst AreAligned m.blocks_are (each_right _ opened.blocks opens_as.owned all) in
       leads_aligned rest m.holds_it (each_at (λ (q : Place). Aligned q.at) opened.parts i part parts part_is) (each_left _ m.zs m.ys (each_right _ m.xs (m.zs ++ m.ys) inside))
 
-  -- a path from an item of a root without words before its values
+  -- a path from an item of a root without words before its values ends at an aligned place
   pub root_aligned : (root : Root) (blocks : List ℕ) → root.words ≡ [] → HoldsRoot bytes table root blocks → AreAligned blocks → (j : ℕ) → j < count root.values
       → {path : List Selector} {inner : Place} → Leads bytes table (item_of table root j) path inner → Aligned inner.at
   root_aligned root blocks no_words h b j within leads =

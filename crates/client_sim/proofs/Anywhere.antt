@@ -16,7 +16,7 @@ use Rattle.client_spec.specs.Clients.{given_next, GoesOn, RunClients, StayWithin
 abbrev at : Situation → List ℕ → ℕ → Situation
 at x host base = record { state = x.state; image = x.image; host = host; base = base; steps = x.steps }
 
--- the other way reaches the same state and image from any host and base
+-- `other` has the same runs as `way`, from any host and base
 record Follows (way other : Way Situation) : Type 0 where
   pub each : (x y : Situation) (n : ℕ) (end : Ending) → way x y n end → (host : List ℕ) (base : ℕ) → (host_then : List ℕ) × (base_then : ℕ) × other (at x host base) (at y host_then base_then) n end
 
@@ -203,7 +203,7 @@ clients_anywhere (client ∷ clients) given (left ∷ lefts) r moves host base =
     let more = rest one.0 one.1 left.ending (λ g. clients_anywhere clients (given_next given left) lefts g moves one.0 one.1) r.1 in
     (its ∷ more.0, ((one.0, one.1, refl), more.1), (one.2, more.2))
   where
-    -- what the next client is given, and the results there
+    -- the results of the clients after this one, from the host and base that it leaves
     Rest : (host_then : List ℕ) (base_then : ℕ) (others : List Left) → Type 0
     Rest host_then base_then others = RunClients clients (given_next (given_at given moves host base) (left_at left host_then base_then)) others
 

@@ -43,8 +43,8 @@ module _ {others : List Root} {types : Table} {constants : List Constant} (one :
   then_is : state_then ≡ put_origin s l.path.origin root_then
   then_is = put_at_is s l.path l.found.whole v l.found.type l.found.at
 
-  -- a path from another root still refers to the same place; so do this path, and each path that
-  -- doesn't continue from it
+  -- A path refers to the same place as before if it has another root, if it is this path, or if it
+  -- doesn't continue from this path.
   elsewhere : (other : Path) (target : Place) (x : Value) → (other.origin ≡ l.path.origin → GoesOnAfter l.path.selectors other.selectors → ⊥) → path_value s other ≡ Some x → LeadsInImage h.pictured other target
       → LeadsInImage put.later other target
   elsewhere other target x apart there led = elim (put.leads other target x there led) [ inl g ↦ absurd (apart g.0 g.1) | inr k ↦ k ]
@@ -60,7 +60,7 @@ module _ {others : List Root} {types : Table} {constants : List Constant} (one :
   not_after_none x [] ys e = cc
   not_after_none x (z ∷ xs) ys e = cc
 
-  -- what is still known of a register is represented
+  -- what is still known of a register is true of the world after the call
   shown_by : (r : ℕ) (k : RegisterType) → ((b ≡ r) ⊎ ((class' : Class) (U : ℕ) → k ≡ RegisterType.Reference class' U → same_class (sharing class) (sharing class') ≡ false)) → Meets constants s k (register s r)
       → Shown h.pictured w r k (register s r)
       → Shown put.later (with_image w new) r k (register state_then r)

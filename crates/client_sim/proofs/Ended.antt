@@ -48,7 +48,7 @@ type_known {types = types} {constants = constants} {s = s} as_known b number T f
 module _ {others : List Root} {types : Table} {constants : List Constant} (one : OneEach constants) {first : Option (List ℕ)} {allocator : ℕ} {ks : RegisterTypes} {s : State} {w : World}
     (h : Shows others types constants first allocator ks s w) (class : Class) (ks' : RegisterTypes) (s' : State) (w' : World) (later : Pictures others s' w'.image) (Ends : Origin → Type 0)
     (within : (o : Origin) → Ends o → InClass constants class o) where
-  -- an unchanged register, if only paths of the class end
+  -- an unchanged register still has what is known of it, if only paths of the class end
   pub ended_shown : (r : ℕ) → known ks' r ≡ without_class (sharing class) (known ks r) → register s' r ≡ register s r → number_in w' r ≡ number_in w r → place_in w' r ≡ place_in w r → owns_in w' r ≡ owns_in w r
       → (Ends (Origin.Owned r) → ⊥) → Remains constants Ends ks ks' s s' w w' r ⊎ Shown later w' r (known ks' r) (register s' r)
   ended_shown r known_is register_is number_is place_is owns_is apart = by (known ks r) refl (h.shown r)

@@ -43,7 +43,7 @@ use Rattle.client_sim.proofs.Led.{led_put}
 use Rattle.client_sim.proofs.ItemNames.{names_map, insert_named, remove_named}
 use Rattle.client_sim.proofs.Items.{Reaches, reaches, led_to, code_acts, kept_number, kept_reference, part_lost, number_acts, reference_acts, opens_then}
 
--- the rows
+-- DELK and PUTK have these rows
 delete_row : (constants : List Constant) (a b c : ℕ) (number : ℤ) (room : Bool) (s : State) (path : Path) (key : ℤ) (keys : List ℤ) (vs : Values) → path_of s b ≡ Some path → integer_at s c ≡ Some key
     → (path_value s path >>= entries_in) ≡ Some (keys, vs)
     → effect constants Operation.DeleteKey a b c number room s ≡ option_map_or (λ i. give_count a 1 (put_at s path (without_entry (keys, vs) i))) (key_place keys key) (give_count a 0 s)
@@ -171,7 +171,7 @@ module _ (allocator : ℕ) (constants : List Constant) (role : Role) (a b c : �
       ∙ ap (λ y. if_absent y (block_for (map_words + size s.types V) ∷ [])) (sym e)
   form_asks h o e form U f = cc
 
-  -- a map after PUTK, by the position of the key
+  -- what PUTK leaves of a map, by the position of the key
   abbrev pub Puts : List ℕ → Form → ℕ → List ℤ → Values → List ℕ → ℕ → Option ℕ → Type 0
   Puts new form U keys vs blocks p None = AddsEntry new form U keys vs blocks p
   Puts new form U keys vs blocks p (Some j) = (new ≡ w.image) × Leads w.image w.table place (Selector.key key ∷ []) (record { at = p; type = U })
@@ -184,7 +184,7 @@ module _ (allocator : ℕ) (constants : List Constant) (role : Role) (a b c : �
     there_put : (path_value s r.its.path >>= entries_in) ≡ Some (keys, vs)
     there_put = ap (λ x. x >>= entries_in) r.its.there ∙ ap entries_in value_is
 
-    -- the requests, by the position of the key
+    -- PUTK has these requests, by the position of the key
     asks_by : (o : Option ℕ) → key_place keys key ≡ o → if_absent o (entry_asks r.form r.what) ≡ cell_asks Operation.PutKey constants (of Operation.PutKey) s w.image place.at r.form
     asks_by o e = form_asks h o (found_is (of Operation.PutKey) s r.its.path key keys vs r.path_is key_is there_put ∙ e) r.form r.what r.is
 

@@ -187,7 +187,7 @@ module _ (allocator : ℕ) (constants : List Constant) (role : Role) (a b c : �
       stands : Stands allocator w.image table (place_in w b) l.value l.found.blocks
       stands = subst (λ (ts : Table). Stands allocator w.image ts (place_in w b) l.value l.found.blocks) on_table l.stands
 
-      -- the object, and the other frozen objects
+      -- the object that becomes frozen, and the other frozen objects
       record Around : Type 0 where
         inside : List ℕ
         holds : HoldsRoot w.image table o.root (block_of (place_in w c).at ∷ inside)
@@ -218,7 +218,7 @@ module _ (allocator : ℕ) (constants : List Constant) (role : Role) (a b c : �
       form_here : form_at table (place_in w b).type ≡ Some (Form.shared f.held)
       form_here = ap (form_at table) l.type_is ∙ ap (λ (ts : Table). form_at ts f.type) (pictured.types ∙ sym same_types) ∙ f.form
 
-      -- the call's contract, here
+      -- the call's contract is true of the cell and the object
       of_call : (claim : Table → CellClaim) → OnCell allocator w.image w.table (place_in w b) object (claim w.table) → suc next < 2 ^ 32 → (x : Around) → claim table f.held l.value o.value l.found.blocks x.inside x.theirs frozen
       of_call claim call some x =
           let k = beside x in
@@ -387,7 +387,7 @@ module _ (allocator : ℕ) (constants : List Constant) (role : Role) (a b c : �
             let full_fits = value_of_form t.types f.type (Form.shared f.held) full f.form (shared_fits t.types (Form.shared f.held) f.held refl (replaced m o.value) shape) in
             agrees_release types constants one (others_ended f.class b ks) (put_at t l.path full) c (agrees_put_others types constants one f.class b f.type ks t h.as_known f.known_as refers full full_fits)
 
-        -- ---- references that are only read
+        -- ---- read-only references
 
         stay : StayNamed w.image new table frozen then_pictured.picture.frozen
         stay = record {

@@ -23,7 +23,7 @@ use Rattle.client_sim.specs.Shows.{FrozenStay, all_stay, some_go, some_shared, K
 use Rattle.client_sim.specs.Seeing.{value_place, LeadsFrozen, inside, through}
 use Rattle.client_sim.proofs.FrozenLeads.{of_part, of_cell}
 
--- each object is found by its position
+-- each frozen object is found by its position
 each_found : (fs : List Frozen) → AreDistinct fs → AllByRecursion (λ (f : Frozen). value_at_position fs f.at ≡ Some f.value) fs
 each_found [] d = tt
 each_found (f ∷ fs) d = (here, further fs d.0 (each_found fs d.1))
@@ -43,7 +43,7 @@ each_found (f ∷ fs) d = (here, further fs d.0 (each_found fs d.1))
     further [] a e = tt
     further (g ∷ gs) a e = (other g.at a.0 ∙ e.0, further gs a.1 e.1)
 
--- in two pictures of the same bytes
+-- two pictures of the same bytes
 module _ {others : List Root} {s : State} {bytes : List ℕ} (p q : Pictures others s bytes) where
   same_value : (n k : ℕ) (x : Place) (f g : Value) → IsBelow n p.picture.frozen x → value_at_position p.picture.frozen x.at ≡ Some f → IsBelow k q.picture.frozen x → value_at_position q.picture.frozen x.at ≡ Some g → f ≡ g
   same_value n k x f g b e c d =
@@ -61,7 +61,7 @@ pub record StayNamed (old new : List ℕ) (table : Table) (before after : List F
   pub value : (n : ℕ) (x : Place) (f : Value) → IsBelow n before x → IsBelow n after x → value_at_position after x.at ≡ Some f → value_at_position before x.at ≡ Some f
   pub paths : (n : ℕ) (x : Place) → IsBelow n before x → IsBelow n after x → (xs : List Selector) (target : Place) → Leads old table (value_place x) xs target → Leads new table (value_place x) xs target
 
--- counts don't matter
+-- a claim that doesn't depend on counts stays true when counts rise
 each_raised : (P : ℕ → ℕ → Value → Type 0) (p : ℕ) (fs : List Frozen) → AllByRecursion (λ (g : Frozen). P g.at g.type g.value) fs → AllByRecursion (λ (g : Frozen). P g.at g.type g.value) (raised p fs)
 each_raised P p [] a = tt
 each_raised P p (f ∷ fs) a = (one (f.at == p), each_raised P p fs a.1)
@@ -82,7 +82,7 @@ left_value before after gone names distinct distinct_then after_is n x v b e =
     let each = left_each (λ (g : Frozen). P g.at g.type g.value) (λ g k h. h) gone (raised_by names before) (each_raised_by P names before (each_found before distinct)) in
     at_name P n after x v distinct_then (subst (AllByRecursion (λ (g : Frozen). P g.at g.type g.value)) (sym after_is) each) b e
 
--- paths in one of the objects in which paths are kept
+-- paths in an object refer to the same places, if they do so in all of these objects
 pub paths_at : (old new : List ℕ) (table : Table) (n : ℕ) (x : Place) (fs : List Frozen) → KeepsFrozenPaths old new table fs → IsBelow n fs x
     → (xs : List Selector) (target : Place) → Leads old table (value_place x) xs target → Leads new table (value_place x) xs target
 paths_at old new table n x [] k b xs target leads = absurd b
@@ -92,7 +92,7 @@ paths_at old new table n x (f ∷ fs) k (inl b) xs target leads =
     subst (λ (y : Place). Leads new table y xs target) there (k.0 0 xs target (omega arith) (subst (λ (y : Place). Leads old table y xs target) (sym there) leads))
 paths_at old new table n x (f ∷ fs) k (inr b) xs target leads = paths_at old new table n x fs k.1 b xs target leads
 
--- the same, if no object becomes frozen
+-- a call that freezes no object
 module _ {others : List Root} {s s' : State} {old new : List ℕ} (before : Pictures others s old) (after : Pictures others s' new)
     (stays : FrozenStay before.picture.frozen after.picture.frozen) (paths : KeepsFrozenPaths old new before.picture.table after.picture.frozen) where
   stay_value : (n : ℕ) (x : Place) (f : Value) → IsBelow n after.picture.frozen x → value_at_position after.picture.frozen x.at ≡ Some f → value_at_position before.picture.frozen x.at ≡ Some f
@@ -112,7 +112,7 @@ module _ {others : List Root} {s s' : State} {old new : List ℕ} (before : Pict
 
 module _ {others : List Root} {s s' : State} {old new : List ℕ} (p before : Pictures others s old) (after p' : Pictures others s' new)
     (stays : StayNamed old new before.picture.table before.picture.frozen after.picture.frozen) (types : s'.types ≡ s.types) where
-  -- a cell refers to it in all of them
+  -- a cell refers to the object in each of the pictures
   pub record NamedStill (x : Place) : Type 0 where
     pub n : ℕ
     pub there : IsBelow n p.picture.frozen x

@@ -19,7 +19,7 @@ use Rattle.client_spec.proofs.UnfoldedValues.{value_at_replaced}
 use Rattle.client_sim.specs.Seeing.{LeadsFrozen, inside, through}
 use Rattle.client_sim.proofs.FrozenPlaces.{frozen_stands, frozen_means}
 
--- the selectors continue from there
+-- selecting along two paths is selecting along one after the other
 pub value_on : (xs ys : List Selector) (v w : Value) → value_at v xs ≡ Some w → value_at v (xs ++ ys) ≡ value_at w ys
 value_on [] ys v w e = ap (λ u. value_at u ys) (Some_inj e)
 value_on (x ∷ xs) ys v w e =
@@ -59,7 +59,7 @@ module _ (B : Place → Type 0) where
 
 -- ---- through shared cells
 
--- an existing part exists there too
+-- a part that a value has itself is also its part through shared cells
 part_so : (fs : List Frozen) (v w : Value) (x : Selector) → selected v x ≡ Some w → part_through fs v x ≡ Some w
 part_so fs (node (Label.shared T p) nil) w x e = none x e
   where

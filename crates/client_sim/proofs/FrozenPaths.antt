@@ -48,11 +48,11 @@ same_paths : (bytes : List ℕ) (table : Table) (fs : List Frozen) → KeepsFroz
 same_paths bytes table [] = tt
 same_paths bytes table (f ∷ fs) = ((λ i path target within leads. leads), same_paths bytes table fs)
 
--- in an unchanged image
+-- the same bytes keep all paths
 pub frozen_same_image : (bytes : List ℕ) (table : Table) (fs : List Frozen) → KeepsFrozen bytes bytes table fs fs
 frozen_same_image bytes table fs = record { stays = all_stay refl; paths = same_paths bytes table fs }
 
--- if paths from all their roots are kept
+-- paths in frozen objects are kept if paths from their roots are
 pub frozen_of_roots : (old new : List ℕ) (picture : Picture) → AllByRecursion (KeepsPaths old new picture.table) (frozen_roots picture) → KeepsFrozenPaths old new picture.table picture.frozen
 frozen_of_roots old new picture = each_of_map (KeepsPaths old new picture.table) root_of_frozen picture.frozen
 
@@ -132,7 +132,8 @@ module _ (allocator : ℕ) (old new : List ℕ) (table : Table) (valid : IsTable
         Leads-each old new table valid (item_of table root i) i o.values (items_nth table root.at root.type (count root.values) i within)
         (places-same old new table valid root.type _ (spaced-same old new root.at (size table root.type) (count root.values) values)) inside_kept l
 
-  -- the objects that remain after these cells were destroyed, with any counts
+  -- paths in the objects that remain after these cells were destroyed are kept, whatever their
+  -- counts
   left_paths : (theirs : ℕ → List ℕ) (gone : List Place) (fs gs : List Frozen) → Recounted fs gs → ((h : ℕ) → times h (blocks_by theirs fs) ≤ times h (positions (live old))) → HoldFrozen old table theirs fs
       → KeepFrozen old new theirs (left gone gs) → KeepsFrozenPaths old new table (left gone gs)
   left_paths theirs gone [] [] same owned hold keep = tt
@@ -152,7 +153,7 @@ module _ (allocator : ℕ) (old new : List ℕ) (table : Table) (valid : IsTable
       go zero without with_it k = without k
       go (suc n) without with_it k = (own_paths (with_count g (suc n)) (ap (λ (x : Frozen). with_count x (suc n)) same.0) k.0, with_it k.1)
 
--- the frozen objects of an image
+-- in an image, paths in the frozen objects that remain are kept, whatever their counts
 frozen_left_of : (old new : List ℕ) (picture : Picture) → IsHeld old picture → (theirs : ℕ → List ℕ) → HoldFrozen old picture.table theirs picture.frozen → (gone : List Place) (gs : List Frozen) → Recounted picture.frozen gs
     → KeepFrozen old new theirs (left gone gs) → KeepsFrozenPaths old new picture.table (left gone gs)
 frozen_left_of old new picture held theirs hold gone gs recounted keep =
@@ -168,7 +169,7 @@ pub frozen_left : (old new : List ℕ) (picture : Picture) → IsHeld old pictur
     → KeepsFrozenPaths old new picture.table (left gone picture.frozen)
 frozen_left old new picture held theirs hold gone keep = frozen_left_of old new picture held theirs hold gone picture.frozen (recounted_same picture.frozen) keep
 
--- and after other cells were added
+-- in an image, they are kept if other cells were added before
 pub frozen_left_shared : (old new : List ℕ) (picture : Picture) → IsHeld old picture → (theirs : ℕ → List ℕ) → HoldFrozen old picture.table theirs picture.frozen → (gone names : List Place)
     → KeepFrozen old new theirs (left gone (raised_by names picture.frozen)) → KeepsFrozenPaths old new picture.table (left gone (raised_by names picture.frozen))
 frozen_left_shared old new picture held theirs hold gone names keep =

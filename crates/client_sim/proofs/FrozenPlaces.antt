@@ -169,7 +169,7 @@ one_deeper : (n : ℕ) (frozen : List Frozen) (p : ℕ) (v : Value) → value_at
 unfolding meaning
 one_deeper n frozen p v e = ap (owner_by (λ u. replaced (meaning n frozen) u)) e
 
--- the copy is an owned one of the object's unfolded value
+-- the copy of a cell is an owned one of the object's unfolded value
 pub frozen_means : {others : List Root} {s : State} {bytes : List ℕ} (pictured : Pictures others s bytes) (n : ℕ) (q : Place) (f : Value)
     → IsBelow n pictured.picture.frozen q → value_at_position pictured.picture.frozen q.at ≡ Some f
     → meaning_in (word bytes next_word) pictured.picture q.at ≡ Full (replaced (meaning_in (word bytes next_word) pictured.picture) f)

@@ -88,7 +88,7 @@ module _ (bytes : List ℕ) (table : Table) where
       (its, subst (λ p. Holds bytes table p v its) same (subst (λ x. Holds bytes table place x its) value h))
   part_holds (suc j) part v (holds_more h hs) e f = part_holds j part v hs e f
 
-  -- it is the part of the place's value
+  -- the part's value is part of the place's value
   pub part_value : (place : Place) (j : ℕ) (gives : List ℕ) (p : PartBlocks bytes table place j gives) (label : Label) (vs : Values) (blocks : List ℕ) → Holds bytes table place (node label vs) blocks
       → (v : Value) → nth vs j ≡ Some v → v ≡ p.value
   part_value place j gives p label vs blocks (holds form opened inside owned form_is opens each v_is blocks_are) v there_is =

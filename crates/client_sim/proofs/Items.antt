@@ -57,7 +57,7 @@ use Rattle.client_sim.proofs.Granting.{grants_asks, given_back, gives_back, deni
 
 module _ {others : List Root} {types : Table} {constants : List Constant} (one : OneEach constants) {first : Option (List ℕ)} {allocator : ℕ} {ks : RegisterTypes} {s : State} {w : World}
     (h : Shows others types constants first allocator ks s w) where
-  -- the references of a class may end though nothing changes
+  -- if nothing changes, the world still represents the state after references of a class end
   pub shows_ended : (class : Class) (b : ℕ) → Shows others types constants first allocator (others_ended class b ks) s w
   shows_ended class b =
       let as_known = agrees_others types constants one class b ks s h.as_known in
@@ -133,7 +133,7 @@ module _ {others : List Root} {types : Table} {constants : List Constant} (one :
     pub led_to : LedTo constants i h.pictured (place_in w i.b) r.form
     led_to = record { path = r.its.path; path_is = r.path_is; stands = r.its.in_image; form_is = ap (form_at s.types) r.its.type_is ∙ r.machine_form }
 
-    -- an error code; nothing changed
+    -- register a gets an error code, and nothing else changes
     pub code_acts : (code : Answer) (room : Bool) (new : List ℕ) (n : ℕ) → new ≡ w.image → n ≡ answer_number code → i.a < 16 → is_owner (known known_then i.a) ≡ false
         → outcome constants i room s ≡ fail i.a code s → ChangesBlocks constants i h.pictured code w.image
         → Acts others types constants first allocator i code (slice_set known_then i.a RegisterType.Int) s w (with_number (with_image w new) i.a (pos n))
@@ -143,7 +143,7 @@ module _ {others : List Root} {types : Table} {constants : List Constant} (one :
         (subst (λ m. Acts others types constants first allocator i code (slice_set known_then i.a RegisterType.Int) s w (with_number w i.a (pos m))) (sym n_is)
         (refuses_with others types constants first allocator known_then s w (shows_ended r.class i.b) i code room i.a within free row blocks))
 
-    -- a number, or a reference to a part; nothing changed
+    -- register a gets a number, and nothing else changes
     pub kept_number : (n : ℤ) (new : List ℕ) → new ≡ w.image → i.a < 16 → is_owner (known known_then i.a) ≡ false → outcome constants i true s ≡ give i.a (Register.Int n) s → ChangesBlocks constants i h.pictured success w.image
         → Acts others types constants first allocator i success (slice_set known_then i.a RegisterType.Int) s w (with_number (with_image w new) i.a n)
     unfolding shows_ended
@@ -186,7 +186,7 @@ module _ {others : List Root} {types : Table} {constants : List Constant} (one :
       unfolding after
       frame_after = frame_changed one h i.b r.class r.type r.known_as r.its v shape new put front
 
-      -- and register a gets a number
+      -- in addition, register a gets a number
       pub number_acts : (n : ℤ) → i.a < 16 → is_owner (known known_then i.a) ≡ false → outcome constants i true s ≡ give i.a (Register.Int n) state_then → ChangesBlocks constants i h.pictured success new
           → Acts others types constants first allocator i success (slice_set known_then i.a RegisterType.Int) s w (with_number (with_image w new) i.a n)
       number_acts n within free row changes =
@@ -195,7 +195,7 @@ module _ {others : List Root} {types : Table} {constants : List Constant} (one :
           (shows_number others types constants first allocator known_then state_then (with_image w new) after i.a n within free)
           (frame_number others types constants first allocator known_then state_then (with_image w new) after i.a _ _ _ frame_after)
 
-      -- and register a gets a reference to a part of it
+      -- in addition, register a gets a reference to a part of the new value
       pub reference_acts : (x : Selector) (T : ℕ) (part : Value) (target : Place) → i.a < 16 → is_owner (known known_then i.a) ≡ false → part_type x r.form ≡ Some T → selected v x ≡ Some part → target.type ≡ T
           → Leads new w.table (place_in w i.b) (x ∷ []) target
           → outcome constants i true s ≡ refer i.a (extend r.its.path x) state_then → ChangesBlocks constants i h.pictured success new
@@ -257,7 +257,7 @@ module _ {others : List Root} {types : Table} {constants : List Constant} (one :
             let on_table = subst (λ (t : Table). (p : PartBlocks w.image t (place_in w i.b) j own) × FrozenGone w.image h.pictured.picture (names_in p.value) given) h.table_is (part, gone) in
             record { own = own; part = on_table.0; gives_are = (given, on_table.1, refl) }
 
--- the reference that an opener's rule tested, after the references of a class ended
+-- what an opener's rule has tested, if it also ends the references of a class
 module _ {others : List Root} {types : Table} {constants : List Constant} (one : OneEach constants) {first : Option (List ℕ)} {allocator : ℕ} {ks : RegisterTypes} {s : State} {w : World}
     (h : Shows others types constants first allocator ks s w) (class : Class) (b a : ℕ) where
   pub opens_then : (k : RegisterType) (good bad : RegisterTypes) → opens a k (others_ended class b ks) ≡ Ok (good, bad)
@@ -266,7 +266,7 @@ module _ {others : List Root} {types : Table} {constants : List Constant} (one :
 
 module _ {others : List Root} {types : Table} {constants : List Constant} (one : OneEach constants) {first : Option (List ℕ)} {allocator : ℕ} {ks : RegisterTypes} {s : State} {w : World}
     (h : Shows others types constants first allocator ks s w) where
-  -- the blocks freed with an item, by the form of the place
+  -- the item of a vector or list is what a pop destroys
   pub part_goes : (i : Instruction) (k : Form) (U : ℕ) (place : Place) (j : ℕ) (gives : List ℕ) → vec_or_list_item k ≡ Some U → PartGoes constants i h.pictured place j gives → PopGoes constants i h.pictured place k j gives
   part_goes i (Form.vec V) U place j gives e p = p
   part_goes i (Form.list V) U place j gives e p = p
@@ -302,7 +302,7 @@ no_first : (a : ℕ) (p : Path) (vs : Values) (s : State) → count vs ≡ 0 →
 no_first a p nil s none = refl
 no_first a p (cons v vs) s none = absurd (omega (arith, none))
 
--- the row of a pop at the front, with this knowledge of its operands
+-- POPF has this row at a list
 front_row : (constants : List Constant) (a b c : ℕ) (number : ℤ) (room : Bool) (s : State) (path : Path) (form : Form) (U : ℕ) (vs : Values) → path_of s b ≡ Some path → path_form s path ≡ Some form → list_item form ≡ Some U
     → (path_value s path >>= items_in) ≡ Some vs → effect constants Operation.PopFront a b c number room s ≡ pop_first a path vs s
 unfolding effect
@@ -311,7 +311,7 @@ front_row constants a b c number room s path form U vs is form_is item there =
     ∙ ap (λ x. x >>= λ _. (path_value s path >>= items_in) >>= λ vs. pop_first a path vs s) (ap (λ x. x >>= list_item) form_is ∙ item)
     ∙ ap (λ x. x >>= λ vs. pop_first a path vs s) there
 
--- the rows of pushes
+-- PUSHB and PUSHF have these rows
 back_row : (constants : List Constant) (a b c : ℕ) (number : ℤ) (room : Bool) (s : State) (path : Path) (form : Form) (U : ℕ) (vs : Values) → path_of s b ≡ Some path → path_form s path ≡ Some form → vec_or_list_item form ≡ Some U
     → (path_value s path >>= items_in) ≡ Some vs
     → effect constants Operation.PushBack a b c number room s ≡ with_room room a s (refer a (extend path (Selector.item (count vs))) (put_at s path (Seq (append vs (cons (default_of s.types U) nil)))))
@@ -336,7 +336,7 @@ pushed_row constants a b c number room s path form U vs is form_is item there =
 abbrev pub HoldsItems : Table → ℕ → ℕ → Type 0
 HoldsItems table T U = (form : Form) × (form_at table T ≡ Some form) × (vec_or_list_item form ≡ Some U)
 
--- a text lost its last byte, and has n bytes now
+-- the last byte of a text was removed, and n bytes remain
 pub record PopsByte (allocator : ℕ) (old new : List ℕ) (table : Table) (place : Place) (xs blocks : List ℕ) (n : ℕ) : Type 0 where
   pub some : 1 ≤ length xs
   pub n_is : n ≡ length xs - 1
@@ -363,14 +363,14 @@ module _ (allocator : ℕ) (constants : List Constant) (role : Role) (a b c : �
   abbrev place : Place
   place = place_in w b
 
-  -- for each text at the place, and then for all items there
+  -- a claim about each text at the place, and one about all items there
   abbrev pub EachText : (List ℕ → List ℕ → Type 0) → Type 0
   EachText claim = (xs blocks : List ℕ) → form_at w.table place.type ≡ Some Form.str → Stands allocator w.image w.table place (Text xs) blocks → claim xs blocks
 
   abbrev pub EachItems : (ℕ → Values → List ℕ → Type 0) → Type 0
   EachItems claim = (U : ℕ) (vs : Values) (blocks : List ℕ) → HoldsItems w.table place.type U → Stands allocator w.image w.table place (Seq vs) blocks → claim U vs blocks
 
-  -- the same for a list
+  -- a claim about each list at the place
   abbrev pub EachList : (ℕ → Values → List ℕ → Type 0) → Type 0
   EachList claim = (U : ℕ) (vs : Values) (blocks : List ℕ) → form_at w.table place.type ≡ Some (Form.list U) → Stands allocator w.image w.table place (Seq vs) blocks → claim U vs blocks
 
@@ -423,7 +423,7 @@ module _ (allocator : ℕ) (constants : List Constant) (role : Role) (a b c : �
       → ActsAs allocator constants role (of Operation.PopBack) w (with_number (with_image w new) a (pos n))
   pop_back_acts new n text items = lifted_acts refl (pop_back_plainly new n text items)
 
-  -- there was nothing to pop
+  -- POPB fails on an empty text, vector or list
   pub pop_back_refused : (new : List ℕ) (n : ℕ) → EachText (λ xs blocks. (length xs ≡ 0) × (new ≡ w.image) × (n ≡ 6)) → EachItems (λ U vs blocks. (count vs ≡ 0) × (new ≡ w.image) × (n ≡ 6))
       → IsRefusedAs allocator constants role (of Operation.PopBack) w (with_number (with_image w new) a (pos n))
   unfolding rule effect
@@ -452,7 +452,7 @@ module _ (allocator : ℕ) (constants : List Constant) (role : Role) (a b c : �
             (code_acts one h i r null_or_none true new n fails.1 fails.2 valid.a o.0 (row ∙ fails.0) refl),
       ))
 
-  -- the first item was removed
+  -- POPF removes the first item
   pub pop_front_acts : (new : List ℕ) (n : ℕ) → ((U : ℕ) (vs : Values) (blocks : List ℕ) → form_at w.table place.type ≡ Some (Form.list U) → (stands : Stands allocator w.image w.table place (Seq vs) blocks)
       → (v : Value) × (ws : Values) × (vs ≡ cons v ws) × PopsItem w.image new w.table place vs ws stands.home blocks 0 n)
       → ActsAs allocator constants role (of Operation.PopFront) w (with_number (with_image w new) a (pos n))
@@ -504,7 +504,7 @@ module _ (allocator : ℕ) (constants : List Constant) (role : Role) (a b c : �
   item_asks (Form.vec V) U = buffer_asks w.image place.at (size w.table U) (count_at w.image place.at + 1)
   item_asks form U = block_for (8 + size w.table U) ∷ []
 
-  -- the same for each form of the place
+  -- a claim about each vector or list at the place
   abbrev pub EachForm : (Form → ℕ → Values → List ℕ → Type 0) → Type 0
   EachForm claim =
       (form : Form) (U : ℕ) (vs : Values) (blocks : List ℕ) → form_at w.table place.type ≡ Some form → vec_or_list_item form ≡ Some U → Stands allocator w.image w.table place (Seq vs) blocks → claim form U vs blocks
@@ -520,11 +520,11 @@ module _ (allocator : ℕ) (constants : List Constant) (role : Role) (a b c : �
     front_asks (Form.list V) U e = ap (λ (t : Table). block_for (8 + size t U) ∷ []) h.table_is ∙ ap (λ n. block_for (8 + size s.types n) ∷ []) (sym (Some_inj e))
     front_asks k U e = cc
 
-    -- the default of a part
+    -- the default of a part's type is of that type
     default_fits : (t u : ℕ) (k : Form) (x : Selector) → form_at s.types t ≡ Some k → part_type x k ≡ Some u → HasShape s.types u (default_of s.types u)
     default_fits t u k x e f = let l = part_is_entry s.types h.as_known.typed.forms t u k x e f in default_has s.types h.as_known.typed.forms u l.0 l.1
 
-  -- a default item was added at the back
+  -- PUSHB adds a default item at the back
   pub push_back_acts : (new : List ℕ) (p T : ℕ) → EachForm (λ form U vs blocks. (U ≡ T) × PushesItem allocator w.image new w.table place U (append vs (cons (default_of w.table U) nil)) blocks (item_asks form U) (count vs) p)
       → ActsAs allocator constants role (of Operation.PushBack) w (with_place (with_image w new) a (record { at = p; type = T }))
   unfolding rule effect
@@ -551,7 +551,7 @@ module _ (allocator : ℕ) (constants : List Constant) (role : Role) (a b c : �
       (grants_asks constants i h.pictured allocator h.allocator_is (item_asks r.form r.what) (place, r.form, led_to one h i r, back_asks h r.form r.what r.is) new w.table place (Seq more) [] r.its.found.blocks pushed.others
       refl pushed.succeeds))))
 
-  -- there was no room for it
+  -- PUSHB fails if there is no room
   pub push_back_refused : (new : List ℕ) (n : ℕ) → EachForm (λ form U vs blocks. (n ≡ 2) × Refuses allocator w.image new (item_asks form U))
       → IsRefusedAs allocator constants role (of Operation.PushBack) w (with_number (with_image w new) a (pos n))
   unfolding rule effect
@@ -572,7 +572,7 @@ module _ (allocator : ℕ) (constants : List Constant) (role : Role) (a b c : �
             (denies constants i h.pictured allocator h.allocator_is (item_asks r.form r.what) (place, r.form, led_to one h i r, back_asks h r.form r.what r.is) w.image here)),
       ))
 
-  -- a default item was added at the front
+  -- PUSHF adds a default item at the front
   pub push_front_acts : (new : List ℕ) (p T : ℕ) → EachList (λ U vs blocks. (U ≡ T) × PushesItem allocator w.image new w.table place U (cons (default_of w.table U) vs) blocks (block_for (8 + size w.table U) ∷ []) 0 p)
       → ActsAs allocator constants role (of Operation.PushFront) w (with_place (with_image w new) a (record { at = p; type = T }))
   unfolding rule effect

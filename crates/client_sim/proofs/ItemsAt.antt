@@ -31,11 +31,11 @@ use Rattle.client_sim.proofs.SeeingReads.{FormRead, found_read_by, form_read, te
 use Rattle.seg_spec.specs.Shared.{replaced, replaced_each}
 use Rattle.client_spec.proofs.UnfoldedValues.{count_replaced}
 
--- for each text at register b's place
+-- a claim about each text at register b's place
 abbrev pub OfText : ℕ → ℕ → World → (List ℕ → Type 0) → Type 0
 OfText allocator b w claim = (xs blocks : List ℕ) → form_at w.table (place_in w b).type ≡ Some Form.str → Stands allocator w.image w.table (place_in w b) (Text xs) blocks → claim xs
 
--- for the items of each vector or list at register b's place, and their type
+-- a claim about the items of each vector or list at register b's place, and their type
 abbrev pub OfItems : ℕ → ℕ → World → (ℕ → Values → Type 0) → Type 0
 OfItems allocator b w claim = (form : Form) (U : ℕ) (vs : Values) (blocks : List ℕ) → form_at w.table (place_in w b).type ≡ Some form → vec_or_list_item form ≡ Some U
     → Stands allocator w.image w.table (place_in w b) (Seq vs) blocks → claim U vs
@@ -67,7 +67,7 @@ module _ (allocator : ℕ) (constants : List Constant) (role : Role) (a b c : �
       ∙ ap (λ (o : Option Value). o >>= λ v. item_of_value a p index v s) there
 
   module _ {types : Table} {others : List Root} {first : Option (List ℕ)} {ks : RegisterTypes} {s : State} (h : Shows others types constants first allocator ks s w) (good bad : RegisterTypes) where
-    -- what the rule has found
+    -- what the rule of AT has found
     record AtLed : Type 0 where
       class : Class
       type : ℕ
@@ -104,7 +104,7 @@ module _ (allocator : ℕ) (constants : List Constant) (role : Role) (a b c : �
       form_so : l.what ≡ RegisterType.Int → form_at w.table (place_in w b).type ≡ Some Form.str
       form_so is = l.its.form_is ∙ ap Some (str_is l.class l.its.form l.what l.its.is is)
 
-      -- the index is out of range
+      -- AT fails if the index is out of range
       none_at : a < 16 → (code : ℕ) → outcome constants at_of true s ≡ fail a out_of_range s → code ≡ answer_number out_of_range
           → (answer : Answer) × (answer ≢ success) × Acts others types constants first allocator at_of answer bad s w (with_number w a (pos code))
       none_at within code fails code_is =
@@ -168,7 +168,7 @@ module _ (allocator : ℕ) (constants : List Constant) (role : Role) (a b c : �
             none_at h good bad l valid.a code (row h good bad l (Seq v.1) v.3 ∙ ap (λ (o : Option ℕ). option_map_or (λ i. refer a (extend (path h good bad l) (Selector.item i)) s) o (fail a out_of_range s)) f.0) f.1
       ]
 
-  -- ---- through a reference that is only read
+  -- ---- through a read-only reference
 
   module _ {types : Table} {others : List Root} {first : Option (List ℕ)} {ks : RegisterTypes} {t : State} (h : Sees others types constants first allocator ks t w) (good bad : RegisterTypes) (x : Class) (T : ℕ)
       (known_is : known ks b ≡ RegisterType.Reference (Class.Frozen x) T) where

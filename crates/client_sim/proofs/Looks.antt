@@ -41,7 +41,7 @@ looks_of pictured = record {
   loose = pictured.loose;
 }
 
--- the same with other frozen objects
+-- the same look with other frozen objects
 abbrev pub looks_with : {others : List Root} {s : State} → List Frozen → Looks others s → Looks others s
 looks_with frozen looks = record {
   picture = record looks.picture { frozen = frozen };
@@ -53,7 +53,7 @@ looks_with frozen looks = record {
   loose = looks.loose;
 }
 
--- the same with the frozen objects that remain after these cells were destroyed
+-- the same look with the frozen objects that remain after these cells were destroyed
 abbrev pub looks_left : {others : List Root} {s : State} → List Place → Looks others s → Looks others s
 looks_left gone looks = looks_with (left gone looks.picture.frozen) looks
 

@@ -69,7 +69,7 @@ order_swapped xs ys = record {
 pub order_under : (x : Root) {ys zs : List Root} → Reorders ys zs → Reorders (x ∷ ys) (x ∷ zs)
 order_under x o = order_joined (order_same {xs = x ∷ []} refl) o
 
--- one root is moved to the front, and back
+-- moving one root to the front reorders the roots
 pub order_first : (before : List Root) (x : Root) (after : List Root) → Reorders (before ++ x ∷ after) (x ∷ (before ++ after))
 order_first before x after = order_then (order_same (sym (append_assoc before (x ∷ []) after))) (order_joined (order_swapped before (x ∷ [])) (order_same {xs = after} refl))
 
@@ -79,12 +79,12 @@ order_back before x after = order_then (order_joined (order_swapped (x ∷ []) b
 pub order_exchanged : (x y : Root) (rest : List Root) → Reorders (x ∷ (y ∷ rest)) (y ∷ (x ∷ rest))
 order_exchanged x y rest = order_first (x ∷ []) y rest
 
--- the owners, and then the frozen objects
+-- the roots of a picture are the owners, and then the frozen objects
 pub roots_split : (picture : Picture) → roots_of picture ≡ owners_in picture ++ frozen_roots picture
 roots_split picture = simp append_assoc
 
 module _ (picture : Picture) (root : Root) (some rest : List Root) where
-  -- the owners among `some` or `rest`
+  -- an order of the owners gives one of all roots, with the frozen objects among `some`
   pub frozen_first : Reorders (owners_in picture) (root ∷ (some ++ rest)) → Reorders (roots_of picture) (root ∷ ((some ++ frozen_roots picture) ++ rest))
   frozen_first o =
       let frozen = frozen_roots picture in
@@ -187,7 +187,7 @@ module _ (old : List ℕ) (picture : Picture) (held : IsHeld old picture) (root 
         | inr (inr far) ↦ absurd (omega (arith, far, s.inside.low, s.inside.high, p.lies_in.low, p.lies_in.high))
       ]
 
-  -- other roots have other blocks
+  -- the place and the other roots have no common block
   pub beside_others : (allocator : ℕ) (s : Stands allocator old table q v blocks) (h : ℕ) → times h (s.home ∷ blocks) + times h some_blocks ≤ times h (positions (live old))
   beside_others allocator s h =
       elim (cases_eq s.home h) [
@@ -246,14 +246,15 @@ module _ (root : Root) (j : ℕ) (item : Value) (item_is : nth root.values j ≡
   pub other_cells : List Root → List Place
   other_cells rest = beside_part root j item item_is path v value_is ++ cells_in rest
 
-  -- the cells of all owners are these, and those of the place and of some owners
+  -- the cells of all owners are the cells of the place, of some owners, and the others
   pub names_now : (picture : Picture) (some rest : List Root) → Reorders (owners_in picture) (root ∷ (some ++ rest)) → SameNames (cells_in (owners_in picture)) ((names_in v ++ cells_in some) ++ other_cells rest)
   unfolding other_cells
   names_now picture some rest now =
       let around = beside_part root j item item_is path v value_is in
       names_then now.cells (names_then (names_joined (root_names root j item item_is path v value_is) (names_same (cells_append some rest))) (names_between (names_in v) around (cells_in some) (cells_in rest)))
 
-  -- and after the place has another value
+  -- after the place gets another value, the cells of all owners are the cells of the new value, and
+  -- the others
   pub names_after : (other : Picture) (come rest : List Root) (w : Value) → Reorders (with_item root j (with_value_at path w) ∷ (come ++ rest)) (owners_in other)
       → SameNames ((names_in w ++ cells_in come) ++ other_cells rest) (cells_in (owners_in other))
   unfolding other_cells
@@ -262,7 +263,7 @@ module _ (root : Root) (j : ℕ) (item : Value) (item_is : nth root.values j ≡
       names_then (names_between (names_in w) (cells_in come) around (cells_in rest))
       (names_then (names_joined (root_names_then root j item item_is path v value_is w) (names_same (sym (cells_append come rest)))) then.cells)
 
-  -- some owners and a place are replaced, and these cells are destroyed
+  -- after some owners and a place are replaced, and these cells destroyed, the objects are counted
   pub counted_moved : (next : ℕ) (picture other : Picture) (some come rest : List Root) (w : Value) → Reorders (owners_in picture) (root ∷ (some ++ rest))
       → Reorders (with_item root j (with_value_at path w) ∷ (come ++ rest)) (owners_in other)
       → (gone : List Place) → SameNames (names_in v ++ cells_in some) (gone ++ (names_in w ++ cells_in come)) → other.frozen ≡ left gone picture.frozen → AreCounted next picture → AreCounted next other

@@ -149,7 +149,7 @@ module _ {others : List Root} {s : State} {bytes : List ℕ} (pictured : Picture
     abbrev looks : Looks others (put_origin (set_register s c Register.Undefined) path.origin (change f.whole))
     looks = looks_with final (b.found.puts change).later
 
-    -- the owners, with the changed cell
+    -- the owners now have the changed cell
     owners : Reorders (changed ∷ rest) (owners_in looks.picture)
     owners =
         let found = b.found in

@@ -75,7 +75,7 @@ put_order s c x (Origin.Owned q) v far =
 -- ---- the object of another register
 
 module _ {others : List Root} {s : State} {bytes : List ℕ} (pictured : Pictures others s bytes) {path : Path} {place : Place} (led : LeadsInImage pictured path place) (v : Value) (f : PlaceFound pictured led v) where
-  -- without it the path has the same root, which is another owner
+  -- after the object of register c is removed, the path has the same root, which isn't that object
   pub record OwnedBeside (c : ℕ) (root : Root) : Type 0 where
     pub without : Without (looks_of pictured) c root
     pub found : RootFound without.later path.origin led.root led.item f.whole
@@ -109,7 +109,7 @@ module _ {others : List Root} {s : State} {bytes : List ℕ} (pictured : Picture
     pub leads : (other : Path) (target : Place) (x : Value) → path_value s other ≡ Some x → LeadsInImage pictured other target
         → Ends other.origin ⊎ (((other.origin ≡ path.origin) × GoesOnAfter path.selectors other.selectors) ⊎ LeadsInImage later other target)
 
-  -- and no object became frozen
+  -- the same, and no object became frozen
   pub record Moved (s' : State) (Ends : Origin → Type 0) : Type 0 where
     pub to : MovedPaths s' Ends
     pub stays : KeepsFrozen bytes new pictured.picture.table pictured.picture.frozen to.later.picture.frozen
@@ -134,7 +134,7 @@ module _ {others : List Root} {s : State} {bytes : List ℕ} (pictured : Picture
       (o : Origin) (r : Root) (i : ℕ) → root_in (looks_of pictured) o ≡ Some (r, i)
       → Ends o ⊎ (((r ≡ led.root) × (i ≡ led.item → o ≡ path.origin) × (root_in looks o ≡ Some (changed, i))) ⊎ (KeepsPaths bytes new table r × (root_in looks o ≡ Some (r, i))))
 
-  -- if the roots are still there, paths refer to the same places
+  -- paths whose roots are still there refer to the same places
   pub leads_then : {s' : State} (looks : Looks others s') (held : IsHeld new looks.picture) (counted : AreCounted (word new next_word) looks.picture) (Ends : Origin → Type 0) → looks.picture.table ≡ table
       → KeepsPathsBeside bytes new table led.root led.item path.selectors → BeginsThen looks Ends
       → (other : Path) (target : Place) (x : Value) → path_value s other ≡ Some x → LeadsInImage pictured other target

@@ -72,7 +72,7 @@ module _ {others : List Root} {types : Table} {constants : List Constant} (one :
         | inr f ↦ f ∙ ap (with_owned t) e ∙ with_owned_none t x none
       ]
 
-  -- of a register the same is known as before, or nothing, and no path from it ends
+  -- the same or less is known of the register, and no path from it ends
   pub record StillKnown (r : ℕ) (k : RegisterType) : Type 0 where
     pub apart : (b ≡ r) ⊎ ((class' : Class) (U : ℕ) → k ≡ RegisterType.Reference class' U → same_class (sharing class) (sharing class') ≡ false)
     pub goes_on : (o : Origin) → BeginsFrom constants r k o → Ends o → ⊥
@@ -129,7 +129,7 @@ module _ {others : List Root} {types : Table} {constants : List Constant} (one :
     shown_beside k' (inl p) = subst (λ k. Shown m.later w' r k (register moved_then r)) (sym p.0) (owners ∙ unowned (known ks r) p.1 (h.shown r))
     shown_beside k' (inr p) = subst (λ k. Shown m.later w' r k (register moved_then r)) (sym p.0) (shown_known (known ks r) p.1 (h.as_known.each r) (h.shown r))
 
-  -- the world afterwards, with other knowledge of register a
+  -- the world represents the state after the move
   pub shows_moved : (k : RegisterType) (ks' : RegisterTypes) (owns : Bool) (positions type_ids : List ℕ) → a < 16 → length ks' ≡ 16 → length positions ≡ 17 → length type_ids ≡ 17
       → ((r : ℕ) → a ≢ r → place_in (with_owning w new a owns positions type_ids) r ≡ place_in w r)
       → KeepsFront w.image new → IsAsKnown types constants (slice_set ks' a k) moved_then
@@ -202,14 +202,14 @@ module _ {others : List Root} {types : Table} {constants : List Constant} (one :
       by (RegisterType.Owner U) = inr (refl, (λ d V e. cc))
       by (RegisterType.Reference c U) = choose (same_class (sharing class) (sharing c)) c U refl
 
-  -- if only paths into the old value of the place end
+  -- the registers stay known if only paths into the place's old value end
   pub stays_put : ((o : Origin) → Ends o → ⊥) → (r : ℕ) → Stays r (known ks r) (known known_put r)
   stays_put none r = elim (ended_or_apart r) [
     | inl p ↦ inl p
     | inr p ↦ inr (p.0, record { apart = p.1; goes_on = λ o begins ends. none o ends })
   ]
 
-  -- and if the paths from the register end too
+  -- the registers stay known if the paths from register a end too
   pub stays_released : ((o : Origin) → Ends o → o ≡ Origin.Owned a) → (r : ℕ) → a ≢ r → Stays r (known ks r) (known (ended (Class.Register a) known_put) r)
   stays_released its r far =
       let at : known (ended (Class.Register a) known_put) r ≡ without_class (Class.Register a) (known known_put r) = known_ended (Class.Register a) known_put r in

@@ -58,8 +58,8 @@ use Rattle.client_sim.proofs.Rooted.{BeginsFrom, KeepsRoots, Remains, SameBeside
 
 -- ---- contracts of calls
 
--- a call's contract for each picture of the world's image with counted frozen objects, and for the
--- proof that the image has it
+-- A claim about each picture of the world's image whose frozen objects are counted, and about the
+-- proof that the image has it.
 abbrev pub OfHeld : (allocator : ℕ) (w : World) → ((p : Picture) → IsHeld w.image p → Type 0) → Type 0
 OfHeld allocator w P = (picture : Picture) (held : IsHeld w.image picture) → AreCounted (word w.image next_word) picture → w.table ≡ picture.table → word w.image allocator_word ≡ allocator → P picture held
 
@@ -130,7 +130,7 @@ uncounted (pos n) h = choose (nat_lt 0 n) (nat_le n 65535) refl refl
     choose true false f g = ap (λ p. if p && nat_le n 65535 then Some n else None) f ∙ ap (λ q. if true && q then Some n else None) g
     choose false q f g = ap (λ p. if p && nat_le n 65535 then Some n else None) f
 
--- there is no object of this name, or it has another type
+-- if KILL destroys nothing, there is no object of this name, or it has another type
 why_kept : (T : ℕ) (o : Option Root) → killed o T ≡ None → (o ≡ None) ⊎ ((root : Root) × (o ≡ Some root) × ((root.type == T) ≡ false))
 why_kept T None e = inl refl
 why_kept T (Some root) e = choose (root.type == T) refl e
@@ -163,7 +163,7 @@ module _ {others : List Root} {types : Table} {constants : List Constant} {first
   pub of_held : (P : (p : Picture) → IsHeld w.image p → Type 0) → OfHeld allocator w P → P h.pictured.picture h.pictured.held
   of_held P f = f h.pictured.picture h.pictured.held h.pictured.counted (h.table_is ∙ sym h.pictured.types) h.allocator_is
 
-  -- nothing is known any more of the references of a class, whose paths may end
+  -- after the references of a class end, nothing is known of registers whose paths may end
   pub class_ends : (one : OneEach constants) (class : Class) (Ends : Origin → Type 0) → ((o : Origin) → Ends o → InClass constants class o) → ((r : ℕ) → InClass constants class (Origin.Owned r) → ⊥)
       → (s' : State) (w' : World) → s'.registers ≡ s.registers → w'.numbers ≡ w.numbers → w'.positions ≡ w.positions → w'.type_ids ≡ w.type_ids → w'.owns ≡ w.owns → (later : Pictures others s' w'.image) (r : ℕ)
       → Remains constants Ends ks (ended (sharing class) ks) s s' w w' r ⊎ Shown later w' r (known (ended (sharing class) ks) r) (register s' r)
@@ -191,7 +191,7 @@ module _ {others : List Root} {types : Table} {constants : List Constant} {first
           choose false g = inl (stays (RegisterType.Reference c T) e (ap (λ t. if t then RegisterType.Undefined else RegisterType.Reference c T) g)
               (λ o b x. origins_apart constants one class c o o g (ending o x) b refl))
 
-  -- the client's types are the first of the world's
+  -- the client's types are the first types of the world
   pub in_table : {T : ℕ} → AreRight types constants → T < length types → T < length w.table
   in_table {T} right below =
       let f = item_below types T below in
@@ -200,7 +200,7 @@ module _ {others : List Root} {types : Table} {constants : List Constant} {first
   registers_then : (new : List ℕ) → HasRegisters (with_image w new)
   registers_then new = record { numbers = h.registers.numbers; positions = h.registers.positions; type_ids = h.registers.type_ids; owns = h.registers.owns }
 
-  -- all knowledge stays, if no path ends
+  -- if no path ends, all knowledge stays true
   pub all_stays : (s' : State) (new : List ℕ) (later : Pictures others s' new) → KeepsRoots h.pictured later (λ o. ⊥) → KeepsFront w.image new → IsAsKnown types constants ks s' → s'.registers ≡ s.registers
       → SameBesides w (with_image w new) s s' → (shows : Shows others types constants first allocator ks s' (with_image w new)) × (shows.pictured ≡ later)
   all_stays s' new later keeps front as_known registers besides =
@@ -216,7 +216,7 @@ module _ {others : List Root} {types : Table} {constants : List Constant} {first
         pictured_rooted h ks s' (with_image w new) later (λ o. ⊥) keeps front as_known h.sixteen (registers_then new) besides each,
       )
 
-  -- all knowledge stays, except for references of a class
+  -- if paths of a class end, all other knowledge stays true
   pub all_but_class : (one : OneEach constants) (class : Class) (Ends : Origin → Type 0) → ((o : Origin) → Ends o → InClass constants class o) → ((r : ℕ) → InClass constants class (Origin.Owned r) → ⊥)
       → (s' : State) (new : List ℕ) (later : Pictures others s' new) → KeepsRoots h.pictured later Ends → KeepsFront w.image new → IsAsKnown types constants (ended (sharing class) ks) s' → s'.registers ≡ s.registers
       → SameBesides w (with_image w new) s s' → Shows others types constants first allocator (ended (sharing class) ks) s' (with_image w new)
@@ -250,7 +250,7 @@ module _ {others : List Root} {types : Table} {constants : List Constant} {first
   abbrev path : Path
   path = path_from (Origin.Name bytes 0)
 
-  -- the knowledge with the new object
+  -- what was known stays true with the new object
   known_then : (n : ℕ) → 1 ≤ n → root_named h.pictured.picture.names bytes ≡ None → IsAsKnown types constants ks (state_then n)
   known_then n some missing =
       let d = default_of s.types T in
@@ -306,7 +306,7 @@ module _ {others : List Root} {types : Table} {constants : List Constant} {first
       (frame_number others types constants first allocator ks s (with_image w new) shows.0 a _ _ _
       (subst (λ p. Frame ks w (with_image w new) h.pictured p) (sym shows.1) (record { frozen = stays.stays; unknown = unknown_same ks s s w new refl }))))
 
-  -- an error code; nothing changed
+  -- register a gets an error code, and nothing else changes
   pub refused : (answer : Answer) (code : ℕ) → code ≡ answer_number answer → new ≡ w.image → outcome constants i true s ≡ fail a answer s → ChangesBlocks constants i h.pictured answer w.image
       → Acts others types constants first allocator i answer (slice_set ks a RegisterType.Int) s w (with_number (with_image w new) a (pos code))
   refused answer code code_is same row blocks =
@@ -353,7 +353,7 @@ module _ {others : List Root} {types : Table} {constants : List Constant} {first
       (shows_number others types constants first allocator (ended (sharing class) ks) state_after (with_image w new) shows a (pos 1) within free)
       (frame_number others types constants first allocator _ state_after (with_image w new) shows a _ _ _ (frame_but_class h one class paths_end _ _ state_after new goes.later goes.keeps m.front known_now _ _ goes.stays))
 
-  -- there was no such object; references end nevertheless
+  -- if there is no such object, KILL gives 0, and the references end nevertheless
   pub not_lost : outcome constants i true s ≡ give_count a 0 s → ChangesBlocks constants i h.pictured success w.image
       → Acts others types constants first allocator i success (slice_set (ended (sharing class) ks) a RegisterType.Int) s w (with_number w a (pos 0))
   not_lost row blocks =
@@ -399,7 +399,7 @@ module _ (allocator : ℕ) (constants : List Constant) (role : Role) (a b c : �
       ∙ ap (λ o. if_absent o (object_asks w.image s.types (type_operand number) n bytes)) none
       ∙ ap (λ t. object_asks w.image s.types t n bytes) type_is)
 
-  -- there are no requests if there is one
+  -- if there is an object of the name, there are no requests
   asks_none : (operation : Operation) (s : State) (n : ℕ) (o : Object) → name_operand constants (on operation) s ≡ Some bytes → new_count operation (on operation) s ≡ Some n → s.names bytes ≡ Some o
       → [] ≡ named_asks constants (on operation) s w.image
   asks_none operation s n o name_is count_is there =
@@ -618,7 +618,7 @@ module _ (allocator : ℕ) (constants : List Constant) (role : Role) (a b c : �
   kill_row s name_is type_is =
       ap (λ (o : Option (List ℕ)). o >>= λ name. destroy_object a name (type_operand number) (s.names name) s) name_is ∙ ap (λ t. destroy_object a bytes t (s.names bytes) s) type_is
 
-  -- the blocks that are freed
+  -- the blocks that KILL frees
   given_back : (operation : Operation) {others : List Root} {s : State} (pictured : Pictures others s w.image) → name_operand constants (on operation) s ≡ Some bytes → type_operand number ≡ T → (o : Option Root)
       → killed (root_named pictured.picture.names bytes) T ≡ o → (gives : List ℕ) → NamedGoes constants (on operation) pictured o gives
       → NamedGoes constants (on operation) pictured (name_operand constants (on operation) s >>= λ name. killed (root_named pictured.picture.names name) (type_operand number)) gives
@@ -655,7 +655,7 @@ module _ (allocator : ℕ) (constants : List Constant) (role : Role) (a b c : �
       } in
       subst (λ z. Acts others types constants first allocator i success z s w (with_number (with_image w new) a (pos 1))) (sym g.1) (lost right h a k T bytes n.by valid.a g.0 i new m row blocks))
 
-  -- no object of the name has the type
+  -- if no object of the name has the type, KILL gives 0
   pub kill_none_acts : OfHeld allocator w (λ p held. killed (root_named p.names bytes) T ≡ None) → ActsAs allocator constants role (on Operation.Kill) w (with_number w a (pos 0))
   unfolding rule
   kill_none_acts says = lifted_acts refl (λ types others first ks good bad s right valid e h.

@@ -60,7 +60,7 @@ precedes_later : (a : List ℕ) (before : List Root) (root : Root) (after : List
 precedes_later a [] root after h = h.0
 precedes_later a (r ∷ before) root after h = precedes_later a before root after (ascending_skips a r (before ++ root ∷ after) h)
 
--- so no other root has the same name
+-- if names ascend, no later root has the first name
 none_after : (a : List ℕ) (roots : List Root) → AreAscending (a ∷ names_in_order roots) → first_of (is_named a) roots ≡ None
 none_after a [] h = refl
 none_after a (r ∷ roots) h =
@@ -78,7 +78,7 @@ none_behind : (before : List Root) (root : Root) (after : List Root) → AreAsce
 none_behind [] root after h = none_after root.name after h
 none_behind (r ∷ before) root after h = none_behind before root after (ascending_rest r.name (before ++ root ∷ after) h)
 
--- neither part has such a root, exactly if the whole has none
+-- if no root of either part passes a test, none of the whole does
 none_joined : (test : Root → Bool) (before after : List Root) → first_of test before ≡ None → first_of test after ≡ None → first_of test (before ++ after) ≡ None
 none_joined test [] after e f = f
 none_joined test (r ∷ before) after e f = choose (test r) (none_joined test before after) e
@@ -98,7 +98,7 @@ none_in_front test (r ∷ before) after e = choose (test r) (none_in_front test 
 
 -- ---- roots of paths
 
--- at an owner
+-- the root of a path is an owner
 pub origin_among : {others : List Root} {s : State} {bytes : List ℕ} (pictured : Pictures others s bytes) (o : Origin) (r : Root) (i : ℕ) → root_at pictured o ≡ Some (r, i) → Among (owners_in pictured.picture) r
 origin_among pictured (Origin.Name m k) r i h =
     let p = root_of_pair (root_named pictured.picture.names m) k r i h in
@@ -225,7 +225,7 @@ module _ {others : List Root} {s : State} {old : List ℕ} (pictured : Pictures 
   abbrev pub state_without : State
   state_without = record s { names = with_name s.names name None }
 
-  -- paths from its items end
+  -- the origins of paths that end: the items of the removed object
   abbrev pub EndsAt : Origin → Type 0
   EndsAt o = (item : ℕ) × (o ≡ Origin.Name name item)
 

@@ -20,7 +20,7 @@ use Rattle.client_sim.proofs.OwnedRoots.{owned_split}
 use Rattle.client_sim.proofs.RootPuts.{root_of_pair}
 use Rattle.client_sim.proofs.Owning.{free_seat, taken_seat}
 
--- four parts before the last
+-- five lists are appended, grouped from the right or from the left
 parts : (a b c d e : List Root) → a ++ (b ++ (c ++ (d ++ e))) ≡ (a ++ (b ++ (c ++ d))) ++ e
 parts a b c d e = simp append_assoc
 
@@ -36,7 +36,7 @@ found_in {s = s} looks later Ends names uniques owned (Origin.Owned q) r i e =
 module _ {others : List Root} {s : State} (looks : Looks others s) where
   -- ---- one is removed
 
-  -- the register owns nothing, and each path from elsewhere has the same root
+  -- register c owns nothing, and paths that begin elsewhere have the same roots
   pub record Without (c : ℕ) (root : Root) : Type 0 where
     pub left : List Root
     pub right : List Root
@@ -85,7 +85,7 @@ module _ {others : List Root} {s : State} (looks : Looks others s) where
 
   -- ---- one is added
 
-  -- the register owns an object, and each path has the same root
+  -- register a owns an object, and all paths have the same roots
   pub record With (a : ℕ) (v : Value) (t : ℕ) (root : Root) : Type 0 where
     pub left : List Root
     pub right : List Root

@@ -31,7 +31,7 @@ use Rattle.client_sim.proofs.Placed.{PlaceFound}
 use Rattle.client_sim.proofs.MovedPlaces.{frozen_first, roots_split, beside_others}
 use Rattle.client_sim.proofs.MovingOwned.{owned_beside}
 
--- the blocks of a root, among those of all roots
+-- a root's blocks are among those of all roots
 root_among : (bytes : List ℕ) (table : Table) (roots : List Root) (xs : List ℕ) (root : Root) → HoldsRoots bytes table roots xs → Among roots root
     → (its : List ℕ) × HoldsRoot bytes table root its × ((h : ℕ) → times h its ≤ times h xs)
 root_among bytes table roots xs root holds a =
@@ -132,7 +132,7 @@ module _ {others : List Root} {types : Table} {constants : List Constant} {first
         no_words = plain.no_words;
       }
 
-  -- it is apart from the value at a place of another root
+  -- the object has no block in common with the value at a place of another root
   pub owns_apart : (U : ℕ) (o : OwnsHere U) {path : Path} {place : Place} {v : Value} (led : LeadsInImage h.pictured path place) (f : PlaceFound h.pictured led v) → path.origin ≢ Origin.Owned c
       → (stands : Stands allocator w.image h.pictured.picture.table place v f.blocks)
       → (inside : List ℕ) × HoldsRoot w.image h.pictured.picture.table o.root (block_of o.root.at ∷ inside) × IsLoose w.image h.pictured.picture.table (record { at = o.root.at; type = o.root.type }) o.value inside

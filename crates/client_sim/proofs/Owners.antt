@@ -166,7 +166,7 @@ module _ {others : List Root} {types : Table} {constants : List Constant} (one :
         let far = owner_apart h b T r is o in
         record { register_is = set_beside s.registers b r Register.Undefined Register.Undefined far; place_is = refl; owns_is = set_beside w.owns b r false false far })
 
-  -- the root of a register's object, from a path into it
+  -- an empty path from a register's object refers to its root
   pub owned_root : (b : ℕ) (place : Place) → LeadsInImage h.pictured (path_from (Origin.Owned b)) place → (root : Root) × (root_of_register s.registers h.pictured.owned b ≡ Some root) × (root.at ≡ place.at)
   owned_root b place led =
       let p = root_of_pair (root_of_register s.registers h.pictured.owned b) 0 led.root led.item led.begins in
@@ -208,7 +208,7 @@ module _ {others : List Root} {types : Table} {constants : List Constant} {first
   pub holds_same : (root : Root) (blocks : List ℕ) → HoldsRoot w.image w.table root blocks → HoldsRoot w.image h.pictured.picture.table root blocks
   holds_same root blocks holds = subst (λ (t : Table). HoldsRoot w.image t root blocks) table_same holds
 
-  -- after one was added
+  -- adding a root keeps the paths from all others
   pub paths_with : {other : Picture} (new : List ℕ) → LeavesPicture w.image new other [] → AllByRecursion (KeepsPaths w.image new h.pictured.picture.table) (owners_in h.pictured.picture)
   paths_with new c = all_paths w.image new h.pictured.picture h.pictured.held [] c.kept (λ n. omega arith)
 
@@ -233,7 +233,7 @@ module _ {others : List Root} {types : Table} {constants : List Constant} {first
       frozen_left w.image new h.pictured.picture h.pictured.held c.theirs (shared_same c.theirs other.frozen same c.holds_shared) (names_each root.values)
       (subst (λ fs. KeepFrozen w.image new c.theirs (left (names_each root.values) fs)) same c.shared_kept)
 
-  -- the blocks freed with it
+  -- the frozen objects that are freed with it
   pub gone_with : {other : Picture} (new : List ℕ) (root : Root) → other.frozen ≡ h.pictured.picture.frozen → (c : LeavesWithout w.image new w.table root other)
       → FrozenGone w.image h.pictured.picture (names_each root.values) (blocks_by c.theirs (freed (names_each root.values) other.frozen))
   gone_with {other = other} new root same c = record {
@@ -246,7 +246,7 @@ module _ (allocator : ℕ) (constants : List Constant) (role : Role) (a b c : �
   abbrev of : Operation → Instruction
   of operation = record { operation = operation; a = a; b = b; c = c; number = number }
 
-  -- a register gets a new object
+  -- NEW gives register a a new object
   pub new_acts : (T at : ℕ) → ((n : ℕ) → number ≡ pos n → T ≡ n % 256) → OfPicture allocator w (λ p. T < length w.table → JoinsLoose allocator w.image new w.table p T at)
       → ActsAs allocator constants role (of Operation.New) w (with_owner w new a (record { at = at; type = T }))
   unfolding rule effect
@@ -278,7 +278,7 @@ module _ (allocator : ℕ) (constants : List Constant) (role : Role) (a b c : �
       (acts_so others types constants first allocator ks s w h i success true (slice_set ks a (RegisterType.Owner T)) (set_register s a (Register.Owner d T)) (with_owner w new a place) row blocks
       alone.length_kept alone.front_kept refl shows (frame_owning one h a within g.0 d place fits root refl refl new come alone.front_kept)))
 
-  -- there is no room for one
+  -- NEW fails if there is no room
   pub new_refused : (T code : ℕ) → ((n : ℕ) → number ≡ pos n → T ≡ n % 256) → OfPicture allocator w (λ p. T < length w.table → (code ≡ answer_number bad_alloc) × Refuses allocator w.image new (block_for (size w.table T) ∷ []))
       → IsRefusedAs allocator constants role (of Operation.New) w (with_number (without_owner w new a) a (pos code))
   unfolding rule effect
@@ -301,7 +301,7 @@ module _ (allocator : ℕ) (constants : List Constant) (role : Role) (a b c : �
             (refuses_with others types constants first allocator ks s w h i bad_alloc false a valid.a g.0 row blocks)),
       ))
 
-  -- the object of register b is destroyed
+  -- DROP destroys the object of register b
   pub drop_acts : OfPicture allocator w (LeavesLoose w.image new w.table (place_in w b).at) → ActsAs allocator constants role (of Operation.Drop) w (without_owner w new b)
   unfolding rule effect
   drop_acts says = lifted_acts refl (λ types others first ks good bad s right valid e h.

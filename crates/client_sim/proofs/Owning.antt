@@ -167,7 +167,7 @@ module _ {others : List Root} {s : State} {old : List ℕ} (pictured : Pictures 
       let p = root_of_pair (root_of_register s.registers pictured.owned r) 0 root item e in
       among_right picture.names (picture.uniques ++ picture.loose) root (among_right picture.uniques picture.loose root (among_loose (looks_of pictured) r root p.0))
 
-  -- the roots of paths are still there
+  -- paths still have their roots if the named, unique and owned roots are still there
   pub found_again : {s' : State} {new : List ℕ} (later : Pictures others s' new) (Ends : Origin → Type 0)
       → ((name : List ℕ) (i : ℕ) (root : Root) → root_named pictured.picture.names name ≡ Some root → Ends (Origin.Name name i) ⊎ (root_named later.picture.names name ≡ Some root))
       → ((T : ℕ) (root : Root) → root_of_type pictured.picture.uniques T ≡ Some root → Ends (Origin.Unique T) ⊎ (root_of_type later.picture.uniques T ≡ Some root))
@@ -183,7 +183,7 @@ module _ {others : List Root} {s : State} {old : List ℕ} (pictured : Pictures 
       let p = root_of_pair (root_of_register s.registers pictured.owned r) 0 root item e in
       elim (owned r root p.0) [ inl f ↦ inl f | inr f ↦ inr (ap (option_map {T = Root} {U = Root × ℕ} (λ root. (root, 0))) f ∙ ap (λ n. Some (root, n)) p.1) ]
 
--- after one is added, or removed
+-- if all roots keep their paths, origins keep their roots and paths
 pub keeps_all : {others : List Root} {s s' : State} {old new : List ℕ} (pictured : Pictures others s old) (later : Pictures others s' new) (Ends : Origin → Type 0) → later.picture.table ≡ pictured.picture.table
     → ((o : Origin) (root : Root) (item : ℕ) → root_at pictured o ≡ Some (root, item) → Ends o ⊎ (root_at later o ≡ Some (root, item)))
     → AllByRecursion (KeepsPaths old new pictured.picture.table) (owners_in pictured.picture) → KeepsRoots pictured later Ends

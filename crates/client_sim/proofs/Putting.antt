@@ -46,7 +46,7 @@ use Rattle.client_sim.proofs.MovingOwned.{put_moves}
 use Rattle.client_sim.proofs.MovingShows.{with_owning, shows_moved, put_known, stays_released, frame_moved}
 use Rattle.client_sim.proofs.OwnedObjects.{owns_here, owns_apart}
 
--- a path from elsewhere doesn't begin at the register
+-- another origin doesn't begin at the register
 pub begins_elsewhere : (c : ℕ) (o : Origin) → o ≢ Origin.Owned c → begins_at c o ≡ false
 begins_elsewhere c (Origin.Name name i) far = refl
 begins_elsewhere c (Origin.Unique t) far = refl

@@ -45,7 +45,7 @@ use Rattle.client_sim.proofs.Placed.{item_within}
 
 -- each allocated block that isn't in `gone` is unchanged
 module _ (old new : List ℕ) (picture : Picture) (held : IsHeld old picture) (gone : List ℕ) (kept : (h : ℕ) → 1 ≤ times h (positions (live old)) → times h gone ≡ 0 → KeepsBlock old new h) where
-  -- no block of a root is in `gone`
+  -- all roots keep their paths if only blocks of the index are in `gone`
   all_roots : ((h : ℕ) → times h gone ≤ times h held.index_blocks) → AllByRecursion (KeepsPaths old new picture.table) (owners_in picture ++ frozen_roots picture)
   all_roots few = subst (AllByRecursion (KeepsPaths old new picture.table)) (roots_split picture)
       (roots_paths old new picture.table held.laid_out.is_table held.roots (each_there (KeepsBlock old new) held.root_blocks (λ h some.
@@ -59,7 +59,7 @@ module _ (old new : List ℕ) (picture : Picture) (held : IsHeld old picture) (g
   pub all_frozen : ((h : ℕ) → times h gone ≤ times h held.index_blocks) → KeepsFrozenPaths old new picture.table picture.frozen
   all_frozen few = frozen_of_roots old new picture (each_right (KeepsPaths old new picture.table) (owners_in picture) (frozen_roots picture) (all_roots few))
 
-  -- blocks of one root may be, and blocks of frozen objects
+  -- all other roots keep their paths if blocks of one root and of frozen objects are in `gone` too
   pub other_paths : (which : Listed) (before : List Root) (root : Root) (after : List Root) → roots_in picture which ≡ before ++ root ∷ after → (objects : List ℕ) → HoldsRoot old picture.table root objects
       → (theirs : ℕ → List ℕ) → HoldFrozen old picture.table theirs picture.frozen → ((h : ℕ) → times h gone ≤ times h objects + times h held.index_blocks + times h (blocks_by theirs picture.frozen))
       → AllByRecursion (KeepsPaths old new picture.table) (roots_before picture which before ++ owners_after picture which after)
@@ -102,7 +102,7 @@ leads_on {new = new} pictured later Ends k path place x there led = elim (k.begi
 
 -- ---- worlds
 
--- the origins of paths that are known to continue from a register
+-- the origins of the paths that may continue from a register, by what is known of it
 abbrev pub BeginsFrom : List Constant → ℕ → RegisterType → Origin → Type 0
 BeginsFrom constants r RegisterType.Undefined o = ⊥
 BeginsFrom constants r RegisterType.Int o = ⊥
@@ -118,7 +118,7 @@ pub record Remains (constants : List Constant) (Ends : Origin → Type 0) (ks ks
   pub owns_is : owns_in w' r ≡ owns_in w r
   pub goes_on : (o : Origin) → BeginsFrom constants r (known ks r) o → Ends o → ⊥
 
--- the same types, input and output
+-- both have the same types, input and output
 pub record SameBesides (w w' : World) (s s' : State) : Type 0 where
   pub table : w'.table ≡ w.table
   pub input : w'.input ≡ w.input

@@ -233,7 +233,7 @@ module _ (allocator : ℕ) (constants : List Constant) (role : Role) (a b c : �
       same_types : t.types ≡ h.plain.types
       same_types = ap (λ (z : State). z.types) h.trees
 
-      -- the types of both places share objects of one type
+      -- the place of such a register has the same type of shared cells
       form_here : (r T : ℕ) → (place_in w r).type ≡ T → form_at t.types T ≡ Some (Form.shared f.held) → form_at table (place_in w r).type ≡ Some (Form.shared f.held)
       form_here r T type_is g = ap (form_at table) type_is ∙ ap (λ (ts : Table). form_at ts T) (pictured.types ∙ sym same_types) ∙ g
 
@@ -288,7 +288,7 @@ module _ (allocator : ℕ) (constants : List Constant) (role : Role) (a b c : �
       shows : Shows others types constants first allocator (bare after) state world
       shows = in_words (bare_others f.class b ks) plainly
 
-      -- the unfolded state
+      -- the unfolded state has the other cell's copy at the path
       then_is : put_at t l.path (replaced (m h) value) ≡ trees_of put.later
       then_is =
           ap (λ z. put_at z l.path (replaced (m h) value)) h.trees ∙ sym (put_same (m h) h.plain l.path value l.value l.there)
@@ -310,7 +310,7 @@ module _ (allocator : ℕ) (constants : List Constant) (role : Role) (a b c : �
           subst (λ zs. IsAsKnown types constants zs (put_at t l.path (replaced (m h) value))) (sym f.good_is)
           (keeps.good t (put_at t l.path (replaced (m h) value)) (h.as_known, of_state) (inl (true, row))).0
 
-      -- ---- references that are only read
+      -- ---- read-only references
 
       frame : Frame (others_ended f.class b (bare ks)) w world pictured plainly.pictured
       unfolding plainly

@@ -1,5 +1,5 @@
--- A register that is only read stays anchored over a row that keeps the register and the cells of
--- its class, if frozen objects that are shared stay.
+-- A read-only register stays anchored over a row that keeps the register and the cells of its
+-- class, if frozen objects that are shared stay.
 use Rattle.std.proofs.Common.{◌≡◌, ℕ, ◌+◌, List, Option, Some, sym, ◌∙◌, ap, subst, arith}
 use Rattle.seg_spec.specs.Bytes.{word}
 use Rattle.seg_spec.specs.Header.{next_word}

@@ -48,7 +48,7 @@ use Rattle.client_sim.proofs.Ended.{LeavesPicture, type_known, ended_shown}
 use Rattle.client_sim.proofs.Owners.{new_object, LeavesWithout, paths_with, frozen_with, paths_without, frozen_without, gone_with}
 use Rattle.client_sim.proofs.Uniques.{UniqueComes, unique_comes, UniqueGoes, unique_goes}
 
--- there is none of the type, and a new one is added
+-- the type has no unique object, and a new one is added
 pub record JoinsUniques (allocator : ℕ) (old new : List ℕ) (table : Table) (picture : Picture) (T at : ℕ) : Type 0 where
   pub none : root_of_type picture.uniques T ≡ None
   pub spends : spent allocator (live old) (length old) (block_for (size table T) ∷ []) [] ≡ Some (live new)
@@ -57,7 +57,7 @@ pub record JoinsUniques (allocator : ℕ) (old new : List ℕ) (table : Table) (
   pub uniques_are : picture.uniques ≡ before ++ after
   pub becomes : LeavesPicture old new (with_roots picture Listed.by_type (before ++ new_object table T at ∷ after)) []
 
--- the one of the type is removed
+-- the type's unique object is removed
 pub record LeavesUniques (old new : List ℕ) (table : Table) (picture : Picture) (T : ℕ) : Type 0 where
   pub before : List Root
   pub root : Root
@@ -66,27 +66,27 @@ pub record LeavesUniques (old new : List ℕ) (table : Table) (picture : Picture
   pub root_is : root_of_type picture.uniques T ≡ Some root
   pub loses : LeavesWithout old new table root (with_roots picture Listed.by_type (before ++ after))
 
--- there was no room for one
+-- there is no room for a new one
 abbrev pub FindsNoRoomFor : ℕ → List ℕ → List ℕ → Table → ℕ → ℕ → Picture → Type 0
 FindsNoRoomFor allocator old new table T code picture = (code ≡ answer_number bad_alloc) × (begins_unique picture T ≡ None) × Refuses allocator old new (block_for (size table T) ∷ [])
 
--- there is one already, or no room
+-- the type has a unique object, or there is no room for one
 abbrev pub FindsOneOrNoRoom : ℕ → List ℕ → List ℕ → Table → ℕ → ℕ → Picture → Type 0
 FindsOneOrNoRoom allocator old new table T code picture =
     ((code ≡ answer_number already_exists) × ((at : ℕ) × (begins_unique picture T ≡ Some at)) × (new ≡ old)) ⊎ FindsNoRoomFor allocator old new table T code picture
 
--- it is found at this position, or made there
+-- the type's unique object is found or made at this position
 abbrev pub IsFoundOrJoins : ℕ → List ℕ → List ℕ → Table → ℕ → ℕ → Picture → Type 0
 IsFoundOrJoins allocator old new table T at picture = ((begins_unique picture T ≡ Some at) × (new ≡ old)) ⊎ JoinsUniques allocator old new table picture T at
 
--- it is destroyed, or there was none
+-- the type's unique object is destroyed, or there is none
 abbrev pub LeavesOrLacks : List ℕ → List ℕ → Table → ℕ → Bool → Picture → Type 0
 LeavesOrLacks old new table T true picture = LeavesUniques old new table picture T
 LeavesOrLacks old new table T false picture = (begins_unique picture T ≡ None) × (new ≡ old)
 
 module _ {others : List Root} {types : Table} {constants : List Constant} (one : OneEach constants) {first : Option (List ℕ)} {allocator : ℕ} {ks : RegisterTypes} {s : State} {w : World}
     (h : Shows others types constants first allocator ks s w) where
-  -- ---- it is made
+  -- ---- a unique object is made
 
   module _ (T : ℕ) (v : Value) (fits : HasShape s.types T v) (none : s.uniques T ≡ None) (root : Root) (new : List ℕ) (c : UniqueComes h.pictured T v root new) (front : KeepsFront w.image new) where
     abbrev s_more : State
@@ -109,7 +109,7 @@ module _ {others : List Root} {types : Table} {constants : List Constant} (one :
         ap (λ (p : Pictures others s_more new). begins_unique p.picture T) (pictured_rooted h ks s_more (with_image w new) c.later (λ o. ⊥) c.keeps front _ _ _ _ _)
         ∙ ap (λ (o : Option Root). option_map {T = Root} {U = ℕ} (λ r. r.at) o) c.here
 
-  -- ---- it is destroyed
+  -- ---- a unique object is destroyed
 
   module _ (T : ℕ) (new : List ℕ) (c : UniqueGoes h.pictured T new) (front : KeepsFront w.image new) where
     abbrev s_less : State
@@ -176,7 +176,7 @@ module _ (allocator : ℕ) (constants : List Constant) (role : Role) (a b c : �
     said : {P : Picture → Type 0} → OfPicture allocator w (λ p. T < length w.table → P p) → P h.pictured.picture
     said {P} says = of_picture h (λ p. T < length w.table → P p) says (subst (λ (z : Table). T < length z) (sym h.table_is) known_type.1)
 
-    -- a new one, for a row that makes one
+    -- the machine does a row that makes a unique object
     made : (operation : Operation) (at : ℕ) → JoinsUniques allocator w.image new w.table h.pictured.picture T at → (asked : Asks constants (of operation) h.pictured (asks_one w.table)) → Returns constants (of operation) h.pictured []
         → (GrantsAsks constants (of operation) h.pictured new → ChangesBlocks constants (of operation) h.pictured success new)
         → outcome constants (of operation) true s ≡ add_unique a T true s
@@ -202,7 +202,7 @@ module _ (allocator : ℕ) (constants : List Constant) (role : Role) (a b c : �
         (row ∙ answer_is types constants ks s' more.as_known success a (Register.Reference path_is) its.0) (changes blocks) call.becomes.length_kept call.becomes.front_kept refl shows
         (frame_reference others types constants first allocator ks s' (with_image w new) more a _ _ _ _ _ _ _ _ _ _ (frame_more one h T d fits none root new come call.becomes.front_kept)))
 
-    -- the existing one, for a row that finds it
+    -- the machine does a row that finds the unique object
     found : (operation : Operation) (at : ℕ) → begins_unique h.pictured.picture T ≡ Some at → new ≡ w.image → ((v : Value) → s.uniques T ≡ Some v → GrantsAsks constants (of operation) h.pictured w.image)
         → (GrantsAsks constants (of operation) h.pictured w.image → ChangesBlocks constants (of operation) h.pictured success w.image)
         → ((v : Value) → s.uniques T ≡ Some v → outcome constants (of operation) true s ≡ refer a path_is s)
@@ -218,7 +218,7 @@ module _ (allocator : ℕ) (constants : List Constant) (role : Role) (a b c : �
         (row u.plain.value u.there ∙ answer_is types constants ks s h.as_known success a (Register.Reference path_is) its.0) (changes (granted u.plain.value u.there)) refl refl refl shows
         (frame_reference others types constants first allocator ks s w h a _ _ _ _ _ _ _ _ _ _ (frame_same _ _ _))))
 
-    -- none, with an error code
+    -- the machine does a row that fails
     refused : (operation : Operation) (answer : Answer) (room : Bool) (code : ℕ) → code ≡ answer_number answer → new ≡ w.image → ChangesBlocks constants (of operation) h.pictured answer w.image
         → outcome constants (of operation) room s ≡ fail a answer s
         → Acts others types constants first allocator (of operation) answer bad s w (with_number (with_image w new) a (pos code))
@@ -229,7 +229,7 @@ module _ (allocator : ℕ) (constants : List Constant) (role : Role) (a b c : �
         (subst (λ (n : ℕ). Acts others types constants first allocator i answer (slice_set ks a RegisterType.Int) s w (with_number w a (pos n))) (sym code_is)
         (refuses_with others types constants first allocator ks s w h i answer room a within its.0 row blocks)))
 
-    -- the requests of a row, whether or not there is one
+    -- if there is a unique object, none is requested
     asks_none : (v : Value) → s.uniques T ≡ Some v → [] ≡ if_absent (s.uniques (nat_abs number)) (block_for (size s.types (nat_abs number)) ∷ [])
     asks_none v there = sym (ap (λ n. if_absent (s.uniques n) (block_for (size s.types n) ∷ [])) known_type.0 ∙ ap (λ (o : Option Value). if_absent o (asks_one s.types)) there)
 
@@ -238,7 +238,7 @@ module _ (allocator : ℕ) (constants : List Constant) (role : Role) (a b c : �
         ap asks_one h.table_is
         ∙ sym (ap (λ n. if_absent (s.uniques n) (block_for (size s.types n) ∷ [])) known_type.0 ∙ ap (λ (o : Option Value). if_absent o (asks_one s.types)) (none_unique h T none))
 
-    -- the row, whether or not there is one
+    -- if there is a unique object, the row takes the first branch
     row_there : (f g : ℕ → Outcome) (v : Value) → s.uniques T ≡ Some v → (if is_some (s.uniques (nat_abs number)) then f (nat_abs number) else g (nat_abs number)) ≡ f T
     row_there f g v there = ap (λ n. if is_some (s.uniques n) then f n else g n) known_type.0 ∙ ap (λ (o : Option Value). if is_some o then f T else g T) there
 
@@ -253,7 +253,7 @@ module _ (allocator : ℕ) (constants : List Constant) (role : Role) (a b c : �
 
   -- ---- the rows
 
-  -- one is made
+  -- UMAKE makes the unique object
   pub make_unique_acts : (at : ℕ) → OfPicture allocator w (λ p. T < length w.table → JoinsUniques allocator w.image new w.table p T at)
       → ActsAs allocator constants role (of Operation.MakeUnique) w (with_place (with_image w new) a (record { at = at; type = T }))
   unfolding rule effect
@@ -263,7 +263,7 @@ module _ (allocator : ℕ) (constants : List Constant) (role : Role) (a b c : �
       made right valid.number valid.a e h Operation.MakeUnique at call (asks_some right valid.number valid.a e h none) refl (λ g. g)
       (row_none right valid.number valid.a e h (λ n. fail a already_exists s) (λ n. add_unique a n true s) none))
 
-  -- there is one, or no room
+  -- UMAKE fails if there is one, or no room
   pub make_unique_refused : (code : ℕ) → OfPicture allocator w (λ p. T < length w.table → FindsOneOrNoRoom allocator w.image new w.table T code p)
       → IsRefusedAs allocator constants role (of Operation.MakeUnique) w (with_number (with_image w new) a (pos code))
   unfolding rule effect
@@ -285,7 +285,7 @@ module _ (allocator : ℕ) (constants : List Constant) (role : Role) (a b c : �
         )
       ])
 
-  -- one is found, or made
+  -- UFINDOR finds the unique object, or makes it
   pub find_or_make_unique_acts : (at : ℕ) → OfPicture allocator w (λ p. T < length w.table → IsFoundOrJoins allocator w.image new w.table T at p)
       → ActsAs allocator constants role (of Operation.FindOrMakeUnique) w (with_place (with_image w new) a (record { at = at; type = T }))
   unfolding rule effect
@@ -312,7 +312,7 @@ module _ (allocator : ℕ) (constants : List Constant) (role : Role) (a b c : �
             (row_none right valid.number valid.a e h (λ n. refer a (path_from (Origin.Unique n)) s) (λ n. add_unique a n false s) r.1),
       ))
 
-  -- it is destroyed, or there is none
+  -- UKILL destroys the unique object, if there is one
   pub kill_unique_acts : (gone : Bool) → OfPicture allocator w (λ p. T < 32 → LeavesOrLacks w.image new w.table T gone p) → ActsAs allocator constants role (of Operation.KillUnique) w (with_number (with_image w new) a (truth gone))
   unfolding rule effect
   kill_unique_acts gone says = lifted_acts refl (λ types others first ks good bad s right valid e h.

@@ -22,7 +22,7 @@ use Rattle.client_sim.proofs.Owning.{IsHeldCounted, found_again, keeps_all, keep
 
 -- ---- the roots of types
 
--- if no root of all passes a test, none of the first ones does
+-- if no root passes a test, none of the first ones does
 none_among_first : (test : Root → Bool) (xs ys : List Root) → first_of test (xs ++ ys) ≡ None → first_of test xs ≡ None
 none_among_first test [] ys e = refl
 none_among_first test (x ∷ xs) ys e = choose (test x) (none_among_first test xs ys) e
@@ -62,7 +62,7 @@ module _ {others : List Root} {s : State} {old : List ℕ} (pictured : Pictures 
   abbrev first_value : Option Root → Option Value
   first_value o = option_and_then (λ (x : Root). nth x.values 0) o
 
-  -- the unique objects, with another one for one type
+  -- the state's unique objects change for one type, if the roots do
   uniques_with : (T : ℕ) (v : Option Value) (roots : List Root) → first_value (root_of_type roots T) ≡ v → ((U : ℕ) → (U == T) ≡ false → root_of_type roots U ≡ root_of_type pictured.picture.uniques U)
       → (U : ℕ) → with_unique s.uniques T v U ≡ first_value (root_of_type roots U)
   uniques_with T v roots is beside U = choose (U == T) refl
@@ -108,7 +108,7 @@ module _ {others : List Root} {s : State} {old : List ℕ} (pictured : Pictures 
       again U r e true g = absurd (let f : None ≡ Some r = sym none ∙ ap (root_of_type pictured.picture.uniques) (sym (eqb-true U T g)) ∙ e in cc)
       again U r e false g = joined_beside before root after T type_is U g ∙ ap (λ xs. root_of_type xs U) (sym parts) ∙ e
 
-  -- ---- it is destroyed
+  -- ---- the unique object of a type is destroyed
 
   pub record UniqueGoes (T : ℕ) (new : List ℕ) : Type 0 where
     pub later : Pictures others (record s { uniques = with_unique s.uniques T None }) new

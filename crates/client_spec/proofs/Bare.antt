@@ -1,4 +1,5 @@
--- What is known without what is only read: where the rules of operations that leave frozen objects alone find the same there, and let no reference that is only read begin.
+-- The verifier's knowledge without read-only references. An operation that leaves frozen objects
+-- alone has the same rule without this knowledge, and its rule makes no read-only reference.
 use Rattle.std.proofs.Common.{◌≡◌, ℕ, zero, suc, [], ◌∷◌, Option, Some, None, refl, sym, ◌∙◌, ap, subst, inl, inr, true, false, Bool}
 use Rattle.std.specs.Prelude.{⊤, Ok, Err, ◌==◌, slice_set, option_and_then, if◌then◌else◌}
 use Rattle.seg_spec.specs.Types.{Form, Table, form_at}
@@ -61,9 +62,9 @@ bare_owner (RegisterType.Reference x t) = choose (is_frozen x)
     choose true = refl
     choose false = refl
 
--- ---- references that are only read
+-- ---- read-only references
 
--- a reference that is only read afterwards was there before, and was only read
+-- a reference that is read-only afterwards was there before, and was read-only
 abbrev pub FrozenFrom : RegisterTypes → RegisterTypes → Type 0
 FrozenFrom before after = (r : ℕ) (x : Class) (t : ℕ) → known after r ≡ RegisterType.Reference (Class.Frozen x) t → known before r ≡ RegisterType.Reference (Class.Frozen x) t
 
@@ -80,7 +81,7 @@ frozen_ended class (RegisterType.Reference y u) x t e = choose (same_class class
 pub from_ended : (class : Class) (before ks : RegisterTypes) → FrozenFrom before ks → FrozenFrom before (ended class ks)
 from_ended class before ks f r x t e = f r x t (frozen_ended class (known ks r) x t (sym (known_ended class ks r) ∙ e))
 
--- anything but a reference that is only read
+-- anything but a read-only reference
 abbrev pub IsBare : RegisterType → Type 0
 IsBare k = bare_one k ≡ k
 
@@ -98,8 +99,8 @@ from_others class b before ks bare_b f = from_set b (known ks b) before (ended (
 
 -- ---- rules
 
--- If the first rule gives a result, the second gives the same without references that are only
--- read, of which none is new.
+-- If the first rule gives a result, the second gives the same without read-only references, of
+-- which none is new.
 pub record Bares (before : RegisterTypes) (r bared : Rule) : Type 0 where
   pub same : (good bad : RegisterTypes) → r ≡ Ok (good, bad) → (bared ≡ Ok (bare good, bare bad)) × FrozenFrom before good × FrozenFrom before bad
 
@@ -122,7 +123,7 @@ module _ (before : RegisterTypes) where
         (ap (λ (z : RegisterTypes × RegisterTypes). Ok (bare z.0, bare z.1)) p, subst (FrozenFrom before) one f, subst (FrozenFrom before) two f);
   }
 
-  -- a register gets something that isn't only read
+  -- a register gets something that isn't a read-only reference
   assigned_bare : (a : ℕ) (k : RegisterType) (ks good : RegisterTypes) → IsBare k → FrozenFrom before ks → assigned a k ks ≡ Ok good → (assigned a k (bare ks) ≡ Ok (bare good)) × FrozenFrom before good
   assigned_bare a k ks good b f e = choose (is_owner (known ks a)) refl e
     where
@@ -178,7 +179,7 @@ copy_bare RegisterType.Int l e = Ok_inj e
 copy_bare (RegisterType.Reference x u) l e = Ok_inj e
 copy_bare (RegisterType.Owner u) l e = cc
 
--- the class of a reference that isn't only read
+-- a reference of the same class as one that isn't read-only isn't read-only either
 pub class_bare : (k : RegisterType) (x : Class × ℕ) (t : ℕ) → IsBare k → reference_needed k ≡ Ok x → IsBare (RegisterType.Reference x.0 t)
 class_bare k x t b e =
     let is : k ≡ RegisterType.Reference x.0 x.1 = reference_is k x e in
@@ -211,7 +212,7 @@ name_bare (Some (Constant.Text bytes)) k u e = cc
 name_bare (Some (Constant.Name name)) k u e = e
 name_bare (Some (Constant.Family prefix)) k u e = integer_bare k u e
 
--- where an operation leads on from what b is known to be, b isn't only read: by what b has to hold
+-- by b's need: b isn't read-only if the operation may use b to continue into a value
 abbrev pub IsBareFor : Need → RegisterType → Type 0
 IsBareFor Need.Copyable k = IsBare k
 IsBareFor (Need.Reference kinds) k = IsBare k
@@ -227,7 +228,7 @@ itself ks r x t e = e
 pub others_from : (ks : RegisterTypes) (b : ℕ) → IsBare (known ks b) → (class : Class) → FrozenFrom ks (others_ended class b ks)
 others_from ks b b_is class = from_others class b ks ks b_is (itself ks)
 
--- where references of a class have ended
+-- ending a class makes no read-only reference
 pub ended_from : (ks : RegisterTypes) (class : Class) → FrozenFrom ks (ended class ks)
 ended_from ks class = from_ended class ks ks (itself ks)
 
@@ -238,14 +239,14 @@ module _ {ks : RegisterTypes} where
   pub opens_here : (a : ℕ) (k : RegisterType) → IsBare k → Bares ks (opens a k ks) (opens a k (bare ks))
   opens_here a k i = opens_bare ks a k ks i (itself ks)
 
-  -- where the class's other references have ended
+  -- the rule that ends the class's other references and then sets register a
   pub opens_others : (b : ℕ) → IsBare (known ks b) → (a : ℕ) (k : RegisterType) (class : Class) → IsBare k → Bares ks (opens a k (others_ended class b ks)) (opens a k (others_ended class b (bare ks)))
   opens_others b b_is a k class i = subst (λ es. Bares ks (opens a k (others_ended class b ks)) (opens a k es)) (bare_others class b ks) (opens_bare ks a k (others_ended class b ks) i (others_from ks b b_is class))
 
   pub gives_others : (b : ℕ) → IsBare (known ks b) → (a : ℕ) (k : RegisterType) (class : Class) → IsBare k → Bares ks (gives a k (others_ended class b ks)) (gives a k (others_ended class b (bare ks)))
   gives_others b b_is a k class i = subst (λ es. Bares ks (gives a k (others_ended class b ks)) (gives a k es)) (bare_others class b ks) (gives_bare ks a k (others_ended class b ks) i (others_from ks b b_is class))
 
-  -- what is needed
+  -- the tests of registers
   pub needs_integer : (r : ℕ) (f g : Rule) → Bares ks f g → Bares ks (typed.◌>>=◌ (integer_needed (known ks r)) (λ _. f)) (typed.◌>>=◌ (integer_needed (known (bare ks) r)) (λ _. g))
   needs_integer r f g h = binds ks (integer_needed (known ks r)) (integer_needed (known (bare ks) r)) (λ _. f) (λ _. g) (λ u e. (ap integer_needed (known_bare ks r) ∙ integer_bare (known ks r) u e, h))
 

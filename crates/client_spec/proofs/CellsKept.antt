@@ -1,4 +1,5 @@
--- Cells that share: a row leaves them as long as it ends no reference of their class, so what is only read through them stays known.
+-- A row keeps the shared cells of a class if it ends no reference of the class. So read-only
+-- references through these cells stay valid.
 use Rattle.std.proofs.Common.{◌≡◌, ℕ, ℤ, List, [], ◌∷◌, ◌++◌, length, Bool, true, false, Option, Some, None, refl, sym, ◌∙◌, ap, subst, inl, inr}
 use Rattle.std.specs.Prelude.{⊤, ◌⊎◌, Ok, slice_get, slice_index, nat_abs, is_some, option_and_then, ◌==◌, if◌then◌else◌}
 use Rattle.std.specs.Option.{option_map_or}
@@ -30,7 +31,7 @@ use Rattle.client_spec.proofs.Classes.{OneEach, origins_apart, known_ended, stil
 use Rattle.client_spec.proofs.FirstRows.{bind_ok}
 use Rattle.client_spec.proofs.Cases.{reference_is}
 
--- paths of the class that refer to shared cells refer to equal cells afterwards
+-- paths of the class that refer to shared cells refer to the same cells afterwards
 pub record CellsKept (constants : List Constant) (class : Class) (s s' : State) : Type 0 where
   pub types : s'.types ≡ s.types
   pub cells : (q : Path) (U p : ℕ) → InClass constants class q.origin → path_value s q ≡ Some (node (Label.shared U p) nil) → path_value s' q ≡ Some (node (Label.shared U p) nil)
@@ -41,7 +42,7 @@ shared_none U p (Selector.field i) w e = cc
 shared_none U p (Selector.key k) w e = cc
 shared_none U p Selector.content w e = cc
 
--- a leaf outside the cell is replaced
+-- replacing a leaf that is no shared cell keeps each shared cell
 leaf_beside : (xs ys : List Selector) (v old new : Value) (U p : ℕ) → IsLeaf old → ((V q : ℕ) → old ≡ node (Label.shared V q) nil → ⊥) → values.value_at v xs ≡ Some old → values.value_at v ys ≡ Some (node (Label.shared U p) nil)
     → values.value_at (values.with_value_at xs new v) ys ≡ Some (node (Label.shared U p) nil)
 leaf_beside [] [] v old new U p leaf other e f = absurd (other U p (Some_inj (sym e ∙ f)))
@@ -78,7 +79,7 @@ module _ (constants : List Constant) (one : OneEach constants) (class : Class) w
         ap (λ (o : Option (Value × ℕ)). o >>= λ found. values.value_at found.0 q.selectors) (f q.origin a.0 w a.1) ∙ a.2;
   }
 
-  -- a register that owns nothing gets something
+  -- setting a register that owns nothing keeps the cells
   pub by_register : (s : State) (a : ℕ) (x : Register) → owned_by (register s a) ≡ None → Kept s (set_register s a x)
   by_register s a x free = by_origins s (set_register s a x) refl (λ o y w e. kept o y e)
     where
@@ -90,7 +91,7 @@ module _ (constants : List Constant) (one : OneEach constants) (class : Class) w
         | inr p ↦ ap owned_by p ∙ e
       ]
 
-  -- a register that owns an object of another class is emptied
+  -- emptying an owner of another class keeps the cells
   pub by_release : (s : State) (a : ℕ) (x : Register) → same_class (Class.Register a) (sharing class) ≡ false → Kept s (set_register s a x)
   by_release s a x far = by_origins s (set_register s a x) refl kept
     where
@@ -105,7 +106,7 @@ module _ (constants : List Constant) (one : OneEach constants) (class : Class) w
   found_at : (s : State) (p : Path) (old : Value) → path_value s p ≡ Some old → (x : Value × ℕ) × (at_origin s p.origin ≡ Some x) × (values.value_at x.0 p.selectors ≡ Some old)
   found_at s p old e = bind_some (at_origin s p.origin) (λ found. values.value_at found.0 p.selectors) old e
 
-  -- a value of another class is put
+  -- putting a value in another class keeps the cells
   pub by_put : (s : State) (p : Path) (old new : Value) (d : Class) → path_value s p ≡ Some old → InClass constants d p.origin → same_class (sharing d) (sharing class) ≡ false → Kept s (put_at s p new)
   by_put s p old new d e within far =
       let a = found_at s p old e in
@@ -116,7 +117,7 @@ module _ (constants : List Constant) (one : OneEach constants) (class : Class) w
         | inr r ↦ r ∙ f
       ]))
 
-  -- a leaf is replaced
+  -- replacing a leaf that is no shared cell keeps the cells
   by_leaf : (s : State) (p : Path) (old new : Value) → path_value s p ≡ Some old → IsLeaf old → ((V q : ℕ) → old ≡ node (Label.shared V q) nil → ⊥) → Kept s (put_at s p new)
   by_leaf s p old new e leaf other = record { types = types_there; cells = λ q U at w f. cells_there q U at f }
     where
@@ -139,7 +140,7 @@ module _ (constants : List Constant) (one : OneEach constants) (class : Class) w
             | inr r ↦ ap (λ (o : Option (Value × ℕ)). o >>= λ found. values.value_at found.0 q.selectors) (r ∙ b.1) ∙ b.2
           ]
 
-  -- a name that was free gets an object
+  -- making an object of a free name keeps the cells
   by_new_name : (s : State) (name : List ℕ) (o : Option Object) → s.names name ≡ None → Kept s (record s { names = with_name s.names name o })
   by_new_name s name o free = by_origins s (record s { names = with_name s.names name o }) refl (λ r y w e. kept r y e)
     where
@@ -153,7 +154,7 @@ module _ (constants : List Constant) (one : OneEach constants) (class : Class) w
         | inr p ↦ ap (λ (x : Option Object). x >>= λ z. values.nth z.values i >>= λ v. Some (v, z.type)) p ∙ e
       ]
 
-  -- a name of another class loses its object
+  -- destroying a name of another class keeps the cells
   by_name_gone : (s : State) (name : List ℕ) (k : ℕ) → IsNamedBy (slice_get constants k) name → same_class (Class.Name k) (sharing class) ≡ false → Kept s (record s { names = with_name s.names name None })
   by_name_gone s name k by far = by_origins s (record s { names = with_name s.names name None }) refl kept
     where
@@ -195,7 +196,7 @@ module _ (constants : List Constant) (one : OneEach constants) (class : Class) w
   pub record Keeps (s : State) (o : Outcome) : Type 0 where
     pub each : (code : Answer) (s' : State) → o ≡ Some (code, s') → Kept s s'
 
-  -- a number or a text is put where one was
+  -- a value that has a number is a number, and a value that has a text is a text
   number_of : (v : Value) (k : ℤ) → number_in v ≡ Some k → v ≡ Int k
   number_of (node (Label.int l) nil) k e = ap Int (Some_inj e)
   number_of v k e = cc
@@ -216,14 +217,14 @@ module _ (constants : List Constant) (one : OneEach constants) (class : Class) w
       let is = text_of v.0 bytes v.2 in
       by_leaf s p (Text bytes) new (v.1 ∙ ap Some is) (text_leaf bytes) (λ V q f. cc)
 
-  -- ---- rows, by what their rules say
+  -- ---- rows, by what their rules require
 
   module _ (types : Table) (ks : RegisterTypes) (s : State) (h : IsAsKnown types constants ks s) (b : ℕ) where
-    -- register b has another class
+    -- register b's reference is of another class
     abbrev IsFar : Type 0
     IsFar = (x : Class) (t : ℕ) → known ks b ≡ RegisterType.Reference x t → same_class (sharing x) (sharing class) ≡ false
 
-    -- the references that end are of other classes
+    -- the references that the row ends are of other classes
     abbrev AreSpared : Ends → ℕ → ℤ → Type 0
     AreSpared Ends.Name c number = same_class (Class.Name (constant_operand number)) (sharing class) ≡ false
     AreSpared Ends.Unique c number = same_class (Class.Unique (nat_abs number)) (sharing class) ≡ false
@@ -235,7 +236,7 @@ module _ (constants : List Constant) (one : OneEach constants) (class : Class) w
     abbrev pub Spared : Operation → ℕ → ℤ → Type 0
     Spared operation = AreSpared (row_of operation).ends
 
-    -- what a rule needs of b
+    -- the path in register b begins in another class
     pub record Far (p : Path) : Type 0 where
       pub its : Class
       pub within : InClass constants its p.origin
@@ -274,7 +275,7 @@ module _ {constants : List Constant} {one : OneEach constants} {class : Class} w
   shown s true o f = f
   shown s false o f = none s
 
-  -- register a gets something, where it owns nothing
+  -- a row that sets register a, which owns nothing, keeps the cells
   pub answered : (s t : State) (code : Answer) (a : ℕ) (x : Register) → CellsKept constants class s t → Keeps constants one class s (answer code a x t)
   answered s t code a x h =
       either s (λ _. None) (owned_by (register t a)) (Some (code, set_register t a x)) (λ _ _. none s) (λ free. some s code _ (onward constants one class s t (set_register t a x) h (by_register constants one class t a x free)))
@@ -357,7 +358,7 @@ module _ {constants : List Constant} {one : OneEach constants} {class : Class} w
   sees s a p None = given s _ a _
   sees s a p (Some v) = given s success a _
 
-  -- what is put is of another class
+  -- the value is put in another class
   module _ (s : State) (p : Path) (old : Value) (there : path_value s p ≡ Some old) (d : Class) (within : InClass constants d p.origin) (far : same_class (sharing d) (sharing class) ≡ false) where
     pub given_put : (a : ℕ) (x : Register) (new : Value) → Keeps constants one class s (answer success a x (put_at s p new))
     given_put a x new = answered s (put_at s p new) success a x (by_put constants one class s p old new d there within far)
@@ -384,7 +385,7 @@ module _ {constants : List Constant} {one : OneEach constants} {class : Class} w
   pub text : (s : State) (a : ℕ) (p : Path) (old bytes : List ℕ) (room : Bool) → (path_value s p >>= bytes_in) ≡ Some old → Keeps constants one class s (set_text a p bytes room s)
   text s a p old bytes room e = roomy s room a _ (answered s _ success a _ (put_text constants one class s p old (Text bytes) e))
 
--- the name that a constant spells
+-- a constant that spells a name is a constant for that name
 pub spelled : (o : Option Constant) (x : Register) (name : List ℕ) → (o >>= λ k. constant_name k x) ≡ Some name → IsNamedBy o name
 spelled None x name e = cc
 spelled (Some (Constant.Text bytes)) x name e = cc
@@ -402,7 +403,7 @@ pub itself : (ks : RegisterTypes) → FrozenFrom ks ks
 itself ks r x t e = e
 
 module _ (types : Table) (constants : List Constant) (ks : RegisterTypes) (b : ℕ) (class : Class) where
-  -- a reference that is only read is still known in one of the two parts
+  -- a read-only reference stays known in one of the two parts
   abbrev pub StillRead : RegisterTypes → RegisterTypes → Type 0
   StillRead good bad = (r : ℕ) × (T : ℕ) × ((known good r ≡ RegisterType.Reference (Class.Frozen class) T) ⊎ (known bad r ≡ RegisterType.Reference (Class.Frozen class) T))
 
@@ -410,7 +411,7 @@ module _ (types : Table) (constants : List Constant) (ks : RegisterTypes) (b : �
   read_in es good bad f g (r, T, inl e) = (r, T, f r class T e)
   read_in es good bad f g (r, T, inr e) = (r, T, g r class T e)
 
-  -- where a class ended
+  -- a class that a rule has ended isn't the class of a reference that stays known
   pub not_ended : (E : Class) (es good bad : RegisterTypes) → FrozenFrom (ended E es) good → FrozenFrom (ended E es) bad → StillRead good bad → same_class E (sharing (Class.Frozen class)) ≡ false
   not_ended E es good bad f g still = let k = read_in (ended E es) good bad f g still in left_of E es k.0 class k.1 k.2
 
@@ -423,7 +424,7 @@ module _ (types : Table) (constants : List Constant) (ks : RegisterTypes) (b : �
   pub after_from : (es good bad : RegisterTypes) → known_after es ≡ Ok (good, bad) → FrozenFrom es good × FrozenFrom es bad
   after_from es good bad e = let q = (after_bares es es (itself es)).same good bad e in (q.1, q.2)
 
-  -- the class of b ended but for b
+  -- if b's class ends except for b, it isn't the class that stays known
   pub far_of : (x : Class × ℕ) (good bad : RegisterTypes) → IsBare (known ks b) → reference_needed (known ks b) ≡ Ok x → FrozenFrom (others_ended x.0 b ks) good → FrozenFrom (others_ended x.0 b ks) bad → StillRead good bad
       → (y : Class) (t : ℕ) → known (bare ks) b ≡ RegisterType.Reference y t → same_class (sharing y) (sharing (Class.Frozen class)) ≡ false
   far_of x good bad b_is e f g still y t is =
@@ -438,7 +439,8 @@ module _ (types : Table) (constants : List Constant) (ks : RegisterTypes) (b : �
     abbrev pub IsSpared : Operation → ℕ → ℤ → Type 0
     IsSpared = Spared constants one (Class.Frozen class) types (bare ks) s h b
 
-    -- where b's class ends but for b, and register a gets something
+    -- if b's class ends except for b, and register a is set, b's class isn't the class that stays
+    -- known
     pub opens_far : {A : Type 0} (f : Form → Option A) (rest : Class × ℕ → A → Rule) (good bad : RegisterTypes) → IsBare (known ks b)
         → ((x : Class × ℕ) (y : A) → reference_needed (known ks b) ≡ Ok x → rest x y ≡ Ok (good, bad) → FrozenFrom (others_ended x.0 b ks) good × FrozenFrom (others_ended x.0 b ks) bad)
         → typed.◌>>=◌ (reference_needed (known ks b)) (λ x. typed.◌>>=◌ (form_needed f types x.1) (rest x)) ≡ Ok (good, bad) → StillRead good bad

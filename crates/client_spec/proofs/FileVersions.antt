@@ -26,7 +26,7 @@ of_its_version [] T form at = cc
 of_its_version (first ∷ forms) zero form at = let same = ap version_of (Some_inj at) in omega arith
 of_its_version (first ∷ forms) (suc T) form at = let here = of_its_version forms T form at in omega arith
 
--- no earlier version has all of them
+-- the version of a file is the lowest that has all its types
 pub first_version : (version : ℕ) (table : Table) → 1 ≤ version → AreOfVersion version table → file_version table ≤ version
 first_version version [] some are = some
 first_version version (first ∷ forms) some are =

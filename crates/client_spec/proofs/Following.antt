@@ -1,4 +1,4 @@
--- What each row leaves: the types as they were, and what was written at the output's end.
+-- Each row keeps the types, and only appends to the output.
 use Rattle.std.proofs.Common.{◌≡◌, ℕ, List, [], ◌∷◌, ◌++◌, Bool, true, false, Option, Some, None, refl, sym, ap, ◌∙◌, subst}
 use Rattle.std.specs.Prelude.{ℤ, if◌then◌else◌, length, slice_index}
 use Rattle.std.specs.Option.{option_map_or}
@@ -65,11 +65,11 @@ module _ {s : State} where
   pub answered : (code : Answer) (a : ℕ) (x : Register) (s' : State) → Writes s s' → Fine s (answer code a x s')
   answered code a x s' h = either (λ _. None) (owned_by (register s' a)) (Some (code, set_register s' a x)) (λ _. none) (some code _ (set_follows s s' a x h))
 
-  -- register a gets something, and nothing else changes
+  -- a row may set register a, and change nothing else
   pub given : (code : Answer) (a : ℕ) (x : Register) → Fine s (answer code a x s)
   given code a x = answered code a x s (still s)
 
-  -- and a value is put
+  -- a row may also put a value
   pub given_put : (a : ℕ) (x : Register) (p : Path) (v : Value) → Fine s (answer success a x (put_at s p v))
   given_put a x p v = answered success a x (put_at s p v) (put_follows p v)
 

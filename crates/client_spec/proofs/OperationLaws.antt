@@ -1,5 +1,5 @@
 -- The laws of each operation: one entry for each.
---     goes      after the row, registers hold what the rule states
+--     goes      after the row, registers contain what the rule states
 --     alike     the rule of an instruction without an else part leaves the same in both parts
 --     bares     if b isn't read-only, the rule finds the same when all that is read-only is left out
 --     kept      the row keeps shared cells, if no reference of their class ends
@@ -47,7 +47,7 @@ use Rattle.client_spec.proofs.UnfoldedRows.{make_unique_same, find_unique_same, 
 use Rattle.client_spec.proofs.UnfoldedPlaces.{put_same, take_same, content_same, freeze_same, share_same, clear_same, forget_same, load_same, store_same, field_same, len_same, at_same, push_back_same, push_front_same}
 use Rattle.client_spec.proofs.UnfoldedPlaces.{pop_back_same, pop_front_same, set_text_same, add_text_same, add_byte_same, shrink_same, get_key_same, put_key_same, delete_key_same, first_key_same, next_key_same}
 
--- the role of an instruction that stands by itself
+-- the role of an instruction without parts
 abbrev IsPlain : Role → Type 0
 IsPlain Role.Plain = ⊤
 IsPlain Role.Opener = ⊥
@@ -55,7 +55,7 @@ IsPlain Role.Loop = ⊥
 IsPlain Role.Else = ⊥
 IsPlain Role.End = ⊥
 
--- the type of an instruction's number is one of the table
+-- the type in an instruction's number is one of the table
 type_of_name : (types : Table) (constants : List Constant) (b : ℕ) (number : ℤ) → IsNumber types constants b Number.TypedName number → type_operand number < length types
 type_of_name types constants b (pos n) m = m.0
 type_of_name types constants b (negsuc n) m = absurd m
@@ -646,7 +646,7 @@ module _ (types : Table) (constants : List Constant) (ks : RegisterTypes) (b : �
 pub rows : (s : State) (constants : List Constant) (op : Operation) (a b c : ℕ) (number : ℤ) (room : Bool) → Fine s (effect constants op a b c number room s)
 rows s constants op = (laws op).follows constants s
 
--- if the row forgets what b holds, its rule does that and nothing else
+-- if the row forgets what is in b, its rule makes b undefined and does nothing else
 pub forgotten_rule : (types : Table) (constants : List Constant) (op : Operation) (a b c : ℕ) (number : ℤ) (ks : RegisterTypes) → (row_of op).gives ≡ Gives.Forgotten
     → rule types constants op a b c number ks ≡ typed.◌>>=◌ (assigned b RegisterType.Undefined ks) known_after
 unfolding rule

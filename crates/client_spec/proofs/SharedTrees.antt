@@ -46,14 +46,14 @@ module _ {others : List Root} {s : State} {old : List ℕ} (p : Pictures others 
         let d = q.counted.counted in
         others_mean (word old next_word) p.picture.frozen p.counted.counted object gone q.picture.frozen is d.distinct q.counted.falling d.falling (word new next_word)
 
-    -- a cell of that object has a copy of its value as it was
+    -- a cell of that object has a copy of its value
     pub new_means : meaning (word new next_word) q.picture.frozen payload ≡ Full (replaced (before p) v)
     new_means =
         let d = q.counted.counted in
         ap (λ n. meaning n q.picture.frozen payload) next_is
         ∙ first_means (word old next_word) p.picture.frozen p.counted.counted object gone q.picture.frozen is d.distinct q.counted.falling d.falling
 
-    -- the unfolded state afterwards, with the old copies and this object's
+    -- the unfolded state can be computed with the old copies and this object's
     pub trees_frozen : unfolded_state (with_frozen payload v) s' ≡ trees_of q
     trees_frozen = trees_mean q (with_frozen payload v) mean
       where

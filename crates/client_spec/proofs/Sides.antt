@@ -1,4 +1,5 @@
--- Rules that leave the same in both parts of an opener, as those of instructions that stand by themselves do.
+-- Rules that give the same in both parts of an opener. Instructions without an else part have such
+-- rules.
 use Rattle.std.proofs.Common.{◌≡◌, ℕ, Option, sym, ◌∙◌, ap}
 use Rattle.std.specs.Prelude.{Ok, Err}
 use Rattle.seg_spec.specs.Types.{Form, Table}
@@ -6,7 +7,7 @@ use Rattle.client_spec.specs.Typed.{Class, RegisterType, Checked, Reason, Regist
 use Rattle.client_spec.specs.Typed as typed
 use Rattle.client_spec.proofs.FirstRows.{bind_ok, Ok_inj}
 
--- A rule that leaves the same in both parts.
+-- The rule gives the same in both parts.
 pub record Alike (r : Rule) : Type 0 where
   pub by : (good bad : RegisterTypes) → r ≡ Ok (good, bad) → good ≡ bad
 

@@ -54,13 +54,13 @@ entry_at view rows same k d h =
     sym (index_map view rows k d) ∙ ap (λ xs. slice_index_or xs k (view d)) same
     ∙ get_or_default entries k (view d) no_entry h
 
--- at an operation's number
+-- the entry at an operation's number is the operation's
 pub at_number : {A : Type 0} (view : A → Entry) (rows : List A) → map view rows ≡ entries → (o : Operation) (n : ℕ) (d : A) → n ≡ opcode o → view (slice_index_or rows (n - 1) d) ≡ entry_of o
 at_number view rows same o n d e =
     let range = number_range o in
     entry_at view rows same (n - 1) d (omega arith) ∙ ap (λ m. slice_index_or entries (m - 1) no_entry) e
 
--- ascending numbers
+-- n ascending numbers
 counted : ℕ → ℕ → List ℕ
 counted n zero = []
 counted n (suc m) = n ∷ counted (suc n) m

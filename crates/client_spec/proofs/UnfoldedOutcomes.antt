@@ -47,7 +47,7 @@ module _ (m : ℕ → Value) where
   bind_same g None y f k e rest = tt
   bind_same g (Some a) y f k e rest = subst (λ z. Same (f a) (z >>= k)) (sym e) (rest a refl)
 
-  -- both give the same
+  -- equal tests have the same rows
   pub along : {A : Type 0} (x y : Option A) (f k : A → Outcome) → y ≡ x → ((a : A) → Same (f a) (k a)) → Same (x >>= f) (y >>= k)
   along x y f k e rest = bind_same (λ a. a) x y f k (finds_equal x y e) (λ a _. rest a)
 
@@ -76,7 +76,7 @@ module _ (m : ℕ → Value) where
       subst (λ o. Same (answer code a x s) (option_map_or (λ _. None) o (Some (code, set_register (unfolded_state m s) a (unfolded_register m x)))))
       (sym (owned_same m s a)) (answer_by code a x s (owned_by (register s a)))
 
-  -- from a state that is the unfolded one
+  -- giving a register a value commutes with unfolding
   pub give_same : (a : ℕ) (x : Register) (s t : State) → t ≡ unfolded_state m s → Same (give a x s) (give a (unfolded_register m x) t)
   give_same a x s t e = subst (λ z. Same (give a x s) (give a (unfolded_register m x) z)) (sym e) (answer_same success a x s)
 
@@ -120,7 +120,7 @@ module _ (m : ℕ → Value) where
         → Same ((o >>= λ c. constant_name c (register s r)) >>= f) ((o >>= λ c. constant_name c (register trees r)) >>= k)
     from_name o r f k rest = along (o >>= λ c. constant_name c (register s r)) (o >>= λ c. constant_name c (register trees r)) f k (name_same m s r o) rest
 
-    -- a value computed from the form at a path
+    -- continuing with the form at a path commutes with unfolding
     pub from_form : {A : Type 0} (p : Path) (g : Form → Option A) (f k : A → Outcome) → ((x : A) → Same (f x) (k x)) → Same ((path_form s p >>= g) >>= f) ((path_form trees p >>= g) >>= k)
     from_form p g f k rest = along (path_form s p >>= g) (path_form trees p >>= g) f k (ap (λ o. o >>= g) (form_same m s p)) rest
 
@@ -131,7 +131,7 @@ module _ (m : ℕ → Value) where
     pub from_value : (p : Path) (f k : Value → Outcome) → ((v : Value) → path_value s p ≡ Some v → Same (f v) (k (replaced m v))) → Same (path_value s p >>= f) (path_value trees p >>= k)
     from_value p f k rest = bind_same (replaced m) (path_value s p) (path_value trees p) f k (value_finds p (path_value s p) refl) rest
 
-    -- a part of such a value
+    -- continuing with a part of the value at a path commutes with unfolding
     pub from_part : {A B : Type 0} (g : A → B) (p : Path) (part : Value → Option A) (its : Value → Option B) (f : A → Outcome) (k : B → Outcome)
         → ((v : Value) → Finds g (part v) (its (replaced m v))) → ((x : A) (v : Value) → path_value s p ≡ Some v → part v ≡ Some x → Same (f x) (k (g x)))
         → Same ((path_value s p >>= part) >>= f) ((path_value trees p >>= its) >>= k)
@@ -142,6 +142,6 @@ module _ (m : ℕ → Value) where
         by_value (Some v) e =
             subst (λ o. Same (part v >>= f) ((o >>= its) >>= k)) (sym (value_same m s p v e)) (bind_same g (part v) (its (replaced m v)) f k (each v) (λ x there. rest x v e there))
 
-    -- a put at a path
+    -- a put at a path commutes with unfolding
     pub put_then : (p : Path) (v u w : Value) → path_value s p ≡ Some u → replaced m v ≡ w → put_at trees p w ≡ unfolded_state m (put_at s p v)
     put_then p v u w e f = ap (put_at trees p) (sym f) ∙ sym (put_same m s p v u e)

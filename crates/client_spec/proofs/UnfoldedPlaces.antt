@@ -55,7 +55,7 @@ module _ (m : ℕ → Value) (constants : List Constant) (s : State) where
 
   -- ---- parts of rows
 
-  -- a value is put, and then the row continues
+  -- putting a value commutes with unfolding
   putting : (p : Path) (v u w : Value) → path_value s p ≡ Some u → replaced m v ≡ w → put_at trees p w ≡ unfolded_state m (put_at s p v)
   putting p v u w e f = put_then m s p v u w e f
 
@@ -96,7 +96,7 @@ module _ (m : ℕ → Value) (constants : List Constant) (s : State) where
   seen a p None = fail_same m a null_or_none s
   seen a p (Some v) = refer_same m a (extend p Selector.content) s trees refl
 
-  -- a reference to a part, if the index is below the number of values
+  -- giving a reference to an indexed part, or a code, commutes with unfolding
   indexed : (a : ℕ) (vs : Values) (x : ℤ) (p : ℕ → Path) → Same m (option_map_or (λ i. refer a (p i) s) (index_below (count vs) x) (fail a out_of_range s))
       (option_map_or (λ i. refer a (p i) trees) (index_below (count (replaced_each m vs)) x) (fail a out_of_range trees))
   indexed a vs x p =

@@ -38,7 +38,7 @@ module _ (m : ℕ → Value) (types : Table) where
   cell_shape T U e v (inl h) = subst (HasShape types T) (sym h) (Form.shared U, e, omega arith, tt)
   cell_shape T U e v (inr h) = subst (HasShape types T) (sym h.1) (Form.shared U, e, omega arith, (h.2, tt))
 
-  -- the label belongs to the form, with that many values inside
+  -- a value is of the type if its label fits and the values inside have their shapes
   rebuilt : (T : ℕ) (label : Label) (vs : Values) (form : Form) → form_at types T ≡ Some form → IsLabel form label (count vs)
       → HaveShapes types (types_inside form (count vs)) (replaced_each m vs) → HasShape types T (node label (replaced_each m vs))
   unfolding HasShape

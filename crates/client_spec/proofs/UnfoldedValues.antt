@@ -96,7 +96,7 @@ module _ (m : ℕ → Value) where
   change_replaced (Some zero) w (cons v vs) = refl
   change_replaced (Some (suc i)) w (cons v vs) = ap (cons (replaced m v)) (change_replaced (Some i) w vs)
 
-  -- a change of one value needs to be known for that value alone
+  -- a change of one value commutes with unfolding if it does so for that value
   pub change_one : (i : ℕ) (f g : Value → Value) (vs : Values) → ((u : Value) → nth vs i ≡ Some u → replaced m (f u) ≡ g (replaced m u))
       → replaced_each m (change_nth (Some i) f vs) ≡ change_nth (Some i) g (replaced_each m vs)
   unfolding replaced

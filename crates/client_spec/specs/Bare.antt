@@ -1,5 +1,5 @@
--- The verifier's knowledge of registers without references that are only read (references into
--- frozen objects).
+-- The verifier's knowledge of registers without read-only references (references into frozen
+-- objects).
 --     bare_one, bare    of one register, and of all: such a reference is forgotten
 use Rattle.std.specs.Prelude.{if◌then◌else◌, map}
 use Rattle.client_spec.specs.Typed.{RegisterType, RegisterTypes, is_frozen}

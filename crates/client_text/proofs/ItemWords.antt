@@ -99,7 +99,7 @@ no_text line spelling e none (constant_item (Constant.Family prefix)) valid spel
     let z = (tail_of 116 102 _ _ (begins line spelling (codes "family") (prefix ∷ []) e spells)).0 in absurd (omega arith)
 no_text line spelling e none (instruction_item i) valid spells = not_text i.operation (sym (begins line spelling (mnemonic i.operation) _ e spells))
 
--- the rest after a prefix
+-- a line that begins with a prefix is the prefix and the rest
 pub prefixed : (line prefix rest text : List ℕ) → prefix ≡ text → lib.Pointwise.pointwise nat_eq (take (length prefix) line) prefix ≡ true → rest ≡ drop (length prefix) line → line ≡ text ++ rest
 prefixed line prefix rest text same test left =
     sym (take-append-drop (length prefix) line) ∙ ap (λ xs. xs ++ drop (length prefix) line) ((slice_eq-Decides Decides-eqb _ _ _ refl).0 test ∙ same) ∙ ap (λ xs. text ++ xs) (sym left)

@@ -18,7 +18,7 @@ same_test false false = refl
 at_first : (s t : Bool) (b : ℕ) (line : List ℕ) → (if b == 32 then s else not s) ≡ t → before_space s (b ∷ line) ≡ (if t then 0 else suc (before_space s line))
 at_first s t b line e = ap (λ test. if test then 0 else suc (before_space s line)) e
 
--- where the loop ends, and where it continues
+-- at a byte of the tested kind, the loop's index is the result
 pub stops : (s : Bool) (line : List ℕ) (i : ℕ) → i < length line → before_space s line ≡ i + before_space s (drop i line) → beq (nat_eq (get_or line i 0) 32) s ≡ true → i ≡ before_space s line
 stops s line i within so_far test =
     let here = at_drop_more (before_space s) line i 0 within ∙ at_first s true (get_or line i 0) (drop (i + 1) line) (sym (same_test (nat_eq (get_or line i 0) 32) s) ∙ test) in
@@ -78,7 +78,7 @@ pub word_next : (line : List ℕ) → 0 < length (drop (before_space false line)
 word_next [] some = absurd (omega arith)
 word_next (b ∷ line) some = word_after (b == 32) b line refl (word_next line) some
 
--- the rest of a line from a position on
+-- the slice from a position to the end of a line is the rest of the line
 pub rest_from : (line : List ℕ) (n : ℕ) → take (length line - n) (drop n line) ≡ drop n line
 rest_from line n = take_all (length line - n) (drop n line) (let l = length-drop n line in omega arith)
 
@@ -92,7 +92,7 @@ one_word line left word rest n m e l f some w r =
     let begins = subst BeginsWithWord (sym here) (word_next line (subst (λ xs. 0 < length xs) here some)) in
     skip_spaces line ∙ ap words_of (sym here) ∙ begins ∙ cc
 
--- groups of words, read one after the other
+-- groups of words that are read one after the other make up the words
 pub joined : (a b c n w0 w1 w2 w3 w4 : Words) → w0 ≡ a ++ w1 → w1 ≡ b ++ w2 → w2 ≡ c ++ w3 → w3 ≡ n ++ w4 → w0 ≡ (((a ++ b) ++ c) ++ n) ++ w4
 joined a b c n w0 w1 w2 w3 w4 e0 e1 e2 e3 =
     e0 ∙ ap (λ ws. a ++ ws) (e1 ∙ ap (λ ws. b ++ ws) (e2 ∙ ap (λ ws. c ++ ws) e3))
@@ -105,7 +105,7 @@ not_types [] (t ∷ types) word rest small none e = none t (All-head (λ t. t < 
 not_types (f ∷ fields) [] word rest small none e = cc
 not_types (f ∷ fields) (t ∷ types) word rest small none e = not_types fields types word rest (All-tail (λ t. t < 256) t types small) none (tail_of (type_word f) (type_word t) (map type_word fields ++ word ∷ rest) (map type_word types) e).1
 
--- a short list of fields, whose types have numbers that fit in a byte
+-- the fields of a short list have types whose numbers fit in a byte
 pub few_small : (A : Type 0) (types : List ℕ) (fields : Option (List ℕ)) → MatchOption fields A (λ found. found ≡ types) → IfSome fields (λ found. (1 ≤ length found) × (length found ≤ 8)) → All (λ U. U < 256) types
     → IfSome fields (λ found. (1 ≤ length found) × (length found ≤ 8) × All (λ U. U < 256) found)
 few_small A types None same few small = tt

@@ -28,12 +28,12 @@ pub parsed_one : {N E : Type 0} (r : Result N E) (m n : N) → result_ok r ≡ S
 parsed_one (Ok x) m n given same = cc
 parsed_one (Err e) m n given same = cc
 
--- there is no result only if a test failed
+-- if `then_some` returns None, its test failed
 pub failed_test : {N : Type 0} (test : Bool) (n : N) (r : Option N) (Q : Type 0) → r ≡ then_some test n → (test ≡ false → Q) → IfNone r Q
 failed_test true n r Q same q = subst (λ r. IfNone r Q) (sym same) tt
 failed_test false n r Q same q = subst (λ r. IfNone r Q) (sym same) (q refl)
 
--- a number that is small enough is returned
+-- if a call for a number fails, the number is too large
 pub fails_large : {E : Type 0} (P Q : Type 0) (m : ℕ) (o : Option ℕ) (r : Result ℕ E) → OkIff r P m → o ≡ result_ok r → ((P → ⊥) → Q) → IfNone o Q
 fails_large P Q m o (Ok x) given same q = subst (λ o. IfNone o Q) (sym same) tt
 fails_large P Q m o (Err e) given same q = subst (λ o. IfNone o Q) (sym same) (q given)

@@ -20,7 +20,7 @@ pub spaces_two : (xs ys : Words) → with_spaces (xs ++ ys) ≡ with_spaces xs +
 spaces_two [] ys = refl
 spaces_two (x ∷ xs) ys = ap (λ zs. (32 ∷ x) ++ zs) (spaces_two xs ys) ∙ sym (append_assoc (32 ∷ x) (with_spaces xs) (with_spaces ys))
 
--- a line from a word and four groups of words
+-- pushing a word, four groups of words and a line end makes one line
 pub line_is : (word : List ℕ) (a b c n : Words) (old t0 t1 t2 t3 t4 new : List ℕ) → t0 ≡ old ++ word → t1 ≡ t0 ++ with_spaces a → t2 ≡ t1 ++ with_spaces b
     → t3 ≡ t2 ++ with_spaces c → t4 ≡ t3 ++ with_spaces n → new ≡ t4 ++ 10 ∷ [] → new ≡ old ++ (spaced_words ((((word ∷ a) ++ b) ++ c) ++ n) ++ 10 ∷ [])
 line_is word a b c n old t0 t1 t2 t3 t4 new e0 e1 e2 e3 e4 e =
@@ -34,7 +34,7 @@ line_is word a b c n old t0 t1 t2 t3 t4 new e0 e1 e2 e3 e4 e =
     regroup : (o w a b c n : List ℕ) → ((((o ++ w) ++ a) ++ b) ++ c) ++ n ≡ o ++ (w ++ (((a ++ b) ++ c) ++ n))
     regroup o w a b c n = simp append_assoc
 
--- one more word
+-- pushing a space and a word adds the word to the group
 pub one_word : (words : Words) (word start text : List ℕ) → text ≡ start ++ with_spaces words → text ++ 32 ∷ word ≡ start ++ with_spaces (words ++ word ∷ [])
 one_word words word start text e =
     ap (λ xs. xs ++ 32 ∷ word) e ∙ append_assoc start (with_spaces words) (32 ∷ word) ∙ ap (λ xs. start ++ xs) (ap (λ xs. with_spaces words ++ xs) (sym (append-nil (32 ∷ word))) ∙ sym (spaces_two words (word ∷ [])))
@@ -44,7 +44,7 @@ struct_line words old t0 t1 new e0 e1 e =
     e ∙ ap (λ xs. xs ++ 10 ∷ []) (e1 ∙ ap (λ xs. xs ++ with_spaces words) e0 ∙ append_assoc old (codes "type struct") (with_spaces words) ∙ ap (λ xs. old ++ (codes "type " ++ xs)) (sym (spaced_is (codes "struct") words)))
     ∙ append_assoc old (spaced_words (codes "type" ∷ codes "struct" ∷ words)) (10 ∷ [])
 
--- the text after a push that succeeds
+-- a push that succeeds appends its bytes
 pub pushed : {T E : Type 0} (r : Result T E) (old more new : List ℕ) → new ≡ (if is_ok r then old ++ more else old) → OnOk r (new ≡ old ++ more)
 pushed (Ok x) old more new e = e
 pushed (Err x) old more new e = tt
@@ -56,7 +56,7 @@ get_there [] k h = absurd (omega arith)
 get_there (x ∷ xs) zero h = (x, refl, refl)
 get_there (x ∷ xs) (suc k) h = get_there xs k (omega arith)
 
--- one more line
+-- pushing the line of the next item keeps the invariant
 pub line_more : {A : Type 0} (item : A → Item) (xs : List A) (k : ℕ) (x : A) (start text new : List ℕ) → k < length xs → get_or xs k x ≡ x
     → text ≡ start ++ flat_map ended_line (map item (take k xs)) → new ≡ text ++ ended_line (item x) → new ≡ start ++ flat_map ended_line (map item (take (k + 1) xs))
 line_more item xs k x start text new h e t n =

@@ -74,7 +74,7 @@ one_version : (items : List Item) (item : Item) → items_version (items ++ item
 one_version [] item = omega arith
 one_version (first ∷ items) item = let more = one_version items item in omega arith
 
--- one more line
+-- after one more line the version is the maximum with that line's version
 pub version_more : (lines left : List (List ℕ)) (items : List Item) (n : ℕ) (line : List ℕ) (before here : ℕ) → EachSpells lines items → drop n lines ≡ line ∷ left
     → before ≡ items_version (take n items) → ((item : Item) → SpellsItem line item → here ≡ item_version item) → max before here ≡ items_version (take (n + 1) items)
 version_more lines left items n line before here spells e so_far is =
@@ -83,7 +83,6 @@ version_more lines left items n line before here spells e so_far is =
     let all = ap items_version (one_more items next.rest n next.item next.here) ∙ one_version (take n items) next.item in
     omega arith
 
--- after the last line there are no more
 pub version_whole : (lines : List (List ℕ)) (items : List Item) (n m : ℕ) → EachSpells lines items → drop n lines ≡ [] → n ≤ m → take n items ≡ take m items
 version_whole lines items n m spells none few =
     let count = same_count lines items spells in

@@ -10,7 +10,7 @@ use Rattle.client_text.specs.Lines.{line_length}
 at_first : (t : Bool) (b : ℕ) (text : List ℕ) → (b == 10) ≡ t → line_length (b ∷ text) ≡ (if t then 0 else suc (line_length text))
 at_first t b text e = ap (λ test. if test then 0 else suc (line_length text)) e
 
--- where the loop ends, and where it continues
+-- at a line end, the loop's index is the length of the line
 pub stops : (text : List ℕ) (i : ℕ) → i < length text → line_length text ≡ i + line_length (drop i text) → nat_eq (get_or text i 0) 10 ≡ true → i ≡ line_length text
 stops text i within so_far test =
     let here = at_drop_more line_length text i 0 within ∙ at_first true (get_or text i 0) (drop (i + 1) text) test in
@@ -47,7 +47,7 @@ first_line : (text : List ℕ) → 0 < length text → lines_from [] text ≡ ta
 first_line [] some = absurd (omega arith)
 first_line (b ∷ text) some = line_begins (b == 10) b text refl
 
--- the rest after the line's end, if the line has one
+-- after its line end, the rest of the text is the text without the line
 after_end : (text rest left : List ℕ) (n m : ℕ) → rest ≡ drop n text → m ≡ min (length rest) 1 → left ≡ take (length rest - m) (drop m rest) → left ≡ drop (suc n) text
 after_end text rest left n m r e l = l ∙ rest_from rest m ∙ one_less rest m e ∙ ap (drop 1) r ∙ drop-drop 1 n text ∙ ap (λ k. drop k text) (let k : n + 1 ≡ suc n = omega arith in k)
   where

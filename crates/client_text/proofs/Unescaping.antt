@@ -25,7 +25,7 @@ pub record Reads (spelling bytes rest : List ℕ) : Type 0 where
 pub begin : (spelling : List ℕ) → Reads spelling [] spelling
 begin spelling = record { small = All-nil (λ b. b < 256); forth = λ tail spells. spells; back = λ all bytes spells. (all, refl, bytes, spells) }
 
--- one byte further
+-- reading one more byte keeps the invariant
 pub further : (spelling bytes rest : List ℕ) (b : ℕ) (following : List ℕ) → b < 256 → Reads spelling bytes rest → SpellsByte b following rest → Reads spelling (bytes ++ b ∷ []) following
 further spelling bytes rest b following small reads here = record {
   small = All-append (λ x. x < 256) bytes (b ∷ []) reads.small (All-cons (λ x. x < 256) b [] small (All-nil (λ x. x < 256)));
@@ -49,7 +49,7 @@ stuck spelling bytes rest reads some none all bounded spells = let (tail, e, bel
     ends [] below left = some (ap length left)
     ends (b ∷ tail) below (following, left, here) = none b following (All-head (λ x. x < 256) b tail below) here
 
--- a text with more bytes than a constant may have
+-- a text with more than 255 bytes is no valid constant
 pub too_long : (spelling bytes rest : List ℕ) → Reads spelling bytes rest → (length rest ≡ 0 → ⊥) → 255 ≤ length bytes
     → (all : List ℕ) → length all ≤ 255 → All (λ b. b < 256) all → SpellsText all spelling → ⊥
 too_long spelling bytes rest reads some full all few bounded spells = let (tail, e, below, left) = reads.back all bounded spells in ends tail e left

@@ -15,7 +15,7 @@ use Rattle.client_spec.specs.Grammar.{IsNumber}
 use Rattle.client_spec.specs.Text.{Words, operand_words, number_words, instruction_words, type_word, constant_word}
 use Rattle.client_spec.proofs.TextWords.{tail_of}
 
--- what a call without a result implies, if another call has a result equally often
+-- if one of two calls that succeed together returns None, the other's reason applies
 pub none_given : {A B : Type 0} (r : Option A) (s : Option B) (P Q : Type 0) → is_some s ≡ is_some r → IfNone r P → (P → Q) → IfNone s Q
 none_given r (Some y) P Q same none f = tt
 none_given None None P Q same none f = f none
@@ -33,7 +33,7 @@ no_typed_name number.Turns is words none types constants b n rest few names fits
 no_typed_name number.TypeId is words none types constants b n rest few names fits right same = cc
 no_typed_name number.Text is words none types constants b n rest few names fits right same = cc
 
--- two readings of a group have the same rest
+-- the words after an operand don't depend on how it was read
 pub past_operand : (form : Operand) (m n : ℕ) (u v : Words) → operand_words form m ++ u ≡ operand_words form n ++ v → u ≡ v
 past_operand operand.Unused m n u v e = e
 past_operand operand.Register m n u v e = (tail_of _ _ u v e).1
@@ -65,6 +65,6 @@ grouped o row is words rest i by e =
 pub grouped_alone : (o : Operation) (row : Row) → row ≡ row_of o → (words : Words) (i : Instruction) → i.operation ≡ o → mnemonic o ∷ words ≡ instruction_words i → words ≡ groups row i []
 grouped_alone o row is words i by e = grouped o row is words [] i by (e ∙ sym (append-nil (instruction_words i)))
 
--- an instruction is valid by its operation's row
+-- instructions with the same operation have the same row
 pub by_row : (o : Operation) (row : Row) → row ≡ row_of o → (i : Instruction) → i.operation ≡ o → row_of i.operation ≡ row
 by_row o row is i by = ap row_of by ∙ sym is

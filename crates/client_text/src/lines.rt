@@ -50,7 +50,7 @@ impl<'a> Lines<'a> {
             return None;
         }
         let (line, rest) = self.text.split_at(line_len(self.text));
-        // the last line may lack its end
+        // the last line may have no line end
         self.text = &rest[rest.len().min(1)..];
         Some(line)
     }

@@ -24,7 +24,7 @@ impl Known {
     /// What is known after the instruction at an index, if the run continues at `next`.
     pub(crate) fn after(&self, instruction: Instruction, at: u16, next: u16) -> Registers {
         match instruction.operation.row().role {
-            // a loop continues at its END, and what is recorded there is what is known after the body
+            // a loop continues at its END, where the recorded knowledge is that after the body
             Role::Loop => self.in_front_of(at),
             Role::Plain | Role::Opener | Role::Else | Role::End => self.in_front_of(next),
         }

@@ -58,7 +58,7 @@ impl Path {
         self
     }
 
-    /// Adds the object and the parts. Of a long path only the last parts are added, after the number of parts that are left out.
+    /// Adds the object and the parts. If the path is long, adds only the last parts, and before them how many parts are left out.
     pub(crate) fn add_to(
         &self,
         text: &mut String,

@@ -24,7 +24,7 @@ use Rattle.client_verify.proofs.Walking.{followed, walked}
 
 -- ---- instructions
 
--- valid, and of the right role for its place
+-- the instruction is valid and has the role that its place needs
 abbrev pub Right : Table → List Constant → Instruction → Type 0
 Right types constants i = IsInstruction types constants (row_of i.operation).role i
 
@@ -89,7 +89,7 @@ module _ (tree : Client) (valid : IsClient tree) where
   right_at : (i : ℕ) (x : Instruction) → slice_get (listing tree.code) i ≡ Some x → Right tree.types tree.constants x
   right_at i x e = one_of (Right tree.types tree.constants) (listing tree.code) i x (all_right tree valid) e
 
-  -- the progress after one more instruction, or its refusal
+  -- one more instruction changes the progress, or is refused
   pub goes_on : (types : Table) → types ≡ tree.types → (i : ℕ) (p : Progress) (x : Instruction) (r : Checked Progress) → slice_get (listing tree.code) i ≡ Some x → WalksTo tree i (Ok p)
       → (Right types tree.constants x → passes types tree.constants p x ≡ r) → WalksTo tree (i + 1) (r >>= λ q. Ok q)
   goes_on types same i p x r e to here =
@@ -99,7 +99,7 @@ module _ (tree : Client) (valid : IsClient tree) where
       ∙ ap (λ now. now >>= λ q. passes_all tree.types tree.constants q (x ∷ [])) to
       ∙ ap (λ now. now >>= λ q. Ok q) (right_here (right_at i x e))
 
-  -- a client that is refused at one instruction is refused
+  -- if the rules refuse an instruction, they refuse the client
   pub rejected : (i : ℕ) (reason : Reason) → WalksTo tree i (Err reason) → IsRejected tree reason
   rejected i reason to =
       refused (known_in_parts tree) (at_most (bound tree.code)) reason (

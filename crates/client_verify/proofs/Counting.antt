@@ -4,7 +4,7 @@ use Rattle.std.proofs.Math.Nat.{le-mul_of_pos_right}
 use Rattle.std.specs.Prelude.{min, max}
 use Rattle.client_verify.specs.Passing.{at_most}
 
--- capping at any number `most`
+-- capping a summand first doesn't change the capped sum
 capped_sum : (most x y : ℕ) → min (min x most + y) most ≡ min (x + y) most
 capped_sum most x y = omega arith
 

@@ -146,7 +146,7 @@ shared_part number (Some (Form.shared u)) t e = e
 shared_part number o t e = cc
 
 module _ (number : ℤ) (x : Class) where
-  -- a reference of the class to a part
+  -- a part of a value has a reference of the same class
   below : (part : Option ℕ) (t : ℕ) → part ≡ Some t → part_given x part ≡ RegisterType.Reference x t
   below part t e = ap (part_given x) e
 

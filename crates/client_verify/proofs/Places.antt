@@ -1,7 +1,9 @@
--- Lists that a loop changes or tests item by item.
---     map_more                             a map, one item more
---     JoinedTo, joined_more, joined_all    what is known at two ends, up to an item, one item more, and for all items
---     joined_stays, joined_lost            one item more, if nothing is known at the second end
+-- Lists that a loop changes or tests element by element.
+--     map_more                             setting one more element to its image
+--     JoinedTo, joined_more, joined_all    what is known at two ends: up to an element, for one more,
+--                                          and for all
+--     joined_stays, joined_lost            one more element, if nothing is known of it at the second
+--                                          end
 --     KeptTo, kept_more, kept_all          the same for what a body kept
 use Rattle.std.proofs.Common.{◌≡◌, ℕ, ◌+◌, ◌<◌, ◌≤◌, List, [], ◌∷◌, ◌++◌, length, map, take, drop, get_or, set, refl, sym, ap, ◌∙◌, arith, drop-cons, add-one, suc, append_assoc, append-nil, subst, true, false, rules, Ok, Err}
 use Rattle.std.specs.Prelude.{⊤}
@@ -9,7 +11,7 @@ use Rattle.std.proofs.lemmas.List.{map-set, length-map, get_or-map, set-get_or, 
 use Rattle.std.proofs.lemmas.List.Edits.{map_over_more}
 use Rattle.client_spec.specs.Typed.{Reason, Checked, ◌>>=◌, RegisterType, RegisterTypes, is_owner, joined_one, joined, kept_one, kept}
 
--- a map of a map, one item more
+-- setting the next element to its image extends the mapped prefix
 pub map_more : {X Y : Type 0} (view : X → Y) (f : Y → Y) (xs : List X) (ys : List Y) (i : ℕ) (d y : X) → i < length xs → length ys ≡ length xs
     → map view xs ≡ map f (take i ys) ++ drop i ys → view y ≡ f (view (get_or xs i d)) → map view (set xs i y) ≡ map f (take (i + 1) ys) ++ drop (i + 1) ys
 map_more view f xs ys i d y near long so_far new =
@@ -19,7 +21,7 @@ map_more view f xs ys i d y near long so_far new =
 
 -- ---- from an item on
 
--- the images from an item on
+-- the images from index i on begin with the image of element i
 from_here : {X : Type 0} (view : X → RegisterType) (xs : List X) (i : ℕ) (d : X) → i < length xs → drop i (map view xs) ≡ view (get_or xs i d) ∷ drop (i + 1) (map view xs)
 from_here view xs i d near =
     let long = length-map xs view in
@@ -29,7 +31,7 @@ from_here view xs i d near =
 
 -- ---- what is known at both ends
 
--- what is known after these items, before what is known of the others
+-- puts what is known of some registers before what is known of the others
 abbrev pub after : RegisterTypes → Checked RegisterTypes → Checked RegisterTypes
 after front r = r >>= λ ks. Ok (front ++ ks)
 

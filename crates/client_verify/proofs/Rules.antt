@@ -45,7 +45,7 @@ module _ (types : Table) (constants : List Constant) (a b c t k : ℕ) (ks : Reg
   combines_same : (required (is_integer (known ks b)) Reason.WrongOperand >>= λ _. required (is_integer (known ks c)) Reason.WrongOperand >>= λ _. gets ks RegisterType.Int RegisterType.Int) ≡ combines a b c ks
   combines_same = integer_same (known ks b) _ _ (integer_same (known ks c) _ _ gives_int)
 
-  -- a register gets a reference by name, or to a unique object
+  -- `gets` and `opens` agree for a reference by name, and for a unique object
   opens_named : (number : ℤ) → AreNamed Number.TypedName number t k → gets ks (RegisterType.Reference (Class.Name k) t) RegisterType.Int ≡ opens a (RegisterType.Reference (Class.Name (constant_operand number)) (type_operand number)) ks
   opens_named number named =
       opens_same a (RegisterType.Reference (Class.Name k) t) ks ks refl
@@ -55,7 +55,7 @@ module _ (types : Table) (constants : List Constant) (a b c t k : ℕ) (ks : Reg
   opens_unique : (number : ℤ) → t ≡ nat_abs number → gets ks (RegisterType.Reference (Class.Unique t) t) RegisterType.Int ≡ opens a (RegisterType.Reference (Class.Unique (nat_abs number)) (nat_abs number)) ks
   opens_unique number e = opens_same a (RegisterType.Reference (Class.Unique t) t) ks ks refl ∙ ap (λ u. opens a (RegisterType.Reference (Class.Unique u) u) ks) e
 
-  -- a register gets a reference to a part, after others have ended or not
+  -- they agree for a reference to a part, whether or not other references have ended
   opens_part : (es : RegisterTypes) (x : Class) (y : ℕ) (part : RegisterType) → is_owner (known es a) ≡ is_owner (known ks a) → part ≡ RegisterType.Reference x y → gets es part RegisterType.Int ≡ opens a (RegisterType.Reference x y) es
   opens_part es x y part kept e = ap (λ p. gets es p RegisterType.Int) e ∙ opens_same a (RegisterType.Reference x y) es ks (sym kept)
 

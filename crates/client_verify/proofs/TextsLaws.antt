@@ -13,12 +13,12 @@ use Rattle.client_verify.specs.Accepted.{client_of}
 use Rattle.client_verify.specs.declared.verified.Verified.{Verified}
 use Rattle.client_verify.specs.Texts.{texts_of, IsWrongText, IsWrongAt}
 
--- one element more of a prefix
+-- the mapped prefix with one more element ends with the image of that element
 pub mapped_front : {X Y : Type 0} (f : X → Y) (xs : List X) (i : ℕ) (x : X) → i < length xs → x ≡ get_or xs i x → map f (take (i + 1) xs) ≡ map f (take i xs) ++ f x ∷ []
 mapped_front f xs i x h e =
     ap (λ n. map f (take n xs)) (add-one i) ∙ ap (map f) (take-suc xs i x h) ∙ map-append f (take i xs) (get_or xs i x ∷ []) ∙ ap (λ y. map f (take i xs) ++ f y ∷ []) (sym e)
 
--- one client more
+-- clients stay accepted if the next one is accepted after them
 pub accepted_more : (table : Table) (texts : List (List ℕ)) (clients : List Client) (text : List ℕ) (client : Client) → AreAccepted table texts clients → SpellsClient text client → IsVerified (table_after table clients) client
     → AreAccepted table (texts ++ text ∷ []) (clients ++ client ∷ [])
 accepted_more table [] [] text client h spells is = (spells, is, tt)
@@ -39,7 +39,7 @@ module _ {X : Type 0} (f : X → List ℕ) (xs : List X) (i : ℕ) (d : X) (ther
   front : map f (take (i + 1) xs) ≡ map f (take i xs) ++ f (get_or xs i d) ∷ []
   front = mapped_front f xs i (get_or xs i d) there (get_or_default xs i d (get_or xs i d) there)
 
-  -- one program more
+  -- the files of the programs stay the mapped prefix if one more program is added
   pub text_added : (programs : List Verified) (program : Verified) → texts_of programs ≡ map f (take i xs) → bytes_of (client_of program) ≡ f (get_or xs i d) → texts_of (programs ++ program ∷ []) ≡ map f (take (i + 1) xs)
   text_added programs program same is =
       map-append (λ (p : Verified). bytes_of (client_of p)) programs (program ∷ []) ∙ ap (λ ts. ts ++ bytes_of (client_of program) ∷ []) same ∙ ap (λ t. map f (take i xs) ++ t ∷ []) is ∙ sym front
@@ -52,7 +52,7 @@ module _ {X : Type 0} (f : X → List ℕ) (xs : List X) (i : ℕ) (d : X) (ther
     more ∙ ap (λ t. longer t client.types) same ∙ sym (table_more table clients client),
   )
 
-  -- a file with a fault after others that were accepted
+  -- a fault of one file, after files that were accepted, is a fault of the list
   pub first_wrong : (table types : Table) (fault : Fault) (clients : List Client) → AreAccepted table (map f (take i xs)) clients → types ≡ table_after table clients → IsWrongText types (f (get_or xs i d)) fault
       → IsWrongAt table (map f xs) i fault
   first_wrong table types fault clients h same wrong = record {

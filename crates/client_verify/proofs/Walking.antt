@@ -20,7 +20,7 @@ pub followed : {A B C : Type 0} (r : Checked A) (f : A → Checked B) (g : A →
 followed (Ok x) f g h same = same x
 followed (Err e) f g h same = refl
 
--- applying a function to an unchanged result
+-- mapping a result with q and continuing with g is continuing with h, if g after q is h
 given : {A B C : Type 0} (r : Checked A) (q : A → B) (g : B → Checked C) (h : A → Checked C) → ((x : A) → g (q x) ≡ h x) → ((r >>= λ x. Ok (q x)) >>= g) ≡ (r >>= h)
 given (Ok x) q g h same = same x
 given (Err e) q g h same = refl

@@ -134,7 +134,7 @@ abbrev pub leads_to : Table → ℤ → Kinds → RegisterType → Bool
 leads_to types number kinds (RegisterType.Reference x t) = is_kind_at number kinds (form_at types t)
 leads_to types number kinds k = false
 
--- the same, but not into a frozen object
+-- a reference to a value of one of these kinds, but not into a frozen object
 abbrev pub may_change : Table → ℤ → Kinds → RegisterType → Bool
 may_change types number kinds (RegisterType.Reference x t) =
     if is_frozen x then false else is_kind_at number kinds (form_at types t)

@@ -5,17 +5,17 @@ use crate::registers::Registers;
 use client_code::{Ends, Role};
 use seg_layout::TypeId;
 
-/// What an instruction changes of what is known of the registers, where there is no reason to reject it.
+/// How an instruction that isn't rejected changes what is known of the registers.
 #[derive(Debug, Clone, Copy)]
 pub struct After {
     pub(crate) role: Role,
     pub(crate) ends: Ends,
     pub(crate) b: u8,
     pub(crate) c: u8,
-    // what the number names
+    // the type that the number refers to
     pub(crate) type_id: TypeId,
     pub(crate) constant: u8,
-    // the register that changes, and what it contains after success
+    // the register that changes, and what it has after success
     pub(crate) given: Option<(u8, PackedRegister)>,
 }
 
@@ -24,7 +24,7 @@ impl After {
     ghost use Rattle.client_verify.specs.Checking.{otherwise_by};
     ghost use Rattle.client_verify.specs.Changes.{ended_after, success_after, otherwise_after};
 
-    /// Ends references, and empties a register. Both parts begin with what is known then.
+    /// Ends references, and empties a register. Both parts begin with the result.
     #[inline(always)]
     pub fn end(&self, registers: &mut Registers)
         ensures { registers_of registers.new ≡ ended_after self.now (registers_of registers.old) }
@@ -46,7 +46,7 @@ impl After {
         }
     }
 
-    /// What is known in the success part, or after an instruction without parts.
+    /// Adds what is known in the success part, or after an instruction without parts.
     #[inline(always)]
     pub fn succeed(&self, registers: &mut Registers)
         ensures { registers_of registers.new ≡ success_after self.now (registers_of registers.old) }
@@ -59,7 +59,7 @@ impl After {
         }
     }
 
-    /// What is known in the else part.
+    /// Adds what is known in the else part.
     pub fn fail(&self, registers: &mut Registers)
         ensures { registers_of registers.new
             ≡ otherwise_after self.now (registers_of registers.old) }
@@ -69,7 +69,7 @@ impl After {
         }
     }
 
-    /// What the register that changes contains in the else part: the code.
+    /// What the changed register has in the else part. For an opener this is the code.
     fn otherwise(&self, given: PackedRegister) -> PackedRegister
         ensures { known_of result ≡ otherwise_by self.now.role (known_of given) }
     {

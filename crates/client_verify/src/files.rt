@@ -14,7 +14,7 @@ use seg_layout::TypeTable;
 use seg_raw::Fault;
 use std::alloc::Allocator;
 
-/// The clients, each verified against the types as the ones before extend them.
+/// Verifies the clients in order, each against the types with those of the clients before it added.
 pub fn verify_all<'a, A: Allocator + Copy>(
     alloc: A,
     clients: &[&'a [u8]],
@@ -46,7 +46,7 @@ pub fn verify_all<'a, A: Allocator + Copy>(
     Ok(programs)
 }
 
-/// The client of a file, verified against types.
+/// Parses the file of a client, and verifies the client against the types.
 fn verify_one<'a>(bytes: &'a [u8], types: &TypeTable) -> Result<Verified<'a>, Fault>
     ensures text { IfOk result (λ program. bytes_of (client_of program) ≡ bytes.now) }
     ensures accepted { IfOk result (λ program. (tree : syntax.Client) × SpellsClient bytes.now tree
@@ -56,7 +56,7 @@ fn verify_one<'a>(bytes: &'a [u8], types: &TypeTable) -> Result<Verified<'a>, Fa
     verify_typed(parse_typed(bytes)?, types)
 }
 
-/// Makes a table the longer one of itself and another.
+/// Replaces a table by another one that is longer.
 fn extend(types: &mut TypeTable, more: &TypeTable)
     ensures { types.new ≡ longer types.old more.now }
 {

@@ -220,7 +220,7 @@ impl PackedRegister {
         }
     }
 
-    /// What it refers to, also if that may only be read: the class and the type.
+    /// The class and the type of what a reference refers to, read-only or not.
     #[inline]
     pub fn referred(self) -> Option<(PackedClass, TypeId)>
         ensures { option_map (λ x. (class_of x.0, x.1)) result ≡ referred (known_of self) }
@@ -231,7 +231,7 @@ impl PackedRegister {
         }
     }
 
-    /// The type of the value that it refers to, unless that may only be read.
+    /// The type of the value that a reference refers to, unless it is read-only.
     #[inline]
     pub fn changeable(self) -> Option<TypeId>
         ensures { result ≡ changeable_by (known_of self) }
@@ -242,8 +242,8 @@ impl PackedRegister {
         }
     }
 
-    /// A reference to a part of what it refers to. Through a `shared` it may only be read, and so may a part of what may only be
-    /// read.
+    /// A reference to a part of the value that this one refers to. It is read-only if this one is, or if it passes through a
+    /// `shared`.
     #[inline]
     pub fn part(self, of: Type, part: TypeId) -> PackedRegister
         ensures { known_of result ≡ part_below (form_of of) part (known_of self) }
@@ -257,7 +257,8 @@ impl PackedRegister {
         }
     }
 
-    /// The same, unless it is a reference of the class, or into a frozen object that the class shares: then it becomes undefined.
+    /// What is known after the references of a class have ended: nothing, if this is a reference of the class, or into a frozen
+    /// object that the class shares.
     #[inline]
     pub fn without(self, class: PackedClass) -> PackedRegister
         ensures { known_of result ≡ typed.without_class (class_of class) (known_of self) }
@@ -269,7 +270,8 @@ impl PackedRegister {
         }
     }
 
-    /// At the `END` of an opener: what is known in both parts, and whether an owner is lost, since it is in one only.
+    /// What is known at the `END` of an opener, from what is known after each part, and whether an owner is lost: the register owns
+    /// an object after one part only.
     #[inline]
     pub fn joined(self, other: PackedRegister) -> (PackedRegister, bool)
         ensures { joined_to result ≡ typed.joined_one (known_of self) (known_of other) }
@@ -284,7 +286,7 @@ impl PackedRegister {
         (both, lost)
     }
 
-    /// At the `END` of a loop's body, where this was known before the loop: whether `after` may be known now.
+    /// Tests at the `END` of a loop's body, where `after` is known, that what was known before the loop is still true.
     #[inline]
     pub fn keeps(self, after: PackedRegister) -> Result<(), Reason>
         ensures { checked (λ x. x) result ≡ typed.kept_one (known_of self) (known_of after) }

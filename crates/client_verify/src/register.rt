@@ -7,12 +7,12 @@ ghost use Rattle.client_verify.specs.Checking.{referred};
 use crate::packed::PackedClass;
 use seg_layout::TypeId;
 
-/// What a reference refers into. References of one class may refer to one value.
+/// What a reference refers into. Two references of the same class may refer to the same value.
 #[derive(Debug, Clone, Copy, PartialEq, Eq)]
 pub enum Class {
-    /// The objects of a name constant.
+    /// An object with the name that a constant gives.
     Name(u8),
-    /// The unique instance of a type.
+    /// The unique object of a type.
     Unique(TypeId),
     /// The object that a register owns.
     Register(u8),
@@ -33,14 +33,14 @@ impl Class {
 /// What is known of a register.
 #[derive(Debug, Clone, Copy, PartialEq, Eq, Default)]
 pub enum RegisterType {
-    /// Nothing. The register may not be used.
+    /// Nothing is known. The register may not be used.
     #[default]
     Undefined,
     /// It contains a number.
     Int,
     /// It refers to a value of this type.
     Reference(Class, TypeId),
-    /// It refers to a value of this type in a frozen object that the class shares, which may only be read.
+    /// It refers to a value of this type in a frozen object that objects of the class share. The value can only be read.
     ReadOnly(Class, TypeId),
     /// It owns an object of this type.
     Owner(TypeId),
@@ -54,7 +54,7 @@ impl RegisterType {
         matches!(self, RegisterType::Owner(_))
     }
 
-    /// What it refers to, also if that may only be read: the class and the type.
+    /// The class and the type of what a reference refers to, read-only or not.
     pub fn referred(self) -> Option<(Class, TypeId)>
         ensures { option_map (λ x. (class_shown x.0, x.1)) result ≡ referred (known_shown self) }
     {

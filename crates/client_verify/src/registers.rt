@@ -10,14 +10,14 @@ use client_code::REGISTERS;
 
 const COUNT: usize = REGISTERS as usize;
 
-/// What is known of each register at a place of the code.
+/// What is known of each register at a place in the code.
 #[derive(Debug, Clone, Copy, PartialEq, Eq)]
 pub struct Registers {
     types: [PackedRegister; COUNT],
 }
 
 impl Registers {
-    /// Nothing is known of any register.
+    /// The registers of which nothing is known.
     pub fn new() -> Registers
         ensures { registers_of result ≡ replicate 16 typed.RegisterType.Undefined }
     {
@@ -26,7 +26,7 @@ impl Registers {
         }
     }
 
-    /// What is known of a register; nothing of one past the last.
+    /// What is known of a register. `Undefined` if there is no such register.
     pub fn get(&self, register: u8) -> RegisterType
         ensures { known_shown result ≡ typed.known (registers_of self.now) register }
     {
@@ -117,7 +117,7 @@ impl Registers {
         Ok(())
     }
 
-    /// Whether a loop's body, which found these registers, may leave those.
+    /// Tests that a loop's body that began with these registers may end with those.
     pub fn keeps(&self, after: &Registers) -> Result<(), Reason>
         ensures { checked (λ x. x) result
             ≡ typed.kept (registers_of self.now) (registers_of after.now) }

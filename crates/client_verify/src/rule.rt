@@ -14,14 +14,14 @@ use crate::registers::Registers;
 use client_code::{Ends, Gives, Instruction, Kinds, Need, Role, Row};
 use seg_layout::{Fields, Type, TypeId, TypeTable};
 
-/// An instruction, and what is known in front of it.
+/// An instruction, and what is known before it.
 #[derive(Clone, Copy)]
 pub struct Rule<'a> {
     types: &'a TypeTable,
     before: &'a Registers,
     instruction: Instruction,
     row: Row,
-    // what the number names, where the operation has such a number
+    // the type that the number refers to, if the operation has such a number
     type_id: TypeId,
     constant: u8,
     ghost own: { row ≡ row_of instruction.operation },
@@ -42,14 +42,14 @@ impl<'a> Rule<'a> {
     ghost use Rattle.client_verify.specs.Changes.{given_of, known_by};
     ghost use Rattle.client_verify.specs.Steps.{types_of, before_of, instruction_in, step_by};
 
-    /// The rule of an instruction, in front of which this is known.
+    /// The rule of an instruction before which this is known.
     #[inline(always)]
     pub fn new(types: &'a TypeTable, before: &'a Registers, instruction: Instruction) -> Rule<'a>
         ensures types { types_of result ≡ types.now }
         ensures before { before_of result ≡ before.now }
         ensures instruction { instruction_in result ≡ instruction }
     {
-        // a table is short, so that a byte of the number is the whole id of a type
+        // a table has at most 32 types, so one byte of the number is a whole type id
         let _ = types.len();
         Rule {
             types,
@@ -77,7 +77,7 @@ impl<'a> Rule<'a> {
         Ok(after)
     }
 
-    /// What the instruction changes where there is no reason to reject it.
+    /// What the instruction changes if it isn't rejected.
     #[inline(always)]
     fn after(&self) -> After
         ensures given { given_of result ≡ given_in (step_by self.now) }
@@ -95,7 +95,7 @@ impl<'a> Rule<'a> {
         }
     }
 
-    /// The reasons in their order.
+    /// Tests for the reasons to reject the instruction, in their order.
     #[inline(always)]
     fn check(&self, after: &After) -> Result<(), Reason>
         ensures { checked (λ x. x) result
@@ -129,7 +129,7 @@ impl<'a> Rule<'a> {
         }
     }
 
-    /// Whether the register that changes owns an object.
+    /// Whether the register that changes owns an object, which would be lost.
     fn loses_owner(&self, after: &After) -> bool
         ensures { result ≡ is_lost (given_of after.now) (registers_of self.now.before.now) }
     {
@@ -170,7 +170,7 @@ impl<'a> Rule<'a> {
         }
     }
 
-    /// Whether a type is a `shared` of the type that register b's holds.
+    /// Whether a type is a `shared` of the same type as the one that register b refers to.
     fn is_alike(&self, type_id: TypeId) -> bool
         ensures { result ≡ shares (part_in (step_by self.now))
             (form_at self.now.types.now type_id) }
@@ -181,7 +181,7 @@ impl<'a> Rule<'a> {
         }
     }
 
-    /// Whether a type is of these kinds. One past the table's end is of any kind, and of no other.
+    /// Whether a type is of one of these kinds. A number above the table's types is of kind `Any` only.
     fn is_of(&self, kinds: Kinds, type_id: TypeId) -> bool
         ensures { result ≡ is_kind_at self.now.instruction.number kinds
             (form_at self.now.types.now type_id) }
@@ -192,7 +192,7 @@ impl<'a> Rule<'a> {
         }
     }
 
-    /// The same, where the table says what the type is.
+    /// The same for a type in the table.
     fn is_kind(&self, kinds: Kinds, kind: Type) -> bool
         ensures { result ≡ is_kind self.now.instruction.number kinds (form_of kind) }
     {
@@ -219,7 +219,7 @@ impl<'a> Rule<'a> {
         }
     }
 
-    /// The type of the field of the instruction's number.
+    /// The type of the field with the instruction's number.
     fn field(&self, fields: &Fields) -> Option<TypeId>
         ensures { result ≡ field_at self.now.instruction.number fields.now }
     {
@@ -229,7 +229,7 @@ impl<'a> Rule<'a> {
         }
     }
 
-    /// The type of an item, a map's value, an object that is owned or shared, or the field of the instruction's number.
+    /// The type of an item, of a map's value, of an owned or shared object, or of the field with the instruction's number.
     fn part_of(&self, kind: Type) -> Option<TypeId>
         ensures { result ≡ part_of self.now.instruction.number (form_of kind) }
     {

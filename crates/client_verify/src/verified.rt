@@ -28,8 +28,8 @@ pub struct Verified<'a> {
 impl<'a> Verified<'a> {
     ghost use Rattle.client_verify.specs.Accepted.{client_of};
 
-    /// The client: on the machine of names and values it never meets an instruction without a row, and takes no more steps than its
-    /// bound.
+    /// The client. On the machine of names and values it never meets an instruction without a row, and takes at most its bound of
+    /// steps.
     pub fn client(&self) -> Client<'a>
         ensures client { result ≡ client_of self.now }
         ensures safe { OfTree result NeverGoesWrong }
@@ -44,7 +44,7 @@ impl<'a> Verified<'a> {
         &self.typed.types
     }
 
-    /// The steps that a run of the client takes at most.
+    /// The most steps that a run of the client takes.
     pub fn bound(&self) -> u64
         ensures few { result ≤ MOST_STEPS }
         ensures bound { OfTree (client_of self.now) (λ tree. result ≡ run.bound tree.code) }
@@ -52,7 +52,7 @@ impl<'a> Verified<'a> {
         self.bound
     }
 
-    /// Whether a table and the client's types agree where both have an entry.
+    /// Whether a table and the client's types agree on the entries that both have.
     pub fn fits(&self, table: &TypeTable) -> bool
         ensures { OfTree (client_of self.now) (λ tree. IsTrue result ↔ Agree table.now tree.types) }
     {

@@ -45,18 +45,18 @@ impl Default for Open {
     }
 }
 
-/// The verifier at a place of a client's code: it goes past one instruction after the other, from the first.
+/// The verifier at a place in a client's code. It passes the instructions one by one, from the first.
 #[derive(Drop)]
 pub struct Verifier<'a> {
     types: &'a TypeTable,
     registers: Registers,
-    // the steps of the innermost part so far, at most; the largest number where there are more
+    // an upper bound of the steps of the innermost part so far; u64::MAX if there are more
     steps: u64,
     parts: ArrayVec<Open, DEPTH>,
 }
 
 impl<'a> Verifier<'a> {
-    /// In front of the code.
+    /// The verifier before the first instruction.
     pub fn new(types: &'a TypeTable) -> Verifier<'a>
         ensures types { result.types.now ≡ types.now }
         ensures start { progress_of result ≡ initial_progress }
@@ -76,14 +76,14 @@ impl<'a> Verifier<'a> {
         self.steps
     }
 
-    /// What is known of the registers here.
+    /// What is known of the registers at this place.
     pub fn registers(&self) -> &Registers
         ensures { result.now ≡ self.now.registers }
     {
         &self.registers
     }
 
-    /// Goes past an instruction.
+    /// Passes an instruction, or returns why it is rejected.
     pub fn pass(&mut self, instruction: Instruction) -> Result<(), Reason>
         ensures types { self.new.types.now ≡ self.old.types.now }
         ensures passed { IfOk result (λ _. (constants : List syntax.Constant) →
@@ -160,7 +160,7 @@ impl<'a> Verifier<'a> {
         self.steps = 0;
     }
 
-    /// From the success part to the else part.
+    /// Continues with the else part after the success part.
     fn turn(&mut self)
         ensures types { self.new.types.now ≡ self.old.types.now }
         ensures turned { progress_of self.new
@@ -176,7 +176,7 @@ impl<'a> Verifier<'a> {
         self.steps = 0;
     }
 
-    /// After an `END`.
+    /// Closes the innermost part at its `END`.
     fn close(&mut self) -> Result<(), Reason>
         ensures types { self.new.types.now ≡ self.old.types.now }
         ensures closed { checked (λ _. progress_of self.new) result

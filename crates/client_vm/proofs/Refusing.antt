@@ -112,12 +112,12 @@ pub shows : (w : Placement) (host : List ℕ) (base len : ℕ) (image : List ℕ
 shows w host base len image is at size same placed =
     sym (region-placed w.before w.bytes w.after) ∙ ap (λ r. slice r (length w.before) (length w.bytes)) is ∙ ap (λ b. slice host b (length w.bytes)) at ∙ ap (slice host base) (size ∙ same) ∙ placed
 
--- the window at a place
+-- a window that was made is at its place in the region
 pub placed_there : {E : Type 0} (Q : E → Type 0) (result : Result Placement E) (w : Placement) (host : List ℕ) (base len : ℕ) → result ≡ Ok w
     → MatchResult result (λ v. (region_of v ≡ host) × (length v.before ≡ base) × (length v.bytes ≡ len)) Q → (region_of w ≡ host) × (length w.before ≡ base) × (length w.bytes ≡ len)
 placed_there Q result w host base len is h = MatchResult-at_ok _ Q w is h
 
--- a region of zeros with the image in it
+-- a region of zeros with the image in it has the region's length
 pub zeros_around : (image : List ℕ) (base room : ℕ) → IsPlace room base (length image) → length ((replicate base 0 ++ image) ++ replicate (room - (base + length image)) 0) ≡ room
 zeros_around image base room place =
     let zeros = replicate (room - (base + length image)) 0 in
@@ -130,7 +130,7 @@ among_zeros image base room host is =
     let around = (replicate base 0 ++ image) ++ zeros in
     subst (λ (h : List ℕ). IsPlaced h base image) (sym is) (ap (λ b. slice around b (length image)) (sym (length-replicate base 0)) ∙ region-placed (replicate base 0) image zeros)
 
--- an image that is the whole region
+-- an image that is the whole region is placed at 0
 pub whole_region : (image host : List ℕ) → host ≡ image → IsPlaced host 0 image
 whole_region image host is = subst (λ (h : List ℕ). IsPlaced h 0 image) (sym is) (slice_whole image)
 
@@ -142,12 +142,12 @@ other_allocator zero small isnt = refl
 other_allocator (suc zero) small isnt = absurd (isnt refl)
 other_allocator (suc (suc n)) small isnt = absurd (omega (arith, small))
 
--- a result whose value is known
+-- a claim about a known value is true of the result
 pub ok_is : {A E : Type 0} (result : Result A E) (x : A) (P : A → Type 0) → P x → IfOk result (λ y. y ≡ x) → IfOk result P
 ok_is (Ok a) x P p is = subst P (sym is) p
 ok_is (Err e) x P p is = tt
 
--- an error that is passed on
+-- a claim about an error is true of the result that passes it on
 pub err_is : {A E : Type 0} (result : Result A E) (e : E) (P : E → Type 0) → P e → IsErrAnd result (λ x. x ≡ e) → IfErr result P
 err_is (Ok a) e P p is = absurd is
 err_is (Err x) e P p is = subst P (sym is) p

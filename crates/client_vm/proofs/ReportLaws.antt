@@ -1,4 +1,4 @@
--- Reports of clients, one by one.
+-- Reports of clients, report by report.
 use Rattle.std.proofs.Common.{◌≡◌, ℕ, ◌+◌, ◌<◌, Bool, true, false, List, [], ◌∷◌, ◌++◌, length, map, take, drop, get_or, sym, ap, ◌∙◌, subst, arith, length-append}
 use Rattle.std.specs.Prelude.{if◌then◌else◌}
 use Rattle.std.proofs.lemmas.List.{map-append, length-map, length-take-le, take-append-drop}
@@ -6,7 +6,7 @@ use Rattle.client_verify.proofs.TextsLaws.{mapped_front}
 use Rattle.client_output.specs.declared.report.Report.{Report}
 use Rattle.client_vm.specs.Reports.{IsReportOf, AreReportsOf}
 
--- one more report
+-- the reports stay right if the next client's is added
 one_report : (texts : List (List ℕ)) (reports : List Report) (text : List ℕ) (report : Report) → length texts ≡ length reports → AreReportsOf texts reports → IsReportOf text report
     → AreReportsOf (texts ++ text ∷ []) (reports ++ report ∷ [])
 one_report [] [] text report e h is = (is, tt)
@@ -14,7 +14,7 @@ one_report [] (r ∷ reports) text report e h is = absurd h
 one_report (t ∷ texts) [] text report e h is = absurd (omega arith)
 one_report (t ∷ texts) (r ∷ reports) text report e h is = (h.0, one_report texts reports text report (omega arith) h.1 is)
 
--- more clients, which didn't run
+-- clients that didn't run need no report
 fewer_reports : (texts more : List (List ℕ)) (reports : List Report) → AreReportsOf texts reports → AreReportsOf (texts ++ more) reports
 fewer_reports texts more [] h = tt
 fewer_reports [] more (r ∷ reports) h = absurd h
@@ -35,7 +35,7 @@ program_ran text programs k program old new report there is count h ran e =
           (one_report (map text (take k programs)) old (text program) report (size ∙ sym count) h ran)),
     )
 
--- the clients after some that ran didn't run
+-- the reports of the clients that ran are reports of all clients
 pub some_ran : {P : Type 0} (text : P → List ℕ) (programs : List P) (k : ℕ) (reports : List Report) → AreReportsOf (map text (take k programs)) reports → AreReportsOf (map text programs) reports
 some_ran text programs k reports h =
     subst (λ ts. AreReportsOf ts reports) (sym (map-append text (take k programs) (drop k programs)) ∙ ap (map text) (take-append-drop k programs))

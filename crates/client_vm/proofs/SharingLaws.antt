@@ -31,13 +31,13 @@ use Rattle.client_vm.specs.Worlds.{constants_in, world_of, GivesNumber, GivesUp,
 Err_inj : {A B : Type 0} {x y : B} → ◌≡◌ {A = Result A B} (Err x) (Err y) → x ≡ y
 Err_inj e = cc
 
--- a register's place, as it was read
+-- a place with the position and type of a register's is the register's place
 pub place_read : (machine : Machine) (r : ℕ) (place : declared_place.Place) → place.at ≡ slice_index_or machine.positions r 0 → place.type_id ≡ slice_index_or machine.type_ids r 0 → place_of place ≡ place_at machine r
 place_read machine r place at_is type_is = ap (λ (n : ℕ). record { at = n; type = place.type_id }) at_is ∙ ap (λ (T : ℕ). record { at = slice_index_or machine.positions r 0; type = T }) type_is
 
 module _ (allocator : ℕ) (i : Instruction) (old : Machine) (before after : Stored) (types_kept : after.types ≡ before.types) (heap : Stored) (heap_is : heap ≡ before) (to : declared_place.Place)
     (to_is : place_of to ≡ place_at old i.b) where
-  -- what is known of the cell is known of the cell at register b's place
+  -- a claim about the cell that the call changed is true of the cell at register b's place
   at_cell : (claim : Stored → Place → Type 0) → claim heap (place_of to) → claim before (place_at old i.b)
   at_cell claim known = subst (claim before) to_is (subst (λ h. claim h (place_of to)) heap_is known)
 

@@ -87,7 +87,7 @@ module _ (allocator : ℕ) (clients : List Client) (moves : List Move) (input : 
     saved_is = refl;
   }
 
-  -- one more ran
+  -- the invariant after one more client ran
   module _ (text : List ℕ) (texts : List (List ℕ)) (left left_then : List ℕ) (now new : Placement) (table table_then : Table) (taken_now taken_then : Option (List ℕ)) (reports : List Report) (report : Report) (failed : Bool)
       (ran : (tree : Client) → SpellsClient text tree → MayRun allocator [] now table tree moves → HasRun allocator tree [] moves left now table taken_now new table_then taken_then report)
       (left_is : left_then ≡ drop report.read left) (how : (report.ended ≡ ended.OutputFailed) ↔ (failed ≡ true)) where
@@ -208,7 +208,7 @@ opened_ready window table moves allocator is named may = record {
       (subst (λ n. AreMoves (length (region_of window)) n 0 moves) (sym (upgrade_changes window.bytes).length_kept) may);
 }
 
--- on a sound image, with its types
+-- the clients ran on the image's bytes, from how they ran on the opened segment
 pub ran_on : (texts : List (List ℕ)) (moves : List Move) (input : List ℕ) (window : Placement) (effect : Effect) (table : Table) (allocator : ℕ)
     → IsImageOf window.bytes table → word window.bytes allocator_word ≡ allocator → (clients : List Client) → AreAccepted table texts clients
     → ((clients : List Client) → AreAccepted table texts clients → IsReady allocator [] (opened window) table moves

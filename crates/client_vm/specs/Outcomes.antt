@@ -47,8 +47,8 @@ pub record AreLeftByRuns (job : Job) (effect : Effect) : Type 0 where
   pub saved_is : effect.saved ≡ image_after (upgraded job.image) lefts
   pub sound : IsSound effect.saved
 
--- The clients were accepted, one after the other, on a sound image, and runs of the abstract
--- machine left the rest.
+-- The clients were accepted, one after the other, on a sound image, and the effect is that of their
+-- runs on the abstract machine.
 pub record HasOutcome (job : Job) (effect : Effect) : Type 0 where
   pub can_run : CanRun job.image job.texts job.room job.base job.moves
   pub left : AreLeftByRuns job effect

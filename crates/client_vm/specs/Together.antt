@@ -48,7 +48,7 @@ pub record HaveRunOn (texts : List (List ℕ)) (moves : List Move) (input : List
       HaveRun accepted.clients moves input (opened window) effect.taken effect.saved
       effect.taken_then effect.reports (ending_of effect.ended)
 
--- so they have, if the image's types accept them
+-- the clients have run like this if the image's types accept them
 abbrev pub AdmittedRan : {A : _} → Admitted A → List Move → List ℕ → Placement → Effect → Type 0
 AdmittedRan admitted moves input window effect = (clients : List Client) →
     AreAccepted admitted.types (texts_in admitted.programs.items) clients →

@@ -10,7 +10,7 @@
 #include <string.h>
 
 /* Memory that a call lends to the library: its start, the number of bytes in use, and its capacity in bytes. It is `Lent` of the
- * crate seg_lent. The library uses the memory in place, and sets the number of bytes in use; an image's length doesn't change. */
+ * crate lezgauri_c. The library uses the memory in place, and sets the number of bytes in use. An image keeps its length. */
 typedef struct lent {
     uint8_t *at;
     size_t len;
@@ -44,7 +44,7 @@ void lezgauri_raw_client_close(kept *prepared);
 
 /* ---- the memory of a call */
 
-/* Memory of the caller's: a pointer and a length in bytes. */
+/* A part of the caller's memory: a pointer and a length in bytes. */
 typedef struct span {
     const void *at;
     size_t len;
@@ -352,7 +352,7 @@ uint32_t lezgauri_prepare(const lezgauri_handle *handle, const void *client, siz
         !are_apart(of)) {
         return refuse(LEZGAURI_BAD_ARGUMENT, fault, of);
     }
-    /* const to the caller all the same: the library doesn't write to the image, and the flag isn't visible */
+    /* const is true for the caller: the library doesn't write to the image, and the flag isn't visible */
     lezgauri_handle *flagged = (lezgauri_handle *)handle;
     if (!acquire(&flagged->busy)) {
         return refuse(LEZGAURI_BUSY, fault, of);
@@ -517,7 +517,7 @@ uint32_t lezgauri_save(const lezgauri_handle *handle, void *buffer, size_t capac
     if (capacity < handle->len) {
         return LEZGAURI_TOO_SMALL;
     }
-    /* const to the caller all the same: the flag isn't visible */
+    /* const is true for the caller: the flag isn't visible */
     lezgauri_handle *flagged = (lezgauri_handle *)handle;
     if (!acquire(&flagged->busy)) {
         return LEZGAURI_BUSY;

@@ -45,7 +45,7 @@ enum {
     LEZGAURI_BAD_TYPE = 3,       /* position: the first wrong entry of the image's type table, from 0 */
     LEZGAURI_TYPE_MISMATCH = 4,  /* position: the first entry that differs between the client's types and the image's */
     LEZGAURI_BAD_HEADER = 10,    /* the image's header, or its length */
-    LEZGAURI_BAD_BLOCK = 11,     /* position: of the block, in bytes from the image's start, as those that follow */
+    LEZGAURI_BAD_BLOCK = 11,     /* position: of the block, in bytes from the image's start, like the next six */
     LEZGAURI_BAD_FREE = 12,      /* position: of the pointer word in the free structure */
     LEZGAURI_BAD_INDEX = 13,     /* position: of the index's entry, or of its pointer */
     LEZGAURI_BAD_POINTER = 14,   /* position: of a pointer that doesn't refer to a block of the right kind */
@@ -79,7 +79,7 @@ typedef struct lezgauri_fault {
     uint32_t reason;   /* as described beside LEZGAURI_REJECTED, or 0 */
 } lezgauri_fault;
 
-/* Bytes of the caller's. */
+/* Bytes in the caller's memory. */
 typedef struct lezgauri_bytes {
     const uint8_t *bytes;
     size_t len;

@@ -24,7 +24,7 @@ FromKept = plain (λ _. kept.the_row)
 abbrev pub Heap : Slot 0
 Heap = plain (λ _. heap.the_row)
 
--- the value of an option that has one
+-- an option that isn't None has a value
 pub one_there : {T : Type 0} (o : Option T) → is_some o ≡ true → (x : T) × (o ≡ Some x)
 one_there (Some x) there = (x, refl)
 one_there None there = cc

@@ -11,7 +11,7 @@ use Rattle.client_vm.proofs.Refusing.{why}
 use Rattle.lezgauri_c.specs.Calls.{whole_job, effect_of_one, IsRun}
 use Rattle.lezgauri_c.proofs.OneClient.{can_move}
 
--- the statement of a run
+-- a run of an equal image and output is the same run
 pub same_run : (text input image from output started output_then written saved left : List ℕ) (told : Report) (ended : Ended)
     → from ≡ image → started ≡ output → output_then ≡ written → saved ≡ left → told.ended ≡ ended
     → (IsSound from → HasOutcome (whole_job from (text ∷ []) input) (effect_of_one (Some started) (Some written) left told))
@@ -23,7 +23,7 @@ same_run text input image from output started output_then written saved left tol
     (subst (λ (o : List ℕ). IsRun image (text ∷ []) input o written left (told ∷ []) told.ended) started_is
     (subst (λ (i : List ℕ). IsSound i → IsRun i (text ∷ []) input started written left (told ∷ []) told.ended) from_is run sound))))
 
--- the statement of a refusal
+-- a refusal for an equal image is the same refusal
 pub same_refusal : (text image from : List ℕ) (refused : Refused) → from ≡ image → (IsSound from → IsWrong from (text ∷ []) refused)
     → IsSound image → IsRefusedFor (whole_job image (text ∷ []) []) refused
 same_refusal text image from refused from_is wrong sound =

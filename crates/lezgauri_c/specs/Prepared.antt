@@ -2,8 +2,8 @@
 --     in_hand prepared            the client, if there is one
 --     text_of ready               its file
 --     IsReadyOn image text ready  it was verified against the types of an image
---     HoldsClient image text prepared     and C keeps it
---     OfClient prepared P         where C keeps one, P holds of its file
+--     HoldsClient image text prepared     C keeps such a client
+--     OfClient prepared P         if C keeps a client, P is true of its file
 --     ReadyRan ready ..           a client that is ready has run on the image in a window, if the
 --                                 image's types accept it
 use Rattle.std.specs.Prelude.{◌≡◌, ℕ, List, [], ◌∷◌, Option, Some}

@@ -6,7 +6,7 @@ use std::marker::Model;
 
 /// The parts of a box. They own what the box owned.
 ///
-/// It isn't `Drop`, so code that loses the value is rejected.
+/// It isn't `Drop`, so the compiler refuses code that loses the value.
 pub struct BoxParts<T, A: Allocator> {
     pub at: *mut T,
     pub alloc: A,

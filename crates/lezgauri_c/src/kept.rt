@@ -8,7 +8,7 @@ use std::alloc::Global;
 use std::marker::Model;
 use std::ptr::null_mut;
 
-/// The pointer to a prepared client that C keeps, or none.
+/// The pointer to a prepared client that C keeps, or no pointer.
 ///
 /// It isn't `Drop`, so the compiler refuses code that loses the client.
 #[repr(C)]

@@ -7,9 +7,9 @@ use std::marker::Model;
 use std::mem::replace;
 use std_alloc::vec::{Lodged, lodge};
 
-/// A host's memory: its address, how many of its bytes are in use, and how many it has.
+/// A host's memory: its address, its number of bytes in use, and its size in bytes.
 ///
-/// It isn't `Drop`, so code that loses the memory is rejected.
+/// It isn't `Drop`, so the compiler refuses code that loses the memory.
 #[repr(C)]
 pub struct Lent {
     at: *mut u8,
@@ -49,7 +49,7 @@ impl Lent {
         let _ = none.into_vec();
     }
 
-    /// Its bytes, in place.
+    /// The bytes as a `Vec`, in place.
     pub fn into_vec(self) -> Vec<u8, Lodged>
         ensures { (result.items ≡ self.bytes) × (vec_len result ≡ self.len)
             × (vec_capacity result ≡ self.room) × (vec_ptr result ≡ self.at) }

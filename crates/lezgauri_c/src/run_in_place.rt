@@ -94,7 +94,7 @@ pub(crate) fn run_again<A: Allocator, W: Sink>(
     }
 }
 
-/// A window on an image, in the image's own memory, and the image's types. Bytes that are no image come back with a fault.
+/// A window on an image, in the image's own memory, and the image's types. Bytes that aren't an image are returned with a fault.
 pub(crate) fn open_window<A: Allocator>(
     image: Vec<u8, A>,
 ) -> Result<(Window<A>, TypeTable), (Reason, Vec<u8, A>)>
@@ -116,7 +116,7 @@ pub(crate) fn open_window<A: Allocator>(
     }
 }
 
-/// A window on an image, in the image's own memory. Bytes that are too many for a segment are no image, and come back.
+/// A window on an image, in the image's own memory. Bytes that are too many for a segment are returned.
 fn window_of<A: Allocator>(image: Vec<u8, A>) -> Result<Window<A>, Vec<u8, A>>
     ensures bytes { IfOk result (λ window. window.bytes ≡ image.items) }
     ensures region { IfOk result (λ window. region_of window ≡ image.items) }

@@ -1,5 +1,5 @@
--- The gap at the heap's end is removed from the tree. If it is the whole heap, two units of it
--- stay.
+-- The gap at the heap's end is removed from the tree. If the gap is the whole heap, two units of it
+-- remain.
 use Rattle.std.proofs.Common.{◌≡◌, ℕ, ◌+◌, ◌-◌, ◌*◌, ◌/◌, ◌^◌, ◌<◌, ◌≤◌, Bool, true, false, List, [], ◌∷◌, ◌++◌, length, None, refl, sym, ap, ◌∙◌, subst, arith, inl, inr, ◌⊎◌}
 use Rattle.std.specs.Prelude.{Contains}
 use Rattle.std.proofs.lemmas.List.{append-nil}
@@ -54,7 +54,7 @@ module _ (old : List ℕ) (large : 736 ≤ length old) (h : IsHeap 1 old) (xs : 
     a_live : (b : Span) → Contains (live old) b → Agrees old a (b.at + 8) (end_of b)
     a_live b c = live_kept old a (xs ++ tile at u false ∷ []) (length old) free_was.tiled.filled kept b (end_live b c)
 
-    -- ---- a gap that some block is in front of, or another gap
+    -- ---- a gap that has a block or another gap before it
 
     abbrev pub cut_off : List ℕ
     cut_off = set_word a 12 (at / 16)

@@ -36,7 +36,7 @@ module _ (old : List ℕ) (xs ms ys : List Tile) (t : Tile) (at u r : ℕ) (was 
   abbrev next : Tile
   next = tile end r false
 
-  -- the tiles after the first that become one with it
+  -- the tiles after the first that are merged with it
   abbrev all : List Tile
   all = ms ++ next ∷ []
 
@@ -72,7 +72,7 @@ module _ (old : List ℕ) (xs ms ys : List Tile) (t : Tile) (at u r : ℕ) (was 
   was_free : AreFreeBlocks old 704 (free_of xs ++ gap ∷ free_of ys)
   was_free = blocks_beside old xs (t ∷ ms) (next ∷ ys) was
 
-  -- the gap is removed from the tree, and the whole is added
+  -- the gap is removed from the tree, and then the merged gap is added
   pub moved-retiles : (mid new : List ℕ) (path : Path) → LeadsToGap old path (end + 16) → TakesOutAt old mid path → MakesGap mid new at n → Retiles 1 old new xs one ys
   moved-retiles mid new path way takes makes =
       let out = left_here old (free_of xs) gap (free_of ys) path was.small was_free holds way mid takes in
@@ -80,7 +80,7 @@ module _ (old : List ℕ) (xs ms ys : List Tile) (t : Tile) (at u r : ℕ) (was 
       subst (λ l. KeepsBesideNodes old mid (free_of (xs ++ t ∷ l))) (sym (append_assoc ms (next ∷ []) ys)) (kept_among old mid xs (t ∷ ms) (next ∷ ys) out.kept) in
       retiles_after old mid new xs (t ∷ all) one ys covered k (makes xs all ys t (tiled_kept old mid (xs ++ ((t ∷ all) ++ ys)) covered k) out.tree fill)
 
-  -- ---- the whole takes the gap's place
+  -- ---- the merged gap takes the gap's place
 
   kept : (p m : ℕ) → (p + m ≤ at) ⊎ (hi ≤ p) → (p + m ≤ hi + 4) ⊎ (hi + 8 ≤ p) → p + m ≤ length old → IsSame old freed p m
   kept p m out beyond fits = IsSame-agrees old freed p (p + m) p m (freed-kept old xs all ys t at n covered fill p (p + m) out beyond) (omega arith) (omega arith) fits
@@ -122,7 +122,7 @@ module _ (old : List ℕ) (xs ms ys : List Tile) (t : Tile) (at u r : ℕ) (was 
     pub down-retiles : Retiles 1 old new xs one ys
     down-retiles = released-retiles old xs all ys t at n covered fill new joined
 
--- ---- there may be no gap
+-- ---- the case without a gap
 
 pub makes_alone : (old new : List ℕ) (at u more : ℕ) → more ≡ 0 → MakesGap old new at u → MakesGapWith old new at u more
 makes_alone old new at u more zero makes xs ms ls ys t is was holds fill =

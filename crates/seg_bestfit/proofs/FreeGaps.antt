@@ -15,7 +15,7 @@ use Rattle.seg_rbtree.specs.Changes.{NodesApart, StandApart}
 use Rattle.seg_bestfit.proofs.SizeOrder.{node_of, HasSize}
 use Rattle.std.proofs.lemmas.Bool.{cases_eq}
 
--- the headers and first units of two gaps share no byte
+-- the headers and first units of two gaps don't overlap
 abbrev pub AreSeparate : Span → Span → Type 0
 AreSeparate g h = Separate g.at 32 h.at 32
 
@@ -27,7 +27,7 @@ abbrev pub GapsApart : List Span → Type 0
 GapsApart [] = Unit {0}
 GapsApart (g ∷ gs) = AllByRecursion (AreSeparate g) gs × GapsApart gs
 
--- what is known of each
+-- the position and the header of a gap
 pub record Stands (bytes : List ℕ) (g : Span) : Type 0 where
   pub low : 704 ≤ g.at
   pub fits : g.at + 32 ≤ length bytes
@@ -69,7 +69,7 @@ module _ (bytes : List ℕ) where
   free_drops from xs [] ys a = a
   free_drops from xs (g ∷ gs) ys a = free_drops from xs gs ys (free_drop from xs g (gs ++ ys) a)
 
--- ---- one of them put to the front
+-- ---- one gap moved to the front
 
 pub to_front : (xs : List Span) (g : Span) (ys : List Span) → GapsApart (xs ++ g ∷ ys) → GapsApart (g ∷ (xs ++ ys))
 to_front [] g ys a = a
@@ -132,7 +132,7 @@ length-by_size (g ∷ gs) = inserted g (by_size gs) ∙ ap suc (length-by_size g
     inserted g [] = refl
     inserted g (h ∷ hs) = let rest = inserted g hs in elim (is_smaller g h) as (λ b. length (cond b (g ∷ h ∷ hs) (h ∷ insert_by_size g hs)) ≡ suc (suc (length hs))) [ true ↦ refl | false ↦ ap suc rest ]
 
--- each position once
+-- rising positions contain no position twice
 rising_once : (gs : List Span) → AreRisingSpans gs → (p : ℕ) → times p (positions gs) ≤ 1
 rising_once [] r p = omega arith
 rising_once (g ∷ gs) r p = go (cases_eq g.at p) (rising_once gs r.1 p)
@@ -150,7 +150,7 @@ rising_once (g ∷ gs) r p = go (cases_eq g.at p) (rising_once gs r.1 p)
 pub sorted_by_size : (gs : List Span) → AreRisingSpans gs → AreBySize (by_size gs)
 sorted_by_size gs r = by_size-in_order gs (rising_once gs r)
 
--- ---- the nodes have room, and share no byte
+-- ---- the nodes have room and don't overlap
 
 module _ (bytes : List ℕ) (gs : List Span) (low : 704 ≤ length bytes) (small : length bytes ≤ 2 ^ 30) (free : AreFreeBlocks bytes 704 gs) where
   stands : AllByRecursion (Stands bytes) gs
@@ -168,7 +168,7 @@ module _ (bytes : List ℕ) (gs : List Span) (low : 704 ≤ length bytes) (small
   pub few_nodes : length (map node_of (by_size gs)) + 1 < 2 ^ 32
   few_nodes = let n = free_few bytes 704 gs low free in omega (arith, length-map (by_size gs) node_of, length-by_size gs)
 
--- the same for a gap in front of the others
+-- the nodes of the gaps, with one gap moved to the front
 module _ (bytes : List ℕ) (xs : List Span) (g : Span) (ys : List Span) (low : 704 ≤ length bytes) (small : length bytes ≤ 2 ^ 30) (free : AreFreeBlocks bytes 704 (xs ++ g ∷ ys)) where
   front_apart : GapsApart (g ∷ (xs ++ ys))
   front_apart = to_front xs g ys (free_apart bytes 704 (xs ++ g ∷ ys) free)

@@ -9,20 +9,21 @@ use Rattle.seg_bestfit.specs.FreeTree.{LeavesTree, MakesGap, IsGapAt, MakesGapWi
 use Rattle.seg_bestfit.proofs.Taking.{blocks_around, tree_around, left_kept, left_tiled}
 use Rattle.seg_bestfit.proofs.TreeFrame.{retiles_after}
 
--- the tile alone
+-- the tile has no free neighbours
 pub lone-retiles : (old new : List ℕ) (xs ys : List Tile) (at u : ℕ) → IsTiling 1 old (xs ++ tile at u true ∷ ys) → MakesGap old new at u → Retiles 1 old new xs (tile at u false ∷ []) ys
 lone-retiles old new xs ys at u was makes =
     let places = around xs ys heap_start (length old) at u true was.tiled.filled in
     makes xs [] ys (tile at u true) was.tiled (subst (λ gs. IsFreeTree old gs) (free_of-append xs (tile at u true ∷ ys)) was.free) (refl, places.1, refl)
 
--- with the gap after it
+-- the tile is merged with the gap after it, if there is one
 pub after-retiles : (old new : List ℕ) (xs gap ys : List Tile) (at u room : ℕ) → IsGapAt (at + 16 * u) room gap → IsTiling 1 old (xs ++ (tile at u true ∷ (gap ++ ys))) → MakesGapWith old new at u room
     → Retiles 1 old new xs (tile at (u + room) false ∷ []) ys
 after-retiles old new xs gap ys at u room is was makes =
     let places = around xs (gap ++ ys) heap_start (length old) at u true was.tiled.filled in
     makes xs [] gap ys (tile at u true) is was.tiled (subst (λ gs. IsFreeTree old gs) (free_of-append xs (tile at u true ∷ (gap ++ ys))) was.free) (refl, places.1, refl)
 
--- with the gap before it, which leaves the tree first, and the gap after it
+-- The tile is merged with the gap before it, which is first removed from the tree, and with the gap
+-- after it, if there is one.
 pub both-retiles : (old mid new : List ℕ) (xs gap ys : List Tile) (at v u room : ℕ) → IsGapAt (at + 16 * v + 16 * u) room gap → IsTiling 1 old (xs ++ (tile at v false ∷ tile (at + 16 * v) u true ∷ (gap ++ ys)))
     → ((gs hs : List Span) → AreFreeBlocks old 704 (gs ++ record { at = at; units = v } ∷ hs) → IsFreeTree old (gs ++ record { at = at; units = v } ∷ hs) → LeavesTree old mid gs (record { at = at; units = v }) hs)
     → MakesGapWith mid new at (v + u) room → Retiles 1 old new xs (tile at (v + u + room) false ∷ []) ys

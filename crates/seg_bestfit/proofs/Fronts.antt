@@ -84,7 +84,7 @@ module _ (old : List ℕ) (xs ys : List Tile) (at n u r : ℕ) (was : IsTiling 1
       kept_by from to (⊎_elim (λ l. inl (omega arith)) (λ l. inr (omega arith)) out) (⊎_elim (λ l. inl (omega arith)) (λ l. inr (omega arith)) out) (⊎_elim (λ l. inl (omega arith)) (λ l. inr (omega arith)) out)
       next (⊎_elim (λ l. inl l) (λ l. inr (omega arith)) out) (⊎_elim (λ l. inl (omega arith)) (λ l. inr (omega arith)) out)
 
-  -- the bytes of the front after its size
+  -- the bytes of the front after its size are kept
   front_kept : (from to : ℕ) → at + 4 ≤ from → to ≤ rest → Agrees old cut from to
   front_kept from to low high = kept_by from to (inl (omega arith)) (inl (omega arith)) (inl high) (inl (omega arith)) (inr low) (inl (omega arith))
 
@@ -200,7 +200,7 @@ module _ (old : List ℕ) (xs ys : List Tile) (at n u r : ℕ) (was : IsTiling 1
 
 -- ---- the rest of the smallest gap
 
--- a rest that is large enough for the request keeps the gap's place
+-- if the rest is large enough for the request, it keeps the gap's place
 pub rest_in_place : (old : List ℕ) (xs ys : List Tile) (at n need : ℕ) → IsTiling 1 old (xs ++ tile at n false ∷ ys) → need + need ≤ n → 1 ≤ need
     → best_fit (free_of xs ++ record { at = at; units = n } ∷ free_of ys) need ≡ Some (record { at = at; units = n })
     → KeepsPlace (by_size (free_of xs ++ free_of ys)) (record { at = at; units = n }) (record { at = at + 16 * need; units = n - need })

@@ -46,7 +46,7 @@ module _ (bytes : List ℕ) (gs : List Span) (low : 704 ≤ length bytes) (small
 
 -- ---- what is kept
 
--- from the nodes of a tree to the gaps
+-- bytes that are kept beside the tree's nodes are kept beside the gaps' nodes
 kept_by : (old new : List ℕ) (gs : List Span) (nodes : List ℕ) → ((P : ℕ → Type 0) → AllByRecursion (λ (g : Span). P (node_of g)) gs → AllByRecursion P nodes) → tree.KeepsBeside old new 24 nodes → KeepsBesideNodes old new gs
 kept_by old new gs nodes all k = record {
   length_kept = k.length_kept;
@@ -123,7 +123,7 @@ module _ (old new : List ℕ) (xs : List Span) (g : Span) (ys : List Span) (low 
 
 -- ---- a gap takes the place of another
 
--- The headers were written, so that r is free, while the tree still has the node of g.
+-- The headers were written, so that r is free, but the tree still has the node of g.
 module _ (old new : List ℕ) (xs : List Span) (g r : Span) (ys : List Span) (low : 704 ≤ length old) (small : length old ≤ 2 ^ 30) (free : AreFreeBlocks old 704 (xs ++ r ∷ ys))
     (elsewhere : AllByRecursion (λ (h : Span). h.at ≢ g.at) (xs ++ ys))
     (keeps : KeepsPlace (by_size (xs ++ ys)) g r) (shape : Tree) (nodes_are : nodes_of shape ≡ map node_of (by_size (xs ++ g ∷ ys))) where
@@ -153,7 +153,7 @@ module _ (old new : List ℕ) (xs : List Span) (g r : Span) (ys : List Span) (lo
 
 -- ---- from what the calls of the tree ensure
 
--- the gap itself has room
+-- if there is a gap, the bytes reach the start of the heap
 pub room_of : (bytes : List ℕ) (xs : List Span) (g : Span) (ys : List Span) → AreFreeBlocks bytes 704 (xs ++ g ∷ ys) → 704 ≤ length bytes
 room_of bytes xs g ys free = let s = each_pick (Stands bytes) xs g ys (each_stands bytes 704 (xs ++ g ∷ ys) (omega arith) free) in omega (arith, s.low, s.fits)
 

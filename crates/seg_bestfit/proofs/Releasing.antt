@@ -41,7 +41,7 @@ module _ (old : List ℕ) (xs ms ys : List Tile) (t : Tile) (at u : ℕ) (was : 
   length-linked : length linked ≡ length old
   length-linked = length-set_number 4 tagged (at + 12) (distance (at + 12) None) ∙ length-set_number 4 old (at + 8) 0
 
-  -- the bytes outside the header are kept, also in the place of the tiles
+  -- all bytes outside the new header are kept, also bytes of the tiles
   pub freed-kept_by : (from to : ℕ) → (to ≤ at) ⊎ (at + 16 ≤ from) → (to ≤ hi + 4) ⊎ (hi + 8 ≤ from) → Agrees old freed from to
   freed-kept_by from to out next =
       Agrees-trans old tagged freed from to (Agrees-set_number 4 old (at + 8) 0 from to (⊎_elim (λ l. inl (omega arith)) (λ l. inr (omega arith)) out))

@@ -51,13 +51,13 @@ module _ (old : List ℕ) (xs : List Span) (g : Span) (ys : List Span) (path : P
   found : node_at old path ≡ Some (node_of g)
   found = way.found holds.tree was_tree was_ascending among
 
-  -- the last one
+  -- if the path ends at the last node, the gap is the last by size
   pub last_here : IsLastAt old path → IsLast (node_of g) (map node_of (insert_by_size g (by_size (xs ++ ys))))
   last_here last =
       subst (λ ns. IsLast (node_of g) ns) (holds.nodes_are ∙ ap (map node_of) (by_size-middle xs g ys))
       (last (by_units old (node_of g)) (node_of g) holds.tree (subst (λ w. IsSearchTree old w holds.tree) (sym way.root_is) was_tree) lead found)
 
-  -- the gap leaves
+  -- if the node at the path's end is removed, the gap leaves the tree
   pub left_here : (new : List ℕ) → TakesOutAt old new path → LeavesTree old new xs g ys
   left_here new takes =
       leaves old new xs g ys low small was_free holds

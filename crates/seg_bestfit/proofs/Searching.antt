@@ -23,7 +23,7 @@ block_in : (bytes : List ℕ) (from : ℕ) (xs : List Span) (g : Span) (ys : Lis
 block_in bytes from [] g ys a = a.1
 block_in bytes from (x ∷ xs) g ys a = block_in bytes (x.at + 16 * x.units) xs g ys a.2
 
--- searches by two tests that agree
+-- searches with two equal tests have the same result
 looks-same : (p q : ℕ → Bool) → ((x : ℕ) → p x ≡ q x) → (tree : Tree) → looks p tree ≡ looks q tree
 looks-same p q same leaf = refl
 looks-same p q same (fork left at colour right) =
@@ -54,7 +54,7 @@ module _ (bytes : List ℕ) (root u : ℕ) (node : Option ℕ) (root_is : root �
           no : Some (node_of g) ≡ None → ⊥
           no e = cc
 
-  -- the gap of the node that was found
+  -- the node that was found belongs to the smallest gap that fits
   pub record IsBest (at : ℕ) : Type 0 where
     pub gap : Span
     pub is_best : best_fit gs u ≡ Some gap
@@ -87,7 +87,7 @@ module _ (bytes : List ℕ) (root u : ℕ) (node : Option ℕ) (root_is : root �
     pub finds_best : (f : Block) → Reads bytes at (Some f) → best_fit gs u ≡ Some (record { at = f.at; units = f.units })
     finds_best f read = let b = finds_some at found in let r = read b.gap b.place b.block in b.is_best ∙ (λ i. Some (record { at = sym r.0 i; units = sym r.1 i }))
 
--- ---- the gap that an allocation would take
+-- ---- the gap that an allocation takes
 
 module _ (bytes : List ℕ) (root u count : ℕ) (node : Option ℕ) (root_is : root ≡ 24) (h : IsHeap 1 bytes) where
   low : 704 ≤ length bytes

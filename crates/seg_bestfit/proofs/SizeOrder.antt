@@ -39,7 +39,7 @@ cmp_equal x y h = sym (nat_cmp_is x y Equal h)
 pub cmp_greater : (x y : ℕ) → y < x → nat_cmp x y ≡ Greater
 cmp_greater x y h = sym (nat_cmp_is x y Greater h)
 
--- numbers above others of 32 bits compare first
+-- numbers of two 32-bit halves compare by their upper halves, and then by their lower halves
 pub packed : (a b x y : ℕ) → x < 2 ^ 32 → y < 2 ^ 32 → nat_cmp (a * 2 ^ 32 + x) (b * 2 ^ 32 + y) ≡ ordering_then (nat_cmp a b) (nat_cmp x y)
 packed a b x y low_x low_y = by_first (cases_order a b)
   where
@@ -74,7 +74,7 @@ tail_of : (g : Span) (hs : List Span) → AreBySize (g ∷ hs) → AreBySize hs
 tail_of g [] a = tt
 tail_of g (h ∷ hs) a = a.1
 
--- being at or above a number of units
+-- a comparison with a number of units tests whether a gap is large enough
 pub fits_is : (x u : ℕ) → reaches Equal (nat_cmp x u) ≡ leb u x
 fits_is x u = go (cases_lt x u) (cases_lt u x)
   where
@@ -110,7 +110,8 @@ module _ (bytes : List ℕ) where
   node_equal : (g h : Span) → HasSize g → HasSize h → g.units ≡ h.units → g.at ≡ h.at → by_units bytes (node_of g) (node_of h) ≡ Equal
   node_equal g h e f u a = by_sizes g h e f ∙ ap (λ r. ordering_then r (nat_cmp (node_of g) (node_of h))) (cmp_equal g.units h.units u) ∙ cmp_equal (node_of g) (node_of h) (omega (arith, a))
 
-  -- one node is below another if its gap is smaller, or of equal size and lower
+  -- one node is below another if its gap is smaller, or if the sizes are equal and its position is
+  -- lower
   pub below_is : (g h : Span) → HasSize g → HasSize h → is_lt (by_units bytes (node_of g) (node_of h)) ≡ is_smaller g h
   below_is g h e f = go (is_smaller g h) refl
     where
@@ -160,7 +161,7 @@ module _ (bytes : List ℕ) where
       [ true ↦ refl | false ↦ ap (λ l. node_of h ∷ l) rest ] in
       ap (λ b. cond b (node_of g ∷ node_of h ∷ map node_of hs) (node_of h ∷ with_node (by_units bytes) (node_of g) (map node_of hs))) (below_is g h e s.0) ∙ go
 
-  -- ---- a search
+  -- ---- the search for a gap that fits
 
   -- the first node with enough units belongs to the first gap that fits
   pub first_node : (hs : List Span) (u : ℕ) → HaveSizes hs → first_where (λ x. reaches Equal (nat_cmp (units_at bytes (x - 16)) u)) (map node_of hs) ≡ option_map node_of (first_fit hs u)
@@ -172,7 +173,7 @@ module _ (bytes : List ℕ) where
       let go = elim (leb u h.units) as (λ b. cond b (Some (node_of h)) found ≡ option_map node_of (cond b (Some h) (first_fit hs u))) [ true ↦ refl | false ↦ rest ] in
       ap (λ b. cond b (Some (node_of h)) found) test ∙ go
 
--- without the node of a gap
+-- the list of nodes without the node of a gap
 pub without_gap : (g : Span) (hs : List Span) → AllByRecursion (λ (h : Span). h.at ≢ g.at) hs → without_node (node_of g) (map node_of (insert_by_size g hs)) ≡ map node_of hs
 without_gap g [] ne = ap (λ b. cond b [] (node_of g ∷ [])) (test_same (node_of g) (node_of g) refl)
 without_gap g (h ∷ hs) ne =
@@ -183,7 +184,7 @@ without_gap g (h ∷ hs) ne =
           ∙ ap (λ l. node_of h ∷ l) rest
     ]
 
--- a gap's node is replaced by another gap's node, which compares with the others in the same way
+-- A gap's node is replaced by another gap's node, which compares in the same way with the others.
 pub renamed_gap : (g r : Span) (hs : List Span) → AllByRecursion (λ (h : Span). h.at ≢ g.at) hs → KeepsPlace hs g r → renamed (node_of g) (node_of r) (map node_of (insert_by_size g hs)) ≡ map node_of (insert_by_size r hs)
 renamed_gap g r [] ne k = ap (λ b. cond b (node_of r ∷ []) (node_of g ∷ [])) (test_same (node_of g) (node_of g) refl)
 renamed_gap g r (h ∷ hs) ne k =
@@ -195,10 +196,10 @@ renamed_gap g r (h ∷ hs) ne k =
     ] in
     go ∙ ap (λ b. map node_of (cond b (r ∷ h ∷ hs) (h ∷ insert_by_size r hs))) k.0
 
--- ---- keeping a gap's place
+-- ---- a gap keeps its place in the order
 
--- If the rest of the smallest gap is large enough for the request, each smaller gap is too small
--- for it, and so below the rest.
+-- If the rest of the smallest gap that fits is large enough for the request, each smaller gap is
+-- too small for it, and so comes before the rest.
 pub rest_keeps : (g r : Span) (need : ℕ) → need ≤ r.units → r.units < g.units → (hs : List Span) → AllByRecursion (λ (h : Span). h.at ≢ g.at) hs → AreBySize (insert_by_size g hs) → first_fit (insert_by_size g hs) need ≡ Some g
     → KeepsPlace hs g r
 rest_keeps g r need fits less [] ne s f = tt
@@ -243,7 +244,7 @@ no_more : (x y z : ℕ) (ys front : List ℕ) → AllByRecursion (λ w. w ≢ x)
 no_more x y z ys [] a e = cc
 no_more x y z ys (f ∷ fs) a e = ends_elsewhere x (z ∷ ys) fs a (cc)
 
--- The last in the order may grow.
+-- the last gap in the order keeps its place if it grows
 pub last_keeps : (g r : Span) → g.units < r.units → (hs : List Span) → AllByRecursion (λ (h : Span). h.at ≢ g.at) hs → (front : List ℕ) → map node_of (insert_by_size g hs) ≡ front ++ node_of g ∷ [] → KeepsPlace hs g r
 last_keeps g r more [] ne front e = tt
 last_keeps g r more (h ∷ hs) ne front e = go (is_smaller g h) refl front e (λ fs f. last_keeps g r more hs ne.1 fs f)

@@ -19,12 +19,12 @@ use Rattle.seg_bestfit.proofs.TreeFrame.{tiled_kept, link_kept, gaps_beside, ret
 pub gaps_around : (xs ys : List Tile) (at u : ℕ) → free_of (xs ++ tile at u false ∷ ys) ≡ free_of xs ++ record { at = at; units = u } ∷ free_of ys
 gaps_around xs ys at u = free_of-append xs (tile at u false ∷ ys)
 
--- the free blocks outside tiles that aren't in the tree
+-- the free tiles outside some tiles in the middle are free blocks
 pub blocks_beside : (bytes : List ℕ) (xs ms ys : List Tile) → IsTiled bytes (xs ++ (ms ++ ys)) → AreFreeBlocks bytes 704 (free_of xs ++ free_of ys)
 blocks_beside bytes xs ms ys was =
     free_drops bytes 704 (free_of xs) (free_of ms) (free_of ys) (subst (λ gs. AreFreeBlocks bytes 704 gs) (gaps_beside xs ms ys) (free_blocks bytes (xs ++ (ms ++ ys)) was))
 
--- all of them
+-- all free tiles are free blocks
 pub blocks_around : (bytes : List ℕ) (xs ys : List Tile) (at u : ℕ) → IsTiled bytes (xs ++ tile at u false ∷ ys) → AreFreeBlocks bytes 704 (free_of xs ++ record { at = at; units = u } ∷ free_of ys)
 blocks_around bytes xs ys at u was = blocks_beside bytes xs [] (tile at u false ∷ ys) was
 
@@ -65,6 +65,6 @@ module _ (old : List ℕ) (xs ys : List Tile) (at u : ℕ) (was : IsTiling 1 old
         ∙ link_kept old mid xs ys (tile at u false) at (length old) p.0 (refl, p.1, p.2) left_kept
         ∙ each_pick (λ g. link_at old g.at ≡ None) (free_of xs) (record { at = at; units = u }) (free_of ys) tree_around.links
 
-    -- so it is allocated in the bytes that follow
+    -- the tile is allocated in the bytes after the call
     pub made_live : (new : List ℕ) → new ≡ taken → Retiles 1 old new xs (tile at u true ∷ []) ys × (link_at new at ≡ None)
     made_live new e = subst (λ b. Retiles 1 old b xs (tile at u true ∷ []) ys × (link_at b at ≡ None)) (sym e) (taken-retiles, taken-link)

@@ -36,13 +36,13 @@ beside_high (t ∷ ts) from to p n f high =
     let rest = beside_high ts (from + 16 * t.units) to p n f.2 high in
     elim t.live as (λ b. Beside p n (cond b (free_of ts) (span_of t ∷ free_of ts))) [ true ↦ rest | false ↦ (inr (omega (arith, f.0, f.1)), rest) ]
 
--- a tile's header
+-- a tile's header doesn't overlap the nodes of free tiles
 pub head_beside : (xs ys : List Tile) (from mid to p n : ℕ) → Fill from xs mid → Fill mid ys to → mid ≤ p → p + n ≤ mid + 16 → Beside p n (free_of (xs ++ ys))
 head_beside xs ys from mid to p n front back low high =
     subst (λ gs. Beside p n gs) (sym (free_of-append xs ys))
     (each_append (λ g. Separate p n (g.at + 16) 16) (free_of xs) (free_of ys) (beside_high xs from mid p n front low) (beside_low ys mid to p n back high))
 
--- an allocated tile, from its tag on
+-- an allocated tile doesn't overlap them, from its tag on
 live_beside : (ts : List Tile) (from to : ℕ) (b : Span) → Fill from ts to → Contains (live_of ts) b → (2 ≤ b.units) × AllByRecursion (λ (g : Span). (end_of b ≤ g.at + 16) ⊎ (g.at + 16 + 16 ≤ b.at + 8)) (free_of ts)
 live_beside [] from to b f (n, k, e) = absurd (omega arith)
 live_beside (t ∷ ts) from to b f c =
@@ -111,18 +111,18 @@ module _ (old new : List ℕ) where
     headers = headers_kept ts (length old) was.filled k was.headers;
   }
 
-  -- the link of a tile
+  -- a tile keeps its link
   pub link_kept : (xs ys : List Tile) (t : Tile) (mid to : ℕ) → Fill heap_start xs mid → Fill mid (t ∷ ys) to → KeepsBesideNodes old new (free_of (xs ++ t ∷ ys)) → link_at new t.at ≡ link_at old t.at
   link_kept xs ys t mid to front back k =
       let low = Fill-le xs heap_start mid front in
       target-same old new (t.at + 12) (k.others (t.at + 12) 4 (inr (omega (arith, back.0))) (head_beside xs (t ∷ ys) heap_start mid to (t.at + 12) 4 front back (omega (arith, back.0)) (omega (arith, back.0))))
 
--- ---- some of the free tiles aren't in the tree
+-- ---- trees that lack some of the free tiles
 
 pub gaps_beside : (xs ms ys : List Tile) → free_of (xs ++ (ms ++ ys)) ≡ free_of xs ++ (free_of ms ++ free_of ys)
 gaps_beside xs ms ys = free_of-append xs (ms ++ ys) ∙ ap (λ gs. free_of xs ++ gs) (free_of-append ms ys)
 
--- what is kept outside the nodes of fewer gaps
+-- bytes outside the nodes of some gaps are kept, if bytes outside the nodes of fewer gaps are
 pub kept_among : (old new : List ℕ) (xs ms ys : List Tile) → KeepsBesideNodes old new (free_of xs ++ free_of ys) → KeepsBesideNodes old new (free_of (xs ++ (ms ++ ys)))
 kept_among old new xs ms ys k = subst (λ gs. KeepsBesideNodes old new gs) (sym (gaps_beside xs ms ys)) (record {
   length_kept = k.length_kept;
@@ -134,11 +134,11 @@ kept_among old new xs ms ys k = subst (λ gs. KeepsBesideNodes old new gs) (sym 
 spared_beside : (old new : List ℕ) (xs ms ys : List Tile) → IsTiled old (xs ++ (ms ++ ys)) → KeepsBesideNodes old new (free_of (xs ++ (ms ++ ys))) → Spares old new (xs ++ ys)
 spared_beside old new xs ms ys was k = Spares-without old new xs ms ys (spares_kept old new (xs ++ (ms ++ ys)) (length old) was.filled k)
 
--- after the tree changed
+-- tiles are replaced after the tree changed
 pub retiles_after : (old mid new : List ℕ) (xs ms ns ys : List Tile) → IsTiled old (xs ++ (ms ++ ys)) → KeepsBesideNodes old mid (free_of (xs ++ (ms ++ ys))) → Retiles 1 mid new xs ns ys → Retiles 1 old new xs ns ys
 retiles_after old mid new xs ms ns ys was k r = record { tiling = r.tiling; spared = Spares-trans old mid new (xs ++ ys) (spared_beside old mid xs ms ys was k) r.spared }
 
--- and before it does
+-- tiles are replaced before the tree changes
 pub retiles_before : (old mid new : List ℕ) (xs ns ys : List Tile) (at n : ℕ) → Replaces old mid xs ns ys at n → KeepsBesideNodes mid new (free_of (xs ++ (ns ++ ys)))
     → IsFreeTree new (free_of (xs ++ (ns ++ ys))) → Retiles 1 old new xs ns ys
 retiles_before old mid new xs ns ys at n r k tree = record {

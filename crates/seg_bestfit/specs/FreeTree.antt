@@ -55,7 +55,7 @@ abbrev pub KeepsPlace : List Span → Span → Span → Type 0
 KeepsPlace others gap another =
     AllByRecursion (λ h. is_smaller gap h ≡ is_smaller another h) others
 
--- the bytes with the header of a free block
+-- the bytes after a free block's header was written
 abbrev pub set_free : List ℕ → ℕ → ℕ → List ℕ
 set_free bytes at units =
     set_size (set_pointer (set_word bytes (at + 8) 0) (at + 12) None) at units false
@@ -70,7 +70,7 @@ MakesGap old new at n = (xs ms ys : List Tile) (t : Tile) → IsTiled old (xs ++
 abbrev pub IsGapAt : ℕ → ℕ → List Tile → Type 0
 IsGapAt at n gap = (n ≡ 0 → gap ≡ []) × (n ≢ 0 → gap ≡ tile at n false ∷ [])
 
--- the same, with the gap of `more` units right after them, which was in the tree
+-- the same for tiles and the gap of `more` units right after them, which was in the tree
 abbrev pub MakesGapWith : List ℕ → List ℕ → ℕ → ℕ → ℕ → Type 0
 MakesGapWith old new at n more = (xs ms gap ys : List Tile) (t : Tile)
     → IsGapAt (at + 16 * n) more gap → IsTiled old (xs ++ ((t ∷ ms) ++ (gap ++ ys)))

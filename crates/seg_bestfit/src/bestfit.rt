@@ -59,7 +59,7 @@ impl Fit for BestFit {
     fn allocate<A: Allocator>(w: &mut Window<A>, need: u32) -> Option<u32> {
         let mut path = Path::new(FREE);
         let gap = best_fit(&mut path, w, need)?;
-        // no free block between `need` and this block's size exists, so a rest of at least `need` units keeps its place
+        // no free block has a size between `need` and this block's size, so a rest of at least `need` units keeps its place
         // in the order
         if gap.units - need >= need {
             take_front(w, &path, gap, need);

@@ -77,7 +77,7 @@ module _ {allocator : ℕ} (old : List ℕ) (large : 736 ≤ length old) (h : Is
   old_gaps : gaps old ≡ free_of xs ++ free_of (tile at u l ∷ [])
   old_gaps = old_is.gaps_is ∙ free_of-append xs (tile at u l ∷ [])
 
-  -- to bytes in which the free structure contains the gaps among these tiles
+  -- the heap is cut, if the free structure of the new bytes contains the gaps among these tiles
   pub cut_to : (new : List ℕ) (n : ℕ) (ts : List Tile) → length new ≡ length old → 736 ≤ length old - 16 * n → Fill heap_start ts (length old - 16 * n) → AreHeaders new 0 ts
       → HoldsGaps allocator new (free_of ts) → AreApart true ts → live_of ts ≡ live_of (xs ++ tile at u l ∷ [])
       → n ≡ units_to_cut (gaps old) (length old) → word new 12 ≡ (length old - 16 * n) / 16 → Agrees old new 0 12 → Agrees old new 16 24 → Agrees old new 28 heap_start
@@ -110,7 +110,7 @@ module _ {allocator : ℕ} (old : List ℕ) (large : 736 ≤ length old) (h : Is
   pub block_low : (b : Span) → Contains (live old) b → (704 ≤ b.at) × (end_of b ≤ length old)
   block_low b c = live_within (xs ++ tile at u l ∷ []) heap_start (length old) b was.tiled.filled (subst (λ s. Contains s b) old_is.live_is c)
 
-  -- an allocated block is at the end
+  -- if an allocated block is at the end, nothing is cut
   pub cut_live : l ≡ true → Cuts allocator old (with_size (length old / 16)) 0
   cut_live is =
       let m = length old / 16 in
@@ -137,7 +137,7 @@ module _ {allocator : ℕ} (old : List ℕ) (large : 736 ≤ length old) (h : Is
         ∙ cut-front xs (record { at = at; units = u } ∷ []) heap_start at (length old) places.0 (let p = last_place in omega arith)
         ∙ rw (test_same (at + 16 * u) (length old) places.2) refl
 
-    -- a gap after some block is cut whole, and of a heap that is one gap two units stay
+    -- A gap after a block is cut whole. If the heap is one gap, two units of it remain.
     pub units_of_gap : 704 < at → u ≡ units_to_cut (gaps old) (length old)
     units_of_gap above = sym (gap_units ∙ ap (λ b. cond b (u - 2) u) (test_other at heap_start (λ e. absurd (omega arith))))
 

@@ -5,7 +5,7 @@ use Rattle.seg_spec.specs.Heap.{Span, Tile, Fill, AreHeaders}
 use Rattle.seg_spec.proofs.TileLaws.{Fill-le}
 use Rattle.seg_block.specs.Blocks.{IsSized, HasEnd}
 
--- the walk is at the first of the remaining tiles
+-- the walk has reached the first of the remaining tiles
 pub record IsReached (bytes : List ℕ) (ts : List Tile) (at end : ℕ) : Type 0 where
   pub passed : List Tile
   pub left : List Tile

@@ -15,7 +15,7 @@ use Rattle.seg_block.proofs.LiveTiles.{live_within}
 use Rattle.seg_block.proofs.SizeLaws.{set_size-headers, Agrees-set_size, length-set_size}
 use Rattle.seg_block.proofs.Tiled.{around}
 
--- whether the last tile is allocated
+-- the header of the last tile states whether it is allocated
 pub flag_is : (old : List ℕ) (xs : List Tile) (at u : ℕ) (l : Bool) → AreHeaders old 0 (xs ++ tile at u l ∷ []) → is_live_at old at ≡ l
 flag_is old xs at u l heads = (AreHeaders-back old xs (tile at u l ∷ []) 0 heads).0.live_is
 
@@ -55,7 +55,7 @@ module _ (old : List ℕ) (xs : List Tile) (at u n end : ℕ) (l : Bool) (small 
           ⊎_elim (λ x. inl (live_within xs heap_start at b p.0 x).1) (λ y. let w = live_within (tile at u l ∷ []) at end b (refl, p.1, p.2) y in inr (omega (arith, w.0)))
           (Contains-append_cases (live_of xs) (live_of (tile at u l ∷ [])) b (subst (λ s. Contains s b) (live_of-append xs (tile at u l ∷ [])) c))
 
-  -- the gaps in front
+  -- the free structure contains the gaps before the tile
   pub larger-front : (allocator : ℕ) → HoldsGaps allocator old (free_of xs) → HoldsGaps allocator larger (free_of xs)
   larger-front allocator holds =
       let p = larger-places in
@@ -63,7 +63,7 @@ module _ (old : List ℕ) (xs : List Tile) (at u n end : ℕ) (l : Bool) (small 
       let same = λ (q m : ℕ) (high : q + m ≤ at). IsSame-agrees old larger q (q + m) q m (larger-kept q (q + m) (inl high) (omega (arith, p.2))) (omega arith) (omega arith) (omega arith) in
       HoldsGaps-kept old larger allocator (free_of xs) (same 24 4 (omega arith)) (free_kept old larger xs heap_start at (λ q m a b. same q m b) p.0) holds
 
-  -- an allocated tile
+  -- an allocated tile is enlarged
   pub enlarges_live : (allocator : ℕ) → l ≡ true → HoldsGaps allocator old (free_of (xs ++ tile at u l ∷ [])) → Enlarges allocator old larger xs at u n l
   enlarges_live allocator is holds =
       let gaps : (v : ℕ) → free_of (xs ++ tile at v l ∷ []) ≡ free_of xs = λ v. free_of-append xs (tile at v l ∷ []) ∙ ap (λ b. free_of xs ++ free_of (tile at v b ∷ [])) is ∙ append-nil (free_of xs) in

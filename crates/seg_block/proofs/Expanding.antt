@@ -15,7 +15,7 @@ module _ {allocator : ℕ} (Place : List Tile → Type 0) (old mid new : List �
     (whole : n ≡ u + room → new ≡ mid)
     (cut : n + 2 ≤ u + room → (xs ys : List Tile) → Place xs → IsTiling allocator mid (xs ++ tile at (u + room) true ∷ ys)
     → Retiles allocator mid new xs (tile at n true ∷ tile (at + 16 * n) (u + room - n) false ∷ []) ys × Agrees mid new (at + 8) (at + 16 * n)) where
-  -- no gap is there
+  -- if no gap is after the block, its end is cut
   cut_alone : room ≡ 0 → AreApart false (following old at u h held) → n + 2 ≤ u + room → IsResized allocator old new at n
   cut_alone e apart more =
       let same : u + room ≡ u = omega arith in
@@ -24,7 +24,7 @@ module _ {allocator : ℕ} (Place : List Tile → Type 0) (old mid new : List �
       (λ i. (none e i, same i)) (cut more (before old at u h held) (following old at u h held) place) in
       resized_less old at u h held new n apart (c (was old at u h held))
 
-  -- the gap there is taken in, whole or in part
+  -- if a gap is after the block, all or some of it is added to the block
   module _ (gap : HasGap old at u h held room) where
     absorbed : Retiles allocator old mid (before old at u h held) (tile at (u + room) true ∷ []) gap.rest × Agrees old mid (at + 8) (at + 16 * u)
     absorbed = absorb (before old at u h held) gap.rest place gap.tiling
@@ -44,7 +44,7 @@ module _ {allocator : ℕ} (Place : List Tile → Type 0) (old mid new : List �
       (room_cases old at u h held))
       sizes
 
--- ---- at the block that the call is given
+-- ---- the block at the call's position
 
 module _ {allocator : ℕ} (old : List ℕ) (named x at u : ℕ) (h : IsHeap allocator old) (held : Contains (live old) (record { at = named; units = x })) (read : (g : Span) → named ≡ g.at → IsSized old g → (at ≡ g.at) × (u ≡ g.units))
     (room : ℕ) (room_is : (allocator : ℕ) → IsHeap allocator old → Contains (live old) (record { at = at; units = u }) → room ≡ room_at (gaps old) (at + 16 * u)) where

@@ -21,7 +21,7 @@ use Rattle.seg_block.proofs.LiveBlocks.{without-other}
 use Rattle.seg_block.proofs.Heaps.{tiling_of_heap, heap_of_tiling, IsTiledHeap}
 use Rattle.seg_block.proofs.FreeKept.{HoldsGaps-kept, free_kept}
 
--- ---- equal words
+-- ---- headers whose words are the same
 
 pub AreHeaders-words : (a b : List ℕ) (ts : List Tile) (from to before : ℕ) → ((q : ℕ) → from ≤ q → q + 4 ≤ to → word b q ≡ word a q) → Fill from ts to → AreHeaders a before ts → AreHeaders b before ts
 AreHeaders-words a b [] from to before same f h = tt
@@ -32,7 +32,7 @@ AreHeaders-words a b (t ∷ ts) from to before same f h =
     let tag = same (t.at + 8) (omega (arith, f.0)) (omega (arith, f.0, f.1)) in
     (IsHeader-same a b before before t first (back ∙ h.0.before_is) tag h.0, AreHeaders-words a b ts (from + 16 * t.units) to t.units (λ q low high. same q (omega arith) high) f.2 h.1)
 
--- the first bytes of a longer list
+-- a slice of the first bytes is that slice of the longer list
 pub front_same : (bytes : List ℕ) (end p n : ℕ) → end ≤ length bytes → p + n ≤ end → slice (part bytes 0 end) p n ≡ slice bytes p n
 front_same bytes end p n inside high = slice-part bytes 0 end p n (omega (arith, inside)) high ∙ ap (λ q. slice bytes q n) (zero-add p)
 
@@ -102,7 +102,7 @@ module _ {allocator : ℕ} (old : List ℕ) (n : ℕ) (small : length old ≤ 2 
   sized_same : (p m : ℕ) → 16 ≤ p → p + m ≤ end → IsSame front sized p m
   sized_same p m low high = IsSame-agrees old sized p (p + m) p m (agrees_sized p (p + m) (inr low)) (omega arith) (omega arith) (omega arith) ∙ sym (front_same old end p m (omega arith) high)
 
-  -- the free structure, if a step keeps the bytes before the new units
+  -- the free structure stays if a step keeps the bytes before the new units
   kept_free : (new : List ℕ) → ((p m : ℕ) → 16 ≤ p → p + m ≤ end → IsSame sized new p m) → HoldsGaps allocator new (free_of (tiles front))
   kept_free new same =
       let all = λ (p m : ℕ) (low : 16 ≤ p) (high : p + m ≤ end). IsSame-trans front sized new p m (sized_same p m low high) (same p m low high) in
@@ -160,7 +160,7 @@ module _ {allocator : ℕ} (old : List ℕ) (n : ℕ) (small : length old ≤ 2 
     last_apart : AreApart true (xs ++ tile at u l ∷ [])
     last_apart = subst (λ ts. AreApart true ts) parts h.apart
 
-    -- the last tile has the unit now
+    -- the heap is extended by one unit if the last tile gets it
     pub extends_one : n ≡ 1 → (new : List ℕ) → Enlarges allocator sized new xs at u (u + 1) l → Extends allocator old new n
     extends_one one new g =
         let e = places.2 in
@@ -302,7 +302,7 @@ module _ {allocator : ℕ} (old after : List ℕ) (n len : ℕ) (small : length 
         last (tiles (without_end old n)) (omega arith) (omega (arith, ap length after_is, length-set_number 4 old 12 (len / 16)))
         (subst (λ p. Fill heap_start (tiles (without_end old n)) p) e (filled old n small room h)) (subst (λ b. AreHeaders b 0 (tiles (without_end old n))) (sym sized_is) (headers old n small room h))
 
-    -- the units of the last tile and those after it
+    -- the new end, if one unit is added to the last tile
     pub end_units : n ≡ 1 → ((len - at) / 16 ≡ u + 1) × (at + 16 * (u + 1) ≡ length after)
     end_units one =
         let e = the_end in

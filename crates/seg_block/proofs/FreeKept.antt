@@ -62,7 +62,7 @@ module _ (old new : List ℕ) where
         (free_kept xs heap_start lo (λ p n a b. same p n (omega arith) (inl b) (inl (omega arith))) front)
         (free_kept ys hi (length old) (λ p n a b. same p n b (inr (omega arith)) (inr (omega arith))) back)) h
 
-    -- allocated tiles for allocated tiles
+    -- the gaps stay if allocated tiles are replaced by allocated tiles
     pub between_kept : (allocator : ℕ) (ms ns : List Tile) → free_of ms ≡ [] → free_of ns ≡ [] → HoldsGaps allocator old (free_of (xs ++ (ms ++ ys))) → HoldsGaps allocator new (free_of (xs ++ (ns ++ ys)))
     between_kept allocator ms ns m n h =
         subst (λ gs. HoldsGaps allocator new gs) (sym (beside ns n)) (beside_kept allocator (subst (λ gs. HoldsGaps allocator old gs) (beside ms m) h))

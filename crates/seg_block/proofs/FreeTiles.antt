@@ -31,9 +31,9 @@ free_blocks bytes ts t = AreFreeBlocks-free_of bytes ts 704 heap_start (length b
 pub heap_free_blocks : {allocator : ℕ} (bytes : List ℕ) → IsHeap allocator bytes → AreFreeBlocks bytes 704 (gaps bytes)
 heap_free_blocks bytes h = subst (λ gs. AreFreeBlocks bytes 704 gs) (sym (gaps_of_heap bytes h)) (free_blocks bytes (tiles bytes) (tiling_of_heap bytes h).tiled)
 
--- ---- one of them
+-- ---- one free block
 
--- the tiles around a free one
+-- the tiles before and after a free tile
 pub record HasFree (ts : List Tile) (seen : List Span) (g : Span) : Type 0 where
   pub xs : List Tile
   pub ys : List Tile
@@ -73,7 +73,7 @@ has_free (t ∷ ts) (s ∷ seen) rest g e =
     ] in
     go refl e
 
--- ---- the gap that is picked is taken, and cut
+-- ---- the gap that the allocator picks, taken whole or cut
 
 module _ {allocator : ℕ} (Place : List Tile → Type 0) (old : List ℕ) (u at units : ℕ) (h : IsHeap allocator old) (picked : pick allocator (gaps old) u ≡ Some (record { at = at; units = units }))
     (seen rest : List Span) (parts : gaps old ≡ seen ++ record { at = at; units = units } ∷ rest) where

@@ -19,7 +19,7 @@ module _ {allocator : ℕ} (old : List ℕ) (at u room : ℕ) (h : IsHeap alloca
   abbrev ys : List Tile
   ys = following old at u h held
 
-  -- the tiles after the block that become one with it, and the others
+  -- the tile after the block that is merged with it, if there is one, and the other tiles
   pub record HasFollowing : Type 0 where
     pub ms : List Tile
     pub rest : List Tile
@@ -70,13 +70,13 @@ module _ {allocator : ℕ} (old : List ℕ) (at u room : ℕ) (h : IsHeap alloca
         never : true ≡ false → ⊥
         never e = cc
 
-    -- no gap is before the block
+    -- if no gap is before the block, the freed block is the merged tile
     pub freed_alone : ((zs vs : List Tile) (l : Bool) (t : Tile) → IsTiled old (zs ++ (t ∷ tile at u l ∷ vs)) → IsReadFree t None)
         → Retiles allocator old new xs (tile at (u + room) false ∷ []) b.rest → Gives allocator old new at
     freed_alone read r =
         freed at (u + room) (joined_none old xs b.ms b.rest at u b.tiling (block_front old at u h held) read new (u + room) r.tiling r.spared)
 
-    -- this one is
+    -- if a gap is before the block, it is merged too
     pub freed_joined : (f : Block) → ((zs vs : List Tile) (l : Bool) (t : Tile) → IsTiled old (zs ++ (t ∷ tile at u l ∷ vs)) → IsReadFree t (Some f))
         → ((vs : List Tile) (l : Bool) → IsTiled old (tile at u l ∷ vs) → Some f ≡ None) → f.at + 16 * f.units ≡ at
         → ((zs : List Tile) → IsTiling allocator old (zs ++ (tile f.at f.units false ∷ tile (f.at + 16 * f.units) u true ∷ (b.ms ++ b.rest)))

@@ -30,7 +30,7 @@ tiling_of_heap {n} bytes h = record {
   free = subst (λ gs. HoldsGaps n bytes gs) (gaps_of_heap bytes h) h.free;
 }
 
--- what is known of bytes filled by these tiles, if no two free ones are adjacent
+-- the heap of bytes that these tiles fill, if no two free ones are adjacent
 pub record IsTiledHeap (n : ℕ) (bytes : List ℕ) (ts : List Tile) : Type 0 where
   pub heap : IsHeap n bytes
   pub live_is : live bytes ≡ live_of ts
@@ -98,7 +98,7 @@ Spares-trans a b c ts x y = record {
   tiles_kept = λ s h. Agrees-trans a b c (s.at + 8) (end_of s) (x.tiles_kept s h) (y.tiles_kept s h);
 }
 
--- only the allocated tiles count
+-- which bytes are spared depends only on the allocated tiles
 pub Spares-same : (a b : List ℕ) (ts us : List Tile) → live_of us ≡ live_of ts → Spares a b ts → Spares a b us
 Spares-same a b ts us e s = record {
   front_kept = s.front_kept;
@@ -106,7 +106,7 @@ Spares-same a b ts us e s = record {
   tiles_kept = λ x h. s.tiles_kept x (subst (λ l. Contains l x) e h);
 }
 
--- some tiles in the middle are left out
+-- some tiles in the middle may be left out
 pub Spares-without : (a b : List ℕ) (xs ms ys : List Tile) → Spares a b (xs ++ (ms ++ ys)) → Spares a b (xs ++ ys)
 Spares-without a b xs ms ys s = record {
   front_kept = s.front_kept;
@@ -117,6 +117,6 @@ Spares-without a b xs ms ys s = record {
       (Contains-append_cases (live_of xs) (live_of ys) x (subst (λ l. Contains l x) (live_of-append xs ys) h))));
 }
 
--- the pointers in bytes that are kept
+-- pointers in bytes that agree have the same targets
 pub target-agrees : (old new : List ℕ) (from to at : ℕ) → Agrees old new from to → from ≤ at → at + 4 ≤ to → target new at ≡ target old at
 target-agrees old new from to at same low high = target-same old new at (number-agrees old new from to 4 at same low high)

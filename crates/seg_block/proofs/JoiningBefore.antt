@@ -15,7 +15,7 @@ module _ {allocator : ℕ} (old : List ℕ) (xs ms ys : List Tile) (at u : ℕ) 
   around_last : (l : HasLast xs) → IsTiling allocator old (l.front ++ (l.last ∷ tile at u true ∷ (ms ++ ys)))
   around_last l = subst (λ ts. IsTiling allocator old ts) (ap (λ ts. ts ++ tile at u true ∷ (ms ++ ys)) l.parts ∙ append_assoc l.front (l.last ∷ []) (tile at u true ∷ (ms ++ ys))) was
 
-  -- no free tile is there
+  -- if no free tile is before the block, it is freed alone
   pub joined_none : ((zs vs : List Tile) (l : Bool) (t : Tile) → IsTiled old (zs ++ (t ∷ tile at u l ∷ vs)) → IsReadFree t None)
       → (new : List ℕ) (n : ℕ) → IsTiling allocator new (xs ++ tile at n false ∷ ys) → Spares old new (xs ++ ys) → JoinsBefore allocator old new xs at n ys
   joined_none read new n tiling spared = record {
@@ -29,7 +29,7 @@ module _ {allocator : ℕ} (old : List ℕ) (xs ms ys : List Tile) (at u : ℕ) 
     spared = spared;
   }
 
-  -- this one is there
+  -- if a free tile is before the block, they are joined
   module _ (new : List ℕ) (f : Block) (n : ℕ) (l : HasLast xs) (same : l.last ≡ tile f.at f.units false) (r : Retiles allocator old new l.front (tile f.at n false ∷ []) ys) where
     front_parts : xs ≡ l.front ++ tile f.at f.units false ∷ []
     front_parts = l.parts ∙ ap (λ (t : Tile). l.front ++ t ∷ []) same

@@ -12,7 +12,7 @@ use Rattle.seg_block.proofs.Tiled.{around}
 use Rattle.seg_block.proofs.Neighbours.{IsSized-tile}
 use Rattle.seg_block.proofs.Heaps.{tiling_of_heap, heap_of_tiling, IsTiledHeap}
 
--- the tiles around an allocated one
+-- the tiles before and after an allocated tile
 pub record HasLive (ts : List Tile) (b : Span) : Type 0 where
   pub xs : List Tile
   pub ys : List Tile
@@ -34,7 +34,7 @@ has_live (t ∷ ts) b c =
     ] in
     go refl c
 
--- ---- the blocks without one
+-- ---- the blocks without one of them
 
 pub without-other : (at : ℕ) (xs ys : List Tile) (b : Span) (from to : ℕ) → b.at ≡ at → Fill from xs to → to ≤ at → without at (live_of xs ++ b ∷ live_of ys) ≡ live_of xs ++ live_of ys
 without-other at [] ys b from to is f le = rw (test_same b.at at is) refl

@@ -1,10 +1,10 @@
--- The allocated ones among tiles.
+-- The allocated tiles among others.
 use Rattle.std.proofs.Common.{◌≡◌, ℕ, zero, suc, ◌+◌, ◌*◌, ◌≤◌, true, false, List, [], ◌∷◌, cond, subst, arith, inl, inr, ◌⊎◌, ⊎_elim}
 use Rattle.std.specs.Prelude.{Contains}
 use Rattle.seg_spec.specs.Heap.{Span, Tile, span_of, end_of, Fill, live_of}
 use Rattle.seg_spec.proofs.TileLaws.{Fill-le}
 
--- the first or one of the others
+-- an item of a list is the first or one of the others
 pub cons_cases : (x b : Span) (xs : List Span) → Contains (x ∷ xs) b → (x ≡ b) ⊎ Contains xs b
 cons_cases x b xs (zero, k, e) = inl e
 cons_cases x b xs (suc n, k, e) = inr (n, omega arith, e)

@@ -9,7 +9,7 @@ use Rattle.seg_block.specs.Blocks.{LiesIn, IsSized, IsReadFree}
 use Rattle.seg_block.specs.Tiling.{tile, IsTiled}
 use Rattle.seg_block.proofs.Tiled.{around, aligned_end, header_of}
 
--- each tile is a block with its size in its header
+-- each tile is a block whose size is in its header
 pub IsSized-tile : (bytes : List ℕ) (xs ys : List Tile) (at u : ℕ) (live : Bool) → IsTiled bytes (xs ++ tile at u live ∷ ys) → IsSized bytes (record { at = at; units = u })
 IsSized-tile bytes xs ys at u live was =
     let parts = around xs ys heap_start (length bytes) at u live was.filled in
@@ -20,7 +20,7 @@ IsSized-tile bytes xs ys at u live was =
       size_is = (header_of bytes xs ys (tile at u live) was).units_is;
     }
 
--- the next tile
+-- the next tile begins where a tile ends, and has its size in its header
 pub next_block : (bytes : List ℕ) (xs ys : List Tile) (at u : ℕ) (live : Bool) (t : Tile) → IsTiled bytes (xs ++ (tile at u live ∷ t ∷ ys)) → (at + 16 * u ≡ t.at) × IsSized bytes (record { at = t.at; units = t.units })
 next_block bytes xs ys at u live t was =
     let parts = around xs (t ∷ ys) heap_start (length bytes) at u live was.filled in
@@ -30,7 +30,7 @@ next_block bytes xs ys at u live t was =
 pub last_end : (bytes : List ℕ) (xs : List Tile) (at u : ℕ) (live : Bool) → IsTiled bytes (xs ++ tile at u live ∷ []) → at + 16 * u ≡ length bytes
 last_end bytes xs at u live was = (around xs [] heap_start (length bytes) at u live was.filled).2
 
--- the tile before
+-- the tile before a position
 pub record IsBefore (bytes : List ℕ) (at before : ℕ) (t : Tile) : Type 0 where
   pub units_is : before ≡ t.units
   pub large : 2 ≤ t.units

@@ -124,9 +124,9 @@ module _ {allocator : ℕ} (old : List ℕ) (at u : ℕ) (h : IsHeap allocator o
         live_is = new_live ∙ ap (λ l. live_of before ++ record { at = at; units = n } ∷ l) same ∙ sym (resized_is n);
       }
 
-  -- ---- the gap after
+  -- ---- the gap after the block
 
-  -- no free tile is right after
+  -- if no free tile is right after the block, there is no room
   pub gap_none : AreApart false following → room_at (gaps old) (at + 16 * u) ≡ 0
   gap_none apart = room_is ∙ room_at-apart following (at + 16 * u) (length old) parts.2 apart
 
@@ -152,7 +152,7 @@ module _ {allocator : ℕ} (old : List ℕ) (at u : ℕ) (h : IsHeap allocator o
         fill = fill.2;
       }
 
-  -- one of the two is true
+  -- there is no room after the block, or a gap
   pub room_cases : (AreApart false following × (room_at (gaps old) (at + 16 * u) ≡ 0)) ⊎ ((v : ℕ) × HasGap v)
   room_cases = go following refl
     where
@@ -167,7 +167,7 @@ module _ {allocator : ℕ} (old : List ℕ) (at u : ℕ) (h : IsHeap allocator o
           ] in
           cases refl
 
-  -- ---- the block that took the gap in, whole or cut
+  -- ---- the block with the gap added, whole or cut
 
   pub resized_whole : (mid : List ℕ) (v : ℕ) (g : HasGap v) → Retiles allocator old mid before (tile at (u + v) true ∷ []) g.rest × Agrees old mid (at + 8) (at + 16 * u) → IsResized allocator old mid at (u + v)
   resized_whole mid v g r =
@@ -203,7 +203,7 @@ module _ {allocator : ℕ} (old : List ℕ) (at u : ℕ) (h : IsHeap allocator o
     live_is = sym resized_same;
   }
 
--- ---- the sizes that are given
+-- ---- the sizes that the calls are given
 
 pub granted_all : (n u : ℕ) → u ≤ n → n < u + 2 → granted n u ≡ n
 granted_all n u low high = grind (arith, nat_tests)
@@ -214,7 +214,7 @@ granted_part n u h = grind (arith, nat_tests)
 expanded_same : (x room u : ℕ) → u ≤ x → expanded x room u ≡ Some x
 expanded_same x room u h = rw (le-leb u x h) refl
 
--- ---- what the calls leave
+-- ---- the results of the calls
 
 module _ {allocator : ℕ} (old : List ℕ) (at u need : ℕ) (h : IsHeap allocator old) (held : Contains (live old) (record { at = at; units = u })) where
   pub expands_not : expanded u (room_at (gaps old) (at + 16 * u)) need ≡ None → Expands allocator old old at u need false
@@ -243,7 +243,7 @@ module _ {allocator : ℕ} (old : List ℕ) (at u need : ℕ) (h : IsHeap alloca
     shrinks = rw n_is r.live_is;
   }
 
--- ---- the room, as it is read
+-- ---- the room, as the headers state it
 
 module _ {allocator : ℕ} (old : List ℕ) (at u : ℕ) (h : IsHeap allocator old) (held : Contains (live old) (record { at = at; units = u })) where
   pub room_some : (f : Block) → ((xs ys : List Tile) (l : Bool) (t : Tile) → IsTiled old (xs ++ (tile at u l ∷ t ∷ ys)) → IsReadFree t (Some f)) → ((xs : List Tile) (l : Bool) → IsTiled old (xs ++ tile at u l ∷ []) → Some f ≡ None)

@@ -1,5 +1,5 @@
--- An allocated tile is enlarged by the gap after it, or its end is freed. `Place` is what an
--- allocator must know of the tiles before it.
+-- An allocated tile is enlarged by the gap after it, or its end is freed. `Place` is the fact that
+-- an allocator needs about the tiles before the tile.
 use Rattle.std.proofs.Common.{◌≡◌, ℕ, ◌+◌, ◌*◌, ◌≤◌, true, false, List, [], ◌∷◌, ◌++◌, length, refl, sym, ap, ◌∙◌, subst, arith}
 use Rattle.std.specs.Prelude.{Contains}
 use Rattle.std.proofs.lemmas.List.{append_assoc}
@@ -16,14 +16,14 @@ use Rattle.seg_block.proofs.Splitting.{split-replaces}
 use Rattle.seg_block.proofs.LiveChanges.{join-retiles, split-retiles}
 use Rattle.seg_block.proofs.Heaps.{Spares-trans, Spares-without}
 
--- the same tiles, with one of them put to those in front
+-- these tiles and then one more
 abbrev pub put_front : List Tile → Tile → List Tile
 put_front xs t = xs ++ t ∷ []
 
 pub put_front-append : (xs ys : List Tile) (t : Tile) → put_front xs t ++ ys ≡ xs ++ t ∷ ys
 put_front-append xs ys t = append_assoc xs (t ∷ []) ys
 
--- what is kept before the tile includes the tile itself
+-- bytes that are kept for the tiles up to an allocated one include the tile's own
 pub own : (old new : List ℕ) (xs ys : List Tile) (at u : ℕ) → Spares old new (put_front xs (tile at u true) ++ ys) → Agrees old new (at + 8) (at + 16 * u)
 own old new xs ys at u s =
     s.tiles_kept (record { at = at; units = u })
@@ -33,7 +33,7 @@ own old new xs ys at u s =
 others : (old new : List ℕ) (xs ys : List Tile) (t : Tile) → Spares old new (put_front xs t ++ ys) → Spares old new (xs ++ ys)
 others old new xs ys t s = Spares-without old new xs (t ∷ []) ys (subst (λ ts. Spares old new ts) (put_front-append xs ys t) s)
 
--- a gap has two units
+-- a gap has at least two units
 pub absorbs_large : {allocator : ℕ} (old : List ℕ) (xs ys : List Tile) (at u v : ℕ) → IsTiling allocator old (xs ++ (tile at u true ∷ tile (at + 16 * u) v false ∷ ys)) → 2 ≤ v
 absorbs_large old xs ys at u v was = (around xs (tile (at + 16 * u) v false ∷ ys) heap_start (length old) at u true was.tiled.filled).2.1
 

@@ -38,7 +38,7 @@ module _ (old : List ℕ) (xs ys : List Tile) (at n u r : ℕ) (live : Bool) (wa
   length-sized : length sized ≡ length old
   length-sized = length-set_size tagged following r live ∙ length-set_number 4 old (following + 8) 0
 
-  -- the tile's tag, link and payload up to the cut
+  -- the tile's tag, link and payload are kept up to the cut
   keeps : Agrees old cut (at + 8) following
   keeps =
       Agrees-trans old tagged cut (at + 8) following (Agrees-set_number 4 old (following + 8) 0 (at + 8) following (inl (omega arith)))

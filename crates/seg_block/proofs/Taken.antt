@@ -57,7 +57,7 @@ module _ {allocator : ℕ} (old new : List ℕ) (u at units : ℕ) (xs ys : List
         taken = rw picked (refl, live_is, link_none);
       }
 
-  -- the gap was taken whole
+  -- the gap is taken whole
   pub takes_whole : u ≤ units → units < u + 2 → Retiles allocator old new xs (tile at units true ∷ []) ys → link_at new at ≡ None → Takes allocator old new u (Some at)
   takes_whole enough small r link_none =
       let parts = around xs ys heap_start (length old) at units false gap_tiling.tiled.filled in
@@ -67,7 +67,7 @@ module _ {allocator : ℕ} (old new : List ℕ) (u at units : ℕ) (xs ys : List
   abbrev rest_tile : Tile
   rest_tile = tile (at + 16 * u) (units - u) false
 
-  -- its front was taken, and the rest stays a gap
+  -- the gap's front is taken, and the rest stays a gap
   pub takes_front : 2 ≤ u → u + 2 ≤ units → Retiles allocator old new xs (tile at u true ∷ rest_tile ∷ []) ys → link_at new at ≡ None → Takes allocator old new u (Some at)
   takes_front large room r link_none =
       let parts = around xs ys heap_start (length old) at units false gap_tiling.tiled.filled in
@@ -80,7 +80,7 @@ module _ {allocator : ℕ} (old new : List ℕ) (u at units : ℕ) (xs ys : List
       no : true ≡ false → ⊥
       no e = cc
 
-  -- it was taken whole, and its rest was freed
+  -- the gap is taken whole, and then its rest is freed
   takes_part : (mid : List ℕ) → 2 ≤ u → u + 2 ≤ units → Retiles allocator old mid xs (tile at units true ∷ []) ys → link_at mid at ≡ None
       → Retiles allocator mid new xs (tile at u true ∷ rest_tile ∷ []) ys × Agrees mid new (at + 8) (at + 16 * u) → Takes allocator old new u (Some at)
   takes_part mid large room r link_none s =

@@ -10,13 +10,13 @@ use Rattle.seg_spec.proofs.HeaderLaws.{IsHeader-same}
 use Rattle.seg_block.specs.Tiling.{tile, IsTiled, Replaces}
 use Rattle.seg_block.proofs.LiveTiles.{live_within}
 
--- each tile's units, units before and tag lie in ranges of this kind
+-- a fact about ranges is true of the first 12 bytes of each tile's header
 abbrev pub EachHeader : (ℕ → ℕ → Type 0) → List Tile → Type 0
 EachHeader misses [] = ⊤
 EachHeader misses (t ∷ ts) = misses t.at (t.at + 12) × EachHeader misses ts
 
 -- The places that an allocator uses for its free structure may change, and so may the bytes from lo
--- up to hi and the word 4 after hi. `misses` says that a range has none of those places.
+-- up to hi and the word 4 after hi. `misses` states that a range has none of those places.
 module _ (old new : List ℕ) (misses : ℕ → ℕ → Type 0) (part_misses : (from to low high : ℕ) → misses from to → from ≤ low → high ≤ to → misses low high) (lo hi : ℕ) (le : lo ≤ hi)
     (kept : (from to : ℕ) → misses from to → (to ≤ lo) ⊎ (hi ≤ from) → (to ≤ hi + 4) ⊎ (hi + 8 ≤ from) → Agrees old new from to) where
   headers_front : (xs : List Tile) (from before : ℕ) → EachHeader misses xs → Fill from xs lo → AreHeaders old before xs → AreHeaders new before xs
@@ -60,7 +60,7 @@ module _ (old new : List ℕ) (misses : ℕ → ℕ → Type 0) (part_misses : (
               (AreHeaders-append new ns ys (units_after 0 xs) ns_is (headers_next ys (length old) (units_after (units_after 0 xs) ms) (units_after (units_after 0 xs) ns) following back next_is rest));
         }
 
-    -- the tag, link and payload of each allocated tile outside the middle
+    -- the tag, link and payload of each allocated tile outside the middle are kept
     pub spared_tiles : ((b : Span) → Contains (live_of (xs ++ ys)) b → misses (b.at + 8) (end_of b)) → (b : Span) → Contains (live_of (xs ++ ys)) b → Agrees old new (b.at + 8) (end_of b)
     spared_tiles clear b c =
         ⊎_elim
@@ -80,7 +80,7 @@ end_is : (ts : List Tile) (from to : ℕ) → Fill from ts to → end_after from
 end_is [] from to f = f
 end_is (t ∷ ts) from to f = end_is ts (from + 16 * t.units) to f.2
 
--- the tiles outside some that fill a range
+-- the tiles before and after tiles that fill a range
 pub beside : (xs ms ys : List Tile) (t : Tile) (from to lo hi : ℕ) → Fill from (xs ++ ((t ∷ ms) ++ ys)) to → Fill lo (t ∷ ms) hi → Fill from xs lo × Fill hi ys to
 beside xs ms ys t from to lo hi all middle =
     let back = Fill-back xs ((t ∷ ms) ++ ys) from to all in
@@ -93,7 +93,7 @@ pub aligned_end : (xs : List Tile) (from to : ℕ) → from % 16 ≡ 0 → Fill 
 aligned_end [] from to aligned f = ap (λ p. p % 16) (sym f) ∙ aligned
 aligned_end (t ∷ xs) from to aligned f = aligned_end xs (from + 16 * t.units) to (omega arith) f.2
 
--- the header of a tile
+-- a tile of the heap has a header
 pub header_of : (bytes : List ℕ) (xs ys : List Tile) (t : Tile) → IsTiled bytes (xs ++ t ∷ ys) → IsHeader bytes (units_after 0 xs) t
 header_of bytes xs ys t was = (AreHeaders-back bytes xs (t ∷ ys) 0 was.headers).0
 

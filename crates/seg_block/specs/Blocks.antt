@@ -21,7 +21,7 @@ LiesIn bytes b = (2 ≤ b.units) × (block_end b ≤ length bytes) × (length by
 abbrev pub IsJustBefore : ℕ → Block → Type 0
 IsJustBefore at b = (block_end b ≡ at) × (2 ≤ b.units)
 
--- the header at a position has a possible size, and the segment has room for it
+-- the size in the header at a position is possible, and the block lies in the bytes
 abbrev pub HasRoom : List ℕ → ℕ → Type 0
 HasRoom bytes at = (2 ≤ units_at bytes at) × (at + 16 * units_at bytes at ≤ length bytes)
 
@@ -36,12 +36,12 @@ pub record IsSized (bytes : List ℕ) (g : Span) : Type 0 where
   pub inside : end_of g ≤ length bytes
   pub size_is : units_at bytes g.at ≡ g.units
 
--- the result is the neighbour, if that is free
+-- the result is the neighbour, if that is free, and otherwise empty
 pub record IsReadFree (t : Tile) (result : Option Block) : Type 0 where
   pub free : t.live ≡ false → IsSomeAnd result (λ f. Covers f (span_of t))
   pub live : t.live ≡ true → result ≡ None
 
--- the last tile has this size
+-- the last tile has this position and size
 pub record HasEnd (bytes : List ℕ) (ts : List Tile) (at units : ℕ) : Type 0 where
   pub front : List Tile
   pub live : Bool
@@ -49,11 +49,11 @@ pub record HasEnd (bytes : List ℕ) (ts : List Tile) (at units : ℕ) : Type 0 
 
 -- ---- an allocated block of the heap
 
--- it has this size
+-- the block at a position is allocated and has this size
 abbrev pub IsLiveBlock : List ℕ → ℕ → ℕ → Type 0
 IsLiveBlock bytes at units = Contains (live bytes) (span at units)
 
--- the size of the gap right after it, or 0 if there is none
+-- the size of the gap right after the block, or 0 if there is none
 abbrev pub room_after : List ℕ → ℕ → ℕ → ℕ
 room_after bytes at units = room_at (gaps bytes) (at + 16 * units)
 

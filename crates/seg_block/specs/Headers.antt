@@ -1,6 +1,6 @@
 -- The headers in bytes.
 --     header_at bytes at     the header at a position, if all of it lies in the bytes
---     no_header bytes at     what is read otherwise: its words are 0
+--     no_header bytes at     the header that is read at other positions: its words are 0
 use Rattle.std.specs.Prelude.{ℕ, false, List}
 use Rattle.seg_spec.specs.Heap.{units_at, is_live_at, units_before, tag_at, link_at}
 use Rattle.seg_block.specs.declared.header.Header.{Header}

@@ -38,8 +38,8 @@ pub record IsTiled (bytes : List ℕ) (ts : List Tile) : Type 0 where
   pub filled : Fill heap_start ts (length bytes)
   pub headers : AreHeaders bytes 0 ts
 
--- The bytes before the heap are kept, except the pointer to the free blocks. So are the tag, link
--- and payload of each of these allocated tiles.
+-- The bytes before the heap are kept, except the pointer to the free blocks. The tag, link and
+-- payload of each of these allocated tiles are kept too.
 pub record Spares (old new : List ℕ) (ts : List Tile) : Type 0 where
   pub front_kept : Agrees old new 0 FREE
   pub back_kept : Agrees old new (FREE + 4) heap_start
@@ -63,22 +63,22 @@ pub record Retiles (allocator : ℕ) (old new : List ℕ) (xs ns ys : List Tile)
   pub tiling : IsTiling allocator new (xs ++ (ns ++ ys))
   pub spared : Spares old new (xs ++ ys)
 
--- ---- the neighbours of a block, for any other tiles
+-- ---- the neighbours of a block, whatever the other tiles are
 
--- P is true of the tile right after it
+-- P is true of the tile right after the block
 abbrev pub ForNext : List ℕ → Block → (Tile → Type 0) → Type 0
 ForNext bytes b P =
     (xs ys : List Tile) (l : Bool) (t : Tile) → IsTiled bytes (xs ++ (tile_of b l ∷ t ∷ ys)) → P t
 
--- P is true if it is the last one
+-- P is true if the block is the last one
 abbrev pub WhereLast : List ℕ → Block → Type 0 → Type 0
 WhereLast bytes b P = (xs : List Tile) (l : Bool) → IsTiled bytes (xs ++ tile_of b l ∷ []) → P
 
--- P is true of the tile right before it
+-- P is true of the tile right before the block
 abbrev pub ForPrevious : List ℕ → Block → (Tile → Type 0) → Type 0
 ForPrevious bytes b P =
     (xs ys : List Tile) (l : Bool) (t : Tile) → IsTiled bytes (xs ++ (t ∷ tile_of b l ∷ ys)) → P t
 
--- P is true if it is the first one
+-- P is true if the block is the first one
 abbrev pub WhereFirst : List ℕ → Block → Type 0 → Type 0
 WhereFirst bytes b P = (ys : List Tile) (l : Bool) → IsTiled bytes (tile_of b l ∷ ys) → P

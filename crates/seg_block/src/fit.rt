@@ -15,7 +15,7 @@ use seg_ptr::{MAX_LEN, Window};
 use std::alloc::Allocator;
 
 /// An allocator of a segment's heap. It works on the bytes of the window only. A block is identified by the position of
-/// its header. Sizes are in units of 16 bytes, with the header. On bytes that are no well-formed heap the calls still
+/// its header. Sizes are in units of 16 bytes, with the header. On bytes that aren't a well-formed heap the calls still
 /// return.
 ///
 /// An allocator implements the calls up to `cut_end`. The calls after them are built on `resize` and `enlarge`, and are

@@ -28,7 +28,7 @@ pub enum Kind {
 }
 
 /// What an allocated block contains, and the id of the type it belongs to (0 if none). The header of a free block has
-/// the word 0, which is no tag.
+/// the word 0, which isn't a tag.
 #[derive(Debug, Clone, Copy, PartialEq, Eq)]
 pub struct Tag {
     pub kind: Kind,

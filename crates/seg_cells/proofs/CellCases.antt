@@ -37,7 +37,7 @@ the_eight : (a : List ℕ) (at : ℕ) → at + 8 ≤ length a → slice (set_lon
 unfolding set_number
 the_eight a at fits = slice-put_same a at (spelling 8 1) 8 (sym eight_long) fits
 
--- a null pointer and the count 0
+-- an empty cell has a null pointer and the count 0
 pub empty_words : (a : List ℕ) (at : ℕ) → at + 8 ≤ length a → (word (set_long a at 1) at ≡ 1) × (count_at (set_long a at 1) at ≡ 0)
 empty_words a at fits =
     (rw (add-zero at) at (number_in (set_long a at 1) at 0 (part 0 (omega arith)) ∙ first_word), number_in (set_long a at 1) at 4 (part 4 (omega arith)) ∙ second_word)
@@ -191,7 +191,7 @@ module _ (table : Table) (valid : IsTable table) (T : ℕ) where
       defaulted_one (Form.own U) h b e f = (e, f)
       defaulted_one (Form.shared U) h b e f = (e, f)
 
-      -- an empty cell is written
+      -- writing an empty cell makes the default value
       pub empty_cell : IsCell → ChangesCells IsDefaulted a (set_long a at 1) table at T
       empty_cell k =
           let e = empty_words a at room in
@@ -211,7 +211,7 @@ module _ (table : Table) (valid : IsTable table) (T : ℕ) where
       number_by (Some (Form.own U)) e h = absurd (cc)
       number_by (Some (Form.shared U)) e h = absurd (cc)
 
-      -- 0 is written
+      -- writing 0 makes the default value
       pub zero_cell : has_cells (form_at table T) ≡ false → ChangesCells IsDefaulted a (set_long a at 0) table at T
       zero_cell h = number_by (form_at table T) refl h
 

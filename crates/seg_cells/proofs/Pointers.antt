@@ -1,4 +1,4 @@
--- Moving entries with a pointer, from what each write leaves.
+-- Moving entries with a pointer, from how each write changes the bytes.
 use Rattle.std.proofs.Common.{◌≡◌, ℕ, suc, ◌+◌, ◌*◌, ◌%◌, ◌^◌, ◌<◌, ◌≤◌, ◌⊎◌, inl, inr, List, length, Some, refl, sym, ap, ◌∙◌, subst, arith}
 use Rattle.std.proofs.Math.Nat.{mul-le-mul_right}
 use Rattle.std.proofs.lemmas.Bool.{cases_lt}
@@ -62,7 +62,7 @@ next_pointer distance a b start each before i n fits less w k =
         subst (λ h. word (set_word b (pointer_at start each before i) (further distance (word b (pointer_at start each before i)))) (pointer_at start each before h) ≡ further distance (word a (pointer_at start each before h))) same_index
         (written ∙ ap (further distance) was)
 
--- entries that were copied, and then pointed again
+-- entries were copied, and then their pointers were adjusted
 pub pointers_moved : (old raw new : List ℕ) (each before from to n m distance : ℕ) → before + 4 ≤ each → m ≡ n * each → raw ≡ put old to (slice old from m) → (to + distance) % 2 ^ 32 ≡ from
     → IsWithin old from (n * each) → IsWithin old to (n * each)
     → PointsAgain distance raw new to each before n → MovesPointers old new each before from to n

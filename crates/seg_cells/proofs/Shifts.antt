@@ -1,4 +1,4 @@
--- Moving entries with a value, from what the steps leave.
+-- Moving entries with a value, from how each step changes the bytes.
 use Rattle.std.proofs.Common.{◌≡◌, ℕ, ◌+◌, ◌*◌, ◌%◌, ◌^◌, ◌≤◌, List, [], ◌∷◌, map, refl, length, sym, ap, ◌∙◌, subst, arith}
 use Rattle.seg_spec.specs.Bytes.{slice, put, ChangesOnly}
 use Rattle.seg_spec.specs.Types.{Table, IsTable, size}
@@ -30,7 +30,7 @@ raw_within old raw from to m k raw_is w =
     let long : length raw ≡ length old = ap length raw_is ∙ length-put old to (slice old from m) in
     record { fits = omega (arith, w.fits); small = omega (arith, w.small) }
 
--- ---- what a move of whole values leaves
+-- ---- moving whole values
 
 module _ (old new : List ℕ) (table : Table) (valid : IsTable table) (before T each from to n : ℕ) (s : Shifts old new table before T each from to n) (from_in : IsWithin old from (n * each)) where
   raw : List ℕ
@@ -49,7 +49,7 @@ no_before : (ps : List ℕ) → map (λ p. p + 0) ps ≡ ps
 no_before [] = refl
 no_before (p ∷ ps) = let e : p + 0 ≡ p = omega arith in rw (e, no_before ps) refl
 
--- for values without bytes before them
+-- values without bytes before them were moved
 pub moved_items : (old new : List ℕ) (table : Table) → IsTable table → (T from to n : ℕ) → Shifts old new table 0 T (size table T) from to n → IsWithin old from (n * size table T)
     → (allocator home : ℕ) (vs : Values) (blocks : List ℕ) → IsHeap allocator old → StandsBeside old home to (n * size table T) blocks → to % 8 ≡ 0
     → HoldsEach old table (items table from T n) vs blocks → HoldsEach new table (items table to T n) vs blocks

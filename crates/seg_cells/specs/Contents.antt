@@ -63,8 +63,7 @@ ContentOf table T (Some (Form.own U)) (Some content) =
     IsContent table shape.Object (tag_of block.Kind.object U) 0 U content
 ContentOf _ _ _ _ = ⊥
 
--- the layout that a block of a kind and a type belongs to, if it isn't a named object or in the
--- index
+-- the layout of a block of a kind and a type, unless the block is a named object or is in the index
 abbrev pub OfBlock : Table → Kind → ℕ → Option Content → Type 0
 OfBlock table kind.Object T content =
     IsSomeAnd content (IsContent table shape.Object (tag_of block.Kind.object T) 0 T)

@@ -22,7 +22,7 @@ pub record PointsAgain (distance : ℕ) (old new : List ℕ) (start each before 
       IsSame old new q m
 
 -- N entries were copied, with the bytes beside their pointers. Each pointer has the same target,
--- unless that was the byte after its new position, to which no pointer there can point.
+-- unless its target was the byte after its new position: no pointer there can point to that byte.
 pub record MovesPointers (old new : List ℕ) (each before from to n : ℕ) : Type 0 where
   pub changes : ChangesOnly old new to (n * each)
   pub named : (i : ℕ) → i < n →

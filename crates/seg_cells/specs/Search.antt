@@ -4,6 +4,6 @@ use Rattle.std.specs.Prelude.{◌≡◌, ℕ, ◌-◌, ◌⊎◌}
 use Rattle.std.specs.declared.cmp.Ordering.{Ordering}
 use Rattle.std.specs.declared.cmp.Ordering.TheVariants.{Less, Greater}
 
--- the first and the last index need only one of the two
+-- there is no item before index 0, and no item at index n
 abbrev pub IsBetween : (ℕ → Ordering → Type 0) → ℕ → ℕ → Type 0
 IsBetween compares n i = ((i ≡ 0) ⊎ compares (i - 1) Less) × ((i ≡ n) ⊎ compares i Greater)

@@ -68,7 +68,7 @@ impl Cells {
 }
 
 /// Writes the default of a value: 0 for numbers, empty or null for others.
-// most values are one cell, and need no recursion
+// Inlined, since most values are one cell and need no recursion.
 #[inline(always)]
 pub fn set_default<A: Allocator>(w: &mut Window<A>, types: &TypeTable, cells: Cells, place: Place)
     ensures host { KeepsHost w.old w.new }

@@ -15,7 +15,7 @@ use Rattle.seg_check.specs.declared.walk.Visit.TheVariants.{Enter, Pass}
 use Rattle.seg_check.specs.Walks.{Completes, Hangs, IsSteady, Proceeds, entering_of}
 use Rattle.seg_check.proofs.SameLength.{same_length}
 
--- the nodes are entered once each
+-- each node is entered once
 entered_once : (tree : Tree) → SameBlocks (entering_of tree) (nodes_of tree)
 entered_once leaf h = refl
 entered_once (fork left at colour right) h =
@@ -31,7 +31,7 @@ module _ (bytes : List ℕ) (root wanted : ℕ) where
   pub hangs_once : (height : ℕ) (nodes entering : List ℕ) → Hangs bytes root wanted height nodes entering → SameBlocks entering nodes
   hangs_once height nodes entering w h = ap (times h) (sym w.entering_are) ∙ entered_once w.tree h ∙ ap (times h) w.nodes_are
 
-  -- the remaining nodes of a tree
+  -- after these nodes, the rest of a tree remains at this stage
   pub record Remains (stage : Stage) (passed entered : List ℕ) (height : ℕ) (nodes all : List ℕ) : Type 0 where
     pub rest : List ℕ
     pub entering : List ℕ
@@ -39,8 +39,8 @@ module _ (bytes : List ℕ) (root wanted : ℕ) where
     pub all_are : all ≡ entered ++ entering
     pub completes : Completes bytes height stage rest entering
 
-  -- these nodes were passed and those were entered; a tree is at the pointer exactly if one remains
-  -- from the stage on
+  -- The nodes `passed` were passed, and the nodes `entered` were entered. The pointer points to a
+  -- tree exactly if the rest of the tree remains at this stage.
   pub record Followed (stage : Stage) (turns : ℕ) (passed entered : List ℕ) : Type 0 where
     pub steady : IsSteady bytes stage turns
     pub spent : turns + (length passed + length entered) ≡ length bytes / 16
@@ -96,7 +96,7 @@ module _ (bytes : List ℕ) (root wanted : ℕ) where
             (f.back height (node ∷ rest) entering ((step height rest entering).0.1 k)));
       }
 
-    -- at the end a tree of these nodes is there, and no other
+    -- at the walk's end the pointer points to a tree of these nodes, and no other
     pub follow_end : (new : Stage) → Proceeds bytes old new None → Hangs bytes root wanted old.above.blacks passed entered
     follow_end new step =
         subst (λ xs. Hangs bytes root wanted old.above.blacks passed xs) (append-nil entered)
@@ -108,7 +108,7 @@ module _ (bytes : List ℕ) (root wanted : ℕ) where
         let none = step.1 height r.rest r.entering r.completes in
         r.nodes_are ∙ ap (λ xs. passed ++ xs) none.0 ∙ append-nil passed
 
-    -- if the walk can't continue, there is no tree
+    -- if the walk can't continue, the pointer points to no tree
     pub follow_refused : ((height : ℕ) (rest entering : List ℕ) → Completes bytes height old rest entering → height < 30 → length rest + length entering < turns → ⊥)
         → (height : ℕ) (nodes all : List ℕ) → Hangs bytes root wanted height nodes all → 16 + 32 * length nodes ≤ length bytes → ⊥
     follow_refused never height nodes all w few =
@@ -128,7 +128,7 @@ module _ (bytes : List ℕ) (root wanted : ℕ) where
             let small = f.steady.small in
             absurd (omega arith)
 
--- what a walk over the same bytes implies for a step to a visit
+-- the step of a walk over the same bytes
 pub steps_on : {E : Type 0} (bytes : List ℕ) (was now same : Placement) (old new : Stage) (turns less : ℕ) (r : Result (Option Visit) E) (visit : Visit) → r ≡ Ok (Some visit) → same.bytes ≡ bytes → now ≡ was → was ≡ same
     → IsSteady bytes old turns → OnOk r (less + 1 ≡ turns)
     → (IsSteady was.bytes old turns → IfOk r (λ v. IfSome v (λ _. IsSteady now.bytes new less)))

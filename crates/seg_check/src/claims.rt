@@ -72,7 +72,7 @@ impl<A: Allocator> Claims<A> {
             marks: Vec::from_elem(alloc, Mark::Inside, units)?,
             free: 0,
             unclaimed: 0,
-            // a block has at least two units, and is claimed once
+            // a block has at least two units, and is claimed at most once
             queue: Vec::with_capacity(alloc, units / 2)?,
             taken: 0,
             counts: Vec::from_elem(alloc, None, slots)?,

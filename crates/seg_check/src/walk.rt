@@ -113,7 +113,7 @@ impl Stage {
             above: Above {
                 nodes: 0,
                 blacks: 0,
-                // as if a red node were above the root, since a root is black
+                // the root must be black, like a node below a red one
                 is_red: true,
             },
             entered: ArrayVec::new(),

@@ -24,7 +24,7 @@ not_named word k T e low high =
     let first : (word % 256 == 1) ≡ false = (let r : word % 256 ≡ k = omega arith in grind (arith, nat_tests)) in
     rw first refl
 
--- a word that encodes no tag isn't the tag of a named object
+-- a word that is no tag isn't the tag of a named object
 pub no_tag : (word : ℕ) (r : Option Tag) → ((t : Tag) → t.type_id < 256 → word ≡ word_of t → r ≡ Some t) → r ≡ None → named_type word ≡ None
 unfolding named_type
 no_tag word r every none = go (word % 256 == 1) (nat_lt (word / 256) 256) refl refl
@@ -38,7 +38,7 @@ no_tag word r every none = go (word % 256 == 1) (nat_lt (word / 256) 256) refl r
         let some = every (record { kind = Named; type_id = word / 256 }) second (omega arith) in
         absurd (let both : None ≡ Some (record { kind = Named; type_id = word / 256 }) = sym none ∙ some in cc)
 
--- neither is a word that spells another tag
+-- a word that is another tag isn't the tag of a named object either
 pub other_tag : (word : ℕ) (t : Tag) → word ≡ word_of t → (t.kind ≡ Object) ⊎ ((t.kind ≡ Buffer) ⊎ ((t.kind ≡ Node) ⊎ ((t.kind ≡ IndexBuffer) ⊎ ((t.kind ≡ IndexNode) ⊎ (t.kind ≡ Frozen))))) →
     named_type word ≡ None
 other_tag word t e (inl k) = not_named word 2 t.type_id (e ∙ ap (λ k. tag_of (kind_of k) t.type_id) k) (omega arith) (omega arith)

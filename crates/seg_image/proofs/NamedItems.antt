@@ -30,7 +30,7 @@ module _ (allocator : ℕ) (s : Stored) (picture : Picture) (is : IsSegment allo
       let before = mul-le-mul_right (size s.types root.type) no_more in
       omega (arith, n.block.room, n.block.after_header, lies.high, lies.size, header.not_large)
 
-  -- the position of the value at an index
+  -- the position of the value at an index doesn't overflow
   pub item_fits : (name : List ℕ) (T : ℕ) (found : Found) → Ok found ≡ found_as T (root_named picture.names name) → (i : ℕ) → i < found.count → found.at + i * size s.types T ≤ 2 ^ 30
   item_fits name T found e i below = go (root_named picture.names name) refl e
     where
@@ -46,7 +46,7 @@ module _ (allocator : ℕ) (s : Stored) (picture : Picture) (is : IsSegment allo
       go None named e = absurd (let both : Ok found ≡ Err code.Absent = e in cc)
       go (Some root) named e = typed root named (root.type == T) refl e
 
--- the place of that value
+-- the place of the value at an index
 pub item_place_is : (table : Table) (T i : ℕ) (found : Found) (at : ℕ) → i < found.count → at ≡ found.at + i * size table T → Ok (record { at = at; type_id = T }) ≡ item_place table T i (Ok found)
 item_place_is table T i found at below e =
     let on : nat_lt i found.count ≡ true = grind (arith, nat_tests) in

@@ -1,4 +1,4 @@
--- An own gets a new object: a new block becomes its own, and its previous object is destroyed.
+-- An own gets a new object in a new block, and its previous object is destroyed.
 use Rattle.std.proofs.Common.{◌≡◌, ◌≢◌, ℕ, ◌+◌, ◌≤◌, ◌⊎◌, inl, inr, List, [], ◌∷◌, ◌++◌, length, Some, sym, ◌∙◌, subst, arith, add-zero}
 use Rattle.std.proofs.lemmas.Bool.{cases_eq}
 use Rattle.seg_spec.specs.Types.{Form, Table, form_at, size}
@@ -72,7 +72,7 @@ module _ (allocator : ℕ) (old mid new : List ℕ) (table : Table) (own : Place
     owned = λ h. rw (counts h) (let a = times-append h (block_of at ∷ []) (positions (live old)) in omega arith);
   }
 
-  -- frozen objects exist apart from these blocks and the new one
+  -- frozen objects are apart from these blocks, and also from the new one
   beside_then : (names : List ℕ) (theirs : ℕ → List ℕ) (kept : List Place) (now final : List Frozen) → SharedBeside old table (s.home ∷ blocks) names theirs kept now final
       → SharedBeside mid table (stands.home ∷ (blocks ++ block_of at ∷ [])) names theirs kept now final
   beside_then names theirs kept now final b =

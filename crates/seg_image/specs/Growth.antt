@@ -9,9 +9,9 @@ use Rattle.seg_value.specs.Stored.{Stored}
 use Rattle.seg_manager.specs.Segments.{IsSegment}
 use Rattle.seg_space.specs.Sizes.{used_front}
 
--- The segment has `extra` bytes more than these, the same picture, and each allocated block. A
--- single new unit is added to a block that ended at the end. The new bytes after the used front are
--- 0.
+-- The segment has `extra` bytes more than these bytes, and the same picture. Each allocated block
+-- is kept. A single new unit is added to a block that ended at the end. The new bytes after the
+-- used front are 0.
 pub record Lengthens (allocator : ℕ) (old : List ℕ) (new : Stored) (picture : Picture)
     (extra : ℕ) : Type 0 where
   pub segment : IsSegment allocator new picture

@@ -1,6 +1,6 @@
 -- An own that got a new object.
 --     PutsNew allocator old new table own U blocks at theirs now final
---                            the object at a position has the default value of its type; what the own had before
+--                            the object at a position has the default value of its type; the own's old object
 --                            was destroyed, with the frozen objects that lost their last cell
 use Rattle.std.specs.Prelude.{◌≡◌, ℕ, List, [], ◌∷◌, ◌++◌, length, Some}
 use Rattle.seg_spec.specs.Types.{Table}
@@ -16,7 +16,7 @@ use Rattle.seg_spec.specs.Frozen.{Frozen, blocks_by}
 use Rattle.seg_manager.specs.Segments.{one_value}
 
 -- The own had `blocks`, and now has the object's block. `now` are the frozen objects before, which
--- own `theirs`, and `final` those that stay.
+-- own `theirs`, and `final` the remaining ones.
 pub record PutsNew (allocator : ℕ) (old new : List ℕ) (table : Table) (own : Place) (U : ℕ)
     (blocks : List ℕ) (at : ℕ) (theirs : ℕ → List ℕ) (now final : List Frozen) : Type 0 where
   pub granted : List Span

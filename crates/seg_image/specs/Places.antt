@@ -1,15 +1,15 @@
 -- The places that calls on an image take and return.
 --     position_of result          the position of the place that a call returned
 --     first_place T found         the place of the first value of an object that was found
---     item_place table T i found  the place of its value at an index
---     value_count found           how many values it has
+--     item_place table T i found  the place of the object's value at an index
+--     value_count found           the number of the object's values
 --     is_counted form             the cells of values of this form have a count
 --     object_type form            the type of the objects that they own
 --     StandsIn image place v blocks   the place contains v, and owns these blocks
 --     WhereMap image map claim    the claim is true of the map at a place
 --     content_place U at          the place of the object to which an own points
 --     FieldPlace table place i result
---                                 the place of a field of a struct, or why there is none
+--                                 the place of a field of a struct, or why the struct has no such field
 use Rattle.std.specs.Prelude.{◌≡◌, ℕ, ◌+◌, ◌*◌, ◌%◌, ◌^◌, ℤ, ◌==◌, nat_lt, if◌then◌else◌, Bool, true, false, List, length, Option, Some, None, slice_get, MatchOption, Result, Ok, Err}
 use Rattle.seg_spec.specs.Types.{Form, Table, fields_of, size}
 use Rattle.seg_spec.specs.Value.{Value, Values}
@@ -34,14 +34,14 @@ abbrev pub first_place : ℕ → Result Found Code → Result Place Code
 first_place T (Ok found) = Ok (record { at = found.at; type_id = T })
 first_place T (Err error) = Err error
 
--- the place of its value at an index
+-- the place of the object's value at an index
 abbrev pub item_place : Table → ℕ → ℕ → Result Found Code → Result Place Code
 item_place table T i (Ok found) =
     if nat_lt i found.count then Ok (record { at = found.at + i * size table T; type_id = T })
     else Err code.OutOfRange
 item_place table T i (Err error) = Err error
 
--- how many values it has
+-- the number of the object's values
 abbrev pub value_count : Result Found Code → Result ℕ Code
 value_count (Ok found) = Ok found.count
 value_count (Err error) = Err error
@@ -62,13 +62,13 @@ object_type _ = None
 
 -- ---- values
 
--- The place lies in a block of the image's well-formed heap. It contains v, and owns these blocks.
+-- The place lies in a block of the image's well-formed heap. It contains v and owns these blocks.
 abbrev pub StandsIn : {A : Type 0} → Image A → Place → Value → List ℕ → Type 0
 StandsIn image place v blocks =
     Stands (allocator_of image) (bytes_in image) (types_of image) (place_of place) v blocks
 
--- If the place has a map, the claim is true of the type of its values, its keys and values, and the
--- blocks that it owns.
+-- If the place has a map, the claim is true of the type of the map's values, its keys and values,
+-- and the blocks that it owns.
 abbrev pub WhereMap : {A : Type 0} → Image A → Place →
     (ℕ → List ℤ → Values → List ℕ → Type 0) → Type 0
 WhereMap image map claim =

@@ -58,7 +58,7 @@ impl<A: Allocator> Image<A> {
         on!(self, segment => placed(put(segment.heap_mut(), map, key), value))
     }
 
-    /// Removes a key and destroys its value. False if the map doesn't have the key, or if the place is no map.
+    /// Removes a key and destroys its value. False if the map doesn't have the key, or if the place isn't a map.
     pub fn remove(&mut self, map: Place, key: i64) -> bool
         ensures bytes { ChangesBytes self.old self.new }
         ensures other { has_keys (form_at (types_of self.old) map.type_id) ≡ false →

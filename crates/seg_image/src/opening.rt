@@ -85,7 +85,7 @@ fn open_on<F: Fit, A: Allocator + Copy>(
     }
 }
 
-/// A window on all bytes of an image. More bytes than a segment may have are no image.
+/// A window on all bytes of an image. No image has more bytes than a segment may have.
 fn window_of<A: Allocator>(bytes: Vec<u8, A>) -> Result<Window<A>, Unopened<A>>
     ensures window { IfOk result (λ window. window.bytes ≡ bytes.items) }
     ensures fault { IfErr result (λ unopened. IsFaultOf bytes.items unopened.fault) }

@@ -23,7 +23,7 @@ use std::alloc::Allocator;
 
 /// Owns: values that own one object without a name, or none.
 impl<A: Allocator> Image<A> {
-    /// The value of the object that an own has. `OtherType` if the place is no own, `Null` if it is empty.
+    /// The value of the object that an own has. `OtherType` if the place isn't an own, `Null` if it is empty.
     pub fn content(&self, own: Place) -> Result<Place, Code>
         ensures { result ≡ content_place (object_type (form_at (types_of self.now) own.type_id))
             (target (bytes_in self.now) own.at) }
@@ -36,7 +36,7 @@ impl<A: Allocator> Image<A> {
     }
 
     /// Makes a new object with a default value for the own. The own's previous object is destroyed. `OtherType` if the
-    /// place is no own, `BadAlloc` if there is no room; then nothing changes.
+    /// place isn't an own, `BadAlloc` if there is no room; then nothing changes.
     pub fn put_content(&mut self, own: Place) -> Result<Place, Code>
         ensures bytes { ChangesBytes self.old self.new }
         ensures of_type { IfOk result (λ place.

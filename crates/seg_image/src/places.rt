@@ -35,7 +35,7 @@ impl<A: Allocator> Image<A> {
         self.types().kind(place.type_id).ok_or(Code::OtherType)
     }
 
-    /// `OtherType` if the place is no number.
+    /// `OtherType` if the place isn't a number.
     pub(crate) fn number(&self, place: Place) -> Result<(), Code>
         ensures { MatchResult result
             (λ _. form_at (types_of self.now) place.type_id ≡ Some Form.i64)
@@ -48,7 +48,7 @@ impl<A: Allocator> Image<A> {
         Ok(())
     }
 
-    /// `OtherType` if the place is no string.
+    /// `OtherType` if the place isn't a string.
     pub(crate) fn string(&self, place: Place) -> Result<(), Code>
         ensures { MatchResult result
             (λ _. form_at (types_of self.now) place.type_id ≡ Some Form.str)

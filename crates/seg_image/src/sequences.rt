@@ -23,7 +23,7 @@ use std::alloc::Allocator;
 
 /// Strings.
 impl<A: Allocator> Image<A> {
-    /// The bytes of a string. `OtherType` if the place is no string.
+    /// The bytes of a string. `OtherType` if the place isn't a string.
     pub fn text(&self, place: Place) -> Result<&[u8], Code>
         ensures bytes { MatchResult result
             (λ text. (form_at (types_of self.now) place.type_id ≡ Some Form.str)
@@ -38,7 +38,7 @@ impl<A: Allocator> Image<A> {
         Ok(window.slice(from as usize, len as usize))
     }
 
-    /// Replaces the bytes of a string. `OtherType` if the place is no string, `BadAlloc` if there is no room; then
+    /// Replaces the bytes of a string. `OtherType` if the place isn't a string, `BadAlloc` if there is no room; then
     /// nothing changes.
     pub fn assign(&mut self, place: Place, bytes: &[u8]) -> Result<(), Code>
         ensures bytes { ChangesBytes self.old self.new }
@@ -149,7 +149,7 @@ impl<A: Allocator> Image<A> {
         on!(self, segment => placed(push_back(segment.heap_mut(), place), item))
     }
 
-    /// A vector of numbers, whose type is checked once for all pushes. `OtherType` if the place is no vector of
+    /// A vector of numbers, whose type is checked once for all pushes. `OtherType` if the place isn't a vector of
     /// numbers.
     pub fn numbers(&self, place: Place) -> Result<Numbers, Code>
         ensures { MatchResult result
@@ -169,8 +169,8 @@ impl<A: Allocator> Image<A> {
         on!(self, segment => vector.push(segment.heap_mut(), number))
     }
 
-    /// Adds a default item at the front of a list. `OtherType` if the place is no list, `BadAlloc` if there is no room;
-    /// then nothing changes.
+    /// Adds a default item at the front of a list. `OtherType` if the place isn't a list, `BadAlloc` if there is no
+    /// room; then nothing changes.
     pub fn push_front(&mut self, place: Place) -> Result<Place, Code>
         ensures bytes { ChangesBytes self.old self.new }
         ensures of_type { IfOk result (λ item.
@@ -227,7 +227,7 @@ impl<A: Allocator> Image<A> {
         on!(self, segment => pop_back(segment.heap_mut(), place))
     }
 
-    /// Destroys the first item of a list. `OtherType` if the place is no list, `Null` if it is empty.
+    /// Destroys the first item of a list. `OtherType` if the place isn't a list, `Null` if it is empty.
     pub fn pop_front(&mut self, place: Place) -> Result<(), Code>
         ensures bytes { ChangesBytes self.old self.new }
         ensures other { IsNoList (types_of self.old) place.type_id →

@@ -52,7 +52,7 @@ impl<A: Allocator> Image<A> {
     }
 
     /// Adds `extra` bytes at the end, and returns the new size in bytes. `BadSize` if that isn't a size of a segment or
-    /// `extra` is no multiple of 16, `Memory` if host memory is refused; then nothing changes.
+    /// `extra` isn't a multiple of 16, `Memory` if host memory is refused; then nothing changes.
     ///
     /// The host's memory of the image grows with it; the image is copied if it has to move there. Places stay valid.
     pub fn grow(&mut self, extra: u32) -> Result<u32, Fault>

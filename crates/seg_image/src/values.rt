@@ -47,7 +47,7 @@ impl<A: Allocator> Image<A> {
         })
     }
 
-    /// The place of a struct's field, by its index from 0. `OtherType` if the place is no struct, `OutOfRange` if it
+    /// The place of a struct's field, by its index from 0. `OtherType` if the place isn't a struct, `OutOfRange` if it
     /// has fewer fields.
     pub fn field(&self, place: Place, index: u32) -> Result<Place, Code>
         ensures { FieldPlace (types_of self.now) place index result }

@@ -1,4 +1,4 @@
--- Entries of the index as the code reads and writes them, compared to the definitions.
+-- The index's entries as the code reads and writes them, compared to the definitions.
 use Rattle.std.proofs.Common.{◌≡◌, ◌≢◌, ℕ, ◌+◌, ◌-◌, ◌/◌, ◌%◌, ◌^◌, ◌<◌, ◌≤◌, inl, List, length, Some, refl, sym, ap, ◌∙◌, subst, arith, []}
 use Rattle.seg_spec.specs.Bytes.{half, byte, slice, number, number_of, set_number, set_word, spelling, ChangesOnly}
 use Rattle.seg_spec.specs.Index.{Root, IsName, IsEntry}
@@ -24,7 +24,7 @@ use Rattle.seg_entry.specs.declared.entry.NameEntry.{NameEntry}
 
 -- ---- the parts of a word
 
--- the value of a word that was written
+-- a part of a word that was written
 written_part : (bytes : List ℕ) (at n i w : ℕ) → at + 4 ≤ length bytes → i + w ≤ 4 → number w (set_word bytes at n) (at + i) ≡ number w (spelling 4 n) i
 unfolding set_number
 written_part bytes at n i w fits inside =
@@ -64,7 +64,7 @@ entry_moved old new from to root s o =
       few = o.few;
     }
 
--- ---- what writing an entry leaves
+-- ---- bytes after an entry was written
 
 pub write_entry-changes : (old : List ℕ) (at : ℕ) (entry : NameEntry) → ChangesOnly old (write_entry old at entry) at 8
 write_entry-changes old at entry =
@@ -107,7 +107,7 @@ module _ (old : List ℕ) (at : ℕ) (root : Root) (within : IsWithin old at 8) 
 
 -- ---- the name of an entry
 
--- a named object's type is one of few
+-- a named object's type is less than 32
 pub type_small : (bytes : List ℕ) (table : Table) (root : Root) → IsTable table → AllByRecursion (λ b. IsOwnable bytes table b.at) (live bytes) → IsNamed bytes table root → root.type < 32
 type_small bytes table root valid ownable named = by o.kind o.allowed (sym named.block.has_tag ∙ o.tag_is)
   where

@@ -1,4 +1,4 @@
--- Adding a root to a flat index, and removing one.
+-- A root is added to a flat index, or removed.
 use Rattle.std.proofs.Common.{◌≡◌, ◌≢◌, ℕ, zero, suc, ◌+◌, ◌-◌, ◌*◌, ◌<◌, ◌≤◌, inl, inr, true, false, List, [], ◌∷◌, ◌++◌, length, Option, Some, None, option_to_list, option_map, refl, sym, ap, ◌∙◌, subst, arith, length-append}
 use Rattle.std.specs.Prelude.{◌==◌, slice_get}
 use Rattle.std.proofs.lemmas.Bool.{cases_lt, cases_eq}
@@ -25,9 +25,9 @@ use Rattle.seg_index.proofs.EntryLaws.{entry_moved, entry_written, write_entry-c
 use Rattle.seg_index.proofs.RootOrder.{InOrder, order_with, order_without, get_append, get_front, get_below, missing_within}
 use Rattle.seg_index.proofs.FlatEntries.{Indexed, entries_of, flat_blocks, flat_length, flat_entry, flat_live, flat_order, object_lies}
 
--- ---- one root more or less, by indices
+-- ---- lists with one root more or less, by indices
 
--- each root of a list with one more is one before it, one after it, or the new one
+-- each root of a list with one root more is before the new root, after it, or is the new root
 pub with_at : (P : ℕ → Root → Type 0) (before : List Root) (root : Root) (after : List Root)
     → ((i : ℕ) (r : Root) → i < length before → slice_get (before ++ after) i ≡ Some r → P i r) → P (length before) root
     → ((i : ℕ) (r : Root) → length before ≤ i → slice_get (before ++ after) i ≡ Some r → P (i + 1) r)
@@ -50,7 +50,7 @@ with_at P before root after low here high i r e = elim (cases_lt i (length befor
         let next : length before + k + 1 ≡ i = omega arith in
         subst (λ j. P j r) next (high (length before + k) r (omega arith) (get_append before after k ∙ at))
 
--- each root of a list with one less is one of the list, before or after that one
+-- each root of a list with one root less is before or after the removed root
 pub without_at : (P : ℕ → Root → Type 0) (before : List Root) (root : Root) (after : List Root)
     → ((i : ℕ) (r : Root) → i < length before → slice_get (before ++ root ∷ after) i ≡ Some r → P i r)
     → ((i : ℕ) (r : Root) → length before ≤ i → slice_get (before ++ root ∷ after) (i + 1) ≡ Some r → P i r)
@@ -63,7 +63,7 @@ without_at P before root after low high i r e = elim (cases_lt i (length before)
       high i r h (ap (slice_get (before ++ root ∷ after)) next ∙ get_append before (root ∷ after) (suc (i - length before)) ∙ sym (get_append before after (i - length before)) ∙ ap (slice_get (before ++ after)) is ∙ e)
 ]
 
--- ---- the index that is there then
+-- ---- the index after the change
 
 module _ (old : List ℕ) (flat : word old index_kind_word ≡ 0) (new : List ℕ) (front : IsSame old new 0 24) where
   pub still_flat : word new index_kind_word ≡ 0
@@ -116,7 +116,7 @@ module _ (allocator : ℕ) (old : List ℕ) (table : Table) (names : List Root) 
           let lies = object_lies allocator old table names blocks f flat root enters.named in
           entry_written mid at root o.within lies.1 (λ e. omega (arith, o.aligned, lies.0)) enters.is_name enters.no_words enters.some enters.few
 
-      -- the entries that were there
+      -- the entries before the change
       was : (i : ℕ) (r : Root) → slice_get (s.before ++ s.after) i ≡ Some r → IsEntry old (start old index_cell + i * 8) r
       was i r e = flat_entry allocator old table names blocks f flat i r (ap (λ rs. slice_get rs i) s.names_are ∙ e)
 
@@ -188,7 +188,7 @@ module _ (allocator : ℕ) (old : List ℕ) (table : Table) (names : List Root) 
     left_order : InOrder (s.before ++ s.after)
     left_order = order_without s.before root s.after (subst InOrder s.names_are (flat_order allocator old table names blocks f flat))
 
-    -- if others remain
+    -- other roots remain
     pub name_left : count_at mid index_cell ≢ 0 → LeavesName old mid table names blocks root
     name_left some = record {
       before = s.before;
@@ -203,7 +203,7 @@ module _ (allocator : ℕ) (old : List ℕ) (table : Table) (names : List Root) 
           (lists_then old flat mid c.front_kept (s.before ++ s.after) c.room (λ e. absurd (some e)) left_long left_indexed left_order);
     }
 
-    -- ---- the last root is removed, and the buffer with it
+    -- ---- the last root is removed, and the buffer is freed
 
     -- the cell still points to the buffer
     same_buffer : named mid index_cell ≡ named old index_cell
@@ -222,7 +222,7 @@ module _ (allocator : ℕ) (old : List ℕ) (table : Table) (names : List Root) 
           | inr ne ↦ absurd (omega (arith, f (block_of p), times-same (block_of p) [], times-other (block_of p) (block_of q) [] ne))
         ]
 
-    -- what the call that frees the buffer finds
+    -- the state in which the call that frees the buffer begins
     pub left_finds : count_at mid index_cell ≡ 0 → FindsNames allocator mid table
     left_finds none =
         let allocator_is = word-same old mid 16 (IsSame-part old mid 0 24 16 4 (omega arith) (omega arith) c.front_kept) in

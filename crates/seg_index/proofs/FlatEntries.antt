@@ -27,9 +27,9 @@ use Rattle.seg_entry.specs.declared.entry.NameEntry.{NameEntry}
 use Rattle.seg_index.proofs.EntryLaws.{entry_reads, name_reads, type_small}
 use Rattle.seg_index.proofs.RootOrder.{InOrder, get_there, get_below, halves_end, Searched, next_found}
 
--- ---- entries that are one after the other
+-- ---- entries in a row
 
--- each root has the entry at its index
+-- the entry at an index belongs to the root at that index
 abbrev pub Indexed : List ℕ → ℕ → List Root → Type 0
 Indexed bytes from names = (i : ℕ) (r : Root) → slice_get names i ≡ Some r → IsEntry bytes (from + i * 8) r
 
@@ -62,7 +62,7 @@ entries_of bytes from (suc n) (r ∷ names) e h =
           let next : from + suc i * 8 ≡ from + 8 + i * 8 = omega arith in subst (λ p. IsEntry bytes p s) next (h (suc i) s at)),
     )
 
--- ---- what calls on a flat index find
+-- ---- the state in which calls on a flat index begin
 
 module _ (allocator : ℕ) (bytes : List ℕ) (table : Table) (names : List Root) (blocks : List ℕ) (f : FindsNamesOf allocator bytes table names blocks) (flat : word bytes index_kind_word ≡ 0) where
   abbrev n : ℕ
@@ -92,11 +92,11 @@ module _ (allocator : ℕ) (bytes : List ℕ) (table : Table) (names : List Root
   pub flat_named : (i : ℕ) (r : Root) → slice_get names i ≡ Some r → IsNamed bytes table r
   flat_named i r e = (each_at _ names i r f.named e).0
 
-  -- the buffer is allocated
+  -- the buffer's block is allocated
   pub flat_live : (h : ℕ) → times h (named bytes index_cell) ≤ times h (positions (live bytes))
   flat_live h = subst (λ bs. times h bs ≤ times h (positions (live bytes))) flat_blocks (f.owned h)
 
-  -- an object is at a multiple of 8 in the segment
+  -- an object's position is a multiple of 8 in the segment
   pub object_lies : (r : Root) → IsNamed bytes table r → (r.at % 8 ≡ 0) × (r.at < 2 ^ 32)
   object_lies r o =
       let l = there (LiesIn bytes heap_start (length bytes)) (block_of r.at) (positions (live bytes)) (live-lie bytes allocator f.heap) o.is_live in
@@ -117,7 +117,7 @@ module _ (allocator : ℕ) (bytes : List ℕ) (table : Table) (names : List Root
         subst (λ p. p % 8 ≡ 0) same (object_lies it.0 (flat_named i it.0 it.1)).0;
   }
 
-  -- the buffer, if there are entries
+  -- if there are entries, there is a buffer
   flat_start : 1 ≤ n → (p : ℕ) × (target bytes index_cell ≡ Some p)
   flat_start some = go (target bytes index_cell) refl
     where
@@ -158,7 +158,7 @@ module _ (allocator : ℕ) (bytes : List ℕ) (table : Table) (names : List Root
   pub flat_order : InOrder names
   flat_order = f.lists.ascending
 
-  -- ---- the search by halves
+  -- ---- the binary search
 
   -- how the entry at an index compares with a name, as the code reads it
   abbrev pub Compares : ℕ → List ℕ → ℕ → Ordering → Type 0
@@ -172,9 +172,9 @@ module _ (allocator : ℕ) (bytes : List ℕ) (table : Table) (names : List Root
       (λ i r o at is. is ∙ ap (λ xs. slice_cmp nat_cmp xs name) (ap (λ p. name_at table bytes ((p + i * 8) % 2 ^ 32)) first_is ∙ flat_name i r at))
       result found missing
 
-  -- ---- what the calls that read return
+  -- ---- the results of calls that read
 
-  -- an entry by its index
+  -- the entry at an index belongs to the root at that index
   pub entry_got : (i len : ℕ) (entry : NameEntry) → len ≡ count_at bytes index_cell → i < len → ((r : Root) → slice_get names i ≡ Some r → entry ≡ entry_of r) → Some entry ≡ option_map entry_of (slice_get names i)
   entry_got i len entry len_is h is =
       let it = get_there names i (omega (arith, flat_length)) in

@@ -1,4 +1,4 @@
--- What an image contains after an object was added to its index, or removed.
+-- The picture of an image after an object was added to its index, or removed.
 --     laid_out_named      an image whose index lists other names is laid out for these
 --     held_entered        an object apart from the image that is added to the index becomes one of the image's
 use Rattle.std.proofs.Common.{◌≡◌, ℕ, ◌+◌, ◌≤◌, List, [], ◌∷◌, ◌++◌, length, refl, sym, ap, ◌∙◌, subst, append_assoc, arith}
@@ -99,7 +99,7 @@ module _ (allocator : ℕ) (old mid new : List ℕ) (picture : Picture) (held : 
       let m = mid_once h in
       e.changes.kept h (omega arith) (omega arith))
 
-  -- the image contains it, as one of its named objects
+  -- the image contains the object as one of its named objects
   pub held_entered : IsHeld new (with_names picture (e.before ++ root ∷ e.after))
   held_entered = apart.becomes new (with_names picture (e.before ++ root ∷ e.after)) (root ∷ []) e.others its refl (append_assoc e.before (root ∷ e.after) rest) laid_out others_kept
       (HoldsRoots-one new picture.table (HoldsRoot-kept mid new picture.table held.laid_out.is_table root its its_kept holds)) (λ h.

@@ -1,4 +1,4 @@
--- What calls on the index find in an image, and after another call on the index.
+-- The state in which calls on the index begin: in an image, and after another call on the index.
 use Rattle.std.proofs.Common.{◌≡◌, ℕ, ◌+◌, ◌*◌, ◌≤◌, List, [], ◌∷◌, ◌++◌, length, refl, sym, ◌∙◌, subst, arith}
 use Rattle.std.specs.List.{AllByRecursion}
 use Rattle.seg_spec.specs.Bytes.{word, IsSame}
@@ -24,7 +24,7 @@ each_append P (x ∷ xs) ys a b = (a.0, each_append P xs ys a.1 b)
 each_beside : {X : Type 0} (P : X → Type 0) (xs : List X) (y : X) (ys : List X) → AllByRecursion P (xs ++ y ∷ ys) → AllByRecursion P (xs ++ ys)
 each_beside P xs y ys a = each_append P xs ys (each_left P xs (y ∷ ys) a) (each_right P xs (y ∷ ys) a).1
 
--- ---- in an image
+-- ---- the index in an image
 
 entry_names : (bytes entries : List ℕ) (names : List Root) → AreEntries bytes entries names → AllByRecursion (λ r. IsName r.name × (r.words ≡ [])) names
 entry_names bytes [] [] h = tt
@@ -32,7 +32,7 @@ entry_names bytes [] (r ∷ names) h = absurd h
 entry_names bytes (e ∷ entries) [] h = absurd h
 entry_names bytes (e ∷ entries) (r ∷ names) h = ((h.0.is_name, h.0.no_words), entry_names bytes entries names h.1)
 
--- the kind of an object with a name
+-- an object with a name is a named object
 named_kind : (name : List ℕ) → 1 ≤ length name → kind_with [] name ≡ Kind.named
 named_kind [] h = absurd (omega arith)
 named_kind (b ∷ name) h = refl
@@ -73,7 +73,7 @@ finds_held bytes picture held =
           (λ h some. (omega (arith, both h), omega (arith, both h, live-once bytes (word bytes allocator_word) l.heap h)));
     }
 
--- ---- after a call
+-- ---- the index after a call
 
 module _ (allocator : ℕ) (old : List ℕ) (table : Table) (names : List Root) (blocks : List ℕ) (f : FindsNamesOf allocator old table names blocks) (new : List ℕ) where
   -- the objects of these roots are apart from the index
@@ -114,7 +114,7 @@ module _ (allocator : ℕ) (old : List ℕ) (table : Table) (names : List Root) 
       named = each_weaker _ _ still_named roots beside;
     }
 
-  -- after a root was added, and after one was removed
+  -- the index after a root was added or removed
   pub finds_entered : (root : Root) → MayEnter old table blocks root → (e : EntersName allocator old new table names blocks root) → FindsNamesOf allocator new table (e.before ++ root ∷ e.after) e.others
   finds_entered root enters e =
       let all : Beside (e.before ++ e.after) = subst Beside e.names_are f.named in

@@ -56,7 +56,6 @@ module _ (allocator : ℕ) (old new : List ℕ) (table : Table) (names : List Ro
   kind_same : word new index_kind_word ≡ word old index_kind_word
   kind_same = word-same old new index_kind_word (IsSame-part old new 0 24 index_kind_word 4 (omega arith) (omega arith) front)
 
-  -- calls find the same names
   pub finds_kept : IsHeap allocator new → AllByRecursion (λ b. IsOwnable new table b.at) (live new) → ((h : ℕ) → times h (positions (live old)) ≤ times h (positions (live new))) → FindsNamesOf allocator new table names blocks
   finds_kept heap ownable more = record {
     heap = heap;
@@ -88,7 +87,6 @@ module _ (allocator : ℕ) (old new : List ℕ) (table : Table) (names : List Ro
       turns_same (x ∷ xs) [] h k = absurd h
       turns_same (x ∷ xs) (r ∷ rs) h k = (ap (λ n. ordering_reverse (slice_cmp nat_cmp n name)) (h.0.name_is ∙ sym k.0.name_is), turns_same xs rs h.1 k.1)
 
-      -- a path still reaches the same place
       pub leads_kept : (path : Path) → LeadsToName old table name path → LeadsToName new table name path
       leads_kept path way = record { root_is = way.root_is; leads = λ tree t. go tree t }
         where
@@ -107,6 +105,5 @@ module _ (allocator : ℕ) (old new : List ℕ) (table : Table) (names : List Ro
     spot_kept name these (Flat index) h = (kind_same ∙ h.0, h.1)
     spot_kept name these (InTree path) h = (kind_same ∙ h.0, leads_kept h.0 name path h.1)
 
-    -- the spot for a new name is the same
     pub vacant_kept : (name : List ℕ) (vacant : Vacant) → IsVacant old table names name vacant → IsVacant new table names name vacant
     vacant_kept name vacant h = record { missing = h.missing; spot = spot_kept name [] vacant.spot h.spot }

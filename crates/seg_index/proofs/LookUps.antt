@@ -1,4 +1,4 @@
--- The result of looking up a name: its entry, or the spot to insert it at.
+-- The result of a lookup: the entry of a name, or the spot to insert it at.
 use Rattle.std.proofs.Common.{◌≡◌, ℕ, zero, suc, ◌≤◌, Bool, true, false, List, [], ◌∷◌, Option, Some, None, MatchOption, refl, sym, ap, ◌∙◌, subst, arith}
 use Rattle.std.specs.Prelude.{if◌then◌else◌}
 use Rattle.seg_spec.specs.Bytes.{word}
@@ -14,7 +14,7 @@ use Rattle.seg_index.specs.declared.lookup.Spot.{Spot}
 use Rattle.seg_index.specs.declared.lookup.Spot.TheVariants as spot
 use Rattle.seg_entry.proofs.Precedes.{same_by_test}
 
--- the root of a name has the name
+-- the root that is found for a name has that name
 pub root_of_name : (names : List Root) (name : List ℕ) (root : Root) → root_named names name ≡ Some root → root.name ≡ name
 root_of_name [] name root e = cc
 root_of_name (r ∷ names) name root e = go (same_name name r.name) refl (root_of_name names name root)
@@ -40,7 +40,7 @@ module _ (bytes : List ℕ) (table : Table) (names : List Root) (name : List ℕ
   pub tree_spot : (these : List Root) (s : Spot) (path : Path) → IsSpot bytes table names name these s → s ≡ spot.Tree path → (word bytes index_kind_word ≡ 1) × LeadsToName bytes table name path
   tree_spot these s path h e = subst (IsSpot bytes table names name these) e h
 
-  -- what was found is the entry of the name's root, at its spot
+  -- the entry that was found is the entry of the name's root, at its spot
   pub occupied : (it : Spot × Option NameEntry) (s : Spot) (found : Option NameEntry) (entry : NameEntry) (IsAt : List Root → Type 0) → LooksUp names name found IsAt
       → ((these : List Root) → IsAt these → IsSpot bytes table names name these s) → it ≡ (s, found) → it.1 ≡ Some entry
       → (root : Root) × IsOccupied bytes table names name root (record { spot = it.0; entry = entry })

@@ -1,4 +1,4 @@
--- The tree of the index after a change: its words and the cell's count were written.
+-- The tree of the index after its tree words and the cell's count were written.
 use Rattle.std.proofs.Common.{◌≡◌, ◌≢◌, ℕ, ◌+◌, ◌-◌, ◌*◌, ◌^◌, ◌<◌, ◌≤◌, ◌⊎◌, inl, inr, List, [], ◌∷◌, length, map, sym, ap, ◌∙◌, subst, arith}
 use Rattle.std.specs.List.{AllByRecursion}
 use Rattle.seg_spec.specs.Bytes.{set_word, IsSame, ChangesOnly}
@@ -20,16 +20,16 @@ use Rattle.seg_spec.proofs.SeveralWrites.{Range, Beside, IsWritable, heap_same, 
 use Rattle.seg_value.proofs.HeaderLaws.{header_fits}
 use Rattle.seg_rbtree.specs.Changes.{NodesApart, StandApart, Leaves}
 
--- the tree words of a node
+-- the bytes of a node's tree words
 abbrev pub words_of : ℕ → Range
 words_of q = record { at = q; n = 16; block = block_of q }
 
--- a node whose tree words may be written: they lie in an allocated block
+-- a node's tree words lie in an allocated block, and so may be written
 pub record IsTouched (bytes : List ℕ) (q : ℕ) : Type 0 where
   pub after_header : 16 ≤ q
   pub is_live : 1 ≤ times (block_of q) (positions (live bytes))
 
--- the tree afterwards
+-- the bytes after the tree words of some nodes were written
 pub record Remade (allocator : ℕ) (mid new : List ℕ) (n : ℕ) (touched now : List ℕ) : Type 0 where
   pub length_kept : length new ≡ length mid
   pub low : (p m : ℕ) → Separate p m index_cell 8 → p + m ≤ heap_start → IsSame mid new p m
@@ -38,7 +38,7 @@ pub record Remade (allocator : ℕ) (mid new : List ℕ) (n : ℕ) (touched now 
   pub ownable : (table : Table) → AllByRecursion (λ b. IsOwnable mid table b.at) (live mid) → AllByRecursion (λ b. IsOwnable new table b.at) (live new)
   pub header : (h : ℕ) → 1 ≤ times h (positions (live mid)) → KeepsHeader mid new h
   pub whole : (h : ℕ) → 1 ≤ times h (positions (live mid)) → times h (map block_of touched) ≡ 0 → KeepsBlock mid new h
-  -- what a node has after its tree words
+  -- the bytes of a node after its tree words are kept
   pub content : (q p m : ℕ) → 16 ≤ q → 1 ≤ times (block_of q) (positions (live mid)) → q + 16 ≤ p → p + m ≤ block_of q + 16 * units_at mid (block_of q) → IsSame mid new p m
   pub tree : Tree
   pub is_tree : IsTree new (target new index_cell) tree
@@ -46,7 +46,7 @@ pub record Remade (allocator : ℕ) (mid new : List ℕ) (n : ℕ) (touched now 
   pub nodes_are : nodes_of tree ≡ now
   pub count_is : count_at new index_cell ≡ n
 
--- ---- nodes in blocks of their own
+-- ---- nodes in separate blocks
 
 module _ (allocator : ℕ) (bytes : List ℕ) (heap : IsHeap allocator bytes) (ns : List ℕ) (each : AllByRecursion (IsTouched bytes) ns) (once : (h : ℕ) → times h (map block_of ns) ≤ 1) where
   lies_there : (h : ℕ) → 1 ≤ times h (positions (live bytes)) → LiesIn bytes heap_start (length bytes) h
@@ -73,7 +73,7 @@ module _ (allocator : ℕ) (bytes : List ℕ) (heap : IsHeap allocator bytes) (n
     nodes_apart xs t.1 a.1,
   )
 
-  -- their tree words and the cell's pointer share no byte
+  -- the nodes' tree words and the cell's pointer don't overlap
   pub stand_apart : StandApart (length bytes) index_cell ns
   stand_apart = record {
     small = heap.small;
@@ -141,7 +141,7 @@ module _ (allocator : ℕ) (mid three new : List ℕ) (n : ℕ) (touched now : L
   fits : index_cell + 4 + 4 ≤ length three
   fits = let high = header_fits allocator mid heap in let same = l.kept.length_kept in omega arith
 
-  -- what the cell counted before
+  -- the cell's count is the count before the change
   pub count_before : count_at three index_cell ≡ count_at mid index_cell
   count_before = word-same mid three (index_cell + 4) (l.kept.others (index_cell + 4) 4 (inr (omega arith)) (each_weaker _ _ (λ q a. inl (omega arith)) touched above))
 

@@ -1,4 +1,4 @@
--- Roots in ascending order of their names, and the place of a name among them.
+-- Roots in ascending order of their names, and the position of a name among them.
 use Rattle.std.proofs.Common.{◌≡◌, ℕ, zero, suc, ◌+◌, ◌-◌, ◌<◌, ◌≤◌, ◌⊎◌, inl, inr, Bool, true, false, List, [], ◌∷◌, ◌++◌, length, map, Option, Some, None, Result, Ok, Err, MatchResult, MatchOption, IfOk, IfErr, option_map, refl, sym, ap, ◌∙◌, subst, arith, zero-add, length-append, lt-ltb, le-ltb, ltb-true}
 use Rattle.std.specs.Prelude.{◌==◌, ◌&&◌, ◌||◌, nat_lt, slice_get}
 use Rattle.std.specs.List.{AllByRecursion}
@@ -15,7 +15,7 @@ use Rattle.seg_index.specs.Lists.{entry_of, comes_before, root_after, PartedName
 use Rattle.seg_entry.specs.declared.entry.NameEntry.{NameEntry}
 use Rattle.seg_entry.proofs.Precedes.{precedes_of_less, precedes_of_greater, same_of_equal, precedes_trans, precedes_differs, same_name_self, precedes_test, precedes_test_back}
 
--- ---- names before, and names after
+-- ---- names before a name, and names after it
 
 abbrev pub AllBefore : List ℕ → List Root → Type 0
 AllBefore name roots = AllByRecursion (λ r. Precedes r.name name) roots
@@ -55,7 +55,7 @@ after_right : (name : List ℕ) (xs ys : List Root) → AllAfter name (xs ++ ys)
 after_right name [] ys a = a
 after_right name (x ∷ xs) ys a = after_right name xs ys a.1
 
--- a root between those before it and those after it
+-- a root is inserted between the roots before it and those after it
 pub order_with : (xs : List Root) (r : Root) (ys : List Root) → InOrder (xs ++ ys) → AllBefore r.name xs → AllAfter r.name ys → InOrder (xs ++ r ∷ ys)
 order_with [] r ys a b c = order_cons r ys c a
 order_with (x ∷ xs) r ys a b c =
@@ -73,13 +73,13 @@ order_without (x ∷ xs) r ys a =
 one_more : (x : Root) (names : List Root) (name : List ℕ) (i : ℕ) (these : List Root) → Precedes x.name name → PartedNames names name i these → PartedNames (x ∷ names) name (suc i) these
 one_more x names name i these h p = record { before = x ∷ p.before; after = p.after; names_are = ap (λ rs. x ∷ rs) p.names_are; index_is = ap suc p.index_is; low = (h, p.low); its = p.its; high = p.high }
 
--- a root at an index comes after those before it
+-- each root after a name has a name after it
 front_before : (name : List ℕ) (roots : List Root) (i : ℕ) (r : Root) → AllAfter name roots → slice_get roots i ≡ Some r → Precedes name r.name
 front_before name [] i r all e = cc
 front_before name (s ∷ roots) zero r all e = let same : s ≡ r = cc in subst (λ (t : Root). Precedes name t.name) same all.0
 front_before name (s ∷ roots) (suc i) r all e = front_before name roots i r all.1 e
 
--- a name that is in the list
+-- the position of a listed name
 pub stands_there : (names : List Root) (name : List ℕ) (i : ℕ) (r : Root) → InOrder names → slice_get names i ≡ Some r → r.name ≡ name → PartedNames names name i (r ∷ [])
 stands_there [] name i r a e same = cc
 stands_there (x ∷ names) name zero r a e same =
@@ -88,7 +88,7 @@ stands_there (x ∷ names) name zero r a e same =
 stands_there (x ∷ names) name (suc i) r a e same =
     one_more x names name i (r ∷ []) (subst (λ n. Precedes x.name n) same (front_before x.name names i r (order_head x names a) e)) (stands_there names name i r (order_tail x names a) e same)
 
--- a name to insert before one after it, and after one before it
+-- the position of a new name: before the next name, and after the previous one
 pub stands_front : (names : List Root) (name : List ℕ) → InOrder names → ((r : Root) → slice_get names 0 ≡ Some r → Precedes name r.name) → PartedNames names name 0 []
 stands_front [] name a f = record { before = []; after = []; names_are = refl; index_is = refl; low = tt; its = tt; high = tt }
 stands_front (x ∷ names) name a f =
@@ -160,7 +160,7 @@ not_past name other h = comes_false name other (λ k. precedes_differs name name
 not_past_same : (name other : List ℕ) → other ≡ name → comes_before name other ≡ false
 not_past_same name other e = comes_false name other (λ k. precedes_differs name other k (sym e))
 
--- ---- the definitions about such names
+-- ---- definitions about names in order
 
 pub named_past : (xs ys : List Root) (name : List ℕ) → AllBefore name xs → root_named (xs ++ ys) name ≡ root_named ys name
 named_past [] ys name all = refl
@@ -212,7 +212,7 @@ module _ (names : List Root) (name : List ℕ) (i : ℕ) where
     pub missing_within : i ≤ length names
     missing_within = let long = length-append s.before s.after in let e = ap length s.names_are in omega (arith, s.index_is)
 
--- ---- the search by halves
+-- ---- the binary search
 
 module _ (names : List Root) (in_order : InOrder names) (name : List ℕ) (n : ℕ) (n_is : n ≡ length names) (P : ℕ → Ordering → Type 0)
     (tells : (i : ℕ) (r : Root) (o : Ordering) → slice_get names i ≡ Some r → P i o → o ≡ slice_cmp nat_cmp r.name name) where
@@ -239,13 +239,13 @@ module _ (names : List Root) (in_order : InOrder names) (name : List ℕ) (n : �
   halves_end (Ok i) there between = halves_found i there.0 there.1
   halves_end (Err i) there between = halves_missing i between.0 between.1.0 (above i between.1.1)
 
--- ---- the results of calls from the result of a search
+-- ---- the results of calls, by the result of a search
 
 -- the index of the name's root, or the index to insert it at
 abbrev pub Searched : List Root → List ℕ → Result ℕ ℕ → Type 0
 Searched names name r = MatchResult r (λ i. (root : Root) × PartedNames names name i (root ∷ [])) (λ i. PartedNames names name i [])
 
--- what looking a name up returns, by the root of the name
+-- what a lookup returns, by the root of the name
 abbrev Found : List Root → List ℕ → Option NameEntry → ℕ → Option Root → Type 0
 Found names name found i o = MatchOption o ((found ≡ None) × PartedNames names name i []) (λ root. (found ≡ Some (entry_of root)) × PartedNames names name i (root ∷ []))
 
@@ -279,7 +279,7 @@ module _ (names : List Root) (name : List ℕ) where
       let s : PartedNames names name i [] = subst (Searched names name) e h in
       subst (Found names name None i) (sym (missing_named names name i s)) (refl, s)
 
-  -- the first root after a name, from the result of a search
+  -- the first root after a name, by the result of a search
   pub next_missing : (r : Result ℕ ℕ) (i : ℕ) → Searched names name r → r ≡ Err i → slice_get names i ≡ root_after names name
   next_missing r i h e = sym (missing_next names name i (subst (Searched names name) e h))
 

@@ -17,7 +17,7 @@ use Rattle.seg_spec.proofs.RootFrame.{IsEntry-kept}
 use Rattle.seg_index.proofs.RootOrder.{InOrder, AllBefore, order_head, order_tail}
 use Rattle.seg_index.proofs.TreeLists.{IsListed, AreListed}
 
--- what the index consists of, by its nodes
+-- the index as a red-black tree, by its bytes
 abbrev pub index_of : List ℕ → Index
 index_of ns = record { blocks = map block_of ns; entries = map (λ p. p + 16) ns }
 
@@ -25,7 +25,7 @@ opens_by : (bytes : List ℕ) (tree : Tree) → IsTree bytes (target bytes index
     → AllByRecursion (λ p. IsBlock bytes p (tag_of Kind.index_node 0) 24) (nodes_of tree) → OpensTreeIndex bytes (index_of (nodes_of tree))
 opens_by bytes tree hangs red_black counted blocks = record { tree = tree; is_tree = hangs; red_black = red_black; counted = counted; are_nodes = blocks; index_is = refl }
 
--- nodes with the entries of roots list these
+-- a tree lists the roots whose entries its nodes have
 pub lists_by : (bytes : List ℕ) (tree : Tree) (ns : List ℕ) (rs : List Root) → word bytes index_kind_word ≡ 1 → IsTree bytes (target bytes index_cell) tree → IsRedBlack tree → nodes_of tree ≡ ns → length ns ≡ count_at bytes index_cell
     → AllByRecursion (λ p. IsBlock bytes p (tag_of Kind.index_node 0) 24) ns → AreEntries bytes (map (λ p. p + 16) ns) rs → InOrder rs → ListsNames bytes rs (map block_of ns)
 lists_by bytes tree ns rs kind hangs red_black nodes_are counted blocks entries order =
@@ -79,14 +79,14 @@ module _ (bytes : List ℕ) (table : Table) where
   join_listed (x ∷ xs) [] ys qs h k = absurd h
   join_listed (x ∷ xs) (r ∷ rs) ys qs h k = (h.0, join_listed xs rs ys qs h.1 k)
 
-  -- entries that were kept
+  -- nodes whose entries were kept list the same roots
   pub entries_kept : (new : List ℕ) (xs : List ℕ) (rs : List Root) → AreListed bytes table xs rs → AllByRecursion (λ x. IsSame bytes new (x + 16) 8) xs → AreEntries new (map (λ p. p + 16) xs) rs
   entries_kept new [] [] h k = tt
   entries_kept new [] (r ∷ rs) h k = absurd h
   entries_kept new (x ∷ xs) [] h k = absurd h
   entries_kept new (x ∷ xs) (r ∷ rs) h k = (IsEntry-kept bytes new (x + 16) r k.0 h.0.entry, entries_kept new xs rs h.1 k.1)
 
--- the roots before a root have names before its name
+-- the roots before a root have smaller names
 pub order_before : (xs : List Root) (r : Root) (ys : List Root) → InOrder (xs ++ r ∷ ys) → AllBefore r.name xs
 order_before [] r ys a = tt
 order_before (x ∷ xs) r ys a = ((each_right _ xs (r ∷ ys) (order_head x (xs ++ r ∷ ys) a)).0, order_before xs r ys (order_tail x (xs ++ r ∷ ys) a))
@@ -97,7 +97,7 @@ pub blocks_joined : (xs ys : List ℕ) → map block_of (xs ++ ys) ≡ map block
 blocks_joined [] ys = refl
 blocks_joined (x ∷ xs) ys = ap (λ zs. block_of x ∷ zs) (blocks_joined xs ys)
 
--- one more, at any place
+-- a node counts once, wherever it is in the list
 pub times_with : (h : ℕ) (front : List ℕ) (node : ℕ) (back : List ℕ) → times h (map block_of (front ++ node ∷ back)) ≡ times h (block_of node ∷ map block_of (front ++ back))
 times_with h front node back =
     let a : times h (map block_of (front ++ node ∷ back)) ≡ times h (map block_of front ++ map block_of (node ∷ back)) = ap (times h) (blocks_joined front (node ∷ back)) in

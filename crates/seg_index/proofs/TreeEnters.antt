@@ -1,4 +1,4 @@
--- A new node is added to the tree of the index: the index lists one name more.
+-- A new node is added to the tree of the index, which then lists one name more.
 use Rattle.std.proofs.Common.{◌≡◌, ◌≢◌, ℕ, ◌+◌, ◌%◌, ◌^◌, ◌<◌, ◌≤◌, ◌⊎◌, inl, inr, min, Bool, true, false, cond, List, [], ◌∷◌, ◌++◌, length, map, Some, None, refl, sym, ap, ◌∙◌, subst, arith}
 use Rattle.std.proofs.lemmas.Bool.{cases_eq}
 use Rattle.std.specs.Ordering.{nat_cmp, ordering_reverse, is_lt}
@@ -46,8 +46,8 @@ use Rattle.seg_index.proofs.TreeChanges.{join_listed, entries_kept, lists_by, ti
 use Rattle.seg_index.proofs.Relinked.{IsTouched, Remade, remade, count_before, stand_apart}
 use Rattle.seg_index.proofs.Kept.{named_kept, finds_kept, leads_kept}
 
--- what adding a node at the end of a path does, in any total order for which the path is the node's
--- place
+-- what adding a node at the end of a path ensures, in any total order for which the path is the
+-- node's place
 abbrev pub AddsFrom : List ℕ → List ℕ → ℕ → Path → ℕ → Type 0
 AddsFrom old new root path node = (order : ℕ → ℕ → Ordering) (shape : Tree) → IsTotalOrder order → IsSearchTree old root shape → Ascend order (nodes_of shape) → LeadsTo (order node) shape path → IsNew order node (nodes_of shape)
     → StandApart (length old) root (node ∷ nodes_of shape) → length (nodes_of shape) + 1 < 2 ^ 32 → Leaves old new root (node ∷ nodes_of shape) (with_node order node (nodes_of shape))
@@ -55,7 +55,7 @@ AddsFrom old new root path node = (order : ℕ → ℕ → Ordering) (shape : Tr
 times_cons : (h x : ℕ) (xs : List ℕ) → times h (x ∷ xs) ≡ times h (x ∷ []) + times h xs
 times_cons h x xs = times-append h (x ∷ []) xs
 
--- a new node is in the segment
+-- a new node lies in the segment
 pub node_fits : (allocator : ℕ) (old mid : List ℕ) (node : ℕ) → GivesNode allocator old mid node → node + 24 ≤ 2 ^ 30
 node_fits allocator old mid node g =
     let lies = there (LiesIn mid heap_start (length mid)) (block_of node) (positions (live mid)) (live-lie mid allocator g.heap) (let one = g.now_live in omega arith) in
@@ -134,7 +134,7 @@ module _ (bytes : List ℕ) (table : Table) (node : ℕ) (name : List ℕ) (name
             high = more.high;
           }
 
-  -- how the name compares with nodes, from the path and from its node
+  -- the name compares with the tree's nodes as the new node does
   pub turns : (xs : List ℕ) → AllByRecursion (λ x. ordering_reverse (slice_cmp nat_cmp (name_at table bytes (x + 16)) name) ≡ order bytes table node x) xs
   turns [] = tt
   turns (x ∷ xs) = (sym (nat_list_cmp_total.antisymm name (name_at table bytes (x + 16))) ∙ ap (λ n. slice_cmp nat_cmp n (name_at table bytes (x + 16))) (sym name_is), turns xs)
@@ -148,7 +148,7 @@ missing_all (r ∷ rs) name e = go (same_name name r.name) refl (missing_all rs 
     go true d rest = let both : Some r ≡ None = ap (λ b. cond b (Some r) (root_named rs name)) (sym d) ∙ e in absurd (cc)
     go false d rest = (d, rest (ap (λ b. cond b (Some r) (root_named rs name)) (sym d) ∙ e))
 
--- ---- the node, written
+-- ---- the new node after its entry is written
 
 module _ (allocator : ℕ) (old mid wrote : List ℕ) (table : Table) (names : List Root) (blocks : List ℕ) (s : FindsNamesOf allocator old table names blocks) (kind : word old index_kind_word ≡ 1)
     (root : Root) (may : MayEnter old table blocks root) (missing : root_named names root.name ≡ None) (path : Path) (way : LeadsToName old table root.name path) (node : ℕ) (g : GivesNode allocator old mid node)
@@ -205,7 +205,7 @@ module _ (allocator : ℕ) (old mid wrote : List ℕ) (table : Table) (names : L
   back_then : KeepsBack old wrote
   back_then = IsSame-trans old mid wrote 28 676 g.back_kept (low_then 28 676 (omega arith))
 
-  -- ---- all allocated blocks may be owned
+  -- ---- each allocated block may be owned
 
   own_ownable : IsOwnable mid table (block_of node)
   own_ownable = record { kind = Kind.index_node; type = 0; allowed = refl; tag_is = g.is_block.has_tag; link_is = g.link_is }
@@ -224,7 +224,7 @@ module _ (allocator : ℕ) (old mid wrote : List ℕ) (table : Table) (names : L
   ownable_then : AllByRecursion (λ b. IsOwnable wrote table b.at) (live wrote)
   ownable_then = wrote_ownable allocator mid wrote table (block_of node) (node + 16) 8 g.heap writes inside own_mid (each_live_at (IsOwnable mid table) (live mid) each_ownable)
 
-  -- ---- what calls find then
+  -- ---- the state in which calls then begin
 
   then : FindsNamesOf allocator wrote table names blocks
   then = finds_kept allocator old wrote table names blocks s front_then back_then kept_then heap_then ownable_then (λ h. let c = counts h in let d = times_cons h (block_of node) (positions (live old)) in omega arith)
@@ -274,7 +274,7 @@ module _ (allocator : ℕ) (old mid wrote : List ℕ) (table : Table) (names : L
       let small = type_small wrote table root s.is_table ownable_then named_then in
       record { entry = entry_then; read_is = entry_reads wrote (node + 16) root entry_then; name_is = name_reads wrote table root small named_then (node + 16) entry_then }
 
-  -- ---- the nodes, with the new one
+  -- ---- the nodes with the new node
 
   abbrev ns : List ℕ
   ns = nodes_of (shape allocator wrote table names blocks then kind_then)
@@ -313,7 +313,7 @@ module _ (allocator : ℕ) (old mid wrote : List ℕ) (table : Table) (names : L
   few : length ns + 1 < 2 ^ 32
   few = let n = few_nodes allocator wrote table names blocks then kind_then in let small = heap_then.small in omega arith
 
-  -- ---- the tree with it
+  -- ---- the tree with the new node
 
   module _ (three new : List ℕ) (n count : ℕ) (added : AddsFrom wrote three path.root path node) (new_is : new ≡ set_word three (index_cell + 4) n) (n_is : n ≡ min (count + 1) 4294967295) (count_is : count ≡ count_at three index_cell) where
     l : Leaves wrote three index_cell (node ∷ ns) (with_node (order wrote table) node ns)

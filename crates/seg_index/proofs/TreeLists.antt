@@ -1,4 +1,4 @@
--- The tree of the index with its names, as the calls on nodes see it.
+-- The tree of the index and its names, in the terms of the calls on nodes.
 use Rattle.std.proofs.Common.{◌≡◌, ℕ, ◌+◌, ◌*◌, ◌≤◌, Bool, true, false, cond, List, [], ◌∷◌, length, map, Option, Some, None, MatchOption, option_map, refl, sym, ap, ◌∙◌, subst, arith}
 use Rattle.std.specs.Prelude.{⊤, slice_get}
 use Rattle.std.proofs.lemmas.List.{length-map}
@@ -32,7 +32,7 @@ use Rattle.seg_entry.proofs.Precedes.{less_of_precedes, precedes_of_less, preced
 use Rattle.seg_index.proofs.EntryLaws.{entry_reads, name_reads, type_small}
 use Rattle.seg_index.proofs.RootOrder.{InOrder, AllAfter, order_head, order_tail, comes_true, comes_false}
 
--- ---- how names compare, by tests
+-- ---- comparisons of names as tests
 
 pub equal_test : (xs ys : List ℕ) → is_eq (slice_cmp nat_cmp xs ys) ≡ same_name ys xs
 equal_test xs ys = go (slice_cmp nat_cmp xs ys) refl
@@ -50,7 +50,7 @@ above_test xs ys = go (slice_cmp nat_cmp xs ys) refl
     go Equal e = sym (comes_false ys xs (λ h. precedes_differs ys xs h (sym (same_of_equal xs ys e))))
     go Greater e = sym (comes_true ys xs (precedes_of_greater xs ys e))
 
--- ---- nodes and roots, one after the other
+-- ---- nodes and roots in order
 
 -- the entry of a node belongs to a root
 pub record IsListed (bytes : List ℕ) (table : Table) (x : ℕ) (r : Root) : Type 0 where
@@ -104,7 +104,7 @@ module _ (bytes : List ℕ) (table : Table) where
       go true e rest = rw e (ap Some h.0.read_is)
       go false e rest = rw e rest
 
-  -- the nodes are in the order of their names
+  -- nodes whose roots come after a name have names after it
   all_above : (name : List ℕ) (xs : List ℕ) (rs : List Root) → AreListed bytes table xs rs → AllAfter name rs → AllByRecursion (λ y. slice_cmp nat_cmp name (name_at table bytes (y + 16)) ≡ Less) xs
   all_above name [] rs h a = tt
   all_above name (x ∷ xs) [] h a = absurd h
@@ -118,7 +118,7 @@ module _ (bytes : List ℕ) (table : Table) where
     ascend_listed xs rs h.1 (order_tail r rs a),
   )
 
--- ---- the tree that calls find
+-- ---- the state in which calls on the tree begin
 
 module _ (allocator : ℕ) (bytes : List ℕ) (table : Table) (names : List Root) (blocks : List ℕ) (s : FindsNamesOf allocator bytes table names blocks) (kind : word bytes index_kind_word ≡ 1) where
   pub its : OpensTreeIndex bytes s.lists.index
@@ -172,7 +172,7 @@ module _ (allocator : ℕ) (bytes : List ℕ) (table : Table) (names : List Root
   pub is_search_tree : IsSearchTree bytes index_cell shape
   is_search_tree = record { is_tree = its.is_tree; red_black = its.red_black; few = let n = few_nodes in let small = s.heap.small in omega arith }
 
-  -- ---- what searches return
+  -- ---- the results of searches
 
   module _ (now : List ℕ) (here : Table) (root : ℕ) (same : now ≡ bytes) (table_is : here ≡ table) (root_is : root ≡ index_cell) where
     there_too : IsSearchTree now root shape
@@ -200,7 +200,7 @@ module _ (allocator : ℕ) (bytes : List ℕ) (table : Table) (names : List Root
         ∙ ap (λ t. first_where (λ x. reaches Greater (slice_cmp nat_cmp (name_at t bytes (x + 16)) name)) nodes) table_is in
         ap (option_map (entry_in bytes table)) found_there ∙ next_listed bytes table name nodes names listed
 
-    -- what the path to a name found
+    -- the entry at the end of a path to a name is the entry of the name's root
     pub path_is : (name : List ℕ) (o : Option ℕ) → ((tree : Tree) → IsSearchTree now root tree → Ascend (order now here) (nodes_of tree)
         → FindsEqual (λ x. slice_cmp nat_cmp (name_at here now (x + 16)) name) (nodes_of tree) o) → option_map (entry_in bytes table) o ≡ option_map entry_of (root_named names name)
     path_is name o e = found_is name o (λ tree t a. finds_first (λ x. slice_cmp nat_cmp (name_at here now (x + 16)) name) (order now here)
@@ -215,7 +215,7 @@ module _ (allocator : ℕ) (bytes : List ℕ) (table : Table) (names : List Root
           leads = subst (λ r. Leads bytes table r) root_is (subst (λ t. Leads bytes t root) table_is (subst (λ bs. Leads bs here root) same leads));
         }
 
--- a search for a name whose spot doesn't tell whether the name is there
+-- the result of a search, with a spot that doesn't depend on whether the index has the name
 looks_by : (o : Option Root) (found : Option NameEntry) (P : Type 0) → found ≡ option_map entry_of o → P → MatchOption o ((found ≡ None) × P) (λ root. (found ≡ Some (entry_of root)) × P)
 looks_by None found P e p = (e, p)
 looks_by (Some root) found P e p = (e, p)

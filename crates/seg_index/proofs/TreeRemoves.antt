@@ -1,5 +1,5 @@
--- A node is removed from the tree of the index, and its block is freed: the index lists one name
--- less.
+-- A node is removed from the tree of the index and its block is freed. The index then lists one
+-- name less.
 use Rattle.std.proofs.Common.{◌≡◌, ◌≢◌, ℕ, ◌+◌, ◌-◌, ◌^◌, ◌<◌, ◌≤◌, inl, inr, List, [], ◌∷◌, ◌++◌, length, map, Option, Some, None, option_map, refl, sym, ap, ◌∙◌, subst, arith}
 use Rattle.std.specs.Prelude.{Contains}
 use Rattle.std.proofs.lemmas.List.{length-append}
@@ -43,7 +43,7 @@ use Rattle.seg_index.proofs.TreeLists.{entry_in, path_is, AreListed, order, node
 use Rattle.seg_index.proofs.TreeChanges.{Splits, split_listed, join_listed, entries_kept, order_before, lists_by, times_with, contains_middle}
 use Rattle.seg_index.proofs.Relinked.{IsTouched, Remade, remade, count_before, stand_apart}
 
--- what removing the node at the end of a path does
+-- what removing the node at the end of a path ensures
 abbrev pub TakesFrom : List ℕ → List ℕ → ℕ → Path → Type 0
 TakesFrom old new root path = (turn : ℕ → Ordering) (node : ℕ) (shape : Tree) → IsSearchTree old root shape → LeadsTo turn shape path → node_at old path ≡ Some node → StandApart (length old) root (nodes_of shape)
     → Leaves old new root (nodes_of shape) (without_node node (nodes_of shape))
@@ -102,7 +102,7 @@ module _ (allocator : ℕ) (old : List ℕ) (table : Table) (names : List Root) 
   names_are : names ≡ parts.before ++ root ∷ parts.after
   names_are = parts.names_are ∙ ap (λ r. parts.before ++ r ∷ parts.after) it_root
 
-  -- ---- the nodes are apart
+  -- ---- the nodes lie in separate blocks
 
   each_node : AllByRecursion (IsNode allocator old table names blocks s kind) ns
   each_node = are_nodes allocator old table names blocks s kind
@@ -186,7 +186,7 @@ module _ (allocator : ℕ) (old : List ℕ) (table : Table) (names : List Root) 
     kept_then : (h : ℕ) → 1 ≤ times h (positions (live old)) → h ≢ block_of node → KeepsBlock mid new h
     kept_then h some ne = (given_linked allocator mid new table (block_of node) made.heap given node_mid h (let a = mid_live h in omega arith) ne).whole.kept
 
-    -- ---- a node that stays
+    -- ---- the nodes that remain
 
     record Stays (x : ℕ) : Type 0 where
       block : IsBlock new x (tag_of Kind.index_node 0) 24

@@ -6,7 +6,7 @@
 --     PartedNames names name index these    the roots before a name, the root with the name, if any, and those after
 --     IsNamed bytes table root              a named object's block, with its name after the values
 --     FindsNamesOf allocator bytes table names blocks
---                                           a well-formed heap whose index lists these names
+--                                           the heap is well-formed, and its index lists these names
 --     WhereNames allocator bytes table claim      the claim is true of the names that the index lists
 --     WhereKind kind allocator bytes table claim      the same, if the index is of this kind
 --     LeadsToName bytes table name path     the path ends at a name's node, or at the place to insert it at
@@ -79,7 +79,7 @@ pub record PartedNames (names : List Root) (name : List ℕ) (index : ℕ)
   pub its : AllByRecursion (λ r. r.name ≡ name) these
   pub high : AllByRecursion (λ r. Precedes name r.name) after
 
--- ---- what calls find
+-- ---- the state in which calls begin
 
 -- an allocated block has the tag of a named object, with the name after the values
 pub record IsNamed (bytes : List ℕ) (table : Table) (root : Root) : Type 0 where
@@ -122,15 +122,15 @@ pub record LeadsToName (bytes : List ℕ) (table : Table) (name : List ℕ) (pat
       LeadsTo (λ x. ordering_reverse (slice_cmp nat_cmp (name_at table bytes (x + 16)) name))
       tree path
 
--- these are the roots with the name, none or one, and the spot is where its entry is, or where to
--- insert it
+-- These are the roots with the name, none or one. The spot is where the entry is, or where to
+-- insert it.
 abbrev pub IsSpot : List ℕ → Table → List Root → List ℕ → List Root → Spot → Type 0
 IsSpot bytes table names name these (spot.Flat index) =
     (word bytes index_kind_word ≡ 0) × PartedNames names name index these
 IsSpot bytes table names name these (spot.Tree path) =
     (word bytes index_kind_word ≡ 1) × LeadsToName bytes table name path
 
--- the entry of the name's root with its spot, or no entry and the spot to insert it at
+-- the entry of the name's root and its spot, or no entry and the spot to insert it at
 abbrev pub LooksUp : List Root → List ℕ → Option NameEntry → (List Root → Type 0) → Type 0
 LooksUp names name found IsAt = MatchOption (root_named names name)
     ((found ≡ None) × IsAt [])
@@ -149,14 +149,14 @@ pub record IsVacant (bytes : List ℕ) (table : Table) (names : List Root) (name
   pub missing : root_named names name ≡ None
   pub spot : IsSpot bytes table names name [] vacant.spot
 
--- ---- what calls leave
+-- ---- the state after calls
 
 -- the position of a root, the number of its values, and the length of its name
 abbrev pub IsRootOf : ℕ → ℕ → ℕ → Root → Type 0
 IsRootOf object n len root =
     (root.at ≡ object) × (count root.values ≡ n) × (length root.name ≡ len)
 
--- a named object in a block of its own, which can be added to the index
+-- a named object in a separate block, which can be added to the index
 pub record MayEnter (bytes : List ℕ) (table : Table) (blocks : List ℕ) (root : Root) : Type 0 where
   pub is_name : IsName root.name
   pub no_words : root.words ≡ []

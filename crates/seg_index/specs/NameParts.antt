@@ -12,7 +12,7 @@ use Rattle.seg_rbtree.specs.Parts.{Part, part}
 use Rattle.seg_entry.specs.Names.{named_type, type_at, values_at, len_at}
 use Rattle.seg_entry.specs.Names.{name_after, name_of, name_at}
 
--- the bytes from which a name is read
+-- the bytes of the name itself
 abbrev pub parts_after : Table → ℕ → ℕ → ℕ → Option ℕ → List Part
 parts_after types object count len None = []
 parts_after types object count len (Some T) = part (object + count * size types T) len ∷ []
@@ -26,13 +26,13 @@ abbrev pub parts_at : Table → List ℕ → ℕ → List Part
 parts_at types bytes entry = part entry 4 ∷ part (entry + 4) 4
     ∷ parts_of types bytes (target bytes entry) (values_at bytes entry) (len_at bytes entry)
 
--- the target of a pointer
+-- a pointer whose bytes are kept has the same target
 target_same : (old new : List ℕ) (at : ℕ) → IsSame old new at 4 → target new at ≡ target old at
 unfolding target
 target_same old new at e =
     ap (λ w. if w == 1 then None else Some ((at + w) % 2 ^ 32)) (number-slice 4 old new at at e)
 
--- the type of an object
+-- an object whose tag is kept has the same type
 type_same : (old new : List ℕ) (object : ℕ) → IsSame old new (object - 16 + 8) 4
     → type_at new object ≡ type_at old object
 unfolding type_at
@@ -56,7 +56,7 @@ module _ (types : Table) (old new : List ℕ) where
       ap (name_after types new object count len) (type_same old new object h.0)
       ∙ after_same object count len (type_at old object) h.1
 
-  -- the name of an entry
+  -- an entry has the same name if the bytes that determine it are kept
   pub name_same : (entry : ℕ) → Same (parts_at types old entry)
       → name_at types new entry ≡ name_at types old entry
   name_same entry h =

@@ -104,7 +104,7 @@ impl TypeTable {
         ensures cells { has_cells (form_at self.now t) ≡ result }
         ensures table { IsTable self.now }
     {
-        // The table is a valid one.
+        // This opens the invariant: the table is valid.
         let _ = &self.entries;
         match self.kind(t) {
             None | Some(Type::I64) => false,
@@ -122,13 +122,13 @@ impl TypeTable {
         Entry::size_at(&self.entries, t)
     }
 
-    /// The number of fields of this type, or 0 if it is no struct.
+    /// The number of fields of this type, or 0 if it isn't a struct.
     pub fn field_count(&self, t: TypeId) -> u32
         ensures count { result ≡ length (fields_of self.now t) }
         ensures few { result ≤ 8 }
         ensures table { IsTable self.now }
     {
-        // The table is a valid one.
+        // This opens the invariant: the table is valid.
         let _ = &self.entries;
         let Some(kind) = self.kind(t) else {
             return 0;
@@ -158,7 +158,7 @@ impl TypeTable {
     pub fn pointers(&self, t: TypeId) -> ArrayVec<Cell, 512>
         ensures { map cell_of result.items ≡ pointers self.now t }
     {
-        // The sizes of a valid table bound what is found and pending.
+        // This opens the invariant: the sizes of a valid table bound the numbers of found and pending parts.
         let _ = &self.entries;
         let mut found = ArrayVec::new();
         let mut pending = ArrayVec::new();

@@ -1,5 +1,5 @@
--- The values of an object are cleared one after the other, apart from frozen objects; then its
--- block is freed.
+-- The values of an object are cleared one after the other, and so are the frozen objects that lost
+-- their last cell. Then the object's block is freed.
 use Rattle.std.proofs.Common.{◌≡◌, ◌≢◌, ℕ, suc, ◌+◌, ◌-◌, ◌*◌, ◌%◌, ◌^◌, ◌<◌, ◌≤◌, inl, inr, List, [], ◌∷◌, ◌++◌, length, refl, sym, ap, ◌∙◌, subst, arith}
 use Rattle.std.specs.List.{AllByRecursion}
 use Rattle.seg_spec.specs.Bytes.{word, IsSame}
@@ -42,7 +42,7 @@ pub gives_append : (bs : List Span) (xs ys : List ℕ) → after_gives bs (xs ++
 gives_append bs [] ys = refl
 gives_append bs (x ∷ xs) ys = gives_append (after_give bs x) xs ys
 
--- the first of some values
+-- the first of some values, and the others
 pub record First (bytes : List ℕ) (table : Table) (place : Place) (places : List Place) (all : Values) (blocks : List ℕ) : Type 0 where
   pub v : Value
   pub vs : Values
@@ -59,9 +59,9 @@ first (holds_more {v = v} {vs = vs} {blocks = its} {owned = more} h hs) = record
 none_left : {bytes : List ℕ} {table : Table} {vs : Values} {blocks : List ℕ} → HoldsEach bytes table [] vs blocks → (vs ≡ nil) × (blocks ≡ [])
 none_left holds_none = (refl, refl)
 
--- Of the n values of an object the first k were cleared. Their blocks were freed, and the blocks of
--- the frozen objects that lost their last cell. The blocks of the other values and objects are
--- allocated.
+-- Of an object's n values the first k were cleared. Their blocks were freed, and so were the blocks
+-- of the frozen objects that lost their last cell. The blocks of the other values and frozen
+-- objects are allocated.
 pub record Cleared (allocator : ℕ) (old now : List ℕ) (table : Table) (at T n : ℕ) (inside : List ℕ) (theirs : ℕ → List ℕ) (frozen final : List Frozen) (k : ℕ) : Type 0 where
   pub length_kept : length now ≡ length old
   pub front_kept : KeepsFront old now
@@ -75,7 +75,7 @@ pub record Cleared (allocator : ℕ) (old now : List ℕ) (table : Table) (at T 
   pub gone : List ℕ
   pub rest : List ℕ
   pub values : HoldsEach now table (items table (at + k * size table T) T (n - k)) vs rest
-  -- the objects that stay
+  -- the remaining frozen objects
   pub objects : List Frozen
   pub holds : HoldFrozen now table theirs objects
   pub shared_kept : KeepFrozen old now theirs objects
@@ -120,7 +120,7 @@ cleared_first allocator old table at T n inside vs theirs cells frozen final hea
       kept = λ h some none. stays h;
     }
 
--- ---- the next one
+-- ---- the next value
 
 module _ (allocator : ℕ) (old now : List ℕ) (table : Table) (valid : IsTable table) (at T n k : ℕ) (inside : List ℕ) (theirs : ℕ → List ℕ) (frozen final : List Frozen)
     (c : Cleared allocator old now table at T n inside theirs frozen final k) (below : k < n) where
@@ -136,7 +136,7 @@ module _ (allocator : ℕ) (old now : List ℕ) (table : Table) (valid : IsTable
   abbrev left : ℕ
   left = n - suc k
 
-  -- the blocks of the objects that stay
+  -- the blocks of the remaining frozen objects
   abbrev theirs_now : List ℕ
   theirs_now = blocks_by theirs c.objects
 
@@ -151,7 +151,7 @@ module _ (allocator : ℕ) (old now : List ℕ) (table : Table) (valid : IsTable
   pub f : First now table place (items table (at + k * each + each) T left) c.vs c.rest
   f = first (subst (λ m. HoldsEach now table (items table (at + k * each) T m) c.vs c.rest) (let e : n - k ≡ suc left = omega arith in e) c.values)
 
-  -- what the value points to is released before what the others name
+  -- the targets of this value are released before the targets of the other values
   pub turn : InTurn c.cells final (named_in f.v) (named_each f.vs) c.objects
   turn = in_turn c.cells final (named_in f.v) (named_each f.vs) c.objects (subst (λ ns. IsReleasing c.cells final ns c.objects) (ap named_each f.values_are ∙ named_more f.v f.vs) c.releasing)
 
@@ -213,7 +213,7 @@ module _ (allocator : ℕ) (old now : List ℕ) (table : Table) (valid : IsTable
     away h ne (inr (inl l)) two = inr (omega (arith, item_inside.high))
     away h ne (inr (inr l)) two = inl (omega (arith, item_inside.low))
 
-    -- a block that isn't the object's, nor the value's, nor a frozen object's, is kept whole
+    -- a block is kept whole unless it is the object's, the value's or a frozen object's
     whole : (h : ℕ) → 1 ≤ times h (positions (live now)) → h ≢ home → times h f.its ≡ 0 → times h theirs_now ≡ 0 → KeepsBlock now next h
     whole h some ne none none_too =
         let k = change.kept h some (omega (arith, none, none_too, times-append h f.its theirs_now)) in
@@ -237,7 +237,7 @@ module _ (allocator : ℕ) (old now : List ℕ) (table : Table) (valid : IsTable
     others_held : HoldsEach next table (items table (at + k * each + each) T left) f.vs f.more
     others_held = HoldsEach-kept now next table valid f.others (places-same now next table valid T (spaced (at + k * each + each) each left) (spaced-same now next (at + k * each + each) each left others_same)) more_kept
 
-    -- what was freed, and the rest of the objects' blocks
+    -- the blocks that were freed, and the blocks of the remaining frozen objects
     gives_are : (h : ℕ) → times h f.its + times h theirs_now ≡ times h clears.gives + times h (blocks_by theirs turn.mid)
     gives_are h = omega (arith, clears.all_are h, times-append h f.its theirs_now, times-append h clears.gives ([] ++ blocks_by theirs turn.mid))
 
@@ -281,7 +281,7 @@ module _ (allocator : ℕ) (old now : List ℕ) (table : Table) (valid : IsTable
           omega (arith, times-same home (inside ++ blocks_by theirs frozen))) (omega arith) (omega arith));
     }
 
--- ---- the block
+-- ---- the block is freed
 
 module _ (allocator : ℕ) (old now new : List ℕ) (table : Table) (valid : IsTable table) (heap_old : IsHeap allocator old) (ownable_old : AllByRecursion (λ b. IsOwnable old table b.at) (live old)) (at T n k : ℕ) (inside : List ℕ)
     (theirs : ℕ → List ℕ) (frozen final : List Frozen) (c : Cleared allocator old now table at T n inside theirs frozen final k) (all : n ≤ k) where
@@ -325,7 +325,7 @@ module _ (allocator : ℕ) (old now new : List ℕ) (table : Table) (valid : IsT
     not_home : (h : ℕ) → times h (home' ∷ []) ≡ 0 → h ≢ home'
     not_home h none e = let mine : times home' (home' ∷ []) ≡ 0 = subst (λ x. times x (home' ∷ []) ≡ 0) e none in omega (arith, times-same home' [])
 
-    -- the objects that stay are kept
+    -- the remaining frozen objects are kept
     theirs_kept : (h : ℕ) → 1 ≤ times h theirs_left → KeepsBlock now new h
     theirs_kept h some =
         let o = owned_now h in
@@ -380,7 +380,7 @@ module _ (allocator : ℕ) (old now new : List ℕ) (table : Table) (valid : IsT
           ownable = λ h some. live_at (IsOwnable new table) (live new) h ownable_new (let o = owned_now h in let g = counts h in let one = once' h in omega arith);
         }
 
--- ---- an object that no index lists
+-- ---- an object that isn't in the index
 
 module _ (allocator : ℕ) (old : List ℕ) (table : Table) (root : Root) (blocks : List ℕ) (u : IsUnlisted allocator old table root blocks) where
   begins : payload_of root ≡ root.at
@@ -404,12 +404,12 @@ module _ (allocator : ℕ) (old : List ℕ) (table : Table) (root : Root) (block
       count_is : found.count ≡ count root.values
       count_is = ap (λ (f : Found). f.count) found_is
 
-      -- what a call that clears a place promises
+      -- what a call that clears a place ensures
       abbrev Clears : Table → ℕ → ℕ → Type 0
       Clears t U q = (v : Value) (bs : List ℕ) (s : Stands allocator now t (record { at = q; type = U }) v bs)
           → BesideShared now t (s.home ∷ bs) (named_in v) (ClearsPlace now next t (record { at = q; type = U }) (default_of t U) bs [])
 
-      -- as the loop clears the next value
+      -- the loop clears the next value
       pub root_next : (here : Table) (T each p type : ℕ) → root.type ≡ T → k < found.count → here ≡ table → type ≡ T → each ≡ size table T → p ≡ (found.at + k * each) % 2 ^ 32 → Clears here type p
           → Cleared allocator old next table root.at root.type (count root.values) u.holds_it.inside theirs frozen final (k + 1)
       root_next here T each p type T_is below here_is type_is each_is p_is clears =
@@ -425,7 +425,7 @@ module _ (allocator : ℕ) (old : List ℕ) (table : Table) (root : Root) (block
           subst (λ m. Cleared allocator old next table root.at root.type (count root.values) u.holds_it.inside theirs frozen final m) (let e : suc k ≡ k + 1 = omega arith in e)
           (cleared_next allocator old now table u.is_table root.at root.type (count root.values) k u.holds_it.inside theirs frozen final c below' next (clears' it.v it.its s theirs t.others c.objects t.mid b))
 
-      -- and as it gives its block back
+      -- after the loop the block is freed
       pub root_last : found.count ≤ k → (IsHeap allocator now → IsLive now (block_of found.at) → Gives allocator now next (block_of found.at)) → Destroys allocator old next table (blocks ++ blocks_by theirs frozen) theirs final
       root_last past free =
           let past' : count root.values ≤ k = subst (λ n. n ≤ k) count_is past in

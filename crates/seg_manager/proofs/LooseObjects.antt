@@ -163,7 +163,7 @@ module _ (allocator : ℕ) (old new : Stored) (picture : Picture) (is : IsSegmen
   abbrev cells : List Place
   cells = names_each root.values
 
-  -- the owners before it
+  -- the owners before the object
   abbrev front : List Root
   front = picture.names ++ (picture.uniques ++ before)
 
@@ -190,7 +190,7 @@ module _ (allocator : ℕ) (old new : Stored) (picture : Picture) (is : IsSegmen
   plain : IsPlain root
   plain = plain_in picture.uniques is.held.laid_out.plain
 
-  -- a value by itself
+  -- the object has one value and no name
   record OneValue : Type 0 where
     inside : List ℕ
     blocks_are : blocks ≡ block_of root.at ∷ inside
@@ -221,7 +221,7 @@ module _ (allocator : ℕ) (old new : Stored) (picture : Picture) (is : IsSegmen
     owned = λ h. let l : times h blocks ≤ times h (positions (live a')) = omega (arith, its.counts h) in rw one.blocks_are at l;
   }
 
-  -- what its destruction leaves of the frozen objects
+  -- what the destruction of the object ensures
   abbrev Leaves : Table → Type 0
   Leaves table = (U : ℕ) (v : Value) (inside : List ℕ) → IsTable table → IsHeap allocator a' → IsLoose a' table (record { at = root.at; type = U }) v inside
       → BesideShared a' table (block_of root.at ∷ inside) (named_in v) (λ theirs now. Destroys allocator a' b' table ((block_of root.at ∷ inside) ++ blocks_by theirs now) theirs)
@@ -277,7 +277,7 @@ module _ (allocator : ℕ) (old new : Stored) (picture : Picture) (is : IsSegmen
       live_is = live_given allocator a' b' picture.table blocks its.theirs cells picture.frozen heap is.held.laid_out.blocks destroyed;
     }
 
-    -- what was found was allocated, each block once
+    -- the blocks that were freed were allocated, each once
     pub lost_owned : (h : ℕ) → times h lost.blocks + times h (blocks_by lost.theirs picture.frozen) ≤ times h (positions (live a'))
     unfolding lost
     lost_owned h = omega (arith, its.counts h)

@@ -76,12 +76,12 @@ module _ (allocator : ℕ) (old mid : List ℕ) (picture : Picture) (held : IsHe
           let was : 1 ≤ times h (positions (live old)) = (let c = counts h in let o = times-other h (block_of object) (positions (live old)) ne in omega arith) in
           ownable_linked old mid picture.table h (g.kept h was) (live_at (IsOwnable old picture.table) (live old) h held.laid_out.blocks was)
 
-  -- calls on the index find the same names, apart from the new object
+  -- calls on the index find the same names, and the new object isn't among them
   pub finds_mid : FindsNamesOf allocator mid picture.table picture.names held.index_blocks
   finds_mid = finds_kept allocator old mid picture.table picture.names held.index_blocks finds_old g.front_kept g.back_kept kept g.heap ownable
       (λ h. let c = counts h in let d = times_cons h (block_of object) (positions (live old)) in omega arith)
 
-  -- and the spot to insert its name at is the same
+  -- the spot for the new name is the same
   pub vacant_mid : (vacant : Vacant) → IsVacant old picture.table picture.names name vacant → IsVacant mid picture.table picture.names name vacant
   vacant_mid vacant v = vacant_kept allocator old mid picture.table picture.names held.index_blocks finds_old g.front_kept g.back_kept kept finds_mid name vacant v
 
@@ -108,13 +108,13 @@ module _ (allocator : ℕ) (old mid : List ℕ) (picture : Picture) (held : IsHe
   abbrev its_asks : List ℕ → List Ask
   its_asks bytes = entry_asks (word bytes index_kind_word) bytes
 
-  -- the entry's request is the same with the object
+  -- the request for the entry is the same as before the object was allocated
   asks_kept : its_asks mid ≡ its_asks old
   asks_kept =
       entry_asks_kept old mid picture.names held.index_blocks finds_old.lists (word-same old mid index_kind_word (IsSame-part old mid 0 24 index_kind_word 4 (omega arith) (omega arith) g.front_kept))
       (IsSame-part old mid back_start back_size index_cell 8 (omega arith) (omega arith) g.back_kept) (λ h some. (g.kept h (let o = finds_old.owned h in omega arith)).whole.size_kept)
 
-  -- ---- the index lists it
+  -- ---- the index lists the object
 
   module _ (new : List ℕ) (e : EntersName allocator mid new picture.table picture.names held.index_blocks root) where
     held_then : IsHeld new (with_names picture (e.before ++ root ∷ e.after))
@@ -162,7 +162,7 @@ module _ (allocator : ℕ) (old mid : List ℕ) (picture : Picture) (held : IsHe
           spends = rw (new_is, old_is, table_is) granted;
         }
 
-  -- ---- the index has no room for it, and its block is freed
+  -- ---- the index has no room for the entry, and the object's block is freed
 
   pub is_live_mid : IsLive mid (block_of object)
   is_live_mid =
@@ -241,7 +241,7 @@ module _ (allocator : ℕ) (old mid : List ℕ) (picture : Picture) (held : IsHe
       live_is = rw (new_is, old_is) left_live;
     }
 
--- ---- the heap has no room for its block
+-- ---- the heap has no room for the object
 
 pub unmade : (allocator : ℕ) (was now : Stored) (picture : Picture) → IsSegment allocator was picture → (name : List ℕ) (T n : ℕ) → Refuses allocator was.window.bytes now.window.bytes (block_for (n * size was.types T + length name) ∷ [])
     → now.types ≡ was.types → FindsNoRoom allocator was now picture (object_asks was.window.bytes was.types T n name)

@@ -39,7 +39,7 @@ use Rattle.seg_manager.proofs.LooseObjects.{allocator_same}
 use Rattle.seg_manager.proofs.ClearedItems.{gives_append}
 use Rattle.seg_spec.proofs.CountedKept.{next_same, counted_still}
 
--- what a search that found an object implies
+-- a search found this root for a name, with the type
 pub record IsFound (T : ℕ) (root : Root) (found : Found) : Type 0 where
   pub found_is : found ≡ found_of root
   pub type_is : root.type ≡ T
@@ -58,7 +58,7 @@ is_found T root found e = go (cases_eq root.type T)
         let none : Ok found ≡ Err code.OtherType = rw test at e in
         absurd (let no : Ok found ≡ Err code.OtherType = none in cc)
 
--- a search that found none of the type
+-- if a search finds no object of the type, no object is destroyed
 pub not_killed : (T : ℕ) (o : Option Root) → is_ok (found_as T o) ≡ false → killed o T ≡ None
 not_killed T None e = refl
 not_killed T (Some root) e = go (cases_eq root.type T)
@@ -72,7 +72,7 @@ not_killed T (Some root) e = go (cases_eq root.type T)
         let test : eqb root.type T ≡ false = grind (arith, nat_tests) in
         rw test refl
 
--- nothing is before the values of an object that the index lists
+-- an object that the index lists has no words before its values
 nothing_before : (bytes entries : List ℕ) (before : List Root) (root : Root) (after : List Root) → AreEntries bytes entries (before ++ root ∷ after) → root.words ≡ []
 nothing_before bytes [] [] root after h = absurd h
 nothing_before bytes (entry ∷ entries) [] root after h = h.0.no_words
@@ -93,7 +93,7 @@ module _ (allocator : ℕ) (old mid : Stored) (picture : Picture) (is : IsSegmen
   abbrev pub cells : List Place
   cells = names_each root.values
 
-  -- the owners after it
+  -- the owners after the object
   abbrev pub behind : List Root
   behind = e.after ++ (picture.uniques ++ picture.loose)
 
@@ -103,7 +103,7 @@ module _ (allocator : ℕ) (old mid : Stored) (picture : Picture) (is : IsSegmen
   pub first : OwnerBeside a picture is.held e.before root behind
   first = owner_beside (word a next_word) a picture is.held e.before root behind owners is.counted
 
-  -- the blocks of the object and of the frozen objects
+  -- the blocks of the object
   abbrev pub its : List ℕ
   its = first.apart.firsts
 
@@ -128,11 +128,11 @@ module _ (allocator : ℕ) (old mid : Stored) (picture : Picture) (is : IsSegmen
   mid_are : (h : ℕ) → times h (positions (live b)) + times h is.held.index_blocks ≡ times h (positions (live a)) + times h e.others
   mid_are h = e.changes.live_are h
 
-  -- everything outside the index is kept
+  -- blocks outside the index are kept
   kept_mid : (h : ℕ) → 1 ≤ times h first.apart.around + times h its + times h theirs → KeepsBlock a b h
   kept_mid h some = e.changes.kept h (omega (arith, first.counts h)) (omega (arith, first.counts h, old_once h))
 
-  -- the object is then apart from the index
+  -- after its entry is removed, the object isn't in the index
   pub unlisted : IsUnlisted allocator b table root its
   unlisted = record {
     heap = heap_mid;
@@ -144,7 +144,7 @@ module _ (allocator : ℕ) (old mid : Stored) (picture : Picture) (is : IsSegmen
     owned = λ h. omega (arith, first.counts h, mid_are h);
   }
 
-  -- and apart from the frozen objects
+  -- the object's blocks aren't blocks of frozen objects
   pub beside : SharedBeside b table its (named_each root.values) first.theirs (cells_in (e.before ++ behind)) picture.frozen (left cells picture.frozen)
   beside = record {
     holds = hold_kept a b table is.held.laid_out.is_table first.theirs picture.frozen (λ h some. kept_mid h (omega arith)) first.beside.holds;
@@ -188,7 +188,7 @@ module _ (allocator : ℕ) (old mid : Stored) (picture : Picture) (is : IsSegmen
         holds_no_root (roots_held c table first.theirs rest g.holds) (λ h.
         omega (arith, first.counts h, mid_are h, then_are h, times-append h e.others (first.apart.around ++ blocks_by first.theirs rest), times-append h first.apart.around (blocks_by first.theirs rest)))
 
-    -- the objects that stay were kept before
+    -- the remaining frozen objects were kept by the first step
     left_mid : KeepFrozen a b first.theirs rest
     left_mid = frozen_kept allocator a b heap_old first.theirs rest (λ h some. let l = left_fewer first.theirs cells picture.frozen h in omega (arith, first.counts h))
         (λ h some. let l = left_fewer first.theirs cells picture.frozen h in kept_mid h (omega arith))

@@ -1,4 +1,4 @@
--- What making or finding a named object returns.
+-- The results of making or finding a named object.
 use Rattle.std.proofs.Common.{◌≡◌, ℕ, inl, inr, Bool, true, false, List, Option, Some, None, Result, Ok, Err, MatchResult, IfOk, refl, sym, ap, ◌∙◌, subst, arith}
 use Rattle.std.specs.Prelude.{◌==◌, if◌then◌else◌, IsSome, IsOkUnless}
 use Rattle.std.proofs.lemmas.Bool.Decides.{nat_tests}
@@ -19,7 +19,7 @@ is_there o root e = subst IsSome (sym e) refl
 pub not_both : (o : Option Root) (root : Root) → o ≡ None → o ≡ Some root → ⊥
 not_both o root none some = let both : None ≡ Some root = sym none ∙ some in cc
 
--- a result whose only error is the one of a heap without room
+-- the only possible error is that there is no room
 module _ (r : Result ℕ Code) where
   pub made_named : (old new : Stored) (names : List Root) (name : List ℕ) (n : ℕ) → IsOkUnless r code.BadAlloc → IsMissing names name → IsCount n
       → MatchResult r (λ _. IsMissing names name × IsCount n) (RefusesName old new names name n)
@@ -37,7 +37,7 @@ module _ (r : Result ℕ Code) where
       go (Ok x) h = inr missing
       go (Err e) h = subst (RefusesToFind old new names name T) (sym h) missing
 
--- ---- what a search for an object returned
+-- ---- the result of a search for an object
 
 module _ (T : ℕ) (root : Root) where
   pub was_found : (f : Found) → Ok f ≡ found_as T (Some root) → (root.type ≡ T) × (root.at ≡ f.at)
@@ -65,7 +65,7 @@ module _ (T : ℕ) (root : Root) where
       let is = was_other c e in
       subst (RefusesToFind s s names name T) (sym is) (ap (found_as T) there ∙ sym e ∙ ap Err is, refl)
 
--- what making an object leaves, for equal names and counts
+-- the same results, if the name and the count are equal
 module _ (allocator : ℕ) (old new : Stored) (picture : Picture) (index_blocks : List ℕ) (T : ℕ) (r : Result ℕ Code) (name other : List ℕ) (n m : ℕ) (e : other ≡ name) (f : m ≡ n)
     (h : MatchResult r (MakesNamed allocator old new picture index_blocks other T m) (λ _. FindsNoRoom allocator old new picture (object_asks old.window.bytes old.types T m other))) where
   pub made_as : IfOk r (MakesNamed allocator old new picture index_blocks name T n)

@@ -35,7 +35,7 @@ each_next : (P : Root → Type 0) (names : List Root) (name : List ℕ) (root : 
 each_next P [] name root all e = cc
 each_next P (r ∷ names) name root all e = choose P (comes_before name r.name) r root (root_after names name) all.0 (each_next P names name root all.1) e
 
--- the fields of an entry that was read
+-- an entry that was read is the entry of a root
 pub told : (o : Option Root) (read : Option NameEntry) (entry : NameEntry) → read ≡ option_map entry_of o → read ≡ Some entry → (root : Root) × (o ≡ Some root) × (entry ≡ entry_of root)
 told None read entry is some = absurd (let both : None ≡ Some entry = sym is ∙ some in cc)
 told (Some root) read entry is some = (root, refl, (let both : Some entry ≡ Some (entry_of root) = sym some ∙ is in cc))
@@ -44,7 +44,7 @@ pub told_none : (o : Option Root) (read : Option NameEntry) → read ≡ option_
 told_none None read is none = refl
 told_none (Some root) read is none = absurd (let both : Some (entry_of root) ≡ None = sym is ∙ none in cc)
 
--- P is true of the result and the root
+-- a fact about the result and the root, by whether there is a root
 pub said : {X : Type 0} (P : X → Root → Type 0) (result : Option X) (o : Option Root) (root : Root) → o ≡ Some root → IsSomeAnd result (λ it. P it root) → MatchOption result (o ≡ None) (λ it. IsSomeAnd o (P it))
 said P None o root e h = absurd h
 said P (Some x) o root e h = subst (λ p. IsSomeAnd p (P x)) (sym e) h
@@ -103,7 +103,7 @@ module _ (allocator : ℕ) (s : Stored) (picture : Picture) (is : IsSegment allo
   pub names_found : FindsNamesOf allocator s.window.bytes s.types picture.names is.held.index_blocks
   names_found = rw is.table_is (rw is.allocator_is at (finds_held s.window.bytes picture is.held))
 
-  -- each root of a name has a block with the name, and a type of the table
+  -- the object of a root is a named object's block, whose type is less than 32
   abbrev pub IsListed : Root → Type 0
   IsListed root = IsNamed s.window.bytes s.types root × (root.type < 32)
 
@@ -119,6 +119,6 @@ module _ (allocator : ℕ) (s : Stored) (picture : Picture) (is : IsSegment allo
   pub listed_after : (name : List ℕ) (root : Root) → root_after picture.names name ≡ Some root → IsNamed s.window.bytes s.types root × (root.type < 32)
   listed_after name root e = each_next IsListed picture.names name root all_listed e
 
-  -- the same of the heap that a call reads
+  -- the same, for the heap that a call reads
   pub finds_in : (heap : Stored) → heap ≡ s → FindsNamesOf allocator heap.window.bytes heap.types picture.names is.held.index_blocks
   finds_in heap e = subst (λ (t : Stored). FindsNamesOf allocator t.window.bytes t.types picture.names is.held.index_blocks) (sym e) names_found

@@ -1,4 +1,4 @@
--- Default values one after the other, and the block of a new named object.
+-- Default values in a row, and the block of a new named object.
 use Rattle.std.proofs.Common.{◌≡◌, ℕ, zero, suc, ◌+◌, ◌-◌, ◌*◌, ◌%◌, ◌^◌, ◌<◌, ◌≤◌, ◌⊎◌, inl, inr, min, MatchOption, List, [], ◌∷◌, length, Option, Some, None, refl, sym, ap, ◌∙◌, subst, arith}
 use Rattle.std.proofs.Math.Nat.{mul-le-mul_left, mul-le-mul_right}
 use Rattle.std.proofs.lemmas.Bool.{cases_lt}
@@ -26,7 +26,7 @@ use Rattle.seg_spec.proofs.PlainRoots.{root_of_plain}
 abbrev pub value_at : Table → ℕ → ℕ → ℕ → Place
 value_at table at T i = record { at = at + i * size table T; type = T }
 
--- of n values the first k are made, and nothing else changed
+-- of n values the first k have their default values, and nothing else changed
 pub record Filled (old now : List ℕ) (table : Table) (at T n k : ℕ) : Type 0 where
   pub changes : ChangesOnly old now at (n * size table T)
   pub each : (i : ℕ) → i < k → Holds now table (value_at table at T i) (default_of table T) []
@@ -72,11 +72,11 @@ held_from now table v T at (suc n) h =
     let next : at + suc i * size table T ≡ at + size table T + i * size table T = omega arith in
     subst (λ q. Holds now table (record { at = q; type = T }) v []) next (h (suc i) (omega arith))))
 
--- all of them are made
+-- all n values have their default values
 pub filled_all : (old now : List ℕ) (table : Table) (at T n k : ℕ) → n ≤ k → Filled old now table at T n k → HoldsEach now table (items table at T n) (copies n (default_of table T)) []
 filled_all old now table at T n k all f = held_from now table (default_of table T) T at n (λ i l. f.each i (omega arith))
 
--- ---- the block
+-- ---- the block of the object
 
 pub count-copies : (n : ℕ) (v : Value) → count (copies n v) ≡ n
 count-copies zero v = refl
@@ -162,7 +162,7 @@ module _ (allocator h : ℕ) (old taken new : List ℕ) (table : Table) (name : 
           kept = all_kept allocator u h tag old taken new heap t (h + 16) (values + length name) low high changes;
         }
 
--- the numbers that the code computes
+-- the size in units that the code computes
 pub units_are : (n each size_is len values sum units : ℕ) → n < 2 ^ 16 → each ≡ size_is → size_is ≤ 8192 → len < 2 ^ 8 → values ≡ min (n * each) 4294967295 → sum ≡ min (values + len) 4294967295 → units ≡ need sum
     → (values ≡ n * size_is) × (units ≡ need (n * size_is + len))
 units_are n each size_is len values sum units few each_is small short values_is sum_is is =
@@ -196,7 +196,7 @@ gives_named_by allocator h units values object old taken tagged_is written_is ne
     subst (λ q. GivesNamed allocator old new table (new_root table name T n q)) (sym at)
     (gives_named allocator h old taken new table name T n heap some t' (omega arith) long (changes' room) (default' room))
 
--- no gap has room for it
+-- no gap is large enough for the object
 pub refuses_named : (allocator u n : ℕ) (old new : List ℕ) (o : Option ℕ) → Takes allocator old new u o → ((h : ℕ) → o ≡ Some h → ⊥) → u ≡ need n → Refuses allocator old new (block_for n ∷ [])
 refuses_named allocator u n old new o t none u_is = go (after_take allocator (live old) (length old) (need n)) refl
     (subst (λ v. MatchOption (after_take allocator (live old) (length old) v) ((o ≡ None) × (new ≡ old)) (λ r. (o ≡ Some r.0) × (live new ≡ r.1) × (link_at new r.0 ≡ None))) u_is t.taken)

@@ -2,7 +2,7 @@
 --     entry_asks_kept     an index whose buffer keeps its room has the same request for an entry
 --     spent_after, asks_after, no_room_first
 --                         requests after one for a new block
---     returned_one        a new block that is freed leaves the allocated blocks as before
+--     returned_one        the allocated blocks are the same after a new block is freed
 use Rattle.std.proofs.Common.{◌≡◌, ◌≢◌, ℕ, zero, suc, ◌+◌, ◌-◌, ◌*◌, ◌≤◌, ◌⊎◌, inl, inr, true, false, List, [], ◌∷◌, cond, eqb, leb, Option, Some, None, option_map, option_to_list, refl, sym, ap, ◌∙◌, arith}
 use Rattle.std.specs.Prelude.{nat_lt}
 use Rattle.std.proofs.lemmas.Bool.Decides.{nat_tests}
@@ -20,9 +20,9 @@ use Rattle.seg_spec.specs.Spending.{units_named, buffer_asks, entry_asks, spent}
 use Rattle.seg_spec.proofs.Frame.{cell-target, cell-count}
 use Rattle.seg_spec.proofs.LiveLaws.{times-same, times-other, times-with_block, not_there}
 
--- ---- the entry's request
+-- ---- the request for the entry
 
--- whether a buffer grows only depends on the room of its block
+-- whether a buffer must grow depends only on the room of its block
 same_room : (units more : ℕ) (old : Option ℕ) (item count wanted : ℕ) → 16 * units - 16 ≡ 16 * more - 16 → growth_if_needed units old item count wanted ≡ growth_if_needed more old item count wanted
 same_room units more old item count wanted e = ap (λ room. cond (leb (wanted * item) room) [] (growth old item count wanted ∷ [])) e
 
@@ -86,7 +86,7 @@ module _ (allocator : ℕ) (bs mid : List Span) (end u : ℕ) (asks : List Ask) 
           let is : taking g ≡ mid = cc in
           rw (p, ← is) refl
 
-  -- the new block is freed
+  -- the new block is freed again
   module _ (block : ℕ) (was_free : times block (positions bs) ≡ 0) (now_live : times block (positions mid) ≡ 1) where
     pub returned_one : without block mid ≡ bs
     returned_one = go (pick allocator (gaps_of bs end) u) refl

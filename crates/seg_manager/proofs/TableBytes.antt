@@ -18,7 +18,7 @@ slice_split bytes at n m = take-add n m (drop at bytes) ∙ ap (λ xs. take n (d
     drop_twice : (xs : List ℕ) (a b : ℕ) → drop b (drop a xs) ≡ drop (a + b) xs
     drop_twice xs a b = same_lists _ _ (simp (length-drop) (omega arith)) (λ k d l. grind (arith, places))
 
--- the first k entries, zeros after those that the table has
+-- the bytes of the first k entries, with zeros for those that the table lacks
 abbrev pub spell : ℕ → Table → List ℕ
 spell zero table = []
 spell (suc k) [] = replicate 16 0 ++ spell k []
@@ -49,7 +49,7 @@ spell_all (suc k) (f ∷ fs) le long =
     let same : 16 * k - length rest ≡ 16 * suc k - length (form_bytes f ++ rest) = omega arith in
     ap (λ xs. form_bytes f ++ xs) (spell_all k fs (omega arith) long.1) ∙ sym (append_assoc (form_bytes f) rest (replicate (16 * k - length rest) 0)) ∙ ap (λ n. (form_bytes f ++ rest) ++ replicate n 0) same
 
--- t entries of the table were written
+-- the first t entries of the table were written
 pub record Written (old new : List ℕ) (table : Table) (t : ℕ) : Type 0 where
   pub changes : ChangesOnly old new types_start types_size
   pub spelled : types_start + types_size ≤ length old → slice new types_start (16 * t) ≡ spell t table

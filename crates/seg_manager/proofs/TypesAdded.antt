@@ -15,7 +15,7 @@ use Rattle.seg_manager.specs.Segments.{IsSegment, AddsTypes}
 use Rattle.seg_spec.proofs.AddTypes.{types_added, heap_same}
 use Rattle.seg_spec.proofs.CountedKept.{counted_still}
 
--- the longer one begins with the other
+-- the longer table begins with the old one
 record GoesOn (old new : Table) : Type 0 where
   rest : Table
   is : longer old new ≡ old ++ rest
@@ -76,13 +76,13 @@ adds_types allocator old new picture more is agree valid valid_more of_version t
       live_is = live-kept a b (word a allocator_word) l.heap (heap_same a b (word a allocator_word) l.heap changes.length_kept root in_heap);
     }
 
--- a table with more types is the longer one
+-- of two tables, the one with more types is the longer
 pub then_longer : (old new : Table) → length old < length new → longer old new ≡ new
 then_longer old new lt =
     let off : leb (length new) (length old) ≡ false = grind (arith, nat_tests) in
     ap (λ b. cond b old new) off
 
--- the same from what the steps of the call leave
+-- the same, from how the steps of the call change the bytes
 pub adds_by : (allocator : ℕ) (old new : Stored) (picture : Picture) (more mine then_types : Table) (from to : Placement) → IsSegment allocator old picture → from ≡ old.window → new.window ≡ to → new.types ≡ then_types → mine ≡ old.types
     → then_types ≡ longer mine more → Agree mine more → IsTable mine → IsTable more → AreOfVersion (word old.window.bytes version_word) more → (IsTable then_types → ChangesOnly from.bytes to.bytes types_start types_size)
     → (IsTable then_types → types_start + types_size ≤ length from.bytes → HasTable to.bytes types_start then_types) → AddsTypes allocator old new picture more

@@ -8,7 +8,7 @@ use Rattle.seg_spec.specs.Pointer.{target}
 use Rattle.seg_spec.specs.Index.{Root, position_of, AreRising, unique_word, ListsUniques}
 use Rattle.seg_spec.proofs.UniqueLaws.{at_head, past_head}
 
--- how many of these have a type below T
+-- the number of these roots whose type is less than T
 abbrev pub below : ℕ → List Root → ℕ
 below T [] = 0
 below T (r ∷ rs) = cond (nat_lt r.type T) 1 0 + below T rs
@@ -53,7 +53,7 @@ below_more T U (r ∷ rs) rising = go (cases_eq r.type T) (cases_lt r.type T) (b
 pub none_counted : (rs : List Root) → AreRising 0 rs → 0 ≡ below 0 rs
 none_counted rs rising = sym (below_none 0 0 rs rising (omega arith))
 
--- the pointer of one more type was read
+-- the count after the pointer of one type more was read
 pub one_counted : (bytes : List ℕ) (rs : List Root) (T n : ℕ) → ListsUniques bytes rs → T < 32 → n ≡ below T rs → n + cond (is_some (target bytes (unique_word T))) 1 0 ≡ below (T + 1) rs
 one_counted bytes rs T n l less e =
     let more = below_more T 0 rs l.rising in

@@ -36,21 +36,21 @@ use Rattle.seg_spec.proofs.Frame.{each_right}
 use Rattle.seg_spec.proofs.CountedParts.{defaults_none}
 use Rattle.seg_spec.proofs.CountedKept.{counted_still, counted_with}
 
--- the target of a type's pointer
+-- the target of a type's pointer is the type's unique object
 pub names_unique : (allocator : ℕ) (s : Stored) (picture : Picture) (T : ℕ) → IsSegment allocator s picture → T < 32 → target s.window.bytes (unique_word T) ≡ unique_at picture T
 names_unique allocator s picture T is less = is.held.laid_out.uniques.words T less ∙ position_root picture.uniques T
 
 pub few_types : (allocator : ℕ) (s : Stored) (picture : Picture) (T : ℕ) → IsSegment allocator s picture → T < length s.types → T < 32
 few_types allocator s picture T is less = let few = is.held.laid_out.is_table.few in let same : length s.types ≡ length picture.table = ap length is.table_is in omega arith
 
--- an allocated block is in the heap
+-- an allocated block begins in the heap
 above : (allocator : ℕ) (s : Stored) (picture : Picture) → IsSegment allocator s picture → (h : ℕ) → 1 ≤ times h (positions (live s.window.bytes)) → heap_start ≤ h
 above allocator s picture is h some = (there (LiesIn s.window.bytes heap_start (length s.window.bytes)) h (positions (live s.window.bytes))
     (live-lie s.window.bytes (word s.window.bytes allocator_word) is.held.laid_out.heap) some).low
 
--- ---- one is made
+-- ---- a unique object is made
 
--- the first loose object is in the heap
+-- the first loose object lies in the heap
 first_high : (bytes : List ℕ) (picture : Picture) (held : IsHeld bytes picture) (root : Root) (rest : List Root) → picture.loose ≡ root ∷ rest → (heap_start ≤ root.at) × (root.at < 2 ^ 32)
 first_high bytes picture held root rest split =
     let mine = its bytes bytes picture held [] (root ∷ []) rest split in
@@ -125,7 +125,7 @@ module _ (allocator : ℕ) (old mid new : Stored) (picture : Picture) (is : IsSe
         };
       }
 
--- ---- it is destroyed
+-- ---- the unique object is destroyed
 
 back : (old new : List ℕ) (at n : ℕ) → ChangesOnly old new at n → ChangesOnly new old at n
 back old new at n c = record { length_kept = sym c.length_kept; others = λ p m o. sym (c.others p m o) }
@@ -153,7 +153,7 @@ module _ (allocator : ℕ) (old mid new : Stored) (picture : Picture) (is : IsSe
   word_is' : target b (unique_word T) ≡ None
   word_is' = rw bytes_are (word_written a T None less long' (λ t e. absurd (let f : None ≡ Some t = e in cc)))
 
-  -- what its destruction leaves
+  -- what the destruction of the unique object ensures
   abbrev LeavesIt : ℕ → Type 0
   LeavesIt p = (U : ℕ) (v : Value) (inside : List ℕ) → IsTable mid.types → IsHeap allocator b → IsLoose b mid.types (record { at = p; type = U }) v inside
       → BesideShared b mid.types (block_of p ∷ inside) (named_in v) (λ theirs now. Destroys allocator b new.window.bytes mid.types ((block_of p ∷ inside) ++ blocks_by theirs now) theirs)

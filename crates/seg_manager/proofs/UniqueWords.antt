@@ -1,5 +1,5 @@
 -- The pointer of a type's unique object changes: a loose object becomes the unique one, or the
--- other way round.
+-- unique object becomes a loose one.
 use Rattle.std.proofs.Common.{◌≡◌, ◌≢◌, ℕ, ◌+◌, ◌<◌, ◌≤◌, ◌^◌, ◌⊎◌, inl, inr, List, [], ◌∷◌, ◌++◌, length, Option, Some, None, refl, sym, ap, ◌∙◌, subst, arith}
 use Rattle.std.proofs.lemmas.Bool.{cases_lt}
 use Rattle.std.proofs.lemmas.List.{append_assoc}
@@ -55,7 +55,7 @@ module _ (old new : List ℕ) (picture : Picture) (held : IsHeld old picture) (T
   pub word_kept : (h : ℕ) → 1 ≤ times h (positions (live old)) → KeepsBlock old new h
   word_kept h some = header_kept allocator old new (unique_word T) 4 heap changes fits after_root h some
 
-  -- everything in the heap is kept
+  -- all blocks in the heap are kept
   pub above_kept : (h : ℕ) → heap_start ≤ h → KeepsBlock old new h
   above_kept h low =
       let first = word-same old new h (changes.others h 4 (inr (omega arith))) in
@@ -100,7 +100,7 @@ module _ (old new : List ℕ) (picture : Picture) (held : IsHeld old picture) (T
         plain = plain;
       }
 
-  -- with its roots in other places
+  -- the picture with two of its roots in other places
   module _ (before first between second after come come_too : List Root) (other : Picture) (same_table : other.table ≡ picture.table) (parts : roots_of picture ≡ before ++ (first ++ (between ++ (second ++ after))))
       (parts_then : roots_of other ≡ before ++ (come ++ (between ++ (come_too ++ after)))) (layout : IsLaidOut new other held.index_blocks) where
     pub s : StretchesComeApart old picture held before first between second after
@@ -158,7 +158,7 @@ module _ (old new : List ℕ) (picture : Picture) (held : IsHeld old picture) (T
         let ls : AllByRecursion IsPlain (root ∷ rest) = subst (λ rs. AllByRecursion IsPlain rs) loose_are p.1 in
         each_joined IsPlain (before ++ root ∷ after) rest (each_joined IsPlain before (root ∷ after) us.0 (ls.0, us.1)) ls.1
 
-    -- the roots after them
+    -- the roots after the loose one
     abbrev others_then : List Root
     others_then = rest ++ frozen_roots picture
 
@@ -192,7 +192,7 @@ module _ (old new : List ℕ) (picture : Picture) (held : IsHeld old picture) (T
         let us = plain_apart before (root ∷ after) (subst (λ rs. AllByRecursion IsPlain rs) uniques_are p.0) in
         each_joined IsPlain (before ++ after) (root ∷ picture.loose) (each_joined IsPlain before after us.0 us.1.1) (us.1.0, p.1)
 
-    -- the roots after it
+    -- the roots after the first loose one
     abbrev others_then' : List Root
     others_then' = picture.loose ++ frozen_roots picture
 

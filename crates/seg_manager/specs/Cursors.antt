@@ -1,5 +1,5 @@
--- The path to a key of a map.
---     IsInside bytes cursor      a path that is kept is one in each search tree at its root
+-- Cursors: the path to a key of a map, which may be kept.
+--     IsInside bytes cursor      if the cursor keeps a path, the path lies in each search tree at its root
 use Rattle.std.specs.Prelude.{◌≡◌, ℕ, List, true}
 use Rattle.seg_rbtree.specs.Following.{LeadsInside}
 use Rattle.seg_manager.specs.declared.cursor.Cursor.{Cursor}

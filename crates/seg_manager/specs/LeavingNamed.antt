@@ -34,8 +34,8 @@ pub record IsUnlisted (allocator : ℕ) (bytes : List ℕ) (table : Table) (root
   pub owned : (h : ℕ) → times h blocks ≤ times h (positions (live bytes))
 
 -- The object with this name and type was destroyed, with its blocks, the blocks of its entry, and
--- the frozen objects that lost their last cell. The other objects stay where they were. Each
--- allocated block outside the index is kept, except for the counts of frozen objects.
+-- the frozen objects that lost their last cell. The other objects didn't move. Each allocated block
+-- outside the index is kept, except for the counts of frozen objects.
 pub record LosesNamed (allocator : ℕ) (old new : Stored) (picture : Picture)
     (index_blocks name : List ℕ) (T : ℕ) : Type 0 where
   pub before : List Root

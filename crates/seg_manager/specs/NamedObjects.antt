@@ -1,5 +1,5 @@
 -- The named objects of a segment.
---     found_of root            the position of a root's first value, and their number
+--     found_of root            the position of a root's first value, and the number of its values
 --     found_as T root          the result of a search for an object of a type, by its name's root
 --     Says name T n root       the name of a root, its type, and the number of its values
 --     IsMissing names name     the name is allowed, and no root has it

@@ -48,8 +48,8 @@ pub record GivesNamed (allocator : ℕ) (old new : List ℕ) (table : Table) (ro
   pub kept : (h : ℕ) → 1 ≤ times h (positions (live old)) → KeepsLinked old new h
 
 -- The requests for a new named object of n default values and for its entry were granted. The
--- segment has it at this position, and in order among the others. Each allocated block outside the
--- index is kept.
+-- object is at this position, and in order among the others. Each allocated block outside the index
+-- is kept.
 pub record MakesNamed (allocator : ℕ) (old new : Stored) (picture : Picture)
     (index_blocks name : List ℕ) (T n at : ℕ) : Type 0 where
   pub before : List Root

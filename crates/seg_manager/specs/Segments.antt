@@ -1,15 +1,15 @@
--- The calls on a segment: their premise (`IsSegment`), and what they leave. A segment in a contract
--- has the window's bytes and the type table (`Stored`).
+-- The calls on a segment: their premise (`IsSegment`), and the state after them. A segment in a
+-- contract has the window's bytes and the type table (`Stored`).
 --     IsSegment allocator s picture       the bytes contain the picture, whose types the segment has
 --     Becomes allocator old new other gone
 --                                         the bytes contain another picture, and each allocated block outside
 --                                         `gone` is kept
 --     Spends allocator old new asks gives
---                                         the requests were granted, and these blocks freed
+--                                         the requests were granted, and these blocks were freed
 --     new_root table name T n at          an object of n default values
---     MakesLoose, LosesLoose              a loose object was made; one was destroyed
+--     MakesLoose, LosesLoose              a loose object was made; a loose object was destroyed
 --     MakesUnique, FindsOrMakes, RefusesUnique, LosesUnique
---                                         a unique object was made, found, refused; one was destroyed
+--                                         a unique object was made, found, refused; a unique object was destroyed
 --     AddsTypes                           the table was replaced by a longer one
 --     unique_at picture T                 the position of the unique object of a type
 use Rattle.std.specs.Prelude.{◌≡◌, ℕ, ◌+◌, ◌≤◌, List, [], ◌∷◌, ◌++◌, length, ◌⊎◌, Option, Some, None, IsSome, option_map}
@@ -34,7 +34,7 @@ use Rattle.seg_raw.specs.declared.code.Code.TheVariants as code
 use Rattle.seg_value.specs.Stored.{Stored}
 
 -- The segment's bytes contain the picture, whose frozen objects count their cells. The segment has
--- the picture's types, and this allocator.
+-- the picture's types and this allocator.
 pub record IsSegment (allocator : ℕ) (s : Stored) (picture : Picture) : Type 0 where
   pub held : IsHeld s.window.bytes picture
   pub counted : AreCounted (word s.window.bytes next_word) picture
@@ -52,7 +52,7 @@ pub record Becomes (allocator : ℕ) (old new : Stored) (other : Picture)
   pub kept : (h : ℕ) → 1 ≤ times h (positions (live old.window.bytes)) → times h gone ≡ 0 →
       KeepsBlock old.window.bytes new.window.bytes h
 
--- the requests were granted, and these blocks freed
+-- the requests were granted, and these blocks were freed
 abbrev pub Spends : ℕ → Stored → Stored → List Ask → List ℕ → Type 0
 Spends allocator old new asks gives =
     spent allocator (live old.window.bytes) (length old.window.bytes) asks gives
@@ -67,7 +67,7 @@ one_value table T = block_for (size table T) ∷ []
 
 -- ---- loose objects
 
--- an object of the type at this position was added somewhere among the loose ones
+-- an object of the type at this position was added at some place among the loose ones
 pub record MakesLoose (allocator : ℕ) (old new : Stored) (picture : Picture)
     (T at : ℕ) : Type 0 where
   pub spends : Spends allocator old new (one_value old.types T) []
@@ -75,8 +75,8 @@ pub record MakesLoose (allocator : ℕ) (old new : Stored) (picture : Picture)
       Becomes allocator old new
       (with_roots picture Listed.loose (before ++ new_root old.types [] T 1 at ∷ after)) []
 
--- The root was destroyed, with its blocks, and the frozen objects that lost their last cell, with
--- theirs. The picture is the other one, with the frozen objects that stay.
+-- The root was destroyed with its blocks, and so were the frozen objects that lost their last cell.
+-- The new picture is `other`, with the remaining frozen objects.
 pub record LosesRoot (allocator : ℕ) (old new : Stored) (root : Root) (other : Picture) :
     Type 0 where
   pub blocks : List ℕ
@@ -114,7 +114,7 @@ pub record MakesUnique (allocator : ℕ) (old new : Stored) (picture : Picture)
   pub becomes : Becomes allocator old new
       (with_roots picture Listed.by_type (before ++ new_root old.types [] T 1 at ∷ after)) []
 
--- the unique object of the type was found, or made
+-- the unique object of the type was found or made
 abbrev pub FindsOrMakes : ℕ → Stored → Stored → Picture → ℕ → ℕ → Type 0
 FindsOrMakes allocator old new picture T at =
     ((unique_at picture T ≡ Some at) × (new ≡ old)) ⊎ MakesUnique allocator old new picture T at

@@ -24,7 +24,7 @@ impl Cursor {
     }
 
     /// Drops the path, which may be out of date from here on.
-    // A single write, since this happens each time the heap is borrowed to be changed.
+    // This is a single write, since it happens each time the heap is borrowed to be changed.
     pub(crate) fn lose(&mut self)
         ensures { (bytes : List ℕ) → IsInside bytes self.new }
     {

@@ -14,7 +14,7 @@ use seg_value::{Fit, Place};
 use std::alloc::Allocator;
 
 impl<F: Fit, A: Allocator> Segment<F, A> {
-    /// The least key of a map. `OtherType` if the place is no map, `Null` if the map is empty.
+    /// The least key of a map. `OtherType` if the place isn't a map, `Null` if the map is empty.
     pub fn first_key(&mut self, map: Place) -> Result<i64, Code>
         ensures stays { self.new ≡ self.old }
         ensures other { has_keys (form_at self.old.types map.type_id) ≡ false →
@@ -28,8 +28,8 @@ impl<F: Fit, A: Allocator> Segment<F, A> {
         first_key_by(&self.heap, &mut self.cursor.way, map)
     }
 
-    /// The least key above another, which need not exist. `OtherType` if the place is no map, `Null` if no key is above
-    /// it. The key after the one returned last is found in one step, unless the segment was changed in between.
+    /// The least key above another, which need not exist. `OtherType` if the place isn't a map, `Null` if no key is
+    /// above it. The key after the one returned last is found in one step, unless the segment was changed in between.
     pub fn next_key(&mut self, map: Place, after: i64) -> Result<i64, Code>
         ensures stays { self.new ≡ self.old }
         ensures other { has_keys (form_at self.old.types map.type_id) ≡ false →

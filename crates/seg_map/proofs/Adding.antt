@@ -1,4 +1,4 @@
--- A new node is added to the tree of a map: the map has one more key.
+-- A new node is added to the tree of a map, which then has one key more.
 use Rattle.std.proofs.Common.{◌≡◌, ◌≢◌, ℕ, ◌+◌, ◌%◌, ◌^◌, ◌<◌, ◌≤◌, ℤ, List, [], ◌∷◌, ◌++◌, length, map, Some, refl, sym, ap, ◌∙◌, subst, arith}
 use Rattle.std.proofs.lemmas.List.{length-append}
 use Rattle.std.specs.Prelude.{insert, slice_get}
@@ -42,8 +42,8 @@ use Rattle.seg_map.proofs.Relinking.{IsTouched, Remade, remade, count_before, st
 use Rattle.seg_map.proofs.Rebuilding.{value_places, places_joined, places_long, inserted_nth, Parts, parts, joined, map_of, map_leads, passes, paths_by}
 use Rattle.seg_map.proofs.Entering.{Entered}
 
--- what adding a node at the end of a path does, in any total order for which the path is the node's
--- place
+-- what adding a node at the end of a path ensures, in any total order for which the path is the
+-- node's place
 abbrev pub AddsFrom : List ℕ → List ℕ → ℕ → Path → ℕ → Type 0
 AddsFrom old new root path node = (order : ℕ → ℕ → Ordering) (shape : Tree) → IsTotalOrder order → IsSearchTree old root shape → Ascend order (nodes_of shape) → LeadsTo (order node) shape path → IsNew order node (nodes_of shape)
     → StandApart (length old) root (node ∷ nodes_of shape) → length (nodes_of shape) + 1 < 2 ^ 32 → Leaves old new root (node ∷ nodes_of shape) (with_node order node (nodes_of shape))
@@ -138,7 +138,7 @@ module _ (allocator : ℕ) (old mid : List ℕ) (table : Table) (place : Place) 
   turns_same : AllByRecursion (λ x. ordering_reverse (int_cmp (key_at old x) key) ≡ order node x) nodes
   turns_same = each_weaker _ _ (λ x k. ap (λ n. ordering_reverse (int_cmp n key)) (sym k) ∙ sym (int_cmp_total.antisymm key (key_at mid x)) ∙ ap (λ n. int_cmp n (key_at mid x)) (sym key_mid)) nodes keys_mid
 
-  -- ---- the nodes are apart
+  -- ---- the nodes lie in separate blocks
 
   touched_old : (x : ℕ) → IsNode allocator old table place U keys vs blocks f s x → IsTouched mid s.home x
   touched_old x n = record { after_header = n.after_header; is_live = mid_live (block_of x) n.is_live; other = owned_other allocator old table place (Map keys vs) blocks s (block_of x) n.owned }
@@ -187,7 +187,7 @@ module _ (allocator : ℕ) (old mid : List ℕ) (table : Table) (place : Place) 
         (leads_same (λ x. ordering_reverse (int_cmp (key_at old x) key)) (order node) shape path turns_same (leads shape (is_search_tree allocator old table place U keys vs blocks f s)))
         is_new stand_apart few
 
-    -- ---- the map then
+    -- ---- the map with the new node
 
     module _ (three new : List ℕ) (n : ℕ) (l : Leaves mid three place.at (node ∷ nodes) (with_node order node nodes)) (new_is : new ≡ set_word three (place.at + 4) n) (n_is : count_at three place.at + 1 < 2 ^ 32
         → n ≡ count_at three place.at + 1) where
@@ -222,7 +222,7 @@ module _ (allocator : ℕ) (old mid : List ℕ) (table : Table) (place : Place) 
       now_are : nodes_of made.tree ≡ front ++ node ∷ back
       now_are = made.nodes_are ∙ ap (with_node order node) between.nodes_are ∙ comes_between (key_at mid) node front back low_keys high_keys
 
-      -- each of the nodes and the new one
+      -- a fact about touched nodes is a fact about each node and the new one
       each_now : (P : ℕ → Type 0) → ((x : ℕ) → IsTouched mid s.home x → P x) → AllByRecursion P (front ++ node ∷ back)
       each_now P h = subst (AllByRecursion P) (sym made.nodes_are ∙ now_are) (each_with order node P nodes (h node each_touched.0) (each_weaker _ _ h nodes each_touched.1))
 
@@ -235,7 +235,7 @@ module _ (allocator : ℕ) (old mid : List ℕ) (table : Table) (place : Place) 
           let g = made.count_is in
           ap length now_are ∙ (omega arith)
 
-      -- what follows a node's tree words
+      -- the bytes of a node after its tree words are kept
       content_same : (x : ℕ) → IsTouched mid s.home x → IsBlock mid x (tag_of Kind.node place.type) (24 + size table U) → (p k : ℕ) → x + 16 ≤ p → p + k ≤ x + (24 + size table U) → IsSame mid new p k
       content_same x t b p k a c = made.content x p k t.after_header t.is_live t.other a (let r = b.room in let two = (lies_mid (block_of x) t.is_live).size in let low = t.after_header in omega arith)
 
@@ -334,7 +334,7 @@ module _ (allocator : ℕ) (old mid : List ℕ) (table : Table) (place : Place) 
       holds_more_keys = map_of new table place U made.tree (insert keys (keys_below keys key) key) (insert_nth vs (keys_below keys key)
           (default_of table U)) m.owned f made.is_tree made.red_black long_now blocks_now more more_ascend values_more
 
-      -- ---- what the call leaves
+      -- ---- the state after the call
 
       turned : (h : ℕ) → times h (map block_of (nodes_of made.tree)) ≡ times h (block_of node ∷ map block_of nodes)
       turned h =

@@ -1,4 +1,4 @@
--- A new node before it is in the tree: its block was allocated, and its key written.
+-- A new node that isn't in the tree yet: its block was allocated, and its key was written.
 use Rattle.std.proofs.Common.{◌≡◌, ◌≢◌, ℕ, ◌+◌, ◌≤◌, ◌⊎◌, inl, inr, ℤ, List, [], ◌∷◌, length, Some, refl, sym, ap, ◌∙◌, subst, arith}
 use Rattle.std.proofs.lemmas.Bool.{cases_eq}
 use Rattle.std.specs.List.{AllByRecursion}
@@ -23,8 +23,8 @@ use Rattle.seg_map.proofs.SeveralWrites.{Range, Beside, IsWritable, low_same, he
 
 -- ---- the node
 
--- a node with a key and the default of a value is in a block of its own; all that was allocated is
--- kept
+-- The node lies in a new block and contains a key and the default of a value. All blocks that were
+-- allocated before are kept.
 pub record Entered (allocator : ℕ) (old new : List ℕ) (table : Table) (T U node : ℕ) (key : ℤ) : Type 0 where
   pub length_kept : length new ≡ length old
   pub front_kept : IsSame old new 0 24

@@ -1,4 +1,4 @@
--- Adding a key to a flat map, and removing one, from what the steps of the calls leave.
+-- A key is added to a flat map, or removed, from how the steps of the calls change the bytes.
 use Rattle.std.proofs.Common.{◌≡◌, ◌≢◌, ℕ, zero, suc, ◌+◌, ◌*◌, ◌%◌, ◌^◌, ◌<◌, ◌≤◌, inl, inr, ⊎_elim, ℤ, Bool, true, false, List, [], ◌∷◌, ◌++◌, length, map, Some, None, Result, Ok, refl, sym, ap, ◌∙◌, subst, arith}
 use Rattle.std.specs.Prelude.{insert, remove, int_lt, unwrap_or, slice_get}
 use Rattle.std.proofs.Math.Nat.{zero-mul, mul-le-mul_right}
@@ -108,7 +108,7 @@ index_fits allocator bytes table place U keys vs blocks f s key index is =
     let long = length_is allocator bytes table place U keys vs blocks f s in
     omega arith
 
--- the steps of the code
+-- the steps as the code performs them
 module _ (allocator : ℕ) (old opened stored new : List ℕ) (table here : Table) (same : here ≡ table) (cell T U : ℕ) (keys : List ℤ) (vs : Values) (blocks : List ℕ)
     (f : form_at table T ≡ Some (Form.flat_map U)) (s : Stands allocator old table (object_at cell T) (Map keys vs) blocks) (entry : Entry) (e : IsEntryOf table 8 U entry) (key passed : ℤ) (back : passed ≡ key)
     (index at : ℕ) (missing : key_place keys key ≡ None) (index_is : index ≡ keys_below keys key) (o : OpensEntry allocator old opened table (object_at cell T) U keys vs blocks index at)
@@ -136,7 +136,7 @@ module _ (allocator : ℕ) (old opened stored new : List ℕ) (table here : Tabl
 
 -- ---- a key is removed
 
--- the places before an index
+-- an item before the end of a list's first part is in that part
 in_front : (xs ys : List Place) (j : ℕ) (p : Place) → j < length xs → slice_get (xs ++ ys) j ≡ Some p → slice_get xs j ≡ Some p
 in_front [] ys j p l e = absurd (omega arith)
 in_front (x ∷ xs) ys zero p l e = e
@@ -152,7 +152,7 @@ module _ (allocator : ℕ) (old : List ℕ) (table : Table) (place : Place) (U :
   abbrev each : ℕ
   each = 8 + size table U
 
-  -- the place of the value
+  -- the place of the key's value
   abbrev pub inner : Place
   inner = value_of U (start old place.at + i * (8 + size table U) + 8)
 
@@ -168,7 +168,7 @@ module _ (allocator : ℕ) (old : List ℕ) (table : Table) (place : Place) (U :
   pub led : Leads old table place (Selector.key key ∷ []) inner
   led = key_leads allocator old table place U keys vs blocks f s key i there
 
-  -- the value, its blocks, and the others
+  -- the blocks of the value, and the other blocks of the map
   abbrev pub c : ComesApart old table place (Selector.key key ∷ []) inner (Map keys vs) blocks
   c = part.c allocator old table place (Map keys vs) blocks s inner (Selector.key key ∷ []) led
 
@@ -198,7 +198,7 @@ module _ (allocator : ℕ) (old : List ℕ) (table : Table) (place : Place) (U :
       multiple zero m e = omega arith
       multiple (suc i) m e = let rest = multiple i m e in let more : suc i * m ≡ m + i * m = grind arith in omega arith
 
-  -- the buffer isn't one of the value's blocks
+  -- the buffer's block is among the other blocks
   mine : 1 ≤ times (block_of b.p) rest
   mine =
       let h = block_of b.p in
@@ -216,7 +216,7 @@ module _ (allocator : ℕ) (old : List ℕ) (table : Table) (place : Place) (U :
       let parts = part.counts allocator old table place (Map keys vs) blocks s inner (Selector.key key ∷ []) led h in
       omega arith
 
-  -- ---- a value before it
+  -- ---- a value before the removed one
 
   m : Middle old table (places_of U (map (λ p. p + 8) (spaced (start old place.at) (8 + size table U) (count_at old place.at)))) i inner vs (its allocator old table place U keys vs blocks f s).owned
   m = middle old table (holds_each allocator old table place U keys vs blocks f s) i inner (held_part old table place U keys vs blocks f s.holds_it i below)
@@ -236,7 +236,7 @@ module _ (allocator : ℕ) (old : List ℕ) (table : Table) (place : Place) (U :
     own : Middle old table m.before j sooner m.left m.xs
     own = middle old table m.lefts j sooner among
 
-    -- its blocks belong neither to the other value nor to the buffer
+    -- its blocks are among the other blocks, and aren't the buffer's
     others : (h : ℕ) → 1 ≤ times h own.zs → (1 ≤ times h rest) × (h ≢ block_of b.p)
     others h some =
         let first = ap (times h) own.blocks_are in
@@ -268,7 +268,7 @@ module _ (allocator : ℕ) (old : List ℕ) (table : Table) (place : Place) (U :
   pub inner_stands : Stands allocator old table inner c.value c.its
   inner_stands = part.inner_stands allocator old table place (Map keys vs) blocks s inner (Selector.key key ∷ []) led (block_of b.p) inside mine aligned
 
-  -- what the calls find that destroy the value at the key's index
+  -- the state in which the calls begin that destroy the value
   pub inner_beside : (v : Value) → nth vs i ≡ Some v → (theirs : ℕ → List ℕ) (kept : List Place) (now final : List Frozen) → SharedBeside old table (s.home ∷ blocks) (named_in v) theirs kept now final
       → SharedBeside old table (inner_stands.home ∷ c.its) (named_in c.value) theirs kept now final
   unfolding inner_stands
@@ -282,7 +282,7 @@ module _ (allocator : ℕ) (old : List ℕ) (table : Table) (place : Place) (U :
       value_same : (v : Value) → nth vs i ≡ Some v → v ≡ c.value
       value_same v at = let e = rw (there, at) at c.value_is in cc
 
-  -- the value is destroyed, and the gap closed
+  -- the value is destroyed, and then the entry is removed
   module _ (theirs : ℕ → List ℕ) (now final : List Frozen) (fits : AreLive old ((s.home ∷ blocks) ++ blocks_by theirs now)) (mid new : List ℕ) (w : Value)
       (change : ClearsPlace old mid table inner w c.its [] theirs now final) where
     abbrev pub changed : Values
@@ -302,7 +302,7 @@ module _ (allocator : ℕ) (old : List ℕ) (table : Table) (place : Place) (U :
     start_kept : start mid place.at ≡ start old place.at
     start_kept = ap (λ t. unwrap_or t 0) (cell-target old mid place.at cell_same)
 
-    -- the gap is closed
+    -- what removing the entry ensures
     abbrev Closes : Type 0
     Closes = (vs : Values) (blocks : List ℕ) → Stands allocator mid table place (Map keys vs) blocks → i < count_at mid place.at
         → PlaceBlocks mid table (value_of U (start mid place.at + i * (8 + size table U) + 8)) [] → ClosesEntry mid new table place U keys vs blocks i

@@ -40,7 +40,7 @@ pub err_then : {X E : Type 0} {P Q : E → Type 0} (r : Result X E) → IfErr r 
 err_then (Ok x) h f = tt
 err_then (Err e) h f = f e h
 
--- P is true of each error
+-- a fact about each error
 pub only_err : {X E : Type 0} (r : Result X E) (P : X → Type 0) (Q : Type 0) → IsErr r → Q → MatchResult r P (λ code. Q)
 only_err (Ok x) P Q e q = absurd (false≢true e)
 only_err (Err y) P Q e q = q
@@ -80,7 +80,7 @@ module _ (bytes : List ℕ) (table : Table) (place : Place) (U : ℕ) (keys : Li
   pub held_length : length keys ≡ count_at bytes place.at
   held_length = ap length held_keys ∙ length-keys_at bytes held_entries ∙ length-spaced (start bytes place.at) (8 + size table U) (count_at bytes place.at)
 
-  -- the place of the value of a key
+  -- the place of the value at an index
   abbrev pub held_value : ℕ → Place
   held_value i = value_of U (start bytes place.at + i * (8 + size table U) + 8)
 
@@ -99,7 +99,7 @@ module _ (bytes : List ℕ) (table : Table) (place : Place) (U : ℕ) (keys : Li
       map_get (λ p. value_of U p) (map (λ p. p + 8) held_entries) i (start bytes place.at + i * (8 + size table U) + 8)
       (map_get (λ p. p + 8) held_entries i (start bytes place.at + i * (8 + size table U)) (spaced_get (start bytes place.at) (8 + size table U) (count_at bytes place.at) i h))
 
-  -- a path from the value of a key, and back
+  -- a path through a key continues from the key's value, and conversely
   pub goes_through : (key : ℤ) (i : ℕ) → key_place keys key ≡ Some i → (path : List Selector) (inner : Place) → Leads bytes table (held_value i) path inner → Leads bytes table place (Selector.key key ∷ path) inner
   goes_through key i at path inner way =
       let below : i < count_at bytes place.at = subst (λ k. i < k) held_length (place_below keys key i at) in
@@ -126,7 +126,7 @@ module _ (bytes : List ℕ) (table : Table) (place : Place) (U : ℕ) (keys : Li
       let one : part ≡ held_value i = (let k : Some part ≡ Some (held_value i) = sym its_part ∙ also in cc) in
       record { i = i; place_is = at; goes = subst (λ q. Leads bytes table q path inner) one rest }
 
--- ---- what calls find
+-- ---- the state in which calls begin
 
 module _ (allocator : ℕ) (bytes : List ℕ) (table : Table) (place : Place) (U : ℕ) (keys : List ℤ) (vs : Values) (blocks : List ℕ) (f : form_at table place.type ≡ Some (Form.flat_map U))
     (s : Stands allocator bytes table place (Map keys vs) blocks) where
@@ -154,7 +154,7 @@ module _ (allocator : ℕ) (bytes : List ℕ) (table : Table) (place : Place) (U
   pub length_is : length keys ≡ n
   length_is = held_length bytes table place U keys vs blocks f s.holds_it
 
-  -- the buffer, if there is an entry
+  -- if there are entries, there is a buffer
   pub record HasBuffer : Type 0 where
     pub p : ℕ
     pub names : target bytes place.at ≡ Some p
@@ -185,7 +185,7 @@ module _ (allocator : ℕ) (bytes : List ℕ) (table : Table) (place : Place) (U
   pub entry_small : (i : ℕ) → i < n → start bytes place.at + i * each + each < 2 ^ 32
   entry_small i h = omega (arith, entry_fits i h, s.heap.small)
 
-  -- the key of an entry
+  -- the key of an entry is the key at its index
   pub key_is : (i : ℕ) → i < n → slice_get keys i ≡ Some (signed_long bytes (start bytes place.at + i * each))
   key_is i h = rw keys_are (map_get (signed_long bytes) entries i (start bytes place.at + i * each) (spaced_get (start bytes place.at) each n i h))
 
@@ -196,7 +196,7 @@ module _ (allocator : ℕ) (bytes : List ℕ) (table : Table) (place : Place) (U
   pub key_read : (i : ℕ) → i < n → slice_get keys i ≡ Some (signed_long bytes ((start bytes place.at + i * each) % 2 ^ 32))
   key_read i h = let e : (start bytes place.at + i * each) % 2 ^ 32 ≡ start bytes place.at + i * each = omega (arith, entry_small i h) in rw e (key_is i h)
 
-  -- ---- the search by halves
+  -- ---- the binary search
 
   module _ (key : ℤ) (P : ℕ → Ordering → Type 0) (from step len : ℕ) (from_is : from ≡ start bytes place.at) (step_is : step ≡ each) (len_is : len ≡ n)
       (tells : (i : ℕ) (r : Ordering) → P i r → r ≡ int_cmp (signed_long bytes ((from + i * step) % 2 ^ 32)) key) where
@@ -246,12 +246,12 @@ module _ (allocator : ℕ) (bytes : List ℕ) (table : Table) (place : Place) (U
       → MatchResult result (λ i. key_place keys key ≡ Some i) (λ i. (key_place keys key ≡ None) × (i ≡ keys_below keys key))
   searched key from step len result from_is step_is len_is there between = ends key (Compares from step key) from step len from_is step_is len_is (λ i r e. e) result there between
 
-  -- ---- what the calls that read return
+  -- ---- the results of calls that read
 
   pub key_leads : (key : ℤ) (i : ℕ) → key_place keys key ≡ Some i → Leads bytes table place (Selector.key key ∷ []) (value_of U (start bytes place.at + i * each + 8))
   key_leads key i at = held_leads bytes table place U keys vs blocks f s.holds_it key i at
 
-  -- as the code computes the position
+  -- the place of a key's value, as the code computes its position
   pub value_leads : (entry : Entry) (key : ℤ) (i from p : ℕ) → IsEntryOf table 8 U entry → from ≡ start bytes place.at → p ≡ (from + i * entry.size + entry.before) % 2 ^ 32 → key_place keys key ≡ Some i
       → Leads bytes table place (Selector.key key ∷ []) (value_of U p)
   value_leads entry key i from p e from_is p_is at =
@@ -261,7 +261,7 @@ module _ (allocator : ℕ) (bytes : List ℕ) (table : Table) (place : Place) (U
       let same : p ≡ start bytes place.at + i * each + 8 = p_is ∙ rw (from_is, e.size_is, e.before_is) here_is in
       rw same (key_leads key i at)
 
-  -- the result of a search, for the key as the code passes it
+  -- the result of a search for a key: its index, or the number of keys below it
   abbrev pub Searched : ℤ → Result ℕ ℕ → Type 0
   Searched key r = MatchResult r (λ i. key_place keys key ≡ Some i) (λ i. (key_place keys key ≡ None) × (i ≡ keys_below keys key))
 
@@ -289,7 +289,7 @@ module _ (allocator : ℕ) (bytes : List ℕ) (table : Table) (place : Place) (U
   pub read_none : (i count : ℕ) → count ≡ n → count ≤ i → None ≡ slice_get keys i
   read_none i count count_is h = sym (no_key i (omega arith))
 
-  -- the first key above another, from the result of a search
+  -- the first key above another, by the result of a search
   pub next_read : (key passed : ℤ) (i j : ℕ) (r : Result ℕ ℕ) (read : Option ℤ) → passed ≡ key → Searched passed r → r ≡ Ok i → j ≡ min (i + 1) 4294967295 → read ≡ slice_get keys j → read ≡ first_of (keys_above keys key)
   next_read key passed i j r read same h is j_is read_is =
       let at = found_at key i r (subst (λ k. Searched k r) same h) (ap result_ok is) in

@@ -1,4 +1,4 @@
--- Ascending keys, and the place of another one among them.
+-- Ascending keys, and the position of a key among them.
 use Rattle.std.proofs.Common.{◌≡◌, ℕ, zero, suc, ◌+◌, ◌<◌, ◌⊎◌, inl, inr, ℤ, ◌<ℤ◌, Bool, true, false, not, cond, T, List, [], ◌∷◌, ◌++◌, length, take, drop, Some, None, refl, sym, ap, ◌∙◌, subst, arith}
 use Rattle.std.proofs.Common.{◌-◌, ◌≤◌, zero-add, length-append, lt-ltb, le-ltb, ltb-true}
 use Rattle.std.specs.Prelude.{int_lt, filter, count_by, nat_lt, slice_get, insert, remove}
@@ -87,12 +87,12 @@ pub ascending_right : (xs ys : List ℤ) → IsAscending (xs ++ ys) → IsAscend
 ascending_right [] ys a = a
 ascending_right (x ∷ xs) ys a = ascending_right xs ys (ascending_tail x (xs ++ ys) a)
 
--- the keys before a key are below it
+-- the keys before a key are smaller
 pub ascending_before : (xs : List ℤ) (k : ℤ) (ys : List ℤ) → IsAscending (xs ++ k ∷ ys) → AllBelow k xs
 ascending_before [] k ys a = tt
 ascending_before (x ∷ xs) k ys a = ((above_right x xs (k ∷ ys) (ascending_head x (xs ++ k ∷ ys) a)).0, ascending_before xs k ys (ascending_tail x (xs ++ k ∷ ys) a))
 
--- a key between those below it and those above it
+-- a key is inserted between the keys below it and those above it
 pub ascending_with : (xs : List ℤ) (k : ℤ) (ys : List ℤ) → IsAscending (xs ++ ys) → AllBelow k xs → AllAbove k ys → IsAscending (xs ++ k ∷ ys)
 ascending_with [] k ys a b c = ascending_cons k ys c a
 ascending_with (x ∷ xs) k ys a b c =
@@ -119,13 +119,13 @@ pub record Parted (keys : List ℤ) (k : ℤ) (i : ℕ) (these : List ℤ) : Typ
 one_more : (x : ℤ) (keys : List ℤ) (k : ℤ) (i : ℕ) (these : List ℤ) → x <ℤ k → Parted keys k i these → Parted (x ∷ keys) k (suc i) these
 one_more x keys k i these h p = record { below = x ∷ p.below; above = p.above; keys_are = ap (λ ks. x ∷ ks) p.keys_are; at_is = ap suc p.at_is; all_below = (h, p.all_below); all_above = p.all_above }
 
--- a key at an index is above those before it
+-- each key after the first is above it
 front_below : (x : ℤ) (xs : List ℤ) (i : ℕ) (y : ℤ) → AllAbove x xs → slice_get xs i ≡ Some y → x <ℤ y
 front_below x [] i y all e = cc
 front_below x (z ∷ zs) zero y all e = let same : z ≡ y = cc in subst (λ w. x <ℤ w) same all.0
 front_below x (z ∷ zs) (suc i) y all e = front_below x zs i y all.1 e
 
--- a key that is there
+-- the position of a key that is in the list
 pub parted_at : (keys : List ℤ) (k : ℤ) (i : ℕ) → IsAscending keys → slice_get keys i ≡ Some k → Parted keys k i (k ∷ [])
 parted_at [] k i a e = cc
 parted_at (x ∷ xs) k zero a e =
@@ -133,7 +133,7 @@ parted_at (x ∷ xs) k zero a e =
     record { below = []; above = xs; keys_are = ap (λ y. y ∷ xs) same; at_is = refl; all_below = tt; all_above = subst (λ y. AllAbove y xs) same (ascending_head x xs a) }
 parted_at (x ∷ xs) k (suc i) a e = one_more x xs k i (k ∷ []) (front_below x xs i k (ascending_head x xs a) e) (parted_at xs k i (ascending_tail x xs a) e)
 
--- a key to insert before one above it, and after one below it
+-- the position of a key that isn't in the list: before the next key, and after the previous one
 pub parted_front : (keys : List ℤ) (k : ℤ) → IsAscending keys → ((y : ℤ) → slice_get keys 0 ≡ Some y → k <ℤ y) → Parted keys k 0 []
 parted_front [] k a f = record { below = []; above = []; keys_are = refl; at_is = refl; all_below = tt; all_above = tt }
 parted_front (x ∷ xs) k a f =
@@ -147,7 +147,7 @@ parted_after (z ∷ zs) k zero x a e h f =
 parted_after (z ∷ zs) k (suc i) x a e h f =
     one_more z zs k (suc i) [] (int_chain z x k (front_below z zs i x (ascending_head z zs a) e) h) (parted_after zs k i x (ascending_tail z zs a) e h f)
 
--- ---- the definitions about such keys
+-- ---- definitions about keys in order
 
 abbrev misses : ℤ → ℤ → Bool
 misses k x = not (same_int k x)
@@ -232,7 +232,7 @@ place_below keys k i e = go (nat_lt (prefix_len (misses k) keys) (length keys)) 
     go true f g = let same : prefix_len (misses k) keys ≡ i = cc in subst (λ j. j < length keys) same (ltb-true _ _ f)
     go false f g = cc
 
--- ---- each key is among the others, or has a place between them
+-- ---- each key is in the list, or has a position between others
 
 abbrev pub PartedAt : List ℤ → ℤ → Type 0
 PartedAt keys k = ((i : ℕ) × Parted keys k i (k ∷ [])) ⊎ ((i : ℕ) × Parted keys k i [])
@@ -264,7 +264,7 @@ parted_missing keys k i a e is = by (parted keys k a)
     by (inl p) = let there = found_place keys k p.0 p.1 in cc
     by (inr p) = subst (λ j. Parted keys k j []) (sym (missing_below keys k p.0 p.1) ∙ sym is) p.1
 
--- ---- a key below one that is removed
+-- ---- keys below a removed key
 
 clash : (a b : ℤ) → a <ℤ b → b <ℤ a → ⊥
 clash a b h g = let t = less_true a b h in let f = less_false b a g in cc
@@ -285,7 +285,7 @@ module _ (keys : List ℤ) (k : ℤ) (i : ℕ) (ascending : IsAscending keys) (t
       let got : slice_get (p.below ++ other ∷ p.above) j ≡ Some other = subst (λ n. slice_get (p.below ++ other ∷ p.above) n ≡ Some other) e (get_append p.below (other ∷ p.above) 0) in
       subst (λ ks. slice_get ks j ≡ Some other) (sym p.keys_are) got
 
-  -- it is before that one
+  -- the smaller key is before the larger one
   pub stands_before : j < i
   stands_before = go (cases_lt j i)
     where
@@ -301,7 +301,7 @@ module _ (keys : List ℤ) (k : ℤ) (i : ℕ) (ascending : IsAscending keys) (t
           let moved : slice_get (at_k.below ++ k ∷ at_k.above) (length at_k.below + (j - i)) ≡ Some other = subst (λ n. slice_get (at_k.below ++ k ∷ at_k.above) n ≡ Some other) (sym e) got in
           absurd (above_k (j - i) (sym (get_append at_k.below (k ∷ at_k.above) (j - i)) ∙ moved))
 
-  -- its index after that one is removed
+  -- a key before the removed one keeps its index
   pub still_there : key_place (remove keys i) other ≡ Some j
   still_there =
       let left = subst IsAscending at_k.keys_are ascending in

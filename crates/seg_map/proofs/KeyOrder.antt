@@ -1,4 +1,5 @@
--- Nodes in ascending order of numbers: what a search finds among them, and adding or removing one.
+-- Nodes in ascending order of their numbers: the results of searches, and adding or removing a
+-- node.
 use Rattle.std.proofs.Common.{◌≡◌, ◌≢◌, ℕ, zero, suc, ◌+◌, Bool, true, false, cond, ltb, not, ◌&&◌, ℤ, ◌<ℤ◌, List, [], ◌∷◌, ◌++◌, ◌⊎◌, inl, inr, length, map, take, drop}
 use Rattle.std.proofs.Common.{Option, Some, None, MatchOption, option_map, refl, sym, ap, ◌∙◌, subst, arith, zero-add}
 use Rattle.std.specs.Prelude.{int_lt, slice_get, insert, remove, position, eqb}
@@ -37,7 +38,7 @@ equal_by true y e = cc
 equal_by false true e = cc
 equal_by false false e = (refl, refl)
 
--- how a number compares with another, by tests
+-- the result of a comparison, as tests
 pub less_tests : (a b : ℤ) → int_cmp a b ≡ Less → (int_lt a b ≡ true) × (int_lt b a ≡ false)
 less_tests a b e = (less_by (int_lt a b) (int_lt b a) e, (greater_by (int_lt b a) (int_lt a b) (int_cmp_total.antisymm b a ∙ ap ordering_reverse e)).0)
 
@@ -62,7 +63,7 @@ equal_self a = sym (int_cmp_is a a Equal refl)
 pub less_of_greater : (a b : ℤ) → int_cmp a b ≡ Greater → int_cmp b a ≡ Less
 less_of_greater a b e = int_cmp_total.antisymm b a ∙ ap ordering_reverse e
 
--- ---- nodes with numbers
+-- ---- nodes and their numbers
 
 module _ (f : ℕ → ℤ) where
   abbrev pub Before : ℤ → List ℕ → Type 0
@@ -71,7 +72,7 @@ module _ (f : ℕ → ℤ) where
   abbrev pub After : ℤ → List ℕ → Type 0
   After k nodes = AllByRecursion (λ x. int_cmp (f x) k ≡ Greater) nodes
 
-  -- ---- in order
+  -- ---- nodes in order
 
   abbrev pub by : ℕ → ℕ → Ordering
   by x y = int_cmp (f x) (f y)
@@ -92,9 +93,9 @@ module _ (f : ℕ → ℤ) where
   ascending_of (x ∷ []) h = tt
   ascending_of (x ∷ y ∷ ys) h = (below_of_less (f x) (f y) h.0.0, ascending_of (y ∷ ys) h.1)
 
-  -- ---- the place of a number
+  -- ---- the position of a number
 
-  -- all before a number, then all above it
+  -- the nodes before a number, and the nodes after it
   pub record Apart (k : ℤ) (nodes : List ℕ) : Type 0 where
     pub front : List ℕ
     pub back : List ℕ
@@ -118,7 +119,7 @@ module _ (f : ℕ → ℤ) where
       go (inl e) r = record { front = x ∷ r.front; back = r.back; nodes_are = ap (λ ys. x ∷ ys) r.nodes_are; low = (e, r.low); high = r.high }
       go (inr e) r = record { front = []; back = x ∷ xs; nodes_are = refl; low = tt; high = (e, above_all k x xs e a.0) }
 
-  -- all before a number, the one that equals it, and all above it
+  -- the nodes before a number, the node with the number, and the nodes after it
   pub record Around (k : ℤ) (nodes : List ℕ) (node : ℕ) : Type 0 where
     pub front : List ℕ
     pub back : List ℕ
@@ -140,7 +141,7 @@ module _ (f : ℕ → ℤ) where
         high = each_weaker _ _ (λ x l. ap (int_cmp (f x)) (sym same) ∙ int_cmp_total.antisymm (f x) (f node) ∙ ap ordering_reverse l) e.back p.following;
       }
 
-  -- ---- the place of a key
+  -- ---- the position of a key
 
   differs : (k : ℤ) (x : ℕ) → int_cmp (f x) k ≢ Equal → same_int k (f x) ≡ false
   differs k x ne = go (by_compare (int_cmp (f x) k) ne)
@@ -179,7 +180,7 @@ module _ (f : ℕ → ℤ) where
   place_after k [] node back h e = here (same_int k) (f node) (map f back) (equals k node e)
   place_after k (x ∷ front) node back h e = past (same_int k) (f x) (map f (front ++ node ∷ back)) (differs k x (λ same. let both : Less ≡ Equal = sym h.0 ∙ same in cc)) ∙ ap (option_map suc) (place_after k front node back h.1 e)
 
-  -- ---- what a search finds
+  -- ---- the results of searches
 
   found_test : (k : ℤ) (x : ℕ) → is_eq (int_cmp (f x) k) ≡ same_int k (f x)
   found_test k x = go (int_lt (f x) k) (int_lt k (f x))
@@ -190,7 +191,7 @@ module _ (f : ℕ → ℤ) where
       go false true = refl
       go false false = refl
 
-  -- a node at a place of its list, and the place of its number
+  -- a node and its number have the same index in their lists
   pub record AtPlace (k : ℤ) (nodes : List ℕ) (node : ℕ) : Type 0 where
     pub i : ℕ
     pub place_is : key_place (map f nodes) k ≡ Some i
@@ -230,9 +231,9 @@ module _ (f : ℕ → ℤ) where
       go true e h = ap (λ b. first_of (cond b (f x ∷ keys_above (map f xs) k) (keys_above (map f xs) k))) (sym e ∙ above_test k x)
       go false e h = h ∙ ap (λ b. first_of (cond b (f x ∷ keys_above (map f xs) k) (keys_above (map f xs) k))) (sym e ∙ above_test k x)
 
-  -- ---- adding and removing one
+  -- ---- a node is added or removed
 
-  -- how many numbers are below one
+  -- the number of smaller numbers, if the list has one number more
   below_one : (k : ℤ) (x : ℤ) (xs : List ℤ) → keys_below (x ∷ xs) k ≡ cond (int_lt x k) 1 0 + keys_below xs k
   below_one k x xs = sum_by-cons (λ y. cond (int_lt y k) 1 0) x xs
 
@@ -268,7 +269,7 @@ module _ (f : ℕ → ℤ) where
   inserted_at : (xs front back : List ℤ) (k : ℤ) (n : ℕ) → xs ≡ front ++ back → n ≡ length front → insert xs n k ≡ front ++ k ∷ back
   inserted_at xs front back k n e m = ap (λ ys. insert ys n k) e ∙ ap (λ i. insert (front ++ back) i k) m ∙ ap (λ ys. ys ++ k ∷ drop (length front) (front ++ back)) (taken front back) ∙ ap (λ ys. front ++ k ∷ ys) (dropped front back)
 
-  -- the numbers with one more
+  -- the numbers of the nodes after a node was added
   pub more_keys : (k : ℤ) (node : ℕ) (front back : List ℕ) → f node ≡ k → Before k front → After k back
       → insert (map f (front ++ back)) (keys_below (map f (front ++ back)) k) k ≡ map f (front ++ node ∷ back)
   more_keys k node front back e low high =
@@ -278,7 +279,7 @@ module _ (f : ℕ → ℤ) where
   pub place_of_more : (k : ℤ) (front back : List ℕ) → Before k front → After k back → keys_below (map f (front ++ back)) k ≡ length front
   place_of_more k front back low high = below_front k front back low (after_tests k back high)
 
-  -- the place of a node among the others
+  -- a node is inserted before the nodes after it
   comes_here : (node : ℕ) (back : List ℕ) → After (f node) back → with_node by node back ≡ node ∷ back
   comes_here node [] h = refl
   comes_here node (x ∷ xs) h = let e : is_lt (int_cmp (f node) (f x)) ≡ true = ap is_lt (less_of_greater (f x) (f node) h.0) in rw e refl
@@ -299,7 +300,7 @@ module _ (f : ℕ → ℤ) where
       each_joined_with x node [] back e h = (e, h)
       each_joined_with x node (y ∷ front) back e h = (h.0, each_joined_with x node front back e h.1)
 
-  -- the numbers still ascend
+  -- the numbers still ascend after a node was added
   pub ascends_with : (node : ℕ) (front back : List ℕ) → Ascend by (front ++ back) → Before (f node) front → After (f node) back → IsAscending (map f (front ++ node ∷ back))
   ascends_with node front back a low high = ascending_of (front ++ node ∷ back) (ascend_before node front back a low high)
 
@@ -322,7 +323,7 @@ module _ (f : ℕ → ℤ) where
       past_one [] back = refl
       past_one (x ∷ xs) back = past_one xs back
 
-  -- the numbers with one less
+  -- the numbers of the nodes after a node was removed
   pub fewer_keys : (node : ℕ) (front back : List ℕ) → remove (map f (front ++ node ∷ back)) (length front) ≡ map f (front ++ back)
   fewer_keys node front back = removed_at (map f (front ++ node ∷ back)) (map f front) (map f back) (f node) (length front) (map_parts front (node ∷ back)) (sym (map_long front)) ∙ sym (map_parts front back)
 
@@ -340,9 +341,9 @@ module _ (f : ℕ → ℤ) where
   pub goes_between : (k : ℤ) (node : ℕ) (front back : List ℕ) → int_cmp (f node) k ≡ Equal → Before k front → without_node node (front ++ node ∷ back) ≡ front ++ back
   goes_between k node front back e h = goes_from node front back (differ_before k node front e h)
 
-  -- ---- the same node among others
+  -- ---- the index of a node in other lists
 
-  -- in order, a number and its node have the same index
+  -- in a list in order, a number and its node have the same index
   pub place_of : (k : ℤ) (nodes : List ℕ) (x j : ℕ) → Ascend by nodes → slice_get nodes j ≡ Some x → int_cmp (f x) k ≡ Equal → key_place (map f nodes) k ≡ Some j
   place_of k [] x j a at e = cc
   place_of k (y ∷ ys) x zero a at e = let same : y ≡ x = cc in here (same_int k) (f y) (map f ys) (equals k y (ap (λ z. int_cmp (f z) k) same ∙ e))
@@ -369,13 +370,13 @@ module _ (f : ℕ → ℤ) where
       go Less d h = later (key_place (map f ys) k) (sym (past (same_int k) (f y) (map f ys) (differs k y (λ same. let both : Less ≡ Equal = sym d ∙ same in cc))) ∙ e) h
       go Greater d h = later (key_place (map f ys) k) (sym (past (same_int k) (f y) (map f ys) (differs k y (λ same. let both : Greater ≡ Equal = sym d ∙ same in cc))) ∙ e) h
 
--- an element is among more
+-- an item is still in the list after one was added
 pub still_among : (front : List ℕ) (node : ℕ) (back : List ℕ) (i x : ℕ) → slice_get (front ++ back) i ≡ Some x → (j : ℕ) × (slice_get (front ++ node ∷ back) j ≡ Some x)
 still_among [] node back i x e = (suc i, e)
 still_among (y ∷ front) node back zero x e = (zero, e)
 still_among (y ∷ front) node back (suc i) x e = let r = still_among front node back i x e in (suc r.0, r.1)
 
--- another one is among the others
+-- an item is still in the list after another one was removed
 pub left_among : (front : List ℕ) (node : ℕ) (back : List ℕ) (i x : ℕ) → slice_get (front ++ node ∷ back) i ≡ Some x → x ≢ node → (j : ℕ) × (slice_get (front ++ back) j ≡ Some x)
 left_among [] node back zero x e ne = absurd (ne (let same : node ≡ x = cc in sym same))
 left_among [] node back (suc i) x e ne = (i, e)

@@ -1,4 +1,4 @@
--- The kind of the maps of a type, from the layout of what its cells point to.
+-- The kind of a type's maps, by the layout of what its cells point to.
 use Rattle.std.proofs.Common.{◌≡◌, ℕ, Bool, true, false, IsOkUnless, Option, Some, None, Result, Ok, Err, ℤ, List, sym, ap, ◌∙◌, subst, refl, arith}
 use Rattle.std.specs.Option.{ok_or}
 use Rattle.std.specs.Result.{result_ok}
@@ -88,7 +88,7 @@ found_none table T f o r x of e is = subst (ContentOf table T f) (content_none o
 
 -- ---- the two kinds
 
--- a map of the one kind is of the one form
+-- a flat kind means a flat map's form, and a tree kind a tree map's form
 pub as_flat : (table : Table) (T : ℕ) (o : Option Form) (c : Content) (U : ℕ) → KindOf table T o (Ok (kind.Flat c)) → IsMapOf o U → (o ≡ Some (Form.flat_map U)) × IsContent table shape.Buffer (tag_of block.buffer T) 8 U c
 as_flat table T None c U k m = absurd k
 as_flat table T (Some Form.i64) c U k m = absurd k
@@ -113,7 +113,7 @@ as_tree table T (Some (Form.shared V)) c U k m = absurd k
 as_tree table T (Some (Form.struct Us)) c U k m = absurd k
 as_tree table T (Some (Form.map V)) c U k m = (ap (λ W. Some (Form.map W)) m, subst (λ W. NamesTree table T W c) m k)
 
--- a form without keys has no kind, and one with keys has one
+-- exactly the forms with keys have a kind
 pub kind_keys : (table : Table) (T : ℕ) (o : Option Form) (k : map.Kind) → KindOf table T o (Ok k) → has_keys o ≡ true
 kind_keys table T None k h = absurd h
 kind_keys table T (Some Form.i64) k h = absurd h
@@ -151,7 +151,7 @@ pub only_code : {X : Type 0} (o : Option X) (r : Result X Code) (e : Code) → r
 only_code None r e is = subst (λ q. IsOkUnless q e) (sym is) refl
 only_code (Some x) r e is = subst (λ q. IsOkUnless q e) (sym is) tt
 
--- ---- what the calls return
+-- ---- the results of the calls
 
 pub found_by : (bytes : List ℕ) (table : Table) (place : Place) (U : ℕ) (keys : List ℤ) (key passed : ℤ) → passed ≡ key → (o p : Option ℕ) → o ≡ p → (r : Result ℕ Code) (e : Code) → r ≡ ok_or o e
     → FindsValue bytes table place U keys passed p → FindsValue bytes table place U keys key (result_ok r)

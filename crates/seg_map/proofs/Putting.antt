@@ -1,4 +1,4 @@
--- What putting a key into a tree leaves, from what its steps leave.
+-- The map after a key was put into a tree, from how the steps change the bytes.
 use Rattle.std.proofs.Common.{◌≡◌, ◌≢◌, ℕ, ◌+◌, ◌*◌, ◌%◌, ◌^◌, ◌<◌, ◌≤◌, min, ℤ, List, [], ◌∷◌, ◌++◌, length, map, Option, Some, None, Ok, Err, refl, sym, ap, ◌∙◌, subst, arith}
 use Rattle.std.specs.Prelude.{slice_get}
 use Rattle.std.specs.List.{AllByRecursion}
@@ -45,9 +45,9 @@ module _ (allocator : ℕ) (old : List ℕ) (table : Table) (place : Place) (U :
   pub value_known : U < length table
   value_known = s.is_table.forms place.type (Form.map U) f
 
-  -- ---- what the path found
+  -- ---- the end of the path
 
-  -- one of the nodes that compare as equal, if there is one, in a search tree at a pointer word
+  -- a search in the tree at a pointer word finds a node that compares as equal, if there is one
   abbrev pub Finds : List ℕ → ℕ → Option ℕ → Type 0
   Finds now root o = (tree : Tree) → IsSearchTree now root tree → Ascend (λ x y. int_cmp (key_at now x) (key_at now y)) (nodes_of tree) → FindsEqual (λ x. int_cmp (key_at now x) key) (nodes_of tree) o
 
@@ -67,7 +67,7 @@ module _ (allocator : ℕ) (old : List ℕ) (table : Table) (place : Place) (U :
   pub no_key : AllByRecursion (λ x. int_cmp (key_at old x) key ≢ Equal) the_nodes → key_place keys key ≡ None
   no_key h = ap (λ ks. key_place ks key) (keys_are allocator old table place U keys vs blocks f s) ∙ no_place (key_at old) key the_nodes h
 
-  -- the node that was found, among the others
+  -- the node that was found, and the nodes before and after it
   pub around : (now : List ℕ) (root : ℕ) (o : Option ℕ) (node : ℕ) → now ≡ old → root ≡ place.at → Finds now root o → o ≡ Some node → Around (key_at old) key the_nodes node
   around now root o node same root_is h e = around_at (key_at old) key the_nodes node (ascend allocator old table place U keys vs blocks f s) (there_by o node e (finds_here now root o same root_is h))
 
@@ -93,14 +93,14 @@ module _ (allocator : ℕ) (old : List ℕ) (table : Table) (place : Place) (U :
     unfolding at_place
     node_low = each_at (λ p. p + 8192 < 2 ^ 32) the_nodes (length a.front) node (low allocator old table place U keys vs blocks f s) at_place.node_is
 
-    -- a key that is there stays as it is
+    -- if the map has the key, nothing changes
     pub puts_there : (E : Type 0) (asks : List Ask) (p each before : ℕ) → p ≡ (node + 0 * each + before) % 2 ^ 32 → before ≡ 24 → PutsKey {E = E} allocator old old table place U keys vs key blocks asks (key_place keys key) (Ok p)
     puts_there E asks p each before p_is before_is =
         let at : p ≡ node + 24 = let l = node_low in omega arith in
         rw key_there (refl, subst (λ q. Leads old table place (Selector.key key ∷ []) (value_of U q)) (sym at) (leads_to allocator old table place U keys vs blocks f s key node at_place))
 
   module _ (absent : AllByRecursion (λ x. int_cmp (key_at old x) key ≢ Equal) the_nodes) where
-    -- there was no room for a new one
+    -- there is no room for a new node
     pub puts_refused : {E : Type 0} (new : List ℕ) (asks : List Ask) (code : E) → Refuses allocator old new asks → PutsKey allocator old new table place U keys vs key blocks asks (key_place keys key) (Err code)
     puts_refused new asks code r = rw (no_key absent) r
 
@@ -110,7 +110,7 @@ module _ (allocator : ℕ) (old : List ℕ) (table : Table) (place : Place) (U :
         let lies = there (LiesIn mid heap_start (length mid)) (block_of node) (positions (live mid)) (live-lie mid allocator g.heap) (let one = g.now_live in omega arith) in
         let back = g.is_block.after_header in let high = lies.high in let small = g.heap.small in let two = lies.size in omega arith
 
-    -- a new one: the map has its key, and each path still reaches the same place
+    -- the new node is in the tree: the map has its key, and each path still reaches the same place
     pub added_new : (mid with_key three new now : List ℕ) (node kp n count root : ℕ) (path : Path) → GivesBlock allocator old mid table (tag_of Kind.node place.type) 24 U node → kp ≡ (node + 16) % 2 ^ 32 → ChangesOnly mid with_key kp 8
         → (kp + 8 ≤ length mid → signed_long with_key kp ≡ key) → now ≡ old → root ≡ place.at → path.root ≡ root
         → ((tree : Tree) → IsSearchTree now root tree → LeadsTo (λ x. ordering_reverse (int_cmp (key_at now x) key)) tree path) → AddsFrom with_key three path.root path node

@@ -1,4 +1,4 @@
--- The values of a map with one more or one less, and the map in a tree of them.
+-- The values of a map with one more or one less, and the map that a tree with these values is.
 use Rattle.std.proofs.Common.{◌≡◌, ℕ, zero, suc, ◌+◌, ℤ, List, [], ◌∷◌, ◌++◌, length, map, Some, refl, sym, ap, ◌∙◌, subst, append_assoc}
 use Rattle.std.specs.List.{AllByRecursion}
 use Rattle.seg_spec.specs.Pointer.{target}
@@ -15,7 +15,7 @@ use Rattle.seg_spec.proofs.OneReading.{Opens-one}
 use Rattle.seg_spec.proofs.Leading.{Leads-each}
 use Rattle.seg_map.proofs.TreeMaps.{IsTreeMap, same_form, mapped_at}
 
--- the position of the values of nodes
+-- the places of the values of nodes
 abbrev pub value_places : ℕ → List ℕ → List Place
 value_places U nodes = places_of U (map (λ p. p + 24) nodes)
 
@@ -42,7 +42,7 @@ removed_nth left right w n e = ap (λ i. remove_nth (append left (cons w right))
     go (cons v vs) = ap (cons v) (go vs)
 
 module _ (bytes : List ℕ) (table : Table) where
-  -- values of places one after the other, taken apart after some of them
+  -- values of places in order, in two parts
   pub record Parts (before after : List Place) (vs : Values) (blocks : List ℕ) : Type 0 where
     pub left : Values
     pub right : Values
@@ -76,7 +76,7 @@ module _ (bytes : List ℕ) (table : Table) where
   joined holds_none h = h
   joined (holds_more {blocks = bs} {owned = cs} l ls) h = rw append_assoc (holds_more l (joined ls h))
 
-  -- a tree with its keys and values is a map
+  -- a tree with these keys and values is a map
   pub map_of : (place : Place) (U : ℕ) (tree : Tree) (keys : List ℤ) (vs : Values) (owned : List ℕ) → form_at table place.type ≡ Some (Form.map U) → IsTree bytes (target bytes place.at) tree → IsRedBlack tree
       → length (nodes_of tree) ≡ count_at bytes place.at → AreNodes bytes (tag_of Kind.node place.type) (24 + size table U) (nodes_of tree) → keys ≡ keys_at bytes (map (λ p. p + 16) (nodes_of tree)) → IsAscending keys
       → HoldsEach bytes table (value_places U (nodes_of tree)) vs owned → Holds bytes table place (Map keys vs) (map block_of (nodes_of tree) ++ owned)
@@ -115,7 +115,7 @@ key_by keys Selector.content i e = cc
 
 module _ (old new : List ℕ) (table : Table) (valid : IsTable table) (place : Place) (U : ℕ) (keys : List ℤ) (vs : Values) (blocks : List ℕ) (f : form_at table place.type ≡ Some (Form.map U)) (m : IsTreeMap old table place U keys vs blocks)
     (same : AllByRecursion (SamePlace old new table) (value_places U (nodes_of m.opens.tree))) (kept : AllByRecursion (KeepsBlock old new) m.owned) where
-  -- a path from the map has a key first, and continues from the value in its node
+  -- a path from the map begins with a key, and continues from the value in the key's node
   pub record Passes (s : Selector) (path : List Selector) (inner : Place) : Type 0 where
     pub key : ℤ
     pub selector_is : s ≡ Selector.key key
@@ -147,7 +147,7 @@ module _ (old new : List ℕ) (table : Table) (valid : IsTable table) (place : P
         goes = subst (λ p. Leads new table p path inner) (sym a.is ∙ ap (value_of U) (sym b.is)) (Leads-each old new table valid part i m.each part' same kept rest);
       }
 
--- all paths from a place, by those that continue
+-- All paths are kept if the paths of one step or more are kept.
 pub paths_by : (old new : List ℕ) (table : Table) (place : Place) → ((s : Selector) (path : List Selector) (inner : Place) → Leads old table place (s ∷ path) inner → Leads new table place (s ∷ path) inner)
     → (path : List Selector) (inner : Place)
     → Leads old table place path inner → Leads new table place path inner

@@ -1,5 +1,5 @@
--- A tree after its words and its cell's count were written: the tree that is then there, and what
--- is kept.
+-- A tree after its words and its cell's count were written: the new tree, and the bytes that are
+-- kept.
 use Rattle.std.proofs.Common.{◌≡◌, ◌≢◌, ℕ, ◌+◌, ◌-◌, ◌*◌, ◌^◌, ◌<◌, ◌≤◌, ◌⊎◌, inl, inr, List, [], ◌∷◌, length, map, sym, ap, ◌∙◌, subst, arith}
 use Rattle.std.specs.List.{AllByRecursion}
 use Rattle.seg_spec.specs.Bytes.{set_word, IsSame, ChangesOnly}
@@ -19,7 +19,7 @@ use Rattle.seg_spec.proofs.LiveLaws.{LiesIn, there, each_there, live-lie, live-a
 use Rattle.seg_rbtree.specs.Changes.{NodesApart, StandApart, Leaves}
 use Rattle.seg_map.proofs.SeveralWrites.{Range, Beside, IsWritable, low_same, heap_same, live_same, ownable_same, header_then, link_same, part_same, whole_then, around_then}
 
--- the tree words of a node
+-- the bytes of a node's tree words
 abbrev pub words_of : ℕ → Range
 words_of q = record { at = q; n = 16; block = block_of q }
 
@@ -27,13 +27,13 @@ words_of q = record { at = q; n = 16; block = block_of q }
 abbrev pub written : ℕ → ℕ → List ℕ → List Range
 written cell home touched = record { at = cell; n = 8; block = home } ∷ map words_of touched
 
--- a node whose tree words may be written: they lie in an allocated block, which isn't the cell's
+-- a node's tree words lie in an allocated block, which isn't the cell's, and so may be written
 pub record IsTouched (bytes : List ℕ) (home q : ℕ) : Type 0 where
   pub after_header : 16 ≤ q
   pub is_live : 1 ≤ times (block_of q) (positions (live bytes))
   pub other : block_of q ≢ home
 
--- the tree at a cell afterwards
+-- the bytes after the tree words of some nodes and the cell were written
 pub record Remade (allocator : ℕ) (mid new : List ℕ) (cell home n : ℕ) (touched now : List ℕ) : Type 0 where
   pub length_kept : length new ≡ length mid
   pub low : (p m : ℕ) → p + m ≤ heap_start → IsSame mid new p m
@@ -43,7 +43,7 @@ pub record Remade (allocator : ℕ) (mid new : List ℕ) (cell home n : ℕ) (to
   pub header : (h : ℕ) → 1 ≤ times h (positions (live mid)) → KeepsHeader mid new h × (link_at new h ≡ link_at mid h)
   pub whole : (h : ℕ) → 1 ≤ times h (positions (live mid)) → h ≢ home → times h (map block_of touched) ≡ 0 → KeepsBlock mid new h
   pub around : (h : ℕ) → 1 ≤ times h (positions (live mid)) → times h (map block_of touched) ≡ 0 → KeepsBlockAround mid new cell 8 h
-  -- what a node has after its tree words
+  -- the bytes of a node after its tree words are kept
   pub content : (q p m : ℕ) → 16 ≤ q → 1 ≤ times (block_of q) (positions (live mid)) → block_of q ≢ home → q + 16 ≤ p → p + m ≤ block_of q + 16 * units_at mid (block_of q) → IsSame mid new p m
   pub tree : Tree
   pub is_tree : IsTree new (target new cell) tree
@@ -51,7 +51,7 @@ pub record Remade (allocator : ℕ) (mid new : List ℕ) (cell home n : ℕ) (to
   pub nodes_are : nodes_of tree ≡ now
   pub count_is : count_at new cell ≡ n
 
--- ---- nodes in blocks of their own
+-- ---- nodes in separate blocks
 
 module _ (allocator : ℕ) (bytes : List ℕ) (heap : IsHeap allocator bytes) (cell home : ℕ) (ns : List ℕ) (home_in : IsInside bytes home cell 8) (home_live : 1 ≤ times home (positions (live bytes)))
     (each : AllByRecursion (IsTouched bytes home) ns) (once : (h : ℕ) → times h (home ∷ map block_of ns) ≤ 1) where
@@ -79,7 +79,7 @@ module _ (allocator : ℕ) (bytes : List ℕ) (heap : IsHeap allocator bytes) (c
     nodes_apart xs t.1 a.1,
   )
 
-  -- their tree words and the cell's pointer share no byte
+  -- the nodes' tree words and the cell's pointer don't overlap
   pub stand_apart : StandApart (length bytes) cell ns
   stand_apart = record {
     small = heap.small;
@@ -160,7 +160,7 @@ module _ (allocator : ℕ) (mid three new : List ℕ) (cell home n : ℕ) (touch
   fits : cell + 4 + 4 ≤ length three
   fits = let high = home_in.high in let end = (lies home home_live).high in let same = l.kept.length_kept in omega arith
 
-  -- what the cell counted before
+  -- the cell's count is the count before the change
   pub count_before : count_at three cell ≡ count_at mid cell
   count_before = word-same mid three (cell + 4) (l.kept.others (cell + 4) 4 (inr (omega arith)) (each_weaker _ _ (λ q t. go q (cell_apart q t)) touched each))
     where

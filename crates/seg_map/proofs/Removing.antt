@@ -1,5 +1,5 @@
--- A node is removed from the tree of a map and freed, with what its value owns: the map has one key
--- less.
+-- A node is removed from the tree of a map and freed, with what its value owns. The map then has
+-- one key less.
 use Rattle.std.proofs.Common.{◌≡◌, ◌≢◌, ℕ, ◌+◌, ◌-◌, ◌^◌, ◌<◌, ◌≤◌, inl, inr, ℤ, List, [], ◌∷◌, ◌++◌, length, map, Some, refl, sym, ap, ◌∙◌, subst, arith}
 use Rattle.std.proofs.lemmas.List.{length-append}
 use Rattle.std.specs.Prelude.{remove, slice_get, Contains}
@@ -44,7 +44,7 @@ use Rattle.seg_map.proofs.TreeMaps.{key_at, keys_low, IsTreeMap, its, nodes, IsN
 use Rattle.seg_map.proofs.Relinking.{IsTouched, Remade, remade, count_before, stand_apart}
 use Rattle.seg_map.proofs.Rebuilding.{value_places, places_joined, places_long, removed_nth, parts, joined, map_of, map_leads, passes}
 
--- the value after others, taken out
+-- a value, and the values before and after it
 pub record Cut (bytes : List ℕ) (table : Table) (before after : List Place) (part : Place) (vs : Values) (blocks : List ℕ) : Type 0 where
   pub left : Values
   pub value : Value
@@ -163,8 +163,8 @@ module _ (allocator : ℕ) (old : List ℕ) (table : Table) (place : Place) (U :
   blocks_joined [] ys = refl
   blocks_joined (x ∷ xs) ys = ap (λ zs. block_of x ∷ zs) (blocks_joined xs ys)
 
-  -- the blocks of the map: its other nodes and their values' blocks, and the node with its value's
-  -- blocks
+  -- The blocks of the map: its other nodes and the blocks of their values; then the removed node
+  -- and the blocks of its value.
   shares : (h : ℕ) → times h blocks ≡ times h (map block_of (a.front ++ a.back)) + times h (k.xs ++ k.ys) + times h (block_of node ∷ k.zs)
   shares h =
       let b : times h blocks ≡ times h (map block_of ns ++ m.owned) = ap (times h) m.blocks_are in
@@ -257,7 +257,7 @@ module _ (allocator : ℕ) (old : List ℕ) (table : Table) (place : Place) (U :
     still_ascend = subst IsAscending (sym keys_less) (ascends_without (key_at old) node a.front a.back (subst (Rattle.seg_spec.specs.Search.Ascend (λ x y. int_cmp (key_at old x) (key_at old y))) a.nodes_are
         (ascend allocator old table place U keys vs blocks f s)))
 
-    -- ---- the values then
+    -- ---- the other values
 
     owned_away : (h : ℕ) → 1 ≤ times h m.owned → (1 ≤ times h (positions (live old))) × (h ≢ s.home) × (times h (map block_of ns) ≡ 0)
     owned_away h some =
@@ -335,7 +335,7 @@ module _ (allocator : ℕ) (old : List ℕ) (table : Table) (place : Place) (U :
     inside_mid : IsInside mid s.home place.at (size table place.type)
     inside_mid = let h = (made.header s.home home_old).0.room in let high = s.inside.high in let two = (lies s.home home_old).size in record { low = s.inside.low; high = omega arith }
 
-    -- what calls find of the map without the node, and of the node's value
+    -- the map without the node is still at its place, and so is the node's value in the node
     pub map_stands : Stands allocator mid table place (without_entry (keys, vs) i) others
     map_stands = record {
       heap = made.heap;
@@ -373,7 +373,7 @@ module _ (allocator : ℕ) (old : List ℕ) (table : Table) (place : Place) (U :
     unfolding value_stands
     value_home = refl
 
-    -- ---- frozen objects apart from the map
+    -- ---- frozen objects outside the map
 
     module _ (theirs : ℕ → List ℕ) (kept : List Place) (now final : List Frozen) (beside : SharedBeside old table (s.home ∷ blocks) (named_in k.value) theirs kept now final) where
       abbrev shared : List ℕ
@@ -382,7 +382,7 @@ module _ (allocator : ℕ) (old : List ℕ) (table : Table) (place : Place) (U :
       abbrev left : List ℕ
       left = blocks_by theirs final
 
-      -- their blocks are allocated, and none of the map's
+      -- the frozen objects' blocks are allocated, and aren't the map's
       all_fit : (h : ℕ) → times h (s.home ∷ blocks) + times h shared ≤ times h (positions (live old))
       all_fit h = omega (arith, beside.owned h, times-append h (s.home ∷ blocks) shared)
 
@@ -403,7 +403,7 @@ module _ (allocator : ℕ) (old : List ℕ) (table : Table) (place : Place) (U :
           (shared_still old mid table s.is_table (s.home ∷ blocks) (block_of node ∷ k.zs) (named_in k.value) theirs kept now final shared_whole ownable_mid
           (λ h. omega (arith, all_fit h, live_mid h, shares h, times-more h s.home blocks, times-append h (block_of node ∷ k.zs) shared)) beside)
 
-      -- ---- the value is cleared, and the node freed
+      -- ---- the value is cleared, and then the node is freed
 
       module _ (cleared new : List ℕ) (c : ClearsPlace mid cleared table (value_of U (node + 24)) (default_of table U) k.zs [] theirs now final) (gives : IsHeap allocator cleared → IsLive cleared (block_of node)
           → Gives allocator cleared new (block_of node)) where
@@ -431,7 +431,7 @@ module _ (allocator : ℕ) (old : List ℕ) (table : Table) (place : Place) (U :
         node_mid : 1 ≤ times (block_of node) (positions (live mid))
         node_mid = mid_some (block_of node) node_live
 
-        -- a block is kept that isn't the node's, nor one of its value or of frozen objects
+        -- a block is kept unless it is the node's, or the value or a frozen object owned it
         kept_cleared : (h : ℕ) → 1 ≤ times h (positions (live mid)) → h ≢ block_of node → times h k.zs + times h shared ≡ 0 → KeepsBlock mid cleared h
         kept_cleared h some ne none =
             let kept = c.changes.kept h some (goes h ∙ none) in
@@ -502,7 +502,7 @@ module _ (allocator : ℕ) (old : List ℕ) (table : Table) (place : Place) (U :
         map_left : Stands allocator new table place (without_entry (keys, vs) i) others
         map_left = left_stands allocator cleared table place (without_entry (keys, vs) i) others map_cleared new (block_of node) g node_cleared node_off
 
-        -- a block that still exists when the node is freed
+        -- the other blocks are kept when the node is freed
         last_kept : (h : ℕ) → 1 ≤ times h (positions (live cleared)) → h ≢ block_of node → KeepsBlock cleared new h
         last_kept h some ne = (left_kept allocator cleared table place (without_entry (keys, vs) i) others map_cleared new (block_of node) g node_cleared node_off h some (λ e. ne (sym e))).whole.kept
 
@@ -546,7 +546,7 @@ module _ (allocator : ℕ) (old : List ℕ) (table : Table) (place : Place) (U :
             around_twice old mid new place.at (size table place.type) h first (around_twice mid cleared new place.at (size table place.type) h (around_kept mid cleared place.at (size table place.type) h (omega arith) step)
             (around_kept cleared new place.at (size table place.type) h (omega arith) last))
 
-        -- ---- the frozen objects that stay
+        -- ---- the remaining frozen objects
 
         left_away : (h : ℕ) → 1 ≤ times h left → (1 ≤ times h shared) × (1 ≤ times h (positions (live cleared))) × (h ≢ block_of node)
         left_away h some =

@@ -1,4 +1,5 @@
--- What writes inside the payloads of several allocated blocks keep, if nothing else was written.
+-- Only bytes inside the payloads of several allocated blocks were written. All other bytes are
+-- kept.
 use Rattle.std.proofs.Common.{◌≡◌, ◌≢◌, ℕ, ◌+◌, ◌*◌, ◌≤◌, inl, List, length, arith}
 use Rattle.std.specs.List.{AllByRecursion}
 use Rattle.seg_spec.specs.Bytes.{IsSame}
@@ -17,7 +18,7 @@ module _ (old new : List ℕ) (allocator : ℕ) (heap : IsHeap allocator old) (r
   low_by : (r : Range) → IsWritable old r → heap_start + 16 ≤ r.at
   low_by r w = let l = there (LiesIn old heap_start (length old)) r.block (positions (live old)) (live-lie old allocator heap) w.is_live in let low = l.low in let more = w.inside.low in omega arith
 
-  -- the bytes before the heap
+  -- the bytes before the heap are kept
   pub low_same : (p n : ℕ) → p + n ≤ heap_start → IsSame old new p n
   low_same p n fits = beside p n (each_weaker _ _ (λ r w. inl (let l = low_by r w in omega arith)) ranges writable)
 
@@ -36,7 +37,7 @@ module _ (old new : List ℕ) (allocator : ℕ) (heap : IsHeap allocator old) (r
   pub ownable_same : (table : Table) → AllByRecursion (λ b. IsOwnable old table b.at) (live old) → AllByRecursion (λ b. IsOwnable new table b.at) (live new)
   ownable_same table o = writes.ownable_same old new allocator heap ranges writable length_kept root_kept in_heap table o
 
-  -- ---- an allocated block
+  -- ---- a single allocated block
 
   module _ (x : ℕ) (is_live : 1 ≤ times x (positions (live old))) where
     pub part_same : (p m : ℕ) → x ≤ p → p + m ≤ x + 16 * units_at old x → AllByRecursion (λ r. (r.block ≡ x) → Separate p m r.at r.n) ranges → IsSame old new p m
@@ -48,10 +49,10 @@ module _ (old new : List ℕ) (allocator : ℕ) (heap : IsHeap allocator old) (r
     pub link_same : link_at new x ≡ link_at old x
     link_same = writes.link_same old new allocator heap ranges writable length_kept root_kept in_heap x is_live
 
-    -- no range lies in it
+    -- a block is kept if no range lies in it
     pub whole_then : AllByRecursion (λ r. r.block ≢ x) ranges → KeepsBlock old new x
     whole_then others = writes.whole_then old new allocator heap ranges writable length_kept root_kept in_heap x is_live others
 
-    -- every range in it is within n bytes
+    -- a block is kept around n bytes if each range in it lies within these
     pub around_then : (at n : ℕ) → AllByRecursion (λ r. r.block ≡ x → (at ≤ r.at) × (r.at + r.n ≤ at + n)) ranges → KeepsBlockAround old new at n x
     around_then at n within = writes.around_then old new allocator heap ranges writable length_kept root_kept in_heap x is_live at n within

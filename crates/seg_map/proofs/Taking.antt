@@ -1,4 +1,4 @@
--- What removing a key from a tree leaves, from what its steps leave.
+-- The map after a key was removed from a tree, from how the steps change the bytes.
 use Rattle.std.proofs.Common.{◌≡◌, ◌≢◌, ℕ, ◌+◌, ◌-◌, ◌*◌, ◌%◌, ◌^◌, true, false, ℤ, List, [], ◌∷◌, length, Some, refl, ap, ◌∙◌, subst, arith}
 use Rattle.std.specs.List.{AllByRecursion}
 use Rattle.std.specs.Ordering.{int_cmp, ordering_reverse}
@@ -27,7 +27,7 @@ use Rattle.seg_map.proofs.TreeMaps.{key_at, its, nodes, is_search_tree}
 use Rattle.seg_map.proofs.Putting.{no_key, key_there, node_low}
 use Rattle.seg_map.proofs.Removing.{nodes_apart, k, value_is, value_stands, value_beside, takes_key}
 
--- what removing the node at the end of a path does
+-- what removing the node at the end of a path ensures
 abbrev pub TakesFrom : List ℕ → List ℕ → ℕ → Path → Type 0
 TakesFrom old new root path = (turn : ℕ → Ordering) (node : ℕ) (shape : Tree) → IsSearchTree old root shape → LeadsTo turn shape path → node_at old path ≡ Some node → StandApart (length old) root (nodes_of shape)
     → Leaves old new root (nodes_of shape) (without_node node (nodes_of shape))
@@ -40,13 +40,13 @@ module _ (allocator : ℕ) (old : List ℕ) (table : Table) (place : Place) (U :
   abbrev shape : Tree
   shape = (its allocator old table place U keys vs blocks f s).opens.tree
 
-  -- a key that isn't there
+  -- if the map lacks the key, nothing changes
   pub removes_none : AllByRecursion (λ x. int_cmp (key_at old x) key ≢ Equal) the_nodes → RemovesKey old old table place keys vs s.home blocks (KeepsOtherKeys old old table place key) (key_place keys key) false
   removes_none absent = rw (no_key allocator old table place U keys vs blocks f s key absent) (refl, refl)
 
   module _ (node : ℕ) (a : Around (key_at old) key the_nodes node) where
-    -- one that is in the map: it is removed for any frozen objects, and paths through other keys
-    -- still reach the same places
+    -- If the map has the key, the key is removed, for any frozen objects. Paths through other keys
+    -- still reach the same places.
     abbrev pub Takes : List ℕ → Type 0
     Takes new = (v : Value) → nth vs (length a.front) ≡ Some v
         → BesideShared old table (s.home ∷ blocks) (named_in v) (TakesKey old new table place keys vs blocks (KeepsOtherKeys old new table place key) (length a.front))

@@ -1,4 +1,4 @@
--- A map as a tree, with its keys and values, as the calls on nodes see it.
+-- A map as a tree with its keys and values, in the terms of the calls on nodes.
 use Rattle.std.proofs.Common.{◌≡◌, ℕ, ◌+◌, ◌*◌, ◌%◌, ◌^◌, ◌<◌, ◌≤◌, ℤ, true, List, [], ◌∷◌, ◌++◌, zero, suc, length, map, Option, Some, None, MatchOption, option_map, refl, sym, ap, ◌∙◌, subst, arith}
 use Rattle.std.specs.Prelude.{slice_get}
 use Rattle.std.proofs.lemmas.List.{length-map}
@@ -40,7 +40,7 @@ keys_low bytes (p ∷ ps) h =
     let rest = keys_low bytes ps h.1 in
     ap (λ k. k ∷ keys_at bytes (map (λ p. p + 16) ps)) one ∙ ap (λ ks. key_at bytes p ∷ ks) rest
 
--- what a place of a map shows
+-- a place contains a map as a tree, with these keys, values and blocks
 pub record IsTreeMap (bytes : List ℕ) (table : Table) (place : Place) (U : ℕ) (keys : List ℤ) (vs : Values) (blocks : List ℕ) : Type 0 where
   pub opened : Opened
   pub opens : OpensTree bytes table place.at (tag_of Kind.node place.type) U opened
@@ -84,7 +84,7 @@ tree_map bytes table place U keys vs blocks f (holds form opened inside owned g 
     let o' : Opens bytes table place (Form.map U) opened = subst (λ h. Opens bytes table place h opened) same o in
     map_by bytes table place U keys vs blocks opened inside owned o' hs v_is blocks_is
 
--- ---- what calls find of a map
+-- ---- the state in which calls begin
 
 pub mapped_at : {X Y : Type 0} (g : X → Y) (xs : List X) (i : ℕ) (x : X) → slice_get xs i ≡ Some x → slice_get (map g xs) i ≡ Some (g x)
 mapped_at g [] i x e = cc
@@ -141,7 +141,7 @@ module _ (allocator : ℕ) (bytes : List ℕ) (table : Table) (place : Place) (U
   pub is_search_tree : IsSearchTree bytes place.at its.opens.tree
   is_search_tree = record { is_tree = its.opens.is_tree; red_black = its.opens.red_black; few = let n = few_nodes in let small = s.heap.small in omega arith }
 
-  -- the value of a node's key is in the node
+  -- the value of a key is in the key's node
   pub leads_to : (key : ℤ) (node : ℕ) → AtPlace (key_at bytes) key nodes node → Leads bytes table place (Selector.key key ∷ []) (value_of U (node + 24))
   leads_to key node a =
       let o' : Opens bytes table place (Form.map U) its.opened = its.opens in
@@ -151,7 +151,7 @@ module _ (allocator : ℕ) (bytes : List ℕ) (table : Table) (place : Place) (U
       (rw label (ap (λ ks. key_place ks key) (keys_low bytes nodes low) ∙ a.place_is))
       (rw parts (mapped_at (value_of U) (map (λ p. p + 24) nodes) a.i (node + 24) (mapped_at (λ p. p + 24) nodes a.i node a.node_is))) here
 
-  -- ---- what searches return
+  -- ---- the results of searches
 
   module _ (now : List ℕ) (root : ℕ) (same : now ≡ bytes) (root_is : root ≡ place.at) where
     there_too : IsSearchTree now root its.opens.tree

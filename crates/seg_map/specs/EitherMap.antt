@@ -1,11 +1,11 @@
 -- Maps of both kinds, flat maps and trees.
 --     has_keys form                    values of this form are maps
---     IsMapOf form U                   they are maps to values of type U
+--     IsMapOf form U                   values of this form are maps to values of type U
 --     WhereMaps allocator bytes table map claim     the claim is true of a place that is a map
 --     key_asks bytes table at form     the requests for one more key
 --     KindOf table T form result       the kind of the maps of a type
 --     KeepsTreePaths form old new table map         paths into a tree map still reach the same places
---     KeepsKeysBut form old new table map key       so do paths through other keys: through all of them in a tree,
+--     KeepsKeysBut form old new table map key       paths through other keys are kept: through all of them in a tree,
 --                                                   through lower ones in a flat map
 use Rattle.std.specs.Prelude.{⊤, ◌≡◌, ℕ, ◌+◌, ℤ, Bool, true, false, List, [], ◌∷◌, Option, Some, Result, Ok, Err}
 use Rattle.seg_spec.specs.Types.{Form, Table, form_at, size}
@@ -35,8 +35,8 @@ IsMapOf (Some (Form.flat_map V)) U = V ≡ U
 IsMapOf (Some (Form.map V)) U = V ≡ U
 IsMapOf _ U = ⊥
 
--- If the place has a map, the claim is true of the type of its values, its keys and values, and the
--- blocks that it owns.
+-- If the place has a map, the claim is true of the type of the map's values, its keys and values,
+-- and the blocks that it owns.
 abbrev pub WhereMaps : ℕ → List ℕ → Table → Place → (ℕ → List ℤ → Values → List ℕ → Type 0) → Type 0
 WhereMaps allocator bytes table map claim =
     (U : ℕ) (keys : List ℤ) (vs : Values) (blocks : List ℕ) → IsMapOf (form_at table map.type) U →
@@ -48,7 +48,7 @@ key_asks bytes table at (Some (Form.flat_map U)) = flat_asks bytes table at U
 key_asks bytes table at (Some (Form.map U)) = block_for (VALUE + size table U) ∷ []
 key_asks bytes table at form = []
 
--- the kind of the maps of a type; `OtherType` if its values are no maps
+-- the kind of the maps of a type; `OtherType` if the type's values aren't maps
 abbrev pub KindOf : Table → ℕ → Option Form → Result map.Kind Code → Type 0
 KindOf table T (Some (Form.flat_map U)) (Ok (kind.Flat content)) =
     IsContent table shape.Buffer (tag_of Kind.buffer T) 8 U content
@@ -62,8 +62,8 @@ abbrev pub KeepsTreePaths : Option Form → List ℕ → List ℕ → Table → 
 KeepsTreePaths (Some (Form.map U)) old new table map = KeepsPathsInside old new table map
 KeepsTreePaths form old new table map = ⊤
 
--- Paths through other keys still reach the same places. In a flat map only those through lower keys
--- do, since the values of the others moved.
+-- Paths through other keys still reach the same places. In a flat map only paths through lower keys
+-- do, since the other values moved.
 abbrev pub KeepsKeysBut : Option Form → List ℕ → List ℕ → Table → Place → ℤ → Type 0
 KeepsKeysBut (Some (Form.flat_map U)) old new table map key = KeepsLowerKeys old new table map key
 KeepsKeysBut (Some (Form.map U)) old new table map key = KeepsOtherKeys old new table map key

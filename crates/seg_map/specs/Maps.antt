@@ -1,7 +1,7 @@
 -- Calls on maps of one kind. U is the type of the values, `keys` and vs are the keys and the values
 -- in order, and `blocks` the blocks that the map owns. An index of a key is its index in `keys`.
 --     first_of keys               the first of keys, if there is one
---     keys_above keys after       those above another, in their order
+--     keys_above keys after       the keys above another, in their order
 --     value_of U at               the place of a value of type U
 --     WhereMap form allocator bytes table cell claim
 --                                 the claim is true of each map of this form at a cell
@@ -34,8 +34,8 @@ keys_above keys after = filter (λ x. int_lt after x) keys
 abbrev pub value_of : ℕ → ℕ → Place
 value_of U at = record { at = at; type = U }
 
--- If the cell has a map of this form, the claim is true of its type, the type of its values, its
--- keys and values, and the blocks that it owns.
+-- If the cell has a map of this form, the claim is true of the map's type, the type of its values,
+-- its keys and values, and the blocks that it owns.
 abbrev pub WhereMap : (ℕ → Form) → ℕ → List ℕ → Table → ℕ
     → (ℕ → ℕ → List ℤ → Values → List ℕ → Type 0) → Type 0
 WhereMap form allocator bytes table cell claim =
@@ -47,7 +47,7 @@ abbrev pub FindsValue : List ℕ → Table → Place → ℕ → List ℤ → �
 FindsValue bytes table map U keys key found = MatchOption found (key_place keys key ≡ None)
     (λ p. Leads bytes table map (Selector.key key ∷ []) (value_of U p))
 
--- the map has one more key, with a default value at position p
+-- the map has one key more, with a default value at position p
 pub record AddsKey (allocator : ℕ) (old new : List ℕ) (table : Table) (map : Place) (U : ℕ)
     (keys : List ℤ) (vs : Values) (key : ℤ) (blocks : List ℕ) (asks : List Ask)
     (p : ℕ) : Type 0 where
@@ -56,8 +56,8 @@ pub record AddsKey (allocator : ℕ) (old new : List ℕ) (table : Table) (map :
       (with_entry (keys, vs) key (default_of table U)) asks [] blocks others
   pub stands_at : Leads new table map (Selector.key key ∷ []) (value_of U p)
 
--- The result of `put`, by the index of the key among the map's keys. Nothing changes if it has an
--- index.
+-- The result of `put`, by the index of the key among the map's keys. Nothing changes if the map has
+-- the key.
 abbrev pub PutsKey : {E : Type 0} → ℕ → List ℕ → List ℕ → Table → Place → ℕ → List ℤ → Values → ℤ
     → List ℕ → List Ask → Option ℕ → Result ℕ E → Type 0
 PutsKey allocator old new table map U keys vs key blocks asks None result = MatchResult result
@@ -68,15 +68,15 @@ PutsKey allocator old new table map U keys vs key blocks asks (Some i) result = 
     (λ code. ⊥)
 
 -- The map lost the key at an index, with its value and the frozen objects that lost their last
--- cell. `keeps` is true, a statement on paths.
+-- cell. `keeps` is a fact about paths, and is true.
 pub record TakesKey (old new : List ℕ) (table : Table) (map : Place) (keys : List ℤ) (vs : Values)
     (blocks : List ℕ) (keeps : Type 0) (i : ℕ) (theirs : ℕ → List ℕ) (now final : List Frozen) :
     Type 0 where
   pub loses : LosesPart old new table map (without_entry (keys, vs) i) i blocks theirs now final
   pub kept : keeps
 
--- The result of `remove`, by the index of the key among the map's keys; the map lies in the block
--- `home`. Nothing changes if the key has no index.
+-- The result of `remove`, by the index of the key among the map's keys. The map lies in the block
+-- `home`. Nothing changes if the map lacks the key.
 abbrev pub RemovesKey : List ℕ → List ℕ → Table → Place → List ℤ → Values → ℕ → List ℕ → Type 0 →
     Option ℕ → Bool → Type 0
 RemovesKey old new table map keys vs home blocks keeps None gone = (gone ≡ false) × (new ≡ old)

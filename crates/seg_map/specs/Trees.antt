@@ -1,5 +1,5 @@
 -- Maps as trees of nodes.
---     VALUE                           the bytes of a node before its value
+--     VALUE                           the size of a node's bytes before its value
 --     NamesTree table T U content     the cell of a type T points to a tree of nodes with values of type U
 --     KeepsOtherKeys old new table map key
 --                                     paths through other keys of a map still reach the same places
@@ -12,7 +12,7 @@ use Rattle.seg_cells.specs.Contents.{IsContent}
 use Rattle.seg_cells.specs.declared.content.Content.{Content}
 use Rattle.seg_cells.specs.declared.content.Shape.TheVariants as shape
 
--- tree words and the key
+-- the tree words have 16 bytes, and the key 8
 abbrev pub VALUE : ℕ
 VALUE = 24
 

@@ -1,5 +1,5 @@
 //! Maps from numbers to values, of two kinds: flat maps, with their entries in a buffer, and trees. The same calls work
-//! on both. A map is identified by its place, a value by its position. A call on a place that is no map fails with
+//! on both. A map is identified by its place, a value by its position. A call on a place that isn't a map fails with
 //! `OtherType`, or returns false.
 #![tactic(auto)]
 

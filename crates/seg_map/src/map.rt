@@ -26,7 +26,7 @@ enum Kind {
 impl Kind {
     ghost use Rattle.seg_map.specs.EitherMap.{KindOf};
 
-    /// The kind of the map at a place. `OtherType` if the place is no map.
+    /// The kind of the map at a place. `OtherType` if the place isn't a map.
     fn of<F: Fit, A: Allocator>(heap: &Heap<F, A>, map: Place) -> Result<Kind, Code>
         ensures { KindOf heap.now.types map.type_id (form_at heap.now.types map.type_id) result }
     {
@@ -45,7 +45,7 @@ impl Kind {
     }
 }
 
-/// How many keys a map has. `OtherType` if the place is no map.
+/// How many keys a map has. `OtherType` if the place isn't a map.
 pub fn len<F: Fit, A: Allocator>(heap: &Heap<F, A>, map: Place) -> Result<u32, Code>
     ensures other { has_keys (form_at heap.now.types map.type_id) ≡ false →
         result ≡ Err Code.OtherType }
@@ -59,7 +59,7 @@ pub fn len<F: Fit, A: Allocator>(heap: &Heap<F, A>, map: Place) -> Result<u32, C
     }
 }
 
-/// The position of a key's value. `OtherType` if the place is no map, `Absent` if the map doesn't have the key.
+/// The position of a key's value. `OtherType` if the place isn't a map, `Absent` if the map doesn't have the key.
 pub fn get<F: Fit, A: Allocator>(heap: &Heap<F, A>, map: Place, key: i64) -> Result<u32, Code>
     ensures other { has_keys (form_at heap.now.types map.type_id) ≡ false →
         result ≡ Err Code.OtherType }
@@ -76,7 +76,7 @@ pub fn get<F: Fit, A: Allocator>(heap: &Heap<F, A>, map: Place, key: i64) -> Res
     .ok_or(Code::Absent)
 }
 
-/// The position of a key's value. A missing key is added with a default value. `OtherType` if the place is no map,
+/// The position of a key's value. A missing key is added with a default value. `OtherType` if the place isn't a map,
 /// `BadAlloc` if there is no room for the key; then nothing changes.
 pub fn put<F: Fit, A: Allocator>(heap: &mut Heap<F, A>, map: Place, key: i64) -> Result<u32, Code>
     ensures window { KeepsHost heap.old.window heap.new.window }
@@ -100,7 +100,7 @@ pub fn put<F: Fit, A: Allocator>(heap: &mut Heap<F, A>, map: Place, key: i64) ->
     }
 }
 
-/// Removes a key, and destroys its value. False if the map doesn't have the key, or if the place is no map.
+/// Removes a key, and destroys its value. False if the map doesn't have the key, or if the place isn't a map.
 pub fn remove<F: Fit, A: Allocator>(heap: &mut Heap<F, A>, map: Place, key: i64) -> bool
     ensures window { KeepsHost heap.old.window heap.new.window }
     ensures types { heap.new.types ≡ heap.old.types }
@@ -123,7 +123,7 @@ pub fn remove<F: Fit, A: Allocator>(heap: &mut Heap<F, A>, map: Place, key: i64)
     }
 }
 
-/// The least key. `OtherType` if the place is no map, `Null` if the map is empty.
+/// The least key. `OtherType` if the place isn't a map, `Null` if the map is empty.
 pub fn first_key<F: Fit, A: Allocator>(heap: &Heap<F, A>, map: Place) -> Result<i64, Code>
     ensures other { has_keys (form_at heap.now.types map.type_id) ≡ false →
         result ≡ Err Code.OtherType }
@@ -158,7 +158,8 @@ pub fn first_key_by<F: Fit, A: Allocator>(
     .ok_or(Code::Null)
 }
 
-/// The least key above another, which need not exist. `OtherType` if the place is no map, `Null` if no key is above it.
+/// The least key above another, which need not exist. `OtherType` if the place isn't a map, `Null` if no key is above
+/// it.
 pub fn next_key<F: Fit, A: Allocator>(
     heap: &Heap<F, A>,
     map: Place,

@@ -18,7 +18,7 @@ lent_put bytes xs at fits =
     let is : over ≡ put bytes at xs = ap (λ r. take at bytes ++ (xs ++ r)) (drop-drop (length xs) at bytes) ∙ sym (put_in bytes at xs fits) in
     take_at over (drop (length over) bytes) (length bytes) (ap length is ∙ length-put bytes at xs) ∙ is
 
--- a window is that on its region again
+-- a window on the region after the write is the window after the write
 pub lent_view : (region xs : List ℕ) (base len : ℕ) (now : Placement) → view_of region base len ≡ now → base + len ≤ length region → view_of (lent region base xs) base len ≡ lent_to now xs
 lent_view region xs base len now view fits =
     let whole = sym (region_of_view region base len now view) in
@@ -26,7 +26,7 @@ lent_view region xs base len now view fits =
     let long : len ≡ length now.bytes = sym (length_bytes region base len now view fits) in
     λ i. view_of (lent (whole i) (front i) xs) (front i) (long i)
 
--- as many bytes as there were are the segment's bytes then
+-- if as many bytes were written as there were, the window contains exactly them
 pub lent_same : (old : Placement) (xs : List ℕ) → length xs ≡ length old.bytes → lent_to old xs ≡ with_bytes old xs
 lent_same old xs same =
     let region = region_of old in

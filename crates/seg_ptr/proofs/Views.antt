@@ -10,7 +10,7 @@ pub record IsPart (bytes : List ℕ) (at n : ℕ) (part : List ℕ) : Type 0 whe
   pub past : length bytes < at + n → part ≡ []
 
 module _ (w : ℕ) (bytes : List ℕ) (at : ℕ) (part : List ℕ) (is : IsPart bytes at w part) where
-  -- a part of another length is no number
+  -- a part of another length spells no number
   pub number_none : (length part < w) ⊎ (w + 1 ≤ length part) → 0 ≡ number w bytes at
   number_none other = go (cases_lt (length bytes) (at + w)) other
     where
@@ -19,7 +19,7 @@ module _ (w : ℕ) (bytes : List ℕ) (at : ℕ) (part : List ℕ) (is : IsPart 
       go (inr fits) (inl h) = let e = ap length (is.inside fits) ∙ length-slice bytes at w fits in absurd (omega arith)
       go (inr fits) (inr h) = let e = ap length (is.inside fits) ∙ length-slice bytes at w fits in absurd (omega arith)
 
-  -- one of the length spells the number
+  -- a part of the right length spells the number
   pub number_whole : 1 ≤ w → length part ≡ w → number_of w part ≡ number w bytes at
   unfolding number
   number_whole some long = go (cases_lt (length bytes) (at + w))

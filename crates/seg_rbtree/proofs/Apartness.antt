@@ -10,11 +10,11 @@ use Rattle.seg_rbtree.specs.Nodes.{side_word, opposite}
 use Rattle.seg_rbtree.specs.Ways.{Layer, branch, grow, plug, place}
 use Rattle.seg_rbtree.specs.Changes.{NodesApart, StandApart}
 
--- the n bytes from p don't overlap the nodes
+-- a range of n bytes doesn't overlap the nodes
 abbrev pub Clear : ℕ → ℕ → List ℕ → Type 0
 Clear p n xs = AllByRecursion (λ q. Separate p n q 16) xs
 
--- no node of the one overlaps a node of the other
+-- no node of one list overlaps a node of the other
 abbrev pub Beside : List ℕ → List ℕ → Type 0
 Beside xs ys = AllByRecursion (λ x. Clear x 16 ys) xs
 
@@ -26,7 +26,7 @@ pub separate-swap : (f l g m : ℕ) → Separate f l g m → Separate g m f l
 separate-swap f l g m (inl h) = inr h
 separate-swap f l g m (inr h) = inl h
 
--- a part of a range that doesn't overlap something doesn't either
+-- if a range doesn't overlap another, neither do its parts
 pub separate-part : (f l g m i k : ℕ) → f ≤ i → i + k ≤ f + l → Separate f l g m → Separate i k g m
 separate-part f l g m i k low high (inl h) = inl (omega arith)
 separate-part f l g m i k low high (inr h) = inr (omega arith)
@@ -34,7 +34,7 @@ separate-part f l g m i k low high (inr h) = inr (omega arith)
 pub clear-part : (p n i k : ℕ) (xs : List ℕ) → p ≤ i → i + k ≤ p + n → Clear p n xs → Clear i k xs
 clear-part p n i k xs low high h = each_weaker _ _ (λ q s. separate-part p n q 16 i k low high s) xs h
 
--- a word of a child lies in its node
+-- the word of a child lies in the node
 pub side_word-clear : (at : ℕ) (side : Side) (xs : List ℕ) → Clear at 16 xs → Clear (side_word at side) 4 xs
 side_word-clear at Left xs h = clear-part at 16 at 4 xs (omega arith) (omega arith) h
 side_word-clear at Right xs h = clear-part at 16 (at + 4) 4 xs (omega arith) (omega arith) h
@@ -158,7 +158,7 @@ parts-apart len word Right at colour near far h =
       far_near = s.left_right;
     }
 
--- the nodes of what is at a place are apart from its pointer word
+-- the nodes of the subtree at a place don't overlap the place's pointer word
 pub apart-down : (len root : ℕ) (tree : Tree) (layers : List Layer) → StandApart len root (nodes_of (plug tree layers)) → StandApart len (place root layers) (nodes_of tree)
 apart-down len root tree [] h = h
 apart-down len root tree (layer ∷ layers) h =

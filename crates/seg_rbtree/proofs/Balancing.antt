@@ -1,4 +1,4 @@
--- The rules of colours of a whole tree and at a place in it.
+-- The rules of colours for a whole tree and at a place in it.
 use Rattle.std.proofs.Common.{◌≡◌, ℕ, suc, ◌⊎◌, inl, inr, List, [], ◌∷◌, refl, subst}
 use Rattle.seg_spec.specs.Shapes.{Colour, black, red, Tree, IsBlack, IsBalanced, IsRedBlack}
 use Rattle.seg_rbtree.specs.declared.node.Side.{Side}
@@ -24,7 +24,7 @@ pub balanced-red : (side : Side) (at : ℕ) (near far : Tree) (h : ℕ) → IsBl
 balanced-red Left at near far h bn bf n f = (bn, bf, n, f)
 balanced-red Right at near far h bn bf n f = (bf, bn, f, n)
 
--- a black node on two balanced trees
+-- a black node with two balanced subtrees
 pub record BlackParts (near far : Tree) (height : ℕ) : Type 0 where
   pub below : ℕ
   pub height_is : height ≡ suc below
@@ -35,7 +35,7 @@ pub black-parts : (side : Side) (at : ℕ) (near far : Tree) (h : ℕ) → IsBal
 black-parts Left at near far h b = record { below = b.0; height_is = b.1; near_balanced = b.2; far_balanced = b.3 }
 black-parts Right at near far h b = record { below = b.0; height_is = b.1; near_balanced = b.3; far_balanced = b.2 }
 
--- a red node on two balanced trees, whose roots are black
+-- a red node with two balanced subtrees, whose roots are black
 pub record RedParts (near far : Tree) (height : ℕ) : Type 0 where
   pub near_black : IsBlack near
   pub far_black : IsBlack far

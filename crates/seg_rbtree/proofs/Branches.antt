@@ -49,7 +49,7 @@ fork_at bytes side at to tree e h = go side tree (subst (λ o. IsTree bytes o tr
     go Left (fork l a c r) h = record { colour = c; near = l; far = r; tree_is = ap (λ p. fork l p c r) h.0 }
     go Right (fork l a c r) h = record { colour = c; near = r; far = l; tree_is = ap (λ p. fork l p c r) h.0 }
 
--- from the other side
+-- the same branch, seen from the other side
 pub branch-flip : (side : Side) (at : ℕ) (colour : Colour) (near far : Tree) → branch (opposite side) at colour near far ≡ branch side at colour far near
 branch-flip Left at colour near far = refl
 branch-flip Right at colour near far = refl
@@ -58,7 +58,7 @@ pub opposite-twice : (side : Side) → opposite (opposite side) ≡ side
 opposite-twice Left = refl
 opposite-twice Right = refl
 
--- the node that moves up and the one that moves down keep their order
+-- a rotation keeps the order of the nodes
 pub nodes-rotated : (side : Side) (node up : ℕ) (cn cu dn du : Colour) (x m d : Tree) → nodes_of (branch side up du (branch side node dn x m) d) ≡ nodes_of (branch side node cn x (branch side up cu m d))
 nodes-rotated Left node up cn cu dn du x m d = append_assoc (nodes_of x) (node ∷ nodes_of m) (up ∷ nodes_of d)
 nodes-rotated Right node up cn cu dn du x m d = sym (append_assoc (nodes_of d) (up ∷ nodes_of m) (node ∷ nodes_of x))
@@ -73,7 +73,7 @@ pub nodes-branch : (side : Side) (at : ℕ) (c d : Colour) (x y far : Tree) → 
 nodes-branch Left at c d x y far e = ap (λ ns. ns ++ at ∷ nodes_of far) e
 nodes-branch Right at c d x y far e = ap (λ ns. nodes_of far ++ at ∷ ns) e
 
--- trees of the same nodes make the whole of the same nodes
+-- subtrees with the same nodes make whole trees with the same nodes
 pub nodes-plug : (x y : Tree) (layers : List Layer) → nodes_of x ≡ nodes_of y → nodes_of (plug x layers) ≡ nodes_of (plug y layers)
 nodes-plug x y [] e = e
 nodes-plug x y (layer ∷ layers) e = nodes-plug (grow layer x) (grow layer y) layers (nodes-branch layer.side layer.at layer.colour layer.colour x y layer.other e)

@@ -27,9 +27,9 @@ use Rattle.seg_rbtree.proofs.Steps.{last_word-steps}
 use Rattle.seg_rbtree.proofs.TakingOut.{plug_on}
 use Rattle.seg_rbtree.proofs.Unlinking.{nodes_plug}
 
--- ---- back up
+-- ---- the way up
 
--- some layers were left, whose places were on their right sides
+-- the path left some layers, whose places were on their right sides
 pub record IsClimbing (layers : List Layer) (items : List Step) : Type 0 where
   pub lower : List Layer
   pub upper : List Layer
@@ -91,7 +91,7 @@ climbed_all layers items e s = go s.upper s.layers_are (sym e ∙ s.steps_are)
 
 -- ---- the nodes after a place
 
--- layers whose places are on their right sides have no nodes after these
+-- layers whose places are on their right sides have no nodes after the place
 following_on : (lower upper : List Layer) → AreRight lower → following (lower ++ upper) ≡ following upper
 unfolding following nodes_after
 following_on [] upper r = refl
@@ -110,12 +110,12 @@ unfolding before nodes_before
 before_none [] l = refl
 before_none (layer ∷ layers) l = ap (λ side. before layers ++ nodes_before side layer.other layer.at) l.0 ∙ ap (λ xs. xs ++ []) (before_none layers l.1)
 
--- the first node below layers on whose left sides it is
+-- if all layers have their places on their left sides, the innermost node is the first
 first_below : (only : Tree) (next : ℕ) (tint : Colour) (lower : List Layer) (back : List ℕ) → AreLeft lower → slice_get (nodes_of (plug (fork leaf next tint only) lower) ++ back) 0 ≡ Some next
 first_below only next tint lower back l =
     ap (λ ns. slice_get (ns ++ back) 0) (nodes_plug lower (fork leaf next tint only) ∙ ap (λ xs. xs ++ (next ∷ nodes_of only ++ following lower)) (before_none lower l))
 
--- ---- the node at the end
+-- ---- the node at a path's end
 
 module _ (bytes : List ℕ) (path new : Path) (layers : List Layer) (part : Tree) (same : new.root ≡ path.root) (s : IsPartAt bytes path layers part) where
   -- the subtree at the place below other layers
@@ -154,7 +154,7 @@ module _ (bytes : List ℕ) (path new : Path) (layers : List Layer) (part : Tree
       record { next_is = sym first; way = record { layers = []; rest = plug part layers; shape_is = refl; steps_are = k.1 }; stands = k.1 }
   goes_up (Some node) none k = climbs_to node none k
 
--- no node is after the root if it has no right child, or if there is no root
+-- if the root has no right child, or there is no root, no node is after it
 pub no_root : (bytes : List ℕ) (to : Option ℕ) (part : Tree) → IsTree bytes to part → to ≡ None → after_root part ≡ []
 no_root bytes to leaf h e = refl
 no_root bytes None (fork l at c r) h e = absurd h
@@ -171,7 +171,7 @@ no_right bytes (Some p) node (fork l at c r) h e n =
     let same : p ≡ node = cc in
     no_tree bytes r (subst (λ o. IsTree bytes o r) (ap (λ q. target bytes (q + 4)) same ∙ n) h.3)
 
--- the part at a node is a fork there
+-- a part with a node as its root
 pub record IsForkAt (node : ℕ) (part : Tree) : Type 0 where
   pub left : Tree
   pub colour : Colour
@@ -193,9 +193,10 @@ part_there bytes path shape layers rest is steps t = record { steps_are = steps;
 apart_nodes : (xs ls : List ℕ) (at : ℕ) (rs ys : List ℕ) → xs ++ ((ls ++ at ∷ rs) ++ ys) ≡ (xs ++ ls) ++ at ∷ (rs ++ ys)
 apart_nodes xs ls at rs ys = ap (λ zs. xs ++ zs) (append_assoc ls (at ∷ rs) ys) ∙ sym (append_assoc xs ls (at ∷ rs ++ ys))
 
--- what is looked for is before all nodes after a node, after all nodes before it, and equals it
+-- `turn` compares a sought node or key with nodes. It is less than all nodes after `node`, greater
+-- than all nodes before it, and equals it.
 module _ (order : ℕ → ℕ → Ordering) (turn : ℕ → Ordering) (node : ℕ) (above : (y : ℕ) → order node y ≡ Less → turn y ≡ Less) (below : (x : ℕ) → order x node ≡ Less → turn x ≡ Greater) (equal : turn node ≡ Equal) where
-  -- at the layers above the node the path goes to the side of what is looked for
+  -- at the layers above the node, the path goes to the side of the sought node or key
   lead_by : (layers : List Layer) → AllByRecursion (λ x. order x node ≡ Less) (before layers) → AllByRecursion (λ y. order node y ≡ Less) (following layers) → LeadBy turn layers
   unfolding before following nodes_before nodes_after
   lead_by [] lows highs = tt
@@ -208,7 +209,7 @@ module _ (order : ℕ → ℕ → Ordering) (turn : ℕ → Ordering) (node : �
           let last = (each_right _ (nodes_of layer.other) (layer.at ∷ []) (each_right _ (before layers) (nodes_of layer.other ++ layer.at ∷ []) low)).0 in
           (below layer.at last, each_left _ (before layers) (nodes_of layer.other ++ layer.at ∷ []) low, high)
 
-  -- a path to the node is one to what is looked for
+  -- a path to the node is a path to the sought node or key
   pub leads_by : (bytes : List ℕ) (path : Path) (shape : Tree) → IsSearchTree bytes path.root shape → Ascend order (nodes_of shape) → IsWayIn shape path → node_at bytes path ≡ Some node → LeadsTo turn shape path
   leads_by bytes path shape t a way named =
       let s = part_there bytes path shape way.layers way.rest way.shape_is way.steps_are t in
@@ -227,16 +228,17 @@ module _ (order : ℕ → ℕ → Ordering) (turn : ℕ → Ordering) (node : �
         ends = subst (EndsAt turn) (sym k.part_is) equal;
       }
 
--- ---- the first node of which something is true
+-- ---- the first node with a property
 
--- It is true of a node from which a path goes left, and not of one from which it goes right.
+-- all later nodes have the property too; a path goes left at nodes that have it, and right at others
 module _ (order : ℕ → ℕ → Ordering) (p : ℕ → Bool) (turn : ℕ → Ordering) (up : (x y : ℕ) → order x y ≡ Less → p x ≡ true → p y ≡ true) (lefts : (x : ℕ) → turn x ≡ Less → p x ≡ true) (rights : (x : ℕ) → turn x ≡ Greater → p x ≡ false) where
-  -- nothing before a node of which it isn't true comes first
+  -- if a node doesn't have the property, the first node that has it comes later
   none_below : (xs : List ℕ) (at : ℕ) (ys : List ℕ) → Ascend order (xs ++ at ∷ ys) → p at ≡ false → first_where p (xs ++ at ∷ ys) ≡ first_where p ys
   none_below xs at ys a e =
       first_append p xs (at ∷ ys) ∙ ap (λ o. option_or o (first_where p (at ∷ ys))) (none_before p xs at ys (upward_of order p up (xs ++ at ∷ ys) a) e) ∙ first_later p at ys e
 
-  -- the first node is in the subtree at the end of such a path, or else the first after it
+  -- the first node with the property is in the subtree at the path's end, or is the first node
+  -- after it
   along : (layers : List Layer) (rest : Tree) → Ascend order (nodes_of (plug rest layers)) → LeadBy turn layers
       → first_where p (nodes_of (plug rest layers)) ≡ option_or (first_where p (nodes_of rest)) (slice_get (following layers) 0)
   unfolding following nodes_after
@@ -252,7 +254,7 @@ module _ (order : ℕ → ℕ → Ordering) (p : ℕ → Bool) (turn : ℕ → O
           ∙ or_some (first_where p (nodes_of rest)) layer.at (slice_get (following layers) 0)
       go Right e h = ap (λ o. option_or o (slice_get (following layers) 0)) (none_below (nodes_of layer.other) layer.at (nodes_of rest) h (rights layer.at e))
 
-  -- the next node from the end of such a path is the first of which it is true
+  -- the next node from the end of such a path is the first with the property
   pub goes_past : (bytes : List ℕ) (new : Path) (shape : Tree) (layers : List Layer) (rest : Tree) (result : Option ℕ) → Ascend order (nodes_of shape) → plug rest layers ≡ shape → LeadBy turn layers
       → (Ascend order (nodes_of rest) → option_or (first_where p (nodes_of rest)) (slice_get (following layers) 0) ≡ slice_get (after_root rest ++ following layers) 0)
       → GoesOn bytes layers rest new result → result ≡ first_where p (nodes_of shape)
@@ -269,7 +271,7 @@ module _ (compare : ℕ → Ordering) (order : ℕ → ℕ → Ordering) (keyed 
   abbrev turn : ℕ → Ordering
   turn x = ordering_reverse (compare x)
 
-  -- nodes after a node that equals the key are above the key, and nodes before it below
+  -- nodes after a node that equals the key are above the key
   above : (at y : ℕ) (r : Ordering) → compare y ≡ r → compare at ≡ Equal → order at y ≡ Less → r ≡ Greater
   above at y Less e f l = let k : 1 ≤ 0 = subst (λ q. rank_of q ≤ 0) f (subst (λ q. rank_of (compare at) ≤ rank_of q) e (keyed at y l)) in absurd (omega (arith, k))
   above at y Equal e f l = let o = one at y f e in cc
@@ -280,15 +282,15 @@ module _ (compare : ℕ → Ordering) (order : ℕ → ℕ → Ordering) (keyed 
   below x at Equal e f l = let o = one x at e f in cc
   below x at Greater e f l = let k : 2 ≤ 1 = subst (λ q. 2 ≤ rank_of q) f (subst (λ q. rank_of q ≤ rank_of (compare at)) e (keyed x at l)) in absurd (omega (arith, k))
 
-  -- so a path to a node that equals the key is one to the key
+  -- a path to a node that equals the key is a path to the key
   pub leads_there : (bytes : List ℕ) (path : Path) (shape : Tree) (node : ℕ) → IsSearchTree bytes path.root shape → Ascend order (nodes_of shape) → IsWayIn shape path → node_at bytes path ≡ Some node
       → compare node ≡ Equal → LeadsTo turn shape path
   leads_there bytes path shape node t a way named f =
       leads_by order turn node (λ y l. ap ordering_reverse (above node y (compare y) refl f l)) (λ x l. ap ordering_reverse (below x node (compare x) refl f l)) (ap ordering_reverse f) bytes path shape t a way named
 
-  -- ---- it is the first after the place
+  -- ---- the next node is the first above the key
 
-  -- a reversed comparison, reversed again
+  -- a comparison that is reversed twice
   back : (r s : Ordering) → ordering_reverse r ≡ s → r ≡ ordering_reverse s
   back Less s e = ap ordering_reverse e
   back Equal s e = ap ordering_reverse e
@@ -302,16 +304,16 @@ module _ (compare : ℕ → Ordering) (order : ℕ → ℕ → Ordering) (keyed 
   lefts : (x : ℕ) → turn x ≡ Less → past x ≡ true
   lefts x e = ap (reaches Greater) (back (compare x) Less e)
 
-  -- and one to whose right it does isn't
+  -- a node from which the path goes right isn't above the key
   rights : (x : ℕ) → turn x ≡ Greater → past x ≡ false
   rights x e = ap (reaches Greater) (back (compare x) Greater e)
 
-  -- the first of them, if all are above the key
+  -- if all nodes of a list are above the key, the first of them is the first above it
   first_all : (xs ys : List ℕ) → AllByRecursion (λ x. past x ≡ true) xs → option_or (first_where past xs) (slice_get ys 0) ≡ slice_get (xs ++ ys) 0
   first_all [] ys h = refl
   first_all (x ∷ xs) ys h = ap (λ o. option_or o (slice_get ys 0)) (first_here past x xs h.0)
 
-  -- at the end of the path, all nodes after it are above the key, and none before it is
+  -- at the path's end, all nodes after the place are above the key, and no node before it is
   at_end : (rest : Tree) (ys : List ℕ) → EndsAt turn rest → Ascend order (nodes_of rest) → option_or (first_where past (nodes_of rest)) (slice_get ys 0) ≡ slice_get (after_root rest ++ ys) 0
   at_end leaf ys e a = refl
   at_end (fork l at c r) ys e a =
@@ -320,14 +322,14 @@ module _ (compare : ℕ → Ordering) (order : ℕ → ℕ → Ordering) (keyed 
       ap (λ o. option_or o (slice_get ys 0)) (none_below order past turn up lefts rights (nodes_of l) at (nodes_of r) a (ap (reaches Greater) equal))
       ∙ first_all (nodes_of r) ys (each_weaker _ _ (λ y m. ap (reaches Greater) (above at y (compare y) refl equal m)) (nodes_of r) parts.following)
 
-  -- the next node from the end of a path to a key is the first node above it
+  -- the next node from the end of a path to a key is the first node above the key
   pub goes_above : (bytes : List ℕ) (path new : Path) (shape : Tree) (result : Option ℕ) → IsSearchTree bytes path.root shape → Ascend order (nodes_of shape) → (way : LeadsTo turn shape path)
       → (IsPartAt bytes path way.layers way.rest → GoesOn bytes way.layers way.rest new result) → result ≡ first_where past (nodes_of shape)
   goes_above bytes path new shape result t a way on =
       goes_past order past turn up lefts rights bytes new shape way.layers way.rest result a way.shape_is way.leads (at_end way.rest (following way.layers) way.ends)
       (on (part_there bytes path shape way.layers way.rest way.shape_is way.steps_are t))
 
--- a path that continues stays inside
+-- a path that continues is still in the tree
 pub goes_inside : (bytes : List ℕ) (path new : Path) (result : Option ℕ) → new.root ≡ path.root → ((layers : List Layer) (part : Tree) → IsPartAt bytes path layers part → GoesOn bytes layers part new result)
     → ((shape : Tree) → IsSearchTree bytes path.root shape → IsWayIn shape path) → (shape : Tree) → IsSearchTree bytes new.root shape → IsWayIn shape new
 goes_inside bytes path new result same on inside shape t =
@@ -335,15 +337,15 @@ goes_inside bytes path new result same on inside shape t =
     let way = inside shape u in
     subst (λ x. IsWayIn x new) way.shape_is (on way.layers way.rest (part_there bytes path shape way.layers way.rest way.shape_is way.steps_are u)).way
 
--- a path to what is looked for stays inside
+-- a path to a sought node or key is in the tree
 pub leads_inside : (turn : ℕ → Ordering) (shape : Tree) (path : Path) → LeadsTo turn shape path → IsWayIn shape path
 leads_inside turn shape path way = record { layers = way.layers; rest = way.rest; shape_is = way.shape_is; steps_are = way.steps_are }
 
--- at the root
+-- a path without steps is in the tree
 pub root_inside : (path : Path) (shape : Tree) → path.steps.items ≡ [] → IsWayIn shape path
 root_inside path shape e = record { layers = []; rest = shape; shape_is = refl; steps_are = e }
 
--- the first node below the root
+-- the path down to the first node
 pub first_down : (shape : Tree) (path : Path) (result : Option ℕ) → Descends path [] shape result → (result ≡ first_where (λ _. true) (nodes_of shape)) × IsWayIn shape path
 first_down shape path result d =
     let rest = fork leaf d.next d.tint d.only in

@@ -8,7 +8,7 @@ use Rattle.seg_rbtree.specs.declared.node.Side.{Side}
 use Rattle.seg_rbtree.specs.declared.node.Side.TheVariants.{Left, Right}
 use Rattle.seg_rbtree.specs.Ways.{Layer, branch, grow, plug}
 
--- the nodes on the longest path
+-- the number of nodes on the longest path
 abbrev pub tall : Tree → ℕ
 tall leaf = 0
 tall (fork left at colour right) = suc (max (tall left) (tall right))
@@ -24,7 +24,7 @@ few_deep (fork left at red right) h b =
     let r = (few_deep right h b.3).1 b.1 in
     (omega arith, λ e. absurd e)
 
--- so no path has more than 64 nodes
+-- no path has more than 64 nodes
 pub deep-64 : (tree : Tree) → IsRedBlack tree → length (nodes_of tree) < 2 ^ 32 → tall tree ≤ 64
 deep-64 tree r few = go (cases_lt 32 r.height)
   where
@@ -38,7 +38,7 @@ taller : (side : Side) (at : ℕ) (colour : Colour) (near far : Tree) → suc (t
 taller Left at colour near far = omega arith
 taller Right at colour near far = omega arith
 
--- the layers and a path in the subtree below them are a path
+-- the layers and a path in the subtree below them make one path
 pub layers-deep : (tree : Tree) (layers : List Layer) → length layers + tall tree ≤ tall (plug tree layers)
 layers-deep tree [] = omega arith
 layers-deep tree (layer ∷ layers) =

@@ -22,13 +22,13 @@ left_reaches Less e = cc
 left_reaches Equal e = refl
 left_reaches Greater e = refl
 
--- nodes before it are below the key
+-- nodes before the place are below the key
 right_misses : (r : Ordering) → before_first r ≡ Greater → reaches Equal r ≡ false
 right_misses Less e = refl
 right_misses Equal e = cc
 right_misses Greater e = cc
 
--- it equals no node
+-- the place equals no node
 never_equal : (r : Ordering) → before_first r ≡ Equal → ⊥
 never_equal Less e = cc
 never_equal Equal e = cc
@@ -48,7 +48,7 @@ module _ (compare : ℕ → Ordering) where
   ends_empty leaf e = refl
   ends_empty (fork l at c r) e = absurd (never_equal (compare at) e)
 
-  -- and after it are only the nodes that follow
+  -- the first node at or above the key is the first node after the place
   at_end : (rest : Tree) (ys : List ℕ) → EndsAt turn rest → option_or (first_where reached (nodes_of rest)) (slice_get ys 0) ≡ slice_get (after_root rest ++ ys) 0
   at_end leaf ys e = refl
   at_end (fork l at c r) ys e = absurd (never_equal (compare at) e)
@@ -58,14 +58,14 @@ pub record IsLedToFirst (compare : ℕ → Ordering) (order : ℕ → ℕ → Or
   pub node_is : result ≡ first_where (reached compare) (nodes_of shape)
   pub leads : IfSome result (λ node. LeadsTo (order node) shape path × (node_at bytes path ≡ Some node))
 
--- a path that continues to a node ends there
+-- the path that continues to the next node ends there
 leads_on : (order : ℕ → ℕ → Ordering) → IsTotalOrder order → (bytes : List ℕ) (path : Path) (layers : List Layer) (rest : Tree) (result : Option ℕ) → IsSearchTree bytes path.root (plug rest layers)
     → Ascend order (nodes_of (plug rest layers)) → GoesOn bytes layers rest path result → IfSome result (λ node. LeadsTo (order node) (plug rest layers) path × (node_at bytes path ≡ Some node))
 leads_on order total bytes path layers rest None t a on = tt
 leads_on order total bytes path layers rest (Some node) t a on =
     (leads_by order (order node) node (λ y l. l) (λ x l. total.antisymm node x ∙ ap ordering_reverse l) (itself order total node) bytes path (plug rest layers) t a on.way on.stands, on.stands)
 
--- if it goes up from the empty place before that node, it ends there
+-- the path that goes up from the empty place before a node ends at the node
 pub led_to_first : (compare : ℕ → Ordering) (order : ℕ → ℕ → Ordering) → ((x y : ℕ) → order x y ≡ Less → rank_of (compare x) ≤ rank_of (compare y)) → IsTotalOrder order → (bytes : List ℕ) (path new : Path) (shape : Tree) (result : Option ℕ)
     → new.root ≡ path.root → IsSearchTree bytes path.root shape → Ascend order (nodes_of shape) → LeadsTo (turn compare) shape path
     → ((layers : List Layer) → path.steps.items ≡ steps_of layers → MatchOption result (AreRight layers × (new.steps.items ≡ [])) (Climbs layers new)) → IsLedToFirst compare order bytes shape new result

@@ -27,7 +27,7 @@ use Rattle.seg_rbtree.proofs.Walking.{length-steps}
 use Rattle.seg_rbtree.proofs.Orders.{nodes-added, each_with, apart-with_node, length-with_node}
 use Rattle.seg_rbtree.proofs.Balancing.{balanced-down}
 
--- what is true of each node is true of those that are at a place
+-- a fact about each node of a tree is a fact about each node of a subtree
 pub each-down : (P : ℕ → Type 0) (tree : Tree) (layers : List Layer) → AllByRecursion P (nodes_of (plug tree layers)) → AllByRecursion P (nodes_of tree)
 each-down P tree [] h = h
 each-down P tree (layer ∷ layers) h = go layer.side (each-down P (grow layer tree) layers h)
@@ -36,12 +36,12 @@ each-down P tree (layer ∷ layers) h = go layer.side (each-down P (grow layer t
     go Left k = each_left P (nodes_of tree) (layer.at ∷ nodes_of layer.other) k
     go Right k = (each_right P (nodes_of layer.other) (layer.at ∷ nodes_of tree) k).1
 
--- after some steps the tree is right, or a red node may have a red parent
+-- after some steps the tree is a red-black tree, or a red node may have a red parent
 pub record IsGrowing (old new : List ℕ) (root : ℕ) (nodes : List ℕ) (steps : List Step) (rises : Option ℕ) (turns : ℕ) : Type 0 where
   pub kept : KeepsBeside old new root nodes
   pub state : MatchOption rises (IsSettled new root nodes) (λ node. IsRising new root steps nodes node × (length steps + 2 * turns ≤ 64))
 
--- one more step
+-- one step more
 pub grown : (old now new : List ℕ) (root : ℕ) (nodes : List ℕ) (steps rest : List Step) (rises result : Option ℕ) (node turns : ℕ) → rises ≡ Some node → IsGrowing old now root nodes steps rises turns
     → (IsRising now root steps nodes node → Settles now new root steps rest nodes result) → IsGrowing old new root nodes rest result (turns + 1)
 grown old now new root nodes steps rest rises result node turns e g settle =
@@ -70,12 +70,12 @@ module _ (order : ℕ → ℕ → Ordering) (total : IsTotalOrder order) (old : 
     kept = keeps-wider old new root root nodes (node ∷ nodes_of shape) (λ p n h k. (h, each_with order node (λ q. Separate p n q 16) (nodes_of shape) k.0 k.1)) kept;
   }
 
-  -- nothing rises any more
+  -- the repair has ended
   pub settled_end : (new : List ℕ) (steps : List Step) (rises : Option ℕ) (turns : ℕ) → rises ≡ None → IsGrowing old new root nodes steps rises turns → Leaves old new root (node ∷ nodes_of shape) nodes
   settled_end new steps rises turns e g =
       leaves new g.kept (subst (λ o. MatchOption o (IsSettled new root nodes) (λ n. IsRising new root steps nodes n × (length steps + 2 * turns ≤ 64))) e g.state)
 
-  -- nothing can rise so often
+  -- the repair ends within 64 steps
   pub settled_late : (new : List ℕ) (steps : List Step) (rises : Option ℕ) (turns : ℕ) → 64 ≤ turns → IsGrowing old new root nodes steps rises turns → Leaves old new root (node ∷ nodes_of shape) nodes
   settled_late new steps rises turns late g = leaves new g.kept (go rises g.state)
     where
@@ -126,7 +126,7 @@ module _ (order : ℕ → ℕ → Ordering) (total : IsTotalOrder order) (old : 
     start_below steps layers leaf whole e leads ends new = start_at steps layers whole e leads
     start_below steps layers (fork left at colour right) whole e leads ends new = absurd ((each_right _ (nodes_of left) (at ∷ nodes_of right) new).0 ends)
 
-    -- the new node is red, and at the place to which the order leads
+    -- the new node is red, and at its place in the order
     pub growing_start : (path : Path) → IsNew order node (nodes_of shape) → LeadsTo (order node) shape path
         → IsGrowing old (set_pointer (with_new_node old node) (last_word root path.steps.items) (Some node)) root nodes path.steps.items (Some node) 0
     growing_start path new w =

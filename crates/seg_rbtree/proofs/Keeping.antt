@@ -1,4 +1,4 @@
--- What a write of a word keeps.
+-- The bytes that a write of a word keeps.
 use Rattle.std.proofs.Common.{◌≡◌, ◌≢◌, ℕ, ◌+◌, ◌≤◌, ◌⊎◌, inl, inr, List, [], ◌∷◌, ◌++◌, length, Option, Some, None, refl, sym, ◌∙◌, subst, arith}
 use Rattle.std.specs.List.{AllByRecursion}
 use Rattle.seg_spec.specs.Bytes.{spelling, set_number, set_word, IsSame}
@@ -34,7 +34,7 @@ keeps-word bytes at v nodes = record {
   others = λ p n h k. word_others bytes at v p n h;
 }
 
--- a write to a word of a node among those that are touched
+-- a write to a word of one of the nodes changes only these nodes
 pub keeps-inside : (bytes : List ℕ) (at v root : ℕ) (nodes : List ℕ) → ((p n : ℕ) → Clear p n nodes → Separate p n at 4) → KeepsBeside bytes (set_word bytes at v) root nodes
 keeps-inside bytes at v root nodes inside = record {
   length_kept = length-set_number 4 bytes at v;
@@ -47,7 +47,7 @@ keeps-wider old new at to nodes more within h = record {
   others = λ p n s t. h.others p n (within p n s t).0 (within p n s t).1;
 }
 
--- ---- what stays in its place
+-- ---- trees that are kept
 
 pub target-kept : (old new : List ℕ) (at p : ℕ) (nodes : List ℕ) → KeepsBeside old new at nodes → Separate p 4 at 4 → Clear p 4 nodes → target new p ≡ target old p
 target-kept old new at p nodes h s t = target-same old new p (h.others p 4 s t)
@@ -69,7 +69,7 @@ pub tree-kept : (old new : List ℕ) (at : ℕ) (nodes : List ℕ) (to : Option 
 tree-kept old new at nodes to tree h clear beside t =
     IsTree-same old new to tree (each_both _ _ _ (λ p s k. h.others p 16 (separate-swap at 4 p 16 s) k) (nodes_of tree) clear beside) t
 
--- ... by a write of one word
+-- a tree is kept if a word outside its nodes is written
 pub tree-word : (bytes : List ℕ) (at v : ℕ) (to : Option ℕ) (tree : Tree) → Clear at 4 (nodes_of tree) → IsTree bytes to tree → IsTree (set_word bytes at v) to tree
 tree-word bytes at v to tree clear t =
     tree-kept bytes (set_word bytes at v) at [] to tree (keeps-word bytes at v []) clear (nothing_beside (nodes_of tree)) t
@@ -98,7 +98,7 @@ root_of bytes (Some p) (fork l a c r) P h all t e =
     middle [] all = all.0
     middle (x ∷ xs) all = middle xs all.1
 
--- the tree to which a pointer points stays if the pointer is written elsewhere
+-- a tree is kept if a pointer to it is written outside its nodes
 pub tree-hung : (bytes : List ℕ) (at : ℕ) (to : Option ℕ) (tree : Tree) → StandApart (length bytes) at (nodes_of tree) → IsTree bytes to tree → IsTree (set_pointer bytes at to) (target (set_pointer bytes at to) at) tree
 tree-hung bytes at to tree apart h =
     let names : target (set_pointer bytes at to) at ≡ to = target-set_same bytes at to apart.word_fits (omega (arith, apart.small, apart.word_fits)) (λ t e.

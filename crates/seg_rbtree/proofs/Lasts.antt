@@ -35,13 +35,13 @@ both_empty : (xs ys : List ℕ) → xs ++ ys ≡ [] → (xs ≡ []) × (ys ≡ [
 both_empty [] ys e = (refl, e)
 both_empty (x ∷ xs) ys e = absurd cc
 
--- what is true of each element at a list's end is true of the last one
+-- a fact about each item at a list's end is a fact about the last one
 true_of_last : (P : ℕ → Type 0) (xs front : List ℕ) (last y : ℕ) (ys : List ℕ) → xs ++ y ∷ ys ≡ front ++ last ∷ [] → AllByRecursion P (y ∷ ys) → P last
 true_of_last P [] front last y ys e all = (each_right P front (last ∷ []) (subst (AllByRecursion P) e all)).0
 true_of_last P (x ∷ xs) [] last y ys e all = absurd (not_empty xs y ys cc)
 true_of_last P (x ∷ xs) (z ∷ front) last y ys e all = let rest : xs ++ y ∷ ys ≡ front ++ last ∷ [] = cc in true_of_last P xs front last y ys rest all
 
--- in order nothing is behind the last node
+-- in a list in order, no node is after the last one
 none_behind : (order : ℕ → ℕ → Ordering) → IsTotalOrder order → (xs : List ℕ) (node : ℕ) (ys : List ℕ) → Ascend order (xs ++ node ∷ ys) → IsLast node (xs ++ node ∷ ys) → ys ≡ []
 none_behind order total xs node [] a last = refl
 none_behind order total xs node (y ∷ ys) a last =
@@ -51,12 +51,12 @@ none_behind order total xs node (y ∷ ys) a last =
 
 -- ---- steps to the right
 
--- steps that all go right belong to layers whose places are on their right sides
+-- if all steps go right, the layers have their places on their right sides
 right_steps : (layers : List Layer) → AllByRecursion (λ (s : Step). s.side ≡ Right) (steps_of layers) → AreRight layers
 right_steps [] a = tt
 right_steps (l ∷ ls) a = ((each_right _ (steps_of ls) (step_of l ∷ []) a).0, right_steps ls (each_left _ (steps_of ls) (step_of l ∷ []) a))
 
--- if no nodes are after a place, every step to it goes right
+-- if no node is after a place, every step to it goes right
 steps_right : (layers : List Layer) → following layers ≡ [] → AllByRecursion (λ (s : Step). s.side ≡ Right) (steps_of layers)
 unfolding following nodes_after
 steps_right [] e = tt
@@ -68,7 +68,7 @@ steps_right (l ∷ ls) e = go l.side refl (steps_right ls)
 
 -- ---- the node at a path's end
 
--- a tree without nodes is at a null pointer
+-- the tree at a null pointer has no nodes
 none_hangs : (bytes : List ℕ) (to : Option ℕ) (tree : Tree) → IsTree bytes to tree → nodes_of tree ≡ [] → to ≡ None
 none_hangs bytes None tree h e = refl
 none_hangs bytes (Some p) leaf h e = absurd h
@@ -76,7 +76,7 @@ none_hangs bytes (Some p) (fork l at c r) h e = absurd (not_empty (nodes_of l) a
 
 -- a path that ends at a node of the tree
 module _ (bytes : List ℕ) (path : Path) (turn : ℕ → Ordering) (node : ℕ) (shape : Tree) (t : IsSearchTree bytes path.root shape) (way : LeadsTo turn shape path) (named : node_at bytes path ≡ Some node) where
-  -- the subtree at the path's end, with the node as its root
+  -- the subtree at the path's end has the node as its root
   hangs : IsTree bytes (node_at bytes path) way.rest
   hangs = rest_hangs bytes path.root path turn node shape refl way t.is_tree
 
@@ -86,19 +86,19 @@ module _ (bytes : List ℕ) (path : Path) (turn : ℕ → Ordering) (node : ℕ)
   parts : IsBranch bytes (node_at bytes path) Left node part.colour part.near part.far
   parts = branch-parts bytes (node_at bytes path) Left node part.colour part.near part.far (subst (λ x. IsTree bytes (node_at bytes path) x) part.tree_is hangs)
 
-  -- the nodes of the tree before and after it
+  -- the nodes of the tree before the node, and those after it
   ahead : List ℕ
   ahead = before way.layers ++ nodes_of part.near
 
   behind : List ℕ
   behind = nodes_of part.far ++ following way.layers
 
-  -- it is between them
+  -- the node is between them
   nodes_are : nodes_of shape ≡ ahead ++ node ∷ behind
   unfolding ahead behind
   nodes_are = ap nodes_of (sym way.shape_is) ∙ nodes_plug way.layers way.rest ∙ ap (λ x. before way.layers ++ (nodes_of x ++ following way.layers)) part.tree_is ∙ simp append_assoc
 
-  -- if it has no right child, and the path only goes right, it is the last
+  -- if the node has no right child, and the path only goes right, the node is the last one
   pub last_there : target bytes (node + 4) ≡ None → AllByRecursion (λ (s : Step). s.side ≡ Right) path.steps.items → IsLast node (nodes_of shape)
   unfolding behind
   last_there none rightmost =

@@ -15,7 +15,7 @@ use Rattle.seg_rbtree.proofs.Branches.{branch-parts, fork_at}
 use Rattle.seg_rbtree.proofs.Orders.{ascend-down}
 use Rattle.seg_rbtree.proofs.Removed.{not_aside, not_at_end, rest_hangs}
 
--- ---- it ends there
+-- ---- the path ends at the node
 
 module _ (bytes : List ℕ) (root : ℕ) (path : Path) (order : ℕ → ℕ → Ordering) (node : ℕ) (shape : Tree) (r : path.root ≡ root) (way : LeadsTo (order node) shape path) (total : IsTotalOrder order)
     (t : IsSearchTree bytes root shape) (a : Ascend order (nodes_of shape)) where
@@ -39,7 +39,7 @@ module _ (bytes : List ℕ) (root : ℕ) (path : Path) (order : ℕ → ℕ → 
               alike : Some x ≡ Some node → x ≡ node
               alike f = cc
 
--- it ends at the same node if the tree is in other bytes
+-- the path ends at the same node if the tree is in other bytes
 pub named_still : (old new : List ℕ) (path : Path) (turn : ℕ → Ordering) (node : ℕ) (shape : Tree) → LeadsTo turn shape path → IsTree old (target old path.root) shape → IsTree new (target new path.root) shape
     → node_at old path ≡ Some node → node_at new path ≡ Some node
 named_still old new path turn node shape way h k named =

@@ -1,4 +1,4 @@
--- What the steps that repair a short subtree do to the bytes.
+-- The bytes after each step that repairs a short subtree.
 use Rattle.std.proofs.Common.{◌≡◌, ℕ, suc, ◌+◌, ◌^◌, ◌<◌, ◌↔◌, Bool, IsTrue, true, false, List, [], ◌∷◌, ◌++◌, length, Option, Some, None, refl, sym, ap, ◌∙◌, subst, arith}
 use Rattle.std.proofs.lemmas.List.{length-append}
 use Rattle.seg_spec.specs.Pointer.{target}
@@ -72,12 +72,12 @@ pub no_tree : (bytes : List ℕ) (tree : Tree) → IsTree bytes None tree → tr
 no_tree bytes leaf h = refl
 no_tree bytes (fork l a c r) h = absurd h
 
--- ---- a rotated tree takes the place of the one before
+-- ---- a rotated tree takes the place of the old one
 
 pub apart_again : (old new : List ℕ) (root : ℕ) (before after : Tree) → length new ≡ length old → nodes_of after ≡ nodes_of before → StandApart (length old) root (nodes_of before) → StandApart (length new) root (nodes_of after)
 apart_again old new root before after l n a = subst (λ m. StandApart m root (nodes_of after)) (sym l) (subst (λ ns. StandApart (length old) root ns) (sym n) a)
 
--- ---- the child on the other side moves up, and both are painted
+-- ---- the child on the other side moves up, and both nodes are painted
 
 module _ (bytes : List ℕ) (at : ℕ) (side : Side) (node up : ℕ) (colour other : Colour) (x m d : Tree) (upper lower : Paint) where
   abbrev b1 : List ℕ
@@ -128,7 +128,7 @@ stands_again old new path other layers above tree part s r e t n = record {
   apart = subst (λ root. StandApart (length new) root (nodes_of (plug part above))) (sym r) (apart_again old new path.root (plug tree layers) (plug part above) t.kept.length_kept n s.apart);
 }
 
--- a turn at the place is one of the whole
+-- a change at the place is a change of the whole tree
 pub turned_at : (old new : List ℕ) (path : Path) (layers : List Layer) (tree part : Tree) → StandsAt old path layers tree → Turns old new (place path.root layers) tree part → Turns old new path.root (plug tree layers) (plug part layers)
 turned_at old new path layers tree part s t = turns-whole old new path.root tree tree part layers s.hangs s.apart t
 
@@ -143,7 +143,7 @@ same_some o x y e f = cc
 
 module _ (bytes one two new : List ℕ) (path : Path) (side : Side) (node up : ℕ) (colour other : Colour) (layers : List Layer) (x m d : Tree) (upper lower : Paint)
     (s : StandsAt bytes path layers (branch side node colour x (branch side up other m d))) where
-  -- the two that change places are painted
+  -- both nodes of the rotation are painted
   pub both_painted : (read : ℕ) → target bytes (side_word node (opposite side)) ≡ Some read → one ≡ rotated bytes (last_word path.root path.steps.items) node side → two ≡ with_colour one read upper → new ≡ with_colour two node lower
       → Turns bytes new path.root (plug (branch side node colour x (branch side up other m d)) layers) (plug (branch side up (shade upper) (branch side node (shade lower) x m) d) layers)
   both_painted read e e1 e2 e3 =
@@ -160,7 +160,7 @@ module _ (bytes one two new : List ℕ) (path : Path) (side : Side) (node up : �
       (subst (λ b. Turns bytes b at (branch side node colour x (branch side up other m d)) (branch side up (shade upper) (branch side node (shade lower) x m) d)) (sym is)
       (turned_painted bytes at side node up colour other x m d upper lower h a))
 
--- the sibling moves up in the colour of the node above both
+-- the sibling moves up, and gets the colour of the parent
 pub came_up : (bytes one two new : List ℕ) (path : Path) (side : Side) (node read : ℕ) (top : Paint) → top ≡ colour_at bytes (Some node) → target bytes (side_word node (opposite side)) ≡ Some read
     → one ≡ rotated bytes (last_word path.root path.steps.items) node side → two ≡ with_colour one read top → new ≡ with_colour two node Black
     → (layers : List Layer) (x m d : Tree) (up : ℕ) (colour other : Colour) → StandsAt bytes path layers (branch side node colour x (branch side up other m d)) → ComesUp bytes new path.root side node up colour other layers x m d
@@ -213,7 +213,7 @@ lowering old new path side node sibling colour layers x m d l s b =
 
 -- ---- a black sibling
 
--- up to a node from its other side
+-- a change of the far subtree is a change of the whole
 pub turns_up_far : (old new : List ℕ) (at : ℕ) (side : Side) (node : ℕ) (colour : Colour) (near far y : Tree) → IsTree old (target old at) (branch side node colour near far)
     → StandApart (length old) at (nodes_of (branch side node colour near far))
     → Turns old new (side_word node (opposite side)) far y → Turns old new at (branch side node colour near far) (branch side node colour near y)
@@ -234,7 +234,7 @@ module _ (bytes new : List ℕ) (path : Path) (side : Side) (node sibling : ℕ)
   abbrev both : Tree
   both = branch side node colour x (branch side sibling black m d)
 
-  -- a turn of the sibling's part
+  -- the sibling's subtree changes
   sibling_turned : (y : Tree) → Turns bytes new (side_word node (opposite side)) (branch side sibling black m d) y → Turns bytes new path.root (plug both layers) (plug (branch side node colour x y) layers)
   sibling_turned y t = turned_at bytes new path layers both (branch side node colour x y) s (turns_up_far bytes new at side node colour x (branch side sibling black m d) y (here bytes path layers both s)
       (here_apart bytes path layers both s) t)
@@ -254,16 +254,16 @@ module _ (bytes new : List ℕ) (path : Path) (side : Side) (node sibling : ℕ)
   pub inner_hangs : IsTree bytes (target bytes (side_word sibling side)) m
   inner_hangs = (branch-parts bytes (target bytes (side_word node (opposite side))) side sibling black m d sibling_hangs).near_hangs
 
-  -- its outer child turned
+  -- the subtree of the sibling's outer child changes
   outer_turned : (y : Tree) → Turns bytes new (side_word sibling (opposite side)) d y → Turns bytes new path.root (plug both layers) (plug (branch side node colour x (branch side sibling black m y)) layers)
   outer_turned y t = sibling_turned (branch side sibling black m y) (turns_up_far bytes new (side_word node (opposite side)) side sibling black m d y sibling_hangs sibling_apart t)
 
-  -- the sibling painted red
+  -- the sibling is painted red
   sibling_painted : new ≡ with_colour bytes sibling Red → Turns bytes new path.root (plug both layers) (plug (branch side node colour x (branch side sibling red m d)) layers)
   sibling_painted e = sibling_turned (branch side sibling red m d) (subst (λ b. Turns bytes b (side_word node (opposite side)) (branch side sibling black m d) (branch side sibling red m d)) (sym e)
       (turns-painted bytes (side_word node (opposite side)) side sibling black Red m d sibling_hangs sibling_apart))
 
-  -- no child is red: the part above both is short
+  -- if the sibling has no red child, the larger subtree is short
   pub shortening : new ≡ with_colour bytes sibling Red → colour_at bytes (target bytes (side_word sibling side)) ≡ Black → colour_at bytes (target bytes (side_word sibling (opposite side))) ≡ Black
       → IsShort (layer_at side node colour (branch side sibling black m d) ∷ layers) x → IsBlack x → Lengthens bytes new path (layer_at side node colour (branch side sibling black m d) ∷ layers) x true
   shortening e bm bd short bx = record {
@@ -313,7 +313,7 @@ module _ (bytes one : List ℕ) (path : Path) (side : Side) (node sibling : ℕ)
         state = outer_came_up side node sibling outer colour m l r layers x bx short;
       }
 
-  -- a red outer child lends its node
+  -- the outer child is red: the sibling moves up, and the subtree gets one black node more
   pub by_outer : (new : List ℕ) (outer : ℕ) (d : Tree) → target bytes (side_word sibling (opposite side)) ≡ Some outer → colour_at bytes (Some outer) ≡ Red → one ≡ with_colour bytes outer Black
       → ((d : Tree) → StandsAt one path layers (branch side node colour x (branch side sibling black m d)) → ComesUp one new path.root side node sibling colour black layers x m d)
       → StandsAt bytes path layers (branch side node colour x (branch side sibling black m d)) → IsShort (layer_at side node colour (branch side sibling black m d) ∷ layers) x → IsBlack x
@@ -364,7 +364,7 @@ module _ (bytes one : List ℕ) (path : Path) (side : Side) (node sibling : ℕ)
         state = inner_came_up side node sibling inner colour near far d layers x bx short;
       }
 
-  -- a red inner child lends its node
+  -- the inner child is red: it moves up, and the subtree gets one black node more
   pub by_inner : (new : List ℕ) (m : Tree) → colour_at bytes (target bytes (side_word sibling side)) ≡ Red → one ≡ rotated bytes (side_word node (opposite side)) sibling (opposite side)
       → ((inner : ℕ) (m d : Tree) → StandsAt one path layers (branch side node colour x (branch side inner red m d)) → ComesUp one new path.root side node inner colour red layers x m d)
       → StandsAt bytes path layers (branch side node colour x (branch side sibling black m d)) → IsShort (layer_at side node colour (branch side sibling black m d) ∷ layers) x → IsBlack x
@@ -437,9 +437,9 @@ no_sibling bytes path side node e layers x other colour s short =
     let none : other ≡ leaf = no_tree bytes other (subst (λ o. IsTree bytes o other) e (beside_hangs bytes path layers side node colour x other s)) in
     sibling_stands side node colour layers x (subst (λ o. IsShort (layer_at side node colour o ∷ layers) x) none short)
 
--- ---- one turn
+-- ---- one step
 
--- a red part is painted black
+-- if the root of the short subtree is red, it is painted black
 pub red_part : (bytes new : List ℕ) (path : Path) (to : Option ℕ) (node : ℕ) → to ≡ target bytes (last_word path.root path.steps.items) → to ≡ Some node → colour_at bytes to ≡ Red → new ≡ with_colour bytes node Black
     → (layers : List Layer) (x : Tree) → StandsAt bytes path layers x → IsShort layers x → Lengthens bytes new path layers x false
 red_part bytes new path to node e1 e2 is_red e3 layers x s short =
@@ -462,7 +462,7 @@ black_part bytes path to e n layers x s =
     black_root bytes (target bytes (place path.root layers)) x (here bytes path layers x s)
     (ap (λ w. colour_at bytes (target bytes w)) (sym (path_word bytes path layers x s)) ∙ ap (colour_at bytes) (sym e) ∙ not_red_paint bytes to n)
 
--- the path ends at the root
+-- if the path ends at the root, the whole tree is short, and so is a red-black tree
 pub short_whole : (bytes : List ℕ) (path last : Path) → path.steps.items ≡ [] → last.root ≡ path.root → (layers : List Layer) (x : Tree) → StandsAt bytes path layers x → IsShort layers x → IsBlack x
     → Lengthens bytes bytes last layers x false
 short_whole bytes path last e r [] x s short b = record {

@@ -1,4 +1,4 @@
--- The nodes of a tree in a segment are low: their positions leave the highest bit of a word.
+-- The nodes of a tree in a segment have positions below 2^31.
 use Rattle.std.proofs.Common.{◌≡◌, ℕ, ◌+◌, ◌^◌, ◌<◌, ◌≤◌, ◌⊎◌, inl, inr, List, length, Some, subst, ap, arith}
 use Rattle.std.proofs.lemmas.Bool.{cases_lt}
 use Rattle.seg_spec.proofs.BytesLaws.{number_past}
@@ -14,12 +14,12 @@ names_itself : (bytes : List ℕ) (at : ℕ) → length bytes < at + 4 → at < 
 unfolding target
 names_itself bytes at past small = rw (number_past 4 bytes at past) (ap Some (omega arith))
 
--- no tree is at a pointer that points to itself: it would have no end
+-- a pointer that points to itself has no tree, because the tree would be infinite
 no_tree_past : (bytes : List ℕ) (at : ℕ) → target bytes at ≡ Some at → (tree : Tree) → IsTree bytes (Some at) tree → ⊥
 no_tree_past bytes at self leaf h = h
 no_tree_past bytes at self (fork left node colour right) h = no_tree_past bytes at self left (subst (λ o. IsTree bytes o left) self h.2)
 
--- the root of a tree in a segment's bytes is low
+-- the root of a tree in a segment's bytes has a position below 2^31
 pub root_low : (bytes : List ℕ) (at : ℕ) (side : Side) (node : ℕ) (colour : Colour) (near far : Tree) → length bytes ≤ 2 ^ 30 → IsTree bytes (target bytes at) (branch side node colour near far) → node < 2 ^ 31
 root_low bytes at side node colour near far small h = go (cases_lt (length bytes) (node + 4))
   where

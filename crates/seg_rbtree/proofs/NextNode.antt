@@ -26,7 +26,7 @@ use Rattle.seg_rbtree.proofs.Unlinking.{next_lost, red_unlinked, black_unlinked,
 use Rattle.seg_rbtree.proofs.Lengthening.{colour_read, turned_at, here, here_apart}
 use Rattle.seg_rbtree.proofs.TakingOut.{plug_on, place_on, steps_on, apart_lost, each_lost, lone_turned}
 
--- ---- below the node's pointer word
+-- ---- the subtree at the node's pointer word
 
 module _ (b : List ℕ) (at node next : ℕ) (colour tint : Colour) (left only : Tree) (lower : List Layer) where
   abbrev pub follower : Tree
@@ -117,7 +117,7 @@ module _ (b : List ℕ) (at node next : ℕ) (colour tint : Colour) (left only :
 named_alike : (o : Option ℕ) (x y : ℕ) → o ≡ Some x → o ≡ Some y → x ≡ y
 named_alike o x y e f = cc
 
--- the next node's step in place of the node's
+-- the path with the next node's step in place of the node's step
 path_renamed : (xs ys zs : List Step) (depth : ℕ) (node next : ℕ) (items after : List Step) → items ≡ xs ++ record { node = node; side = Right } ∷ ys → depth ≡ length xs
     → ((step : Step) → depth < length items → step ≡ slice_index_or items depth step → after ≡ slice_set items depth (record { node = next; side = step.side })) → after ≡ xs ++ record { node = next; side = Right } ∷ ys
 path_renamed xs ys zs depth node next items after e d replaced =
@@ -206,6 +206,6 @@ by_next b b1 b2 b3 path one two node read depth gone result d r1 r2 er eg e1 e2 
     (subst (λ t. StandsAt b path layers (fork left node colour t) → IsRedBlack (plug (fork left node colour t) layers) → length (nodes_of (plug (fork left node colour t) layers)) < 2 ^ 32
     → Unlinks b b3 two layers (fork left node colour t) node gone) (sym to.tree_is) law) s r few
 
--- there is a next node
+-- a node with a right child has a next node
 pub no_next : (path : Path) (layers : List Layer) (right : Tree) (result : Option ℕ) → result ≡ None → Descends path layers right result → ⊥
 no_next path layers right result e to = let some = to.result_is in cc

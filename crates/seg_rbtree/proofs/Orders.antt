@@ -1,4 +1,4 @@
--- The nodes of a tree with one more, in order.
+-- The nodes of a tree with one node more, in order.
 use Rattle.std.proofs.Common.{◌≡◌, ℕ, suc, ◌+◌, ◌≤◌, Bool, true, false, List, [], ◌∷◌, ◌++◌, length, refl, sym, ap, ◌∙◌, subst, cond, eqb}
 use Rattle.std.specs.Cmp.{IsTotalOrder}
 use Rattle.std.specs.Ordering.{is_lt, ordering_reverse}
@@ -34,7 +34,7 @@ ascend-parts order (x ∷ xs) at ys a =
       right = rest.right;
     }
 
--- what is at a place is in order
+-- the nodes of a subtree are in order
 pub ascend-down : (order : ℕ → ℕ → Ordering) (tree : Tree) (layers : List Layer) → Ascend order (nodes_of (plug tree layers)) → Ascend order (nodes_of tree)
 ascend-down order tree [] a = a
 ascend-down order tree (layer ∷ layers) a = go layer.side (ascend-down order (grow layer tree) layers a)
@@ -43,7 +43,7 @@ ascend-down order tree (layer ∷ layers) a = go layer.side (ascend-down order (
     go Left h = (ascend-parts order (nodes_of tree) layer.at (nodes_of layer.other) h).left
     go Right h = (ascend-parts order (nodes_of layer.other) layer.at (nodes_of tree) h).right
 
--- ---- one more
+-- ---- one node more
 
 module _ (order : ℕ → ℕ → Ordering) (node : ℕ) where
   less : (x : ℕ) → order node x ≡ Less → is_lt (order node x) ≡ true
@@ -70,7 +70,7 @@ module _ (order : ℕ → ℕ → Ordering) (node : ℕ) where
   with_node-right [] at ys h e = later at ys (not_less at e)
   with_node-right (x ∷ xs) at ys h e = later x (xs ++ at ∷ ys) (not_less x h.0) ∙ ap (λ zs. x ∷ zs) (with_node-right xs at ys h.1 e)
 
-  -- ---- what is true of each, and of the one more
+  -- ---- a fact about each node, including the new one
 
   pub each_with : (P : ℕ → Type 0) (ns : List ℕ) → P node → AllByRecursion P ns → AllByRecursion P (with_node order node ns)
   each_with P [] p h = (p, tt)
@@ -88,7 +88,7 @@ module _ (order : ℕ → ℕ → Ordering) (node : ℕ) where
       go true e k = subst NodesApart (sym (here x ns e)) h
       go false e k = subst NodesApart (sym (later x ns e)) (each_with (λ y. Separate x 16 y 16) ns (separate-swap node 16 x 16 h.0.0) h.1.0, k)
 
-  -- the nodes with the new one don't overlap, in any order
+  -- the nodes and the new one don't overlap, in any order
   pub apart-with_node : (len root : ℕ) (ns : List ℕ) → StandApart len root (node ∷ ns) → StandApart len root (with_node order node ns)
   apart-with_node len root ns h = record {
     small = h.small;
@@ -115,7 +115,7 @@ module _ (order : ℕ → ℕ → Ordering) (node : ℕ) where
     forth : (x y : ℕ) → order x y ≡ Less → order y x ≡ Greater
     forth x y e = total.antisymm y x ∙ ap ordering_reverse e
 
-    -- nodes before a node below this one are below it too
+    -- nodes before a node that is below the new one are below the new one
     below_all : (at : ℕ) (xs : List ℕ) → order node at ≡ Greater → AllByRecursion (λ x. order x at ≡ Less) xs → AllByRecursion (λ x. order node x ≡ Greater) xs
     below_all at xs e h = each_weaker _ _ (λ x l. forth x node (total.trans x at node l (back node at e))) xs h
 
@@ -129,15 +129,15 @@ module _ (order : ℕ → ℕ → Ordering) (node : ℕ) where
         let parts = ascend-parts order (nodes_of layer.other) layer.at (nodes_of t) a in
         ap (λ ns. nodes_of layer.other ++ layer.at ∷ ns) h ∙ sym (with_node-right (nodes_of layer.other) layer.at (nodes_of t) (below_all layer.at (nodes_of layer.other) e parts.before) e)
 
-    -- with one more node at the place to which the order leads, the whole tree has one more in its
-    -- place
+    -- If a node is added at its place in the order, the list of all nodes has the node at its
+    -- place.
     pub nodes-added : (x t : Tree) (layers : List Layer) → LeadBy (order node) layers → Ascend order (nodes_of (plug t layers)) → nodes_of x ≡ with_node order node (nodes_of t)
         → nodes_of (plug x layers) ≡ with_node order node (nodes_of (plug t layers))
     nodes-added x t [] l a h = h
     nodes-added x t (layer ∷ layers) l a h =
         nodes-added (grow layer x) (grow layer t) layers l.1 a (grown layer.side layer x t l.0 (ascend-down order (grow layer t) layers a) h)
 
-    -- a new node is in order among the others
+    -- the list with a new node is in order
     pub Ascend-with_node : (ns : List ℕ) → IsNew order node ns → Ascend order ns → Ascend order (with_node order node ns)
     Ascend-with_node [] new a = (tt, tt)
     Ascend-with_node (x ∷ ns) new a = go (order node x) refl (Ascend-with_node ns new.1 a.1)
@@ -147,14 +147,14 @@ module _ (order : ℕ → ℕ → Ordering) (node : ℕ) where
         go Equal e h = absurd (new.0 e)
         go Greater e h = subst (Ascend order) (sym (later x ns (not_less x e))) (each_with (λ y. order x y ≡ Less) ns (back node x e) a.0, h)
 
--- ---- one less
+-- ---- one node less
 
 each_but : (node : ℕ) (P : ℕ → Type 0) (ns : List ℕ) → AllByRecursion P ns → AllByRecursion P (without_node node ns)
 each_but node P [] h = tt
 each_but node P (x ∷ ns) h =
     elim (eqb node x) as (λ b. AllByRecursion P (cond b ns (x ∷ without_node node ns))) [ true ↦ h.1 | false ↦ (h.0, each_but node P ns h.1) ]
 
--- the others stay in order
+-- the list without a node is in order
 pub Ascend-without_node : (order : ℕ → ℕ → Ordering) (node : ℕ) (ns : List ℕ) → Ascend order ns → Ascend order (without_node node ns)
 Ascend-without_node order node [] a = tt
 Ascend-without_node order node (x ∷ ns) a =

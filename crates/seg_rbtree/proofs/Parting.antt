@@ -1,4 +1,5 @@
--- Two red nodes in a row below a black one: its red children become black, or it moves down.
+-- Two red nodes in a row below a black node: the black node's red children become black, or it
+-- moves down.
 use Rattle.std.proofs.Common.{◌≡◌, ℕ, suc, ◌+◌, ◌≤◌, inl, List, [], ◌∷◌, ◌++◌, length, Option, Some, None, refl, sym, ap, ◌∙◌, subst, length-append, arith}
 use Rattle.seg_spec.specs.Pointer.{target}
 use Rattle.seg_spec.specs.Shapes
@@ -21,7 +22,7 @@ use Rattle.seg_rbtree.proofs.Balancing.{balanced-up, balanced-black, balanced-re
 use Rattle.seg_rbtree.proofs.Raising.{straightens}
 use Rattle.seg_rbtree.proofs.Settling.{read-red, read-black, becomes, IsFamily}
 
--- a change of the other child of a node
+-- a change of the far subtree of a node
 pub turns-up_far : (old new : List ℕ) (at : ℕ) (side : Side) (node : ℕ) (colour : Shapes.Colour) (near x room y : Tree) → IsTree old (target old at) (branch side node colour near x)
     → StandApart (length old) at (nodes_of (branch side node colour near room))
     → Turns old new (side_word node (opposite side)) room y → Turns old new at (branch side node colour near room) (branch side node colour near y)
@@ -87,16 +88,16 @@ module _ (bytes : List ℕ) (at : ℕ) (way : Side) (g : ℕ) (turn : Side) (p u
       same Left = refl
       same Right = refl
 
--- ---- one turn
+-- ---- one step
 
--- a red node at a place, seen as one that rises
+-- a red node at a place, whose parent may be red too
 rising : (bytes : List ℕ) (root : ℕ) (steps : List Step) (nodes : List ℕ) (way : Side) (g : ℕ) (near far : Tree) (layers : List Layer) (height : ℕ) → steps ≡ steps_of layers
     → IsTree bytes (target bytes root) (plug (branch way g red near far) layers)
     → nodes_of (plug (branch way g red near far) layers) ≡ nodes → StandApart (length bytes) root nodes → IsBalanced (branch way g red near far) height → Wants layers height → IsRising bytes root steps nodes g
 rising bytes root steps nodes Left g near far layers height e h n apart b w = record { layers = layers; left = near; right = far; steps_are = e; hangs = h; nodes_are = n; apart = apart; height = height; balanced = b; wants = w }
 rising bytes root steps nodes Right g near far layers height e h n apart b w = record { layers = layers; left = far; right = near; steps_are = e; hangs = h; nodes_are = n; apart = apart; height = height; balanced = b; wants = w }
 
--- the tree at a pointer whose node is red
+-- a tree with this red node as its root
 pub record IsRedTree (tree : Tree) (u : ℕ) : Type 0 where
   pub left : Tree
   pub right : Tree
@@ -165,14 +166,14 @@ module _ (bytes : List ℕ) (root : ℕ) (nodes : List ℕ) (node : ℕ) (parent
         );
       }
 
-  -- the uncle is red: the black node above becomes red, and both below it black
+  -- the uncle is red: the grandparent becomes red, and both of its children become black
   pub settled_parting : (to : Option ℕ) (u : ℕ) → steps ≡ rest ++ parent ∷ [] → rest ≡ more ++ grandparent ∷ [] → to ≡ target bytes (side_word g (opposite way)) → to ≡ Some u → colour_at bytes (Some u) ≡ Red
       → Settles bytes (with_colour (with_colour (with_colour bytes p Black) u Black) g Red) root steps more nodes (Some g)
   settled_parting to u e d at is c =
       let t = red_tree bytes f.uncle u (subst (λ o. IsTree bytes o f.uncle) is (uncle_hangs to at)) c in
       parted u t.left t.right t.tree_is (shorter e d)
 
-  -- the uncle is black: the middle one of the three moves up
+  -- the uncle is black: the middle one of the three nodes moves up
   pub settled_straight : (to : Option ℕ) (word : ℕ) → to ≡ target bytes (side_word g (opposite way)) → (colour_at bytes to ≡ Red → ⊥) → word ≡ last_word root more
       → Settles bytes (straightened bytes word g way p parent.side) root steps more nodes None
   settled_straight to word at c e =

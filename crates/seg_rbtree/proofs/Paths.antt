@@ -1,7 +1,7 @@
 -- The end of a path to a key.
---     finds_equal      the node at its end is one that equals the key, if there is one
---     leads_same       it still reaches the same place as long as the nodes compare the same
---     finds_new        a node with that key is new if none equals it
+--     finds_equal      the node at the path's end equals the key, if some node does
+--     leads_same       the path still reaches the same place as long as the nodes compare the same
+--     finds_new        a node with that key is new if no node equals the key
 --     finds_first      if no two nodes equal the key, the node that is found is the first
 use Rattle.std.proofs.Common.{◌≡◌, ◌≢◌, ℕ, ◌≤◌, false, List, [], ◌∷◌, ◌++◌, Option, Some, None, refl, sym, ap, ◌∙◌, subst, append_assoc, arith}
 use Rattle.std.specs.List.{AllByRecursion}
@@ -40,7 +40,7 @@ module _ (compare : ℕ → Ordering) (order : ℕ → ℕ → Ordering) (keyed 
   abbrev turn : ℕ → Ordering
   turn x = ordering_reverse (compare x)
 
-  -- nodes before a node below the key don't equal it, nor do nodes after one above it
+  -- nodes before a node below the key don't equal the key
   differs_before : (at x : ℕ) → compare at ≡ Less → order x at ≡ Less → compare x ≢ Equal
   differs_before at x e l f =
       let k : 1 ≤ 0 = subst (λ r. rank_of r ≤ 0) f (subst (λ r. rank_of (compare x) ≤ rank_of r) e (keyed x at l)) in
@@ -83,14 +83,14 @@ module _ (compare : ℕ → Ordering) (order : ℕ → ℕ → Ordering) (keyed 
       subst (λ n. IsEqualAmong compare (nodes_of (plug (fork left at colour right) layers)) n) h.0
       (among layers left right at _ (nodes_plug layers (fork left at colour right)) (reversed (compare at) Equal e))
 
-  -- the node at the end of a path to a key is one that equals it, if there is one
+  -- the node at the end of a path to a key equals the key, if some node does
   pub finds_equal : (bytes : List ℕ) (root : ℕ) (path : Path) (shape : Tree) → path.root ≡ root → IsSearchTree bytes root shape → Ascend order (nodes_of shape) → LeadsTo turn shape path
       → FindsEqual compare (nodes_of shape) (node_at bytes path)
   finds_equal bytes root path shape r t a way =
       subst (λ s. FindsEqual compare (nodes_of s) (node_at bytes path)) way.shape_is
       (at_end bytes (node_at bytes path) way.layers way.rest (rest_hangs bytes root path turn 0 shape r way t.is_tree) way.ends way.leads (subst (λ s. Ascend order (nodes_of s)) (sym way.shape_is) a))
 
--- ---- while the nodes compare as they did
+-- ---- the nodes compare the same
 
 leads_by_same : (turn other : ℕ → Ordering) (layers : List Layer) (rest : Tree) → AllByRecursion (λ x. turn x ≡ other x) (nodes_of (plug rest layers)) → LeadBy turn layers
     → LeadBy other layers × AllByRecursion (λ x. turn x ≡ other x) (nodes_of rest)
@@ -108,19 +108,19 @@ ends_same : (turn other : ℕ → Ordering) (rest : Tree) → AllByRecursion (λ
 ends_same turn other leaf same e = tt
 ends_same turn other (fork left at colour right) same e = sym (each_right _ (nodes_of left) (at ∷ nodes_of right) same).0 ∙ e
 
--- a path still reaches the same place as long as what is looked for compares with each node as
+-- a path still reaches the same place as long as the sought node or key compares with each node as
 -- before
 pub leads_same : (turn other : ℕ → Ordering) (shape : Tree) (path : Path) → AllByRecursion (λ x. turn x ≡ other x) (nodes_of shape) → LeadsTo turn shape path → LeadsTo other shape path
 leads_same turn other shape path same way =
     let both = leads_by_same turn other way.layers way.rest (subst (λ s. AllByRecursion (λ x. turn x ≡ other x) (nodes_of s)) (sym way.shape_is) same) way.leads in
     record { layers = way.layers; rest = way.rest; shape_is = way.shape_is; steps_are = way.steps_are; leads = both.0; ends = ends_same turn other way.rest both.1 way.ends }
 
--- a node that compares with the others like the key is new if none equals the key
+-- a node that compares with the others like the key is new if no node equals the key
 pub finds_new : (compare : ℕ → Ordering) (order : ℕ → ℕ → Ordering) (node : ℕ) (nodes : List ℕ) → AllByRecursion (λ x. ordering_reverse (compare x) ≡ order node x) nodes → FindsEqual compare nodes None → IsNew order node nodes
 finds_new compare order node [] same d = tt
 finds_new compare order node (x ∷ nodes) same d = ((λ e. d.0 (reversed (compare x) Equal (same.0 ∙ e))), finds_new compare order node nodes same.1 d.1)
 
--- ---- no two nodes equal the key
+-- ---- at most one node equals the key
 
 first_none : (compare : ℕ → Ordering) (nodes : List ℕ) → AllByRecursion (λ x. compare x ≢ Equal) nodes → first_where (λ x. is_eq (compare x)) nodes ≡ None
 first_none compare [] d = refl

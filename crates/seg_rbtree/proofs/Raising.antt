@@ -1,4 +1,4 @@
--- Two red nodes in a row below a black one are repaired.
+-- Two red nodes in a row below a black node are repaired.
 use Rattle.std.proofs.Common.{◌≡◌, ℕ, suc, List, length, refl, sym, ap, ◌∙◌, subst}
 use Rattle.seg_spec.specs.Pointer.{target}
 use Rattle.seg_spec.specs.Shapes.{Colour, black, red, Tree, fork, nodes_of, IsTree, IsBlack, IsBalanced}
@@ -55,7 +55,7 @@ module _ (bytes : List ℕ) (at : ℕ) (side : Side) (node up : ℕ) (colour upp
       let high = branch-parts bytes (target bytes (side_word node (opposite side))) side up upper m d low.far_hangs in
       subst (λ o. Turns bytes (raised_up first node o) at before after) (sym high.named) (painted h apart)
 
--- then a balanced black tree of the same nodes is there
+-- the tree at the pointer word becomes a balanced black tree of the same nodes
 pub record Straightens (old new : List ℕ) (at : ℕ) (before : Tree) (height : ℕ) : Type 0 where
   pub after : Tree
   pub turns : Turns old new at before after
@@ -63,7 +63,7 @@ pub record Straightens (old new : List ℕ) (at : ℕ) (before : Tree) (height :
   pub black_root : IsBlack after
   pub balanced : IsBalanced after (suc height)
 
--- the path doesn't turn
+-- both red nodes are on the same side
 straight_on : (bytes : List ℕ) (at : ℕ) (way : Side) (g p : ℕ) (lower sibling uncle : Tree) (h : ℕ) → IsTree bytes (target bytes at) (branch way g black (branch way p red lower sibling) uncle)
     → StandApart (length bytes) at (nodes_of (branch way g black (branch way p red lower sibling) uncle)) → IsBalanced lower h → IsBlack sibling → IsBalanced sibling h → IsBlack uncle → IsBalanced uncle h
     → Straightens bytes (raised bytes at g (opposite way)) at (branch way g black (branch way p red lower sibling) uncle) h
@@ -82,7 +82,7 @@ straight_on bytes at way g p lower sibling uncle h t apart bl ks bs ku bu =
       balanced = balanced-black side p (branch side g red uncle sibling) lower h (balanced-red side g uncle sibling h ku ks bu bs) bl;
     }
 
--- it turns below the parent, so the lower one moves up first
+-- the red nodes are on different sides, so the lower one moves up first
 turned_back : (bytes : List ℕ) (at : ℕ) (way : Side) (g p n : ℕ) (m d sibling uncle : Tree) (h : ℕ) → IsTree bytes (target bytes at) (branch way g black (branch (opposite way) p red (branch way n red m d) sibling) uncle)
     → StandApart (length bytes) at (nodes_of (branch way g black (branch (opposite way) p red (branch way n red m d) sibling) uncle)) → IsBalanced (branch way n red m d) h → IsBlack sibling → IsBalanced sibling h → IsBlack uncle
     → IsBalanced uncle h

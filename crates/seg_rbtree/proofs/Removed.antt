@@ -31,7 +31,7 @@ use Rattle.seg_rbtree.proofs.Steps.{last_word-steps}
 use Rattle.seg_rbtree.proofs.Branches.{tree-down}
 use Rattle.seg_rbtree.proofs.TakingOut.{apart_lost, each_lost}
 
--- ---- a node that isn't there
+-- ---- a node that isn't in the tree
 
 its_own_reverse : (r : Ordering) → r ≡ ordering_reverse r → r ≡ Equal
 its_own_reverse Less e = cc
@@ -61,7 +61,7 @@ module _ (order : ℕ → ℕ → Ordering) (total : IsTotalOrder order) (node :
   abbrev Misses : List ℕ → Type 0
   Misses ns = AllByRecursion (λ x. node ≢ x) ns
 
-  -- the subtrees beside the path don't have the node
+  -- the subtrees beside the path don't contain the node
   pub not_aside : (layers : List Layer) (rest : Tree) → Ascend order (nodes_of (plug rest layers)) → LeadBy (order node) layers → Misses (nodes_of rest) → Misses (nodes_of (plug rest layers))
   not_aside [] rest a l m = m
   not_aside (layer ∷ layers) rest a l m = not_aside layers (grow layer rest) a l.1 (go layer.side l.0 (ascend-down order (grow layer rest) layers a))
@@ -94,7 +94,7 @@ root_among : (bytes : List ℕ) (node : ℕ) (rest : Tree) → IsTree bytes (Som
 root_among bytes node leaf h m = h
 root_among bytes node (fork l at c r) h m = middle (λ x. node ≢ x) (nodes_of l) at (nodes_of r) m (sym h.0)
 
--- ---- after the path
+-- ---- at the path's end
 
 module _ (bytes : List ℕ) (root : ℕ) (path : Path) (turn : ℕ → Ordering) (node : ℕ) (shape : Tree) (r : path.root ≡ root) (way : LeadsTo turn shape path) where
   pub rest_hangs : IsTree bytes (target bytes root) shape → IsTree bytes (node_at bytes path) way.rest
@@ -125,7 +125,7 @@ module _ (bytes : List ℕ) (root : ℕ) (path : Path) (turn : ℕ → Ordering)
   whole_few t = subst (λ s. length (nodes_of s) < 2 ^ 32) (sym way.shape_is) t.few
 
 module _ (bytes : List ℕ) (root : ℕ) (path : Path) (order : ℕ → ℕ → Ordering) (node : ℕ) (shape : Tree) (r : path.root ≡ root) (way : LeadsTo (order node) shape path) where
-  -- no node is there: nothing changes
+  -- the node isn't in the tree: nothing changes
   pub left_alone : IsTotalOrder order → IsSearchTree bytes root shape → Ascend order (nodes_of shape) → (node_at bytes path ≡ Some node → ⊥) → Leaves bytes bytes root (nodes_of shape) (without_node node (nodes_of shape))
   left_alone total t a n =
       let in_order : Ascend order (nodes_of (plug way.rest way.layers)) = subst (λ t. Ascend order (nodes_of t)) (sym way.shape_is) a in
@@ -141,7 +141,7 @@ fewer node old new l few =
 
 module _ (bytes one : List ℕ) (root : ℕ) (path last : Path) (turn : ℕ → Ordering) (node : ℕ) (shape : Tree) (r : path.root ≡ root) (way : LeadsTo turn shape path) (q : last.root ≡ path.root) (t : IsSearchTree bytes root shape)
     (a : StandApart (length bytes) root (nodes_of shape)) where
-  -- a red node was removed: the rules of colours are satisfied
+  -- a red node was removed: the tree is still a red-black tree
   pub red_left : Unlinks bytes one last way.layers way.rest node Red → Leaves bytes one root (nodes_of shape) (without_node node (nodes_of shape))
   red_left u =
       let lost : Loses node (nodes_of shape) (nodes_of (plug u.part u.above)) = subst (λ s. Loses node (nodes_of s) (nodes_of (plug u.part u.above))) way.shape_is u.lost in
@@ -163,7 +163,7 @@ module _ (bytes one : List ℕ) (root : ℕ) (path last : Path) (turn : ℕ → 
             (apart_lost (length bytes) root node (nodes_of shape) (nodes_of (plug u.part u.above)) lost a));
       }
 
-  -- a black one was removed, and the short subtree is repaired
+  -- a black node was removed, and the short subtree is repaired
   pub black_left : (new : List ℕ) (u : Unlinks bytes one last way.layers way.rest node Black) → Restores one new last.root (plug u.part u.above) → Leaves bytes new root (nodes_of shape) (without_node node (nodes_of shape))
   black_left new u s =
       let lost : Loses node (nodes_of shape) (nodes_of (plug u.part u.above)) = subst (λ s. Loses node (nodes_of s) (nodes_of (plug u.part u.above))) way.shape_is u.lost in
@@ -178,7 +178,7 @@ module _ (bytes one : List ℕ) (root : ℕ) (path last : Path) (turn : ℕ → 
         kept = keeps-trans bytes one new root (nodes_of shape) first.kept wider;
       }
 
--- ---- a comparison of what is there
+-- ---- the comparison with the node at the path's end
 
 same_number : (x y : ℕ) → eqb x y ≡ true → x ≡ y
 same_number x y e = grind (arith, nat_tests)

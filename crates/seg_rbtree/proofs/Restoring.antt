@@ -30,7 +30,7 @@ restoring_start bytes path layers tree s short = record {
   left = omega (arith, (turns_few layers tree short).1);
 }
 
--- it is at the end of the path
+-- the short subtree is at the end of the path
 pub restoring_stands : (old now : List ℕ) (first path : Path) (layers : List Layer) (tree : Tree) (count : ℕ) → path.root ≡ first.root → StandsAt old first layers tree → (i : IsRestoring old now first path layers tree count)
     → StandsAt now path i.above i.part
 restoring_stands old now first path layers tree count r s i = stands_again old now first path layers i.above tree i.part s r i.steps_are i.turned i.nodes_are
@@ -41,7 +41,7 @@ module _ (old now new : List ℕ) (first path next : Path) (layers : List Layer)
       turns-then old now new first.root (plug tree layers) (plug i.part i.above) shape i.turned
       (turns-room now new first.root (plug i.part i.above) (plug tree layers) shape i.nodes_are (subst (λ root. Turns now new root (plug i.part i.above) shape) (q ∙ r) t))
 
-  -- another turn
+  -- one step more
   pub restoring_on : Lengthens now new next i.above i.part true → IsRestoring old new first next layers tree (count + 1)
   restoring_on l = record {
     above = l.above;
@@ -53,7 +53,7 @@ module _ (old now new : List ℕ) (first path next : Path) (layers : List Layer)
     left = omega (arith, l.state.2, i.left);
   }
 
-  -- the last one
+  -- the last step
   pub restored : Lengthens now new next i.above i.part false → Restores old new first.root (plug tree layers)
   restored l = record {
     shape = plug l.part l.above;
@@ -62,6 +62,6 @@ module _ (old now new : List ℕ) (first path next : Path) (layers : List Layer)
     red_black = l.state;
   }
 
--- there is no turn too many
+-- the repair needs fewer than 64 steps
 pub restoring_ends : (old now : List ℕ) (first path : Path) (layers : List Layer) (tree : Tree) (count : ℕ) → 64 ≤ count → IsRestoring old now first path layers tree count → ⊥
 restoring_ends old now first path layers tree count m i = omega (arith, (turns_few i.above i.part i.short).0, i.left)

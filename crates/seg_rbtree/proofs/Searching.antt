@@ -1,4 +1,4 @@
--- A search in a tree for the first node of which something is true.
+-- A search in a tree for the first node with a property that all later nodes have too.
 use Rattle.std.proofs.Common.{◌≡◌, ℕ, suc, ◌+◌, ◌≤◌, Bool, true, false, leb, List, [], ◌∷◌, ◌++◌, Option, Some, None, refl, sym, ap, ◌∙◌, subst, arith}
 use Rattle.std.proofs.lemmas.Bool.Decides.{nat_tests}
 use Rattle.std.specs.Option.{option_or}
@@ -10,8 +10,8 @@ use Rattle.seg_spec.specs.Shapes.{Tree, leaf, fork, nodes_of, IsTree}
 use Rattle.seg_spec.specs.Search.{rank_of, reaches, Ascend, first_where, IsUpward, looks}
 use Rattle.seg_spec.proofs.Frame.{each_weaker}
 
--- the subtree at `place` is still to be searched; if `found` is a node, it is the first so far;
--- `count` nodes were read
+-- The subtree at `place` remains to be searched. If `found` is a node, it is the first one so far.
+-- `count` nodes were read.
 pub record IsSearching (bytes : List ℕ) (is_past : ℕ → Bool) (shape : Tree) (place found : Option ℕ) (count : ℕ) : Type 0 where
   pub rest : Tree
   pub hangs : IsTree bytes place rest
@@ -43,7 +43,7 @@ first_here p x xs e = rw e refl
 pub first_later : (p : ℕ → Bool) (x : ℕ) (xs : List ℕ) → p x ≡ false → first_where p (x ∷ xs) ≡ first_where p xs
 first_later p x xs e = rw e refl
 
--- ---- what is true of all after
+-- ---- properties that all later nodes have too
 
 each_left : (P : ℕ → Type 0) (xs ys : List ℕ) → AllByRecursion P (xs ++ ys) → AllByRecursion P xs
 each_left P [] ys a = tt
@@ -76,7 +76,7 @@ upward_of order p up (x ∷ xs) a = (λ e. each_weaker _ _ (λ y l. up x y l e) 
 reaches_by : (l x y : ℕ) → x ≤ y → leb l x ≡ true → leb l y ≡ true
 reaches_by l x y h e = grind (arith, nat_tests)
 
--- a node that isn't further down from a key than another reaches what the other reaches
+-- if a node compares as greater than another or the same, it reaches what the other reaches
 pub reaches_up : (least r s : Ordering) → rank_of r ≤ rank_of s → reaches least r ≡ true → reaches least s ≡ true
 reaches_up least r s h e = reaches_by (rank_of least) (rank_of r) (rank_of s) h e
 
@@ -123,7 +123,7 @@ pub searching_right : (bytes : List ℕ) (p : ℕ → Bool) (shape : Tree) (at :
     → IsSearching bytes p shape (target bytes (at + 4)) found (count + 1)
 searching_right bytes p shape at found count e s = right bytes p shape s.rest at found count e s.hangs s.upward s.node_is s.looks_are
 
--- what a search ends with
+-- the result of a search, and the number of nodes that were read
 pub record IsFound (p : ℕ → Bool) (shape : Tree) (found : Option ℕ) (count : ℕ) : Type 0 where
   pub node_is : found ≡ first_where p (nodes_of shape)
   pub looks_are : count ≡ looks p shape
@@ -144,7 +144,7 @@ no_more bytes p shape (fork l a c r) place found count m f k = absurd (omega ari
 pub searching_stop : (bytes : List ℕ) (p : ℕ → Bool) (shape : Tree) (place found : Option ℕ) (count : ℕ) → looks p shape ≤ count → IsSearching bytes p shape place found count → IsFound p shape found count
 searching_stop bytes p shape place found count m s = no_more bytes p shape s.rest place found count m s.node_is s.looks_are
 
--- ---- as the code walks
+-- ---- the steps of the code
 
 pub went_left : (bytes : List ℕ) (p : ℕ → Bool) (shape : Tree) (place found next : Option ℕ) (at count : ℕ) → place ≡ Some at → p at ≡ true → next ≡ target bytes at → IsSearching bytes p shape place found count
     → IsSearching bytes p shape next (Some at) (count + 1)
@@ -163,7 +163,7 @@ each_true : (ns : List ℕ) → AllByRecursion (λ _. true ≡ true) ns
 each_true [] = tt
 each_true (x ∷ xs) = (refl, each_true xs)
 
--- what is always true is true of all after
+-- a property of every node is one that all later nodes have
 pub always : (ns : List ℕ) → IsUpward (λ _. true) ns
 always [] = tt
 always (x ∷ xs) = (λ _. each_true xs, always xs)

@@ -1,4 +1,4 @@
--- A search in a tree for the node that equals a key, if each key has one place.
+-- A search in a tree for the node that equals a key, if at most one does.
 use Rattle.std.proofs.Common.{◌≡◌, ℕ, ◌+◌, ◌≤◌, List, [], ◌∷◌, length, Option, Some, None, refl, sym, ap, ◌∙◌, subst, arith}
 use Rattle.std.specs.Ordering.{is_eq, ordering_reverse}
 use Rattle.std.specs.declared.cmp.Ordering.{Ordering}
@@ -14,7 +14,7 @@ use Rattle.seg_rbtree.specs.Paths.{FindsEqual}
 use Rattle.seg_rbtree.proofs.Depth.{tall, deep-64, layers-deep}
 use Rattle.seg_rbtree.proofs.Paths.{at_end, finds_first}
 
--- some steps were taken to a place, whose subtree is still to be searched
+-- after some steps the subtree at a place remains to be searched
 pub record IsSeeking (bytes : List ℕ) (turn : ℕ → Ordering) (shape : Tree) (place : Option ℕ) (count : ℕ) : Type 0 where
   pub layers : List Layer
   pub rest : Tree
@@ -73,7 +73,7 @@ module _ (bytes : List ℕ) (turn : ℕ → Ordering) (shape : Tree) where
       let deep : length s.layers + tall s.rest ≤ tall shape = subst (λ x. length s.layers + tall s.rest ≤ tall x) s.shape_is (layers-deep s.rest s.layers) in
       nothing_there s.rest place s.hangs (omega (arith, deep-64 shape t.red_black t.few, s.count_is))
 
--- ---- what it finds
+-- ---- the result of a search
 
 module _ (compare : ℕ → Ordering) (order : ℕ → ℕ → Ordering) (keyed : (x y : ℕ) → order x y ≡ Less → rank_of (compare x) ≤ rank_of (compare y)) (one : (x y : ℕ) → compare x ≡ Equal → compare y ≡ Equal → order x y ≡ Equal) where
   abbrev turn_to : ℕ → Ordering

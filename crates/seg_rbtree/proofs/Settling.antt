@@ -19,7 +19,7 @@ use Rattle.seg_rbtree.proofs.Keeping.{keeps-none}
 use Rattle.seg_rbtree.proofs.Turning.{turns-whole, turns-painted}
 use Rattle.seg_rbtree.proofs.Balancing.{balanced-up}
 
--- ---- colours that are read
+-- ---- reads of colours
 
 colour_of : (bytes : List ℕ) (node n : ℕ) → word bytes (node + 8) ≡ n → colour_at bytes (Some node) ≡ cond (eqb n 1) Red Black
 colour_of bytes node n e = ap (λ k. cond (eqb k 1) Red Black) e
@@ -52,7 +52,7 @@ same_layer : (side : Side) (at : ℕ) (colour : Shapes.Colour) (layer : Layer) (
 same_layer side at colour layer tree s a c =
     ap (λ q. branch q layer.at layer.colour tree layer.other) s ∙ ap (λ q. branch side q layer.colour tree layer.other) a ∙ ap (λ q. branch side at q tree layer.other) c
 
--- ---- from a place to the whole
+-- ---- a change at a place is a change of the whole tree
 
 pub record Becomes (old new : List ℕ) (root : ℕ) (nodes : List ℕ) (after : Tree) (layers : List Layer) : Type 0 where
   pub hangs : IsTree new (target new root) (plug after layers)
@@ -96,7 +96,7 @@ module _ (bytes : List ℕ) (root : ℕ) (nodes : List ℕ) (node : ℕ) where
       subst (λ ss. Settles bytes (with_colour bytes node Black) root ss rest nodes None) (sym e)
       (at_root rest s.left s.right s.layers s.height (sym s.steps_are ∙ e) s.hangs s.nodes_are s.apart s.balanced)
 
-  -- ---- the node above is black
+  -- ---- the parent is black
 
   below_black : (steps rest : List Step) (parent : Step) (left right : Tree) (layers : List Layer) (height : ℕ) → rest ++ parent ∷ [] ≡ steps_of layers → IsTree bytes (target bytes root) (plug (fork left node red right) layers)
       → nodes_of (plug (fork left node red right) layers) ≡ nodes → IsBalanced (fork left node red right) height → Wants layers height → (colour_at bytes (Some parent.node) ≡ Red → ⊥) → Settles bytes bytes root steps rest nodes None
@@ -118,9 +118,9 @@ module _ (bytes : List ℕ) (root : ℕ) (nodes : List ℕ) (node : ℕ) where
   pub settled_below_black : (steps rest : List Step) (parent : Step) → steps ≡ rest ++ parent ∷ [] → (colour_at bytes (Some parent.node) ≡ Red → ⊥) → IsRising bytes root steps nodes node → Settles bytes bytes root steps rest nodes None
   settled_below_black steps rest parent e c s = below_black steps rest parent s.left s.right s.layers s.height (sym e ∙ s.steps_are) s.hangs s.nodes_are s.balanced s.wants c
 
-  -- ---- the node above is red, so there is a black one above it
+  -- ---- the parent is red, so that there is a black grandparent
 
-  -- the red node, the red one above it, and the black one above that
+  -- the red node, its red parent, and its black grandparent
   pub record IsFamily (parent grandparent : Step) (rest : List Step) : Type 0 where
     pub layers : List Layer
     pub left : Tree
@@ -138,7 +138,7 @@ module _ (bytes : List ℕ) (root : ℕ) (nodes : List ℕ) (node : ℕ) where
     pub uncle_balanced : IsBalanced uncle height
     pub wants : Wants layers (suc height)
 
-  -- the layer of a red node, and the height that it needs
+  -- the layer of a red node, and the black height that it needs
   is_red_layer : (left right : Tree) (layer : Layer) (layers : List Layer) (parent : Step) → step_of layer ≡ parent → colour_at bytes (Some parent.node) ≡ Red
       → IsTree bytes (target bytes root) (plug (fork left node red right) (layer ∷ layers)) → layer.colour ≡ red
   is_red_layer left right layer layers parent same c h =
@@ -203,6 +203,6 @@ module _ (bytes : List ℕ) (root : ℕ) (nodes : List ℕ) (node : ℕ) where
       below [] e b = b
       below (l ∷ ls) e b = some_step (steps_of ls) (step_of l) e
 
-  -- a red node isn't the root
+  -- a red parent isn't the root
   pub red_below_some : (steps rest : List Step) (parent : Step) → steps ≡ rest ++ parent ∷ [] → rest ≡ [] → colour_at bytes (Some parent.node) ≡ Red → IsRising bytes root steps nodes node → ⊥
   red_below_some steps rest parent e f c s = no_root_above rest parent s.left s.right s.layers s.height (sym e ∙ s.steps_are) f c s.hangs s.wants

@@ -33,13 +33,13 @@ top_branch : (side : Side) (at : ℕ) (colour : Colour) (near far : Tree) (layer
 top_branch side at black near far layers r = inl (black-branch side at near far)
 top_branch side at red near far layers r = inr (r refl)
 
--- a node of any colour on two black trees
+-- a node of any colour with two black subtrees
 pub coloured_whole : (side : Side) (at : ℕ) (colour : Colour) (near far : Tree) (h : ℕ) (layers : List Layer) → IsBalanced near h → IsBalanced far h → IsBlack near → IsBlack far → (colour ≡ red → IsBelowBlack layers)
     → Wants layers (height_above colour h) → IsRedBlack (plug (branch side at colour near far) layers)
 coloured_whole side at colour near far h layers n f bn bf r w =
     balanced-up (branch side at colour near far) layers (record { height = height_above colour h; balanced = balanced_branch side at colour near far h n f (λ _. (bn, bf)); wants = w; top = top_branch side at colour near far layers r })
 
--- ---- a short part
+-- ---- a short subtree
 
 pub balanced_nearly : (tree : Tree) (h : ℕ) → IsBalanced tree h → IsNearly tree h
 balanced_nearly leaf h b = b
@@ -51,11 +51,11 @@ nearly_balanced leaf h k b = b
 nearly_balanced (fork left at black right) h k b = b
 nearly_balanced (fork left at red right) h k b = absurd k
 
--- a red root of the short part is painted black
+-- painting the red root of a short subtree black repairs the tree
 pub painted_black : (layers : List Layer) (left right : Tree) (at : ℕ) → IsShort layers (fork left at red right) → IsRedBlack (plug (fork left at black right) layers)
 painted_black layers left right at s = balanced-up (fork left at black right) layers (record { height = suc s.height; balanced = (s.height, refl, s.nearly.0, s.nearly.1); wants = s.wanted; top = inl tt })
 
--- the whole tree may be short
+-- a whole tree that is short is a red-black tree
 pub short_root : (tree : Tree) → IsBlack tree → IsShort [] tree → IsRedBlack tree
 short_root tree b s = record { root = b; height = s.height; balanced = nearly_balanced tree s.height b s.nearly }
 
@@ -98,7 +98,7 @@ module _ (side : Side) (at sibling : ℕ) (colour : Colour) (inner outer : Tree)
         low = subst (λ c. height_above c (blacks layers) + s.height < 32) above s.low;
       }
 
-  -- a black sibling without red children is painted red, and the part above both is short
+  -- a black sibling without red children is painted red, and then the larger subtree is short
   pub shortened : IsBlack tree → IsBlack inner → IsBlack outer → IsShort (beside black) tree → IsShort layers (branch side at colour tree (branch side sibling red inner outer))
   shortened bt bi bo s =
       let f = black-parts side sibling inner outer (suc s.height) (side_parts colour (branch side sibling black inner outer) layers (suc s.height) s.wanted.0).balanced in
@@ -112,7 +112,7 @@ module _ (side : Side) (at sibling : ℕ) (colour : Colour) (inner outer : Tree)
         low = over_both colour (blacks layers) s.height s.low;
       }
 
--- the nearer child of a black sibling is red: it moves up between the two
+-- the inner child of a black sibling is red: it moves up, and becomes the parent of both
 pub inner_came_up : (side : Side) (at sibling inner : ℕ) (colour : Colour) (near far outer : Tree) (layers : List Layer) (tree : Tree) → IsBlack tree
     → IsShort (record { side = side; at = at; colour = colour; other = branch side sibling black (branch side inner red near far) outer } ∷ layers) tree
     → IsRedBlack (plug (branch side inner colour (branch side at black tree near) (branch side sibling black far outer)) layers)
@@ -126,7 +126,7 @@ inner_came_up side at sibling inner colour near far outer layers tree bt s =
     (balanced-black side sibling far outer f.below g.far_balanced f.far_balanced)
     (black-branch side at tree near) (black-branch side sibling far outer) (λ e. (p.below_red e).1) (subst (λ h. Wants layers (height_above colour (suc h))) same s.wanted.1)
 
--- the child on the other side is red: the sibling moves up, and this child becomes black
+-- the outer child of a black sibling is red: the sibling moves up, and this child becomes black
 pub outer_came_up : (side : Side) (at sibling outer : ℕ) (colour : Colour) (inner left right : Tree) (layers : List Layer) (tree : Tree) → IsBlack tree
     → IsShort (record { side = side; at = at; colour = colour; other = branch side sibling black inner (fork left outer red right) } ∷ layers) tree
     → IsRedBlack (plug (branch side sibling colour (branch side at black tree inner) (fork left outer black right)) layers)
@@ -138,7 +138,7 @@ outer_came_up side at sibling outer colour inner left right layers tree bt s =
     coloured_whole side sibling colour (branch side at black tree inner) (fork left outer black right) (suc f.below) layers (balanced-black side at tree inner f.below t f.near_balanced) (f.below, refl, f.far_balanced.2, f.far_balanced.3)
     (black-branch side at tree inner) tt (λ e. (p.below_red e).1) (subst (λ h. Wants layers (height_above colour (suc h))) same s.wanted.1)
 
--- ---- how far down a place is
+-- ---- the depth of a place
 
 whole_height : (layers : List Layer) (tree : Tree) (h : ℕ) → Wants layers h → IsBalanced tree h → IsBlack tree ⊎ IsBelowBlack layers → IsBalanced (plug tree layers) (blacks layers + h)
 whole_height [] tree h w b top = subst (λ n. IsBalanced tree n) (omega arith) b
@@ -168,7 +168,7 @@ low_height tree h b few = go (cases_lt 32 h)
 pub whole_low : (layers : List Layer) (tree : Tree) (w : IsBalancedAt tree layers) → length (nodes_of (plug tree layers)) < 2 ^ 32 → blacks layers + w.height ≤ 32
 whole_low layers tree w few = low_height (plug tree layers) (blacks layers + w.height) (whole_height layers tree w.height w.wants w.balanced w.top) few
 
--- each red node is below a black one
+-- a place has at most twice as many layers as black nodes above it
 pub few_above : (layers : List Layer) (h : ℕ) → Wants layers h → (length layers ≤ 2 * blacks layers) × (IsBelowBlack layers → length layers + 1 ≤ 2 * blacks layers)
 few_above [] h w = (omega arith, λ e. absurd e)
 few_above (layer ∷ layers) h w = go layer.colour refl (few_above layers (height_above layer.colour h) w.1)
@@ -181,7 +181,7 @@ few_above (layer ∷ layers) h w = go layer.colour refl (few_above layers (heigh
         let p = side_parts layer.colour layer.other layers h w.0 in
         (omega (arith, n, up.1 (p.below_red e).1), λ b. let d = e in cc)
 
--- ---- how many turns it takes to lengthen a short part
+-- ---- the number of steps for a short subtree
 
 above_few : (layers : List Layer) → (1 ≤ turns_above layers) × (turns_above layers ≤ blacks layers + 2)
 above_few [] = (omega arith, omega arith)

@@ -8,7 +8,7 @@ pub last_word-append : (root : ℕ) (xs : List Step) (s : Step) → last_word ro
 last_word-append root [] s = refl
 last_word-append root (x ∷ xs) s = last_word-append (side_word x.node x.side) xs s
 
--- the word after the steps of layers is the one of the place below them
+-- the pointer word after the steps of layers is the word of the place below them
 pub last_word-steps : (root : ℕ) (layers : List Layer) → last_word root (steps_of layers) ≡ place root layers
 last_word-steps root [] = refl
 last_word-steps root (layer ∷ layers) = last_word-append root (steps_of layers) (step_of layer)

@@ -1,4 +1,4 @@
--- What removing a node from a tree does to the bytes.
+-- The bytes after a node is removed from a tree.
 use Rattle.std.proofs.Common.{◌≡◌, ◌≢◌, ℕ, ◌+◌, ◌^◌, ◌<◌, ◌≤◌, Bool, not, true, false, List, [], ◌∷◌, ◌++◌, length, Option, Some, None, refl, sym, ap, ◌∙◌, subst, arith, append_assoc}
 use Rattle.std.proofs.lemmas.List.{length-append, append-nil}
 use Rattle.std.specs.List.{AllByRecursion}
@@ -27,7 +27,7 @@ use Rattle.seg_rbtree.proofs.Walking.{length-steps}
 use Rattle.seg_rbtree.proofs.Steps.{last_word-steps}
 use Rattle.seg_rbtree.proofs.Lengthening.{path_word, turned_at, here, here_apart, no_tree, painted_fork}
 
--- ---- paths one after the other
+-- ---- paths that are joined
 
 pub plug_on : (tree : Tree) (lower upper : List Layer) → plug tree (lower ++ upper) ≡ plug (plug tree lower) upper
 plug_on tree [] upper = refl
@@ -41,7 +41,7 @@ pub steps_on : (lower upper : List Layer) → steps_of (lower ++ upper) ≡ step
 steps_on [] upper = sym (append-nil (steps_of upper))
 steps_on (layer ∷ lower) upper = ap (λ ss. ss ++ step_of layer ∷ []) (steps_on lower upper) ∙ append_assoc (steps_of upper) (steps_of lower) (step_of layer ∷ [])
 
--- there is room for one more step above a node
+-- the path has room for one step more above a node
 pub room_above : (layers : List Layer) (left right : Tree) (at : ℕ) (colour : Colour) → IsRedBlack (plug (fork left at colour right) layers) → length (nodes_of (plug (fork left at colour right) layers)) < 2 ^ 32 → length layers < 64
 room_above layers left right at colour r few =
     omega (arith, deep-64 (plug (fork left at colour right) layers) r few, layers-deep (fork left at colour right) layers)
@@ -72,7 +72,7 @@ apart_lost len word node old new l a = record {
   nodes_apart = subst (λ ns. NodesApart ns) (sym l.new_is) (apart_without node l.front l.back (subst (λ ns. NodesApart ns) l.old_is a.nodes_apart));
 }
 
--- ---- a node with one child at most
+-- ---- a node with at most one child
 
 pub lone_turned : (bytes : List ℕ) (at : ℕ) (side : Side) (node : ℕ) (colour : Colour) (only : Tree) → IsTree bytes (target bytes at) (branch side node colour leaf only)
     → StandApart (length bytes) at (nodes_of (branch side node colour leaf only))
@@ -87,7 +87,7 @@ left_state : (layers : List Layer) (side : Side) (only : Tree) (node : ℕ) (gon
 left_state layers side only node Black r few = black_unlinked layers side only node r few
 left_state layers side only node Red r few = red_unlinked layers side only node r
 
--- a tree whose root has nothing on a side
+-- a tree whose root lacks a child on a side
 pub record IsLone (side : Side) (node : ℕ) (colour : Colour) (tree : Tree) : Type 0 where
   pub only : Tree
   pub tree_is : tree ≡ branch side node colour leaf only
@@ -123,7 +123,7 @@ lone_unlinked bytes new path node empty gone eg en e3 layers tree s r few named 
 
 -- ---- the path to the first node below a place
 
--- a subtree in a search tree, from one whose nodes don't overlap others
+-- a subtree of a red-black tree, whose nodes don't overlap, is part of a search tree
 pub as_part : (bytes now : List ℕ) (path : Path) (layers : List Layer) (tree : Tree) → now ≡ bytes → StandsAt bytes path layers tree → IsRedBlack (plug tree layers) → length (nodes_of (plug tree layers)) < 2 ^ 32
     → IsPartAt now path layers tree
 as_part bytes now path layers tree e s r few =
@@ -135,7 +135,7 @@ part_word bytes path layers tree s = ap (last_word path.root) s.steps_are ∙ la
 pub part_here : (bytes : List ℕ) (path : Path) (layers : List Layer) (tree : Tree) → IsPartAt bytes path layers tree → IsTree bytes (target bytes (place path.root layers)) tree
 part_here bytes path layers tree s = tree-down bytes path.root tree layers s.whole.is_tree
 
--- some steps further, all to the left
+-- the path goes some steps further, all to the left
 pub record IsDescending (bytes : List ℕ) (path : Path) (layers : List Layer) (tree : Tree) (first count : ℕ) : Type 0 where
   pub lower : List Layer
   pub left : Tree
@@ -188,14 +188,14 @@ descended bytes path layers tree first count to e n d =
       steps_are = d.steps_are;
     }
 
--- the position of the path's last node is low
+-- the position of the path's last node is below 2^31
 pub descending_low : (bytes : List ℕ) (path now : Path) (layers : List Layer) (tree : Tree) (first count : ℕ) → length bytes ≤ 2 ^ 30 → IsPartAt bytes path layers tree → IsDescending bytes now layers tree first count → first < 2 ^ 31
 descending_low bytes path now layers tree first count small s d =
     let at = place path.root layers in
     let part = fork d.left first d.tint d.right in
     root_low bytes (place at d.lower) Left first d.tint d.left d.right small (tree-down bytes at part d.lower (subst (λ t. IsTree bytes (target bytes at) t) d.tree_is (part_here bytes path layers tree s)))
 
--- there is room for the step
+-- the path has room for the next step
 pub descending_room : (bytes : List ℕ) (path : Path) (layers : List Layer) (tree : Tree) (first count : ℕ) → IsRedBlack (plug tree layers) → length (nodes_of (plug tree layers)) < 2 ^ 32 → IsDescending bytes path layers tree first count
     → length path.steps.items < 64
 descending_room bytes path layers tree first count r few d =
@@ -210,7 +210,7 @@ descending_few bytes path layers tree first count r few d =
     let long : length path.steps.items ≡ length (d.lower ++ layers) = ap length d.steps_are ∙ length-steps (d.lower ++ layers) in
     omega (arith, descending_room bytes path layers tree first count r few d, length-append d.lower layers, d.count_is)
 
--- one step to the right
+-- one step goes right
 pub stepped : (bytes : List ℕ) (path next : Path) (layers : List Layer) (left right : Tree) (node : ℕ) (colour : Colour) → length bytes ≤ 2 ^ 30 → IsPartAt bytes path layers (fork left node colour right) → next.root ≡ path.root
     → (node < 2 ^ 31 → next.steps.items ≡ path.steps.items ++ record { node = node; side = Right } ∷ [])
     → IsPartAt bytes next (layer_at Right node colour left ∷ layers) right
@@ -223,7 +223,7 @@ pub step_room : (bytes : List ℕ) (path : Path) (layers : List Layer) (left rig
 step_room bytes path layers left right node colour s =
     let long : length path.steps.items ≡ length layers = ap length s.steps_are ∙ length-steps layers in omega (arith, room_above layers left right node colour s.whole.red_black s.whole.few)
 
--- ---- any node
+-- ---- a node with any number of children
 
 pub any_unlinked : (bytes new : List ℕ) (path last : Path) (node : ℕ) (gone : Paint) → (target bytes (node + 4) ≡ None → ⊥)
     → ((layers : List Layer) (left right : Tree) (colour : Colour) → StandsAt bytes path layers (fork left node colour right) → IsRedBlack (plug (fork left node colour right) layers)

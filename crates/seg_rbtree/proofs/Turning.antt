@@ -1,4 +1,4 @@
--- Changes at a place, and what they mean for the whole tree.
+-- Changes of a subtree as changes of the whole tree.
 use Rattle.std.proofs.Common.{◌≡◌, ℕ, ◌+◌, ◌≤◌, ◌<◌, ◌^◌, List, [], ◌∷◌, ◌++◌, length, Option, Some, None, refl, sym, ◌∙◌, subst, inl, inr, arith}
 use Rattle.seg_spec.specs.Bytes.{word, set_word}
 use Rattle.seg_spec.specs.Pointer.{target, distance, set_pointer}
@@ -18,7 +18,7 @@ use Rattle.seg_rbtree.proofs.Apartness.{Clear, parts-apart, apart-down, separate
 use Rattle.seg_rbtree.proofs.Branches.{branch-parts, branch-whole, branch-flip, opposite-twice, nodes-rotated, tree-down}
 use Rattle.seg_rbtree.proofs.Keeping.{keeps-none, keeps-trans, keeps-word, keeps-inside, keeps-wider, target-kept, colour-kept, tree-kept, tree-word, target-word, colour-word, tree-hung}
 
--- ---- one after another
+-- ---- two changes, one after the other
 
 pub turns-none : (bytes : List ℕ) (at : ℕ) (room tree : Tree) → IsTree bytes (target bytes at) tree → Turns bytes bytes at room tree
 turns-none bytes at room tree h = record { hangs = h; kept = keeps-none bytes at (nodes_of room) }
@@ -26,11 +26,11 @@ turns-none bytes at room tree h = record { hangs = h; kept = keeps-none bytes at
 pub turns-then : (a b c : List ℕ) (at : ℕ) (room x y : Tree) → Turns a b at room x → Turns b c at room y → Turns a c at room y
 turns-then a b c at room x y h k = record { hangs = k.hangs; kept = keeps-trans a b c at (nodes_of room) h.kept k.kept }
 
--- the room may belong to any tree with the same nodes
+-- a change depends only on the nodes of `room`
 pub turns-room : (a b : List ℕ) (at : ℕ) (room other x : Tree) → nodes_of room ≡ nodes_of other → Turns a b at room x → Turns a b at other x
 turns-room a b at room other x e h = record { hangs = h.hangs; kept = subst (KeepsBeside a b at) e h.kept }
 
--- ---- a node among the nodes
+-- ---- one node of a tree
 
 in_list : (p n at : ℕ) (xs ys : List ℕ) → Clear p n (xs ++ at ∷ ys) → Clear p n xs × Separate p n at 16 × Clear p n ys
 in_list p n at [] ys h = (tt, h.0, h.1)
@@ -79,7 +79,7 @@ turns-up old new at side node colour x far room y h apart t =
           (side_word-apart node q n side c.node_apart, c.near_clear)) t.kept;
     }
 
--- a change at a place is one of the whole tree
+-- a change at a place is a change of the whole tree
 pub turns-whole : (old new : List ℕ) (root : ℕ) (x room y : Tree) (layers : List Layer) → IsTree old (target old root) (plug x layers) → StandApart (length old) root (nodes_of (plug room layers))
     → Turns old new (place root layers) room y → Turns old new root (plug room layers) (plug y layers)
 turns-whole old new root x room y [] h apart t = t
@@ -87,9 +87,9 @@ turns-whole old new root x room y (layer ∷ layers) h apart t =
     turns-whole old new root (grow layer x) (grow layer room) (grow layer y) layers h apart
     (turns-up old new (place root layers) layer.side layer.at layer.colour x layer.other room y (tree-down old root (grow layer x) layers h) (apart-down (length old) root (grow layer room) layers apart) t)
 
--- ---- a pointer to another node
+-- ---- a pointer to another tree
 
--- another tree is hung at the pointer word
+-- the pointer word is made to point to another tree
 pub turns-hung : (bytes : List ℕ) (at : ℕ) (to : Option ℕ) (room tree : Tree) → StandApart (length bytes) at (nodes_of tree) → IsTree bytes to tree → Turns bytes (set_pointer bytes at to) at room tree
 turns-hung bytes at to room tree apart h = record { hangs = tree-hung bytes at to tree apart h; kept = keeps-word bytes at (distance at to) (nodes_of room) }
 
@@ -158,7 +158,7 @@ turns-painted bytes at side node colour paint near far h apart =
 
 -- ---- a rotation
 
--- the words of a child among the nodes of a branch
+-- a range that doesn't overlap the nodes of a branch doesn't overlap a child's word in them
 in_branch : (side : Side) (node : ℕ) (colour : Colour) (near far : Tree) (way : Side) (p n : ℕ) → Clear p n (nodes_of (branch side node colour near far)) → Separate p n (side_word node way) 4
 in_branch side node colour near far way p n k = side_word-apart node p n way (clear-parts p n side node colour near far k).node_apart
 
@@ -220,8 +220,8 @@ module _ (bytes : List ℕ) (at : ℕ) (side : Side) (node up : ℕ) (colour upp
             (in_far side node up colour upper x m d side)) last.kept);
       }
 
-  -- the child on the other side moves up, the node moves down to a side, and the subtree between
-  -- them stays between them
+  -- The child on the other side moves up, and the node moves down to a side. The subtree between
+  -- them stays between them.
   pub turns-rotated : IsTree bytes (target bytes at) before → StandApart (length bytes) at (nodes_of before) → Turns bytes (rotated bytes at node side) at before after
   turns-rotated h apart =
       let low = branch-parts bytes (target bytes at) side node colour x (branch side up upper m d) h in

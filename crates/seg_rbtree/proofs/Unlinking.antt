@@ -1,4 +1,5 @@
--- A node with at most one child is unlinked; one with two is replaced by the next in order.
+-- A node with at most one child is unlinked. A node with two children is replaced by the next in
+-- order.
 use Rattle.std.proofs.Common.{◌≡◌, ℕ, suc, ◌+◌, ◌^◌, ◌<◌, ◌⊎◌, inl, inr, List, [], ◌∷◌, ◌++◌, length, refl, sym, ap, ◌∙◌, subst, arith, append_assoc}
 use Rattle.std.proofs.lemmas.List.{append-nil}
 use Rattle.seg_spec.specs.Shapes.{Colour, black, red, Tree, leaf, fork, nodes_of, IsBlack, IsRedBlack}
@@ -28,12 +29,12 @@ nodes_plug (l ∷ ls) tree =
     ∙ ap (λ ns. before ls ++ (ns ++ following ls)) (nodes_fork l.side tree l.other l.at l.colour)
     ∙ five (before ls) (nodes_before l.side l.other l.at) (nodes_of tree) (nodes_after l.side l.other l.at) (following ls)
 
--- a part on the far side with the same nodes
+-- the far subtree is replaced by a subtree with the same nodes
 pub outer_nodes : (side : Side) (inner outer other : Tree) (at : ℕ) (colour : Colour) → nodes_of outer ≡ nodes_of other → nodes_of (branch side at colour inner outer) ≡ nodes_of (branch side at colour inner other)
 outer_nodes Left inner outer other at colour e = ap (λ ns. nodes_of inner ++ at ∷ ns) e
 outer_nodes Right inner outer other at colour e = ap (λ ns. ns ++ at ∷ nodes_of inner) e
 
--- ---- a node with one child at most
+-- ---- a node with at most one child
 
 pub lone_lost : (layers : List Layer) (side : Side) (only : Tree) (node : ℕ) (colour : Colour) → Loses node (nodes_of (plug (branch side node colour leaf only) layers)) (nodes_of (plug only layers))
 lone_lost layers Left only node colour = record {
@@ -49,14 +50,14 @@ lone_lost layers Right only node colour = record {
   new_is = nodes_plug layers only ∙ sym (append_assoc (before layers) (nodes_of only) (following layers));
 }
 
--- red: the rules of colours are satisfied
+-- the node is red: the rest is a red-black tree
 pub red_unlinked : (layers : List Layer) (side : Side) (only : Tree) (node : ℕ) → IsRedBlack (plug (branch side node red leaf only) layers) → IsRedBlack (plug only layers)
 red_unlinked layers side only node r =
     let w = balanced-down (branch side node red leaf only) layers r in
     let f = red-parts side node leaf only w.height w.balanced in
     balanced-up only layers (record { height = w.height; balanced = f.far_balanced; wants = w.wants; top = inl f.far_black })
 
--- black: the rest is short
+-- the node is black: the rest is short
 pub black_unlinked : (layers : List Layer) (side : Side) (only : Tree) (node : ℕ) → IsRedBlack (plug (branch side node black leaf only) layers) → length (nodes_of (plug (branch side node black leaf only) layers)) < 2 ^ 32
     → IsShort layers only
 black_unlinked layers side only node r few =
@@ -78,7 +79,7 @@ module _ (node next : ℕ) (colour : Colour) (side : Side) (other : Tree) (layer
   side_renamed lower black beside h s = s
   side_renamed lower red beside h s = (s.0, s.1, below_black lower s.2)
 
-  -- the height that a place needs doesn't depend on which nodes are above
+  -- the black height that a place needs doesn't depend on which nodes are above it
   renamed_wants : (lower : List Layer) (h : ℕ) → Wants (lower ++ around node) h → Wants (lower ++ around next) h
   renamed_wants [] h w = w
   renamed_wants (l ∷ ls) h w = (side_renamed ls l.colour l.other h w.0, renamed_wants ls (height_above l.colour h) w.1)
@@ -113,7 +114,7 @@ module _ (colour : Colour) (other : Tree) (layers : List Layer) where
   after_next [] x y = refl
   after_next (l ∷ ls) x y = ap (λ ns. nodes_after l.side l.other l.at ++ ns) (after_next ls x y)
 
-  -- the next node takes the place of the one before it
+  -- the next node takes the place of the node
   pub next_lost : (lower : List Layer) (node next : ℕ) (tint : Colour) (only : Tree) → AreLeft lower
       → Loses node (nodes_of (plug (fork leaf next tint only) (lower ++ right_of node))) (nodes_of (plug only (lower ++ right_of next)))
   next_lost lower node next tint only a =

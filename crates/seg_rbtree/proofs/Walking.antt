@@ -18,7 +18,7 @@ pub length-steps : (layers : List Layer) → length (steps_of layers) ≡ length
 length-steps [] = refl
 length-steps (layer ∷ layers) = omega (arith, length-append (steps_of layers) (step_of layer ∷ []), length-steps layers)
 
--- some steps were taken to a place with this pointer word, whose subtree is still to be searched
+-- after some steps the subtree at this pointer word remains to be searched
 pub record IsWalking (root : ℕ) (turn : ℕ → Ordering) (shape : Tree) (steps : List Step) (word count : ℕ) : Type 0 where
   pub layers : List Layer
   pub rest : Tree
@@ -32,7 +32,7 @@ module _ (bytes : List ℕ) (root : ℕ) (turn : ℕ → Ordering) (shape : Tree
   pub walking_start : (steps : List Step) (word : ℕ) → steps ≡ [] → word ≡ last_word root steps → IsWalking root turn shape steps word 0
   walking_start steps word e w = record { layers = []; rest = shape; shape_is = refl; steps_are = e; leads = tt; count_is = refl; word_is = w ∙ ap (last_word root) e }
 
-  -- the subtree at the path's pointer word
+  -- the subtree that remains is at the pointer word
   pub walking_hangs : (steps : List Step) (word count : ℕ) (s : IsWalking root turn shape steps word count) → IsTree bytes (target bytes root) shape → IsTree bytes (target bytes word) s.rest
   walking_hangs steps word count s t =
       subst (λ q. IsTree bytes (target bytes q) s.rest) (sym s.word_is) (tree-down bytes root s.rest s.layers (subst (IsTree bytes (target bytes root)) (sym s.shape_is) t))
@@ -82,6 +82,6 @@ module _ (bytes : List ℕ) (root : ℕ) (turn : ℕ → Ordering) (shape : Tree
       let deep : length s.layers + tall s.rest ≤ tall shape = subst (λ x. length s.layers + tall s.rest ≤ tall x) s.shape_is (layers-deep s.rest s.layers) in
       ended path word count s (ends_deep s.rest (omega (arith, deep-64 shape t.red_black t.few, s.count_is)))
 
-  -- there is room for one more step
+  -- the path has room for one step more
   pub walking_room : (steps : List Step) (word count : ℕ) → IsWalking root turn shape steps word count → length steps ≡ count
   walking_room steps word count s = ap length s.steps_are ∙ length-steps s.layers ∙ s.count_is

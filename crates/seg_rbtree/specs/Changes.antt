@@ -1,5 +1,5 @@
--- What a change of a tree does to its nodes and to the bytes. A node is given by the position of
--- its 16 tree words.
+-- How a change of a tree affects its nodes and the bytes. A node is given by the position of its 16
+-- tree words.
 --     StandApart len word nodes          a pointer word and nodes lie in len bytes, and don't overlap
 --     IsNew order node nodes             the node equals none of the nodes
 --     with_node order node nodes         the nodes with one more, before the first that is above it
@@ -46,8 +46,8 @@ abbrev pub renamed : ℕ → ℕ → List ℕ → List ℕ
 renamed old new [] = []
 renamed old new (x ∷ xs) = if old == x then new ∷ xs else x ∷ renamed old new xs
 
--- There are as many bytes as before, and those outside the pointer word and the tree words of the
--- nodes are kept.
+-- The number of bytes is the same. Bytes outside the pointer word and the tree words of the nodes
+-- are kept.
 pub record KeepsBeside (old new : List ℕ) (word : ℕ) (nodes : List ℕ) : Type 0 where
   pub length_kept : length new ≡ length old
   pub others : (p n : ℕ) → Separate p n word 4 → AllByRecursion (λ q. Separate p n q 16) nodes

@@ -36,8 +36,8 @@ pub record Climbs (layers : List Layer) (path : Path) (node : ℕ) : Type 0 wher
   pub node_is : layer.at ≡ node
   pub steps_are : path.steps.items ≡ steps_of upper
 
--- From the place of a subtree below layers a path goes to the first node after it: after the
--- subtree's root, or after the empty place. If there is none, the path goes to the root.
+-- From the place of a subtree below layers, a path goes to the first node after it: after the
+-- subtree's root, or after the empty place. If no node is after it, the path goes to the root.
 pub record GoesOn (bytes : List ℕ) (layers : List Layer) (part : Tree) (path : Path)
     (next : Option ℕ) : Type 0 where
   pub next_is : next ≡ slice_get (after_root part ++ following layers) 0

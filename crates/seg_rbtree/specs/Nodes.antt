@@ -64,7 +64,7 @@ abbrev pub rotated : List ℕ → ℕ → ℕ → Side → List ℕ
 rotated bytes word node side =
     rotated_up bytes word node side (target bytes (side_word node (opposite side)))
 
--- the bytes with the node that moved up black, and the other one red
+-- the bytes after the node that moved up was painted black and the other one red
 abbrev pub raised_up : List ℕ → ℕ → Option ℕ → List ℕ
 raised_up bytes node None = bytes
 raised_up bytes node (Some up) = with_colour (with_colour bytes up Black) node Red
@@ -80,7 +80,8 @@ is_same Left Right = false
 is_same Right Left = false
 is_same Right Right = true
 
--- the bytes after the inner one of a node's grandchildren on a side moved up, if the path turns
+-- the bytes after the inner grandchild on a side moved up, if the two red nodes are on different
+-- sides
 abbrev pub turned_out : List ℕ → ℕ → Side → ℕ → Side → List ℕ
 turned_out bytes grandparent way parent turn =
     if is_same turn way then bytes else rotated bytes (side_word grandparent way) parent way

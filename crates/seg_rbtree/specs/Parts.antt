@@ -1,7 +1,7 @@
 -- The bytes that an order reads.
 use Rattle.std.specs.Prelude.{ℕ}
 
--- len bytes from a position on
+-- the `len` bytes from a position on
 pub record Part : Type 0 where
   pub at : ℕ
   pub len : ℕ

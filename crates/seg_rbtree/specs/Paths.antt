@@ -1,16 +1,16 @@
 -- Searches in a tree, and changes at the end of a path.
 --     WhereOrdered compare w root claim      the claim is true of each search tree at a pointer word whose nodes are in order
 --     before_first found                     how the empty place before all nodes at or above a key compares with a node
---     sought_by nodes key sought             how what is looked for compares with a node
+--     sought_by nodes key sought             how the sought node or key compares with a node
 --     end_word path, word_after steps path   the position of the pointer at the end of a path, and after some of its steps
 --     node_at bytes path                     the node at the end of a path
 --     AddsAt old new path node               a node was added at the end of a path
 --     TakesOutAt old new path                the node at the end of a path was removed
 --     RenamesAt old new path to              the node at the end of a path was replaced by another
---     IsAmong node nodes                     it is one of the nodes
+--     IsAmong node nodes                     the node is one of the nodes
 --     IsLastAt bytes path                    the node at the end of a path is the last of the tree
---     TellsLast bytes path is_last           is_last is whether that is so, in a tree whose nodes are in order
---     FindsEqual compare nodes found         one of the nodes that compare as equal, if there is one
+--     TellsLast bytes path is_last           `is_last` states whether it is the last, in a tree whose nodes are in order
+--     FindsEqual compare nodes found         a node that compares as equal, if there is one
 use Rattle.std.specs.Prelude.{◌≡◌, ◌≢◌, ◌↔◌, ℕ, List, [], ◌∷◌, ◌++◌, ◌+◌, ◌<◌, ◌^◌, length, take, Bool, IsTrue, Option, Some, MatchOption}
 use Rattle.std.specs.Cmp.{IsTotalOrder}
 use Rattle.std.specs.List.{AllByRecursion}
@@ -54,7 +54,7 @@ word_after steps path = last_word path.root (take steps path.steps.items)
 abbrev pub node_at : List ℕ → Path → Option ℕ
 node_at bytes path = target bytes (end_word path)
 
--- one of the nodes, which compares as equal
+-- the node is one of the nodes, and compares as equal
 pub record IsEqualAmong (compare : ℕ → Ordering) (nodes : List ℕ) (node : ℕ) : Type 0 where
   pub front : List ℕ
   pub back : List ℕ
@@ -69,7 +69,7 @@ FindsEqual compare nodes found =
 abbrev pub IsAmong : ℕ → List ℕ → Type 0
 IsAmong node nodes = AllByRecursion (λ x. node ≢ x) nodes → ⊥
 
--- it is the last of the nodes
+-- the node is the last of the nodes
 pub record IsLast (node : ℕ) (nodes : List ℕ) : Type 0 where
   pub front : List ℕ
   pub nodes_are : nodes ≡ front ++ node ∷ []
@@ -79,15 +79,15 @@ IsLastAt bytes path = (turn : ℕ → Ordering) (node : ℕ) (shape : Tree)
     → IsSearchTree bytes path.root shape → LeadsTo turn shape path
     → node_at bytes path ≡ Some node → IsLast node (nodes_of shape)
 
--- Whether the node at the end of a path is the last of the tree, in any total order of the nodes.
--- Without an order one node may occur several times.
+-- `is_last` states whether the node at the end of a path is the last of the tree, in any total
+-- order of the nodes. Without an order one node may occur several times.
 abbrev pub TellsLast : List ℕ → Path → Bool → Type 0
 TellsLast bytes path is_last = (turn : ℕ → Ordering) (order : ℕ → ℕ → Ordering) (node : ℕ)
     (shape : Tree) → IsTotalOrder order → IsSearchTree bytes path.root shape
     → Ascend order (nodes_of shape) → LeadsTo turn shape path → node_at bytes path ≡ Some node
     → IsTrue is_last ↔ IsLast node (nodes_of shape)
 
--- a node was added at the end of a path, in any total order for which the path is its place
+-- a node was added at the end of a path, in any total order for which the end is the node's place
 abbrev pub AddsAt : List ℕ → List ℕ → Path → ℕ → Type 0
 AddsAt old new path node = (order : ℕ → ℕ → Ordering) (shape : Tree) → IsTotalOrder order
     → IsSearchTree old path.root shape → Ascend order (nodes_of shape)

@@ -1,10 +1,10 @@
 -- Removing a node from a tree. A subtree is *short* if it has one black node too few on each path,
 -- so that the whole tree isn't balanced.
 --     IsShort layers tree                 the subtree is short
---     turns layers tree                   an upper bound on the steps that repair that
+--     turns layers tree                   an upper bound on the steps that repair a short subtree
 --     StandsAt bytes path layers tree     the subtree is at the end of a path
 --     WhereRedBlack bytes path layers tree claim      the claim is true if the whole tree is a red-black tree
---     Lengthens, Unlinks ..               what the steps do
+--     Lengthens, Unlinks ..               the steps of a removal
 use Rattle.std.specs.Prelude.{◌≡◌, ℕ, suc, ◌+◌, ◌^◌, ◌<◌, ⊤, Bool, MatchBool, List, [], ◌∷◌, ◌++◌, length, Option, Some}
 use Rattle.seg_spec.specs.Bytes.{set_word}
 use Rattle.seg_spec.specs.Pointer.{target}
@@ -26,7 +26,7 @@ IsNearly leaf h = h ≡ 0
 IsNearly (fork left at black right) h = IsBalanced (fork left at black right) h
 IsNearly (fork left at red right) h = IsBalanced left h × IsBalanced right h
 
--- the black nodes above a place
+-- the number of black nodes above a place
 abbrev pub blacks : List Layer → ℕ
 blacks [] = 0
 blacks (l ∷ ls) = height_above l.colour (blacks ls)
@@ -67,14 +67,14 @@ pub record Loses (node : ℕ) (old new : List ℕ) : Type 0 where
 abbrev pub layer_at : Side → ℕ → Colour → Tree → Layer
 layer_at side at colour other = record { side = side; at = at; colour = colour; other = other }
 
--- the bytes with the children and the colour of one node copied to another
+-- the bytes after the children and the colour of a node were copied to another node
 abbrev pub in_place_of : List ℕ → ℕ → ℕ → List ℕ
 in_place_of bytes from to =
     let left = with_child bytes to Left (target bytes from) in
     let both = with_child left to Right (target bytes (from + 4)) in
     with_colour both to (colour_at bytes (Some from))
 
--- the same, with the zero word
+-- the same, and the other node's zero word was written
 abbrev pub as_another : List ℕ → ℕ → ℕ → List ℕ
 as_another bytes from to = set_word (in_place_of bytes from to) (to + 12) 0
 
@@ -91,7 +91,7 @@ WhereRedBlack bytes path layers tree claim =
     StandsAt bytes path layers tree → IsRedBlack (plug tree layers)
     → length (nodes_of (plug tree layers)) < 2 ^ 32 → claim
 
--- what the removal of a node of this colour leaves
+-- the tree after a node of this colour was removed
 abbrev pub IsLeft : Tint → List Layer → Tree → Type 0
 IsLeft Black layers tree = IsShort layers tree
 IsLeft Red layers tree = IsRedBlack (plug tree layers)
@@ -106,8 +106,7 @@ pub record Unlinks (old new : List ℕ) (path : Path) (layers : List Layer) (tre
   pub lost : Loses node (nodes_of (plug tree layers)) (nodes_of (plug part above))
   pub state : IsLeft gone above part
 
--- A short subtree was repaired, or a larger one around it is short, or one that is easier to
--- repair.
+-- A short subtree was repaired, or another subtree is now short, which takes fewer steps to repair.
 pub record Lengthens (old new : List ℕ) (path : Path) (layers : List Layer) (tree : Tree)
     (more : Bool) : Type 0 where
   pub above : List Layer
@@ -119,7 +118,7 @@ pub record Lengthens (old new : List ℕ) (path : Path) (layers : List Layer) (t
       × (turns above part < turns layers tree))
       (IsRedBlack (plug part above))
 
--- from a place below layers a path goes to the first node below it
+-- from a place below layers, a path goes to the first node of the subtree
 pub record Descends (path : Path) (layers : List Layer) (tree : Tree)
     (result : Option ℕ) : Type 0 where
   pub lower : List Layer

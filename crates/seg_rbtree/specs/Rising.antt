@@ -1,7 +1,7 @@
 -- Repairing a red node below a red node, after an insertion.
---     IsRising bytes root steps nodes node      the tree is right, except that the node above this red one may be red
+--     IsRising bytes root steps nodes node      it is a red-black tree, except that this red node may have a red parent
 --     IsSettled bytes root nodes                the pointer word points to a red-black tree of these nodes
---     Settles old new root steps rest nodes result      one step: the tree is right, or another red node may have a red parent
+--     Settles old new root steps rest nodes result      one step: the tree is repaired, or another red node may have a red parent
 use Rattle.std.specs.Prelude.{◌≡◌, ℕ, ◌+◌, ◌≤◌, List, length, Option, MatchOption}
 use Rattle.seg_spec.specs.Pointer.{target}
 use Rattle.seg_spec.specs.Shapes.{red, Tree, fork, nodes_of, IsTree, IsBalanced, IsRedBlack}
@@ -10,8 +10,8 @@ use Rattle.seg_rbtree.specs.Ways.{Layer, plug, steps_of}
 use Rattle.seg_rbtree.specs.Changes.{StandApart, KeepsBeside}
 use Rattle.seg_rbtree.specs.Balance.{Wants}
 
--- The steps end at a red node. The tree is right, except that the node above it may be red, or that
--- it is the root.
+-- The steps end at a red node. The tree is a red-black tree, except that the node's parent may be
+-- red, or that the node is the root.
 pub record IsRising (bytes : List ℕ) (root : ℕ) (steps : List Step) (nodes : List ℕ)
     (node : ℕ) : Type 0 where
   pub layers : List Layer
@@ -31,7 +31,7 @@ pub record IsSettled (bytes : List ℕ) (root : ℕ) (nodes : List ℕ) : Type 0
   pub nodes_are : nodes_of shape ≡ nodes
   pub red_black : IsRedBlack shape
 
--- one step: the tree is right, or the same remains for a red node two steps further up
+-- one step: the tree is repaired, or a red node two steps further up may have a red parent
 pub record Settles (old new : List ℕ) (root : ℕ) (steps rest : List Step) (nodes : List ℕ)
     (result : Option ℕ) : Type 0 where
   pub kept : KeepsBeside old new root nodes

@@ -3,7 +3,7 @@ use Rattle.std.specs.Prelude.{ℕ}
 use Rattle.seg_rbtree.specs.declared.tree.Tree as declared
 use Rattle.seg_rbtree.specs.declared.path.Path.{Path}
 
--- the position of the pointer word to its root
+-- the position of the pointer word to the tree's root
 abbrev pub root_word : declared.Tree → ℕ
 root_word t = t.root
 

@@ -7,8 +7,8 @@
 --     place root layers                   the position of the pointer to the place
 --     steps_of layers                     the layers as the steps of a path, the outermost first
 --     last_word root steps                the position of the pointer after the last step
---     LeadsTo turn shape path             the path ends at what is looked for, or at the empty place to insert it at
---     IsWayIn shape path                  the path is one in the tree
+--     LeadsTo turn shape path             the path ends at the sought node or key, or at the empty place to insert it at
+--     IsWayIn shape path                  the path is in the tree
 --     before layers, following layers     the nodes before and after a place
 --     after_root tree                     the nodes of a tree after its root
 use Rattle.std.specs.Prelude.{◌≡◌, ℕ, ⊤, List, [], ◌∷◌, ◌++◌}
@@ -56,23 +56,23 @@ abbrev pub last_word : ℕ → List Step → ℕ
 last_word root [] = root
 last_word root (step ∷ steps) = last_word (side_word step.node step.side) steps
 
--- how what is looked for compares with a node, if it is on this side of it
+-- how a sought node or key on this side of a node compares with the node
 abbrev pub turn_of : Side → Ordering
 turn_of Left = Less
 turn_of Right = Greater
 
--- at each layer the path goes to the side of what is looked for
+-- at each layer the path goes to the side of the sought node or key
 abbrev pub LeadBy : (ℕ → Ordering) → List Layer → Type 0
 LeadBy turn layers = AllByRecursion (λ layer. turn layer.at ≡ turn_of layer.side) layers
 
--- the place is empty, or its node equals what is looked for
+-- the place is empty, or its node equals the sought node or key
 abbrev pub EndsAt : (ℕ → Ordering) → Tree → Type 0
 EndsAt turn leaf = ⊤
 EndsAt turn (fork left at colour right) = turn at ≡ Equal
 
--- The path ends at what is looked for, or at the empty place to insert it at. `turn` compares what
--- is looked for with a node. This doesn't depend on bytes: the path stays right as long as the
--- nodes compare the same.
+-- The path ends at the sought node or key, or at the empty place to insert it at. `turn` compares
+-- the sought node or key with a node. This doesn't depend on bytes: the path stays valid as long as
+-- the nodes compare the same.
 pub record LeadsTo (turn : ℕ → Ordering) (shape : Tree) (path : Path) : Type 0 where
   pub layers : List Layer
   pub rest : Tree
@@ -81,7 +81,7 @@ pub record LeadsTo (turn : ℕ → Ordering) (shape : Tree) (path : Path) : Type
   pub leads : LeadBy turn layers
   pub ends : EndsAt turn rest
 
--- the path is one in the tree, with any subtree at its end
+-- the path is in the tree, with any subtree at its end
 pub record IsWayIn (shape : Tree) (path : Path) : Type 0 where
   pub layers : List Layer
   pub rest : Tree

@@ -73,7 +73,7 @@ fn settle<A: Allocator>(w: &mut Window<A>, path: &mut Path, node: u32) -> Option
     if !is_red(w, Some(parent.node())) {
         return None;
     }
-    // a red node isn't the root
+    // the parent is red, so it isn't the root
     let grandparent = path.pop()?;
     let top = grandparent.node();
     let uncle = child(w, top, grandparent.side().other());

@@ -92,7 +92,7 @@ impl Path {
     }
 
     /// Searches from the root for the first node of a tree above a key. `None` if no node is above it.
-    // Kept out of `next_after`, which then has few registers to save.
+    // Not inlined, so that `next_after` has few registers to save.
     #[inline(never)]
     fn search_after<K: Copy, O: UniqueKeys<K>, A: Allocator>(
         &mut self,

@@ -72,7 +72,7 @@ pub(crate) fn set_child<A: Allocator>(w: &mut Window<A>, node: u32, side: Side, 
     w.point(child_word(node, side), child);
 }
 
-/// The colour of a node, or `None` if its words are no colour.
+/// The colour of a node, or `None` if its words don't encode a colour.
 pub fn node_colour<A: Allocator>(w: &Window<A>, node: u32) -> Option<Colour>
     ensures { MatchOption result ((c : _) → HasColour w.now.bytes node c → ⊥)
         (λ c. HasColour w.now.bytes node (shade c)) }

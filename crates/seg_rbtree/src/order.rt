@@ -14,8 +14,8 @@ use std::cmp::Ordering;
 
 /// The order of a tree's nodes, and how nodes compare with keys. It may read any bytes of a node but its tree words.
 pub trait NodeOrder<K: Copy> {
-    // Whether the comparisons are proved to satisfy what follows. For an order that isn't proved this is false, and the
-    // contracts promise nothing.
+    // Whether the comparisons are proved to satisfy the facts below. For an order that isn't proved this is false, and the
+    // contracts state nothing.
     ghost exact: { Type 0 };
 
     // The comparison of two nodes in a segment with these bytes.
@@ -27,7 +27,7 @@ pub trait NodeOrder<K: Copy> {
     // The bytes that the order reads of a node.
     ghost read: { Self → List ℕ → ℕ → List Part };
 
-    // Whether these bytes are where they should be. An order that follows a node's pointers can't tell.
+    // The premise of `apart` for a node. An order that follows a node's pointers needs one.
     ghost placed: { Self → List ℕ → ℕ → Type 0 } = { λ _ _ _. ⊤ };
 
     /// Compares two nodes.
@@ -46,12 +46,12 @@ pub trait NodeOrder<K: Copy> {
         → compare order bytes x y ≡ Less
         → rank_of (compare_key order bytes x key) ≤ rank_of (compare_key order bytes y key) };
 
-    // It reads no tree word of a node that has a header before it.
+    // The order reads no tree word of a node that has a header before it.
     ghost apart: { exact → (order : Self) (bytes : List ℕ) (x : ℕ) → 16 ≤ x
         → placed order bytes x
         → AllByRecursion (λ p. Separate p.at p.len x 16) (read order bytes x) };
 
-    // Nodes of which it reads the same bytes compare as before.
+    // Nodes compare as before if the bytes that the order reads of them are the same.
     ghost steady: { exact → (order : Self) (old new : List ℕ) (x y : ℕ)
         → AllByRecursion (λ p. IsSame old new p.at p.len) (read order old x)
         → AllByRecursion (λ p. IsSame old new p.at p.len) (read order old y)

@@ -18,9 +18,9 @@ use std::alloc::Allocator;
 /// room for fewer than 2^26 nodes: at most 52 on a path.
 pub const DEPTH: usize = 64;
 
-/// A path from the root of a tree to a place, where a node is or where none is: the nodes above the place. It doesn't
-/// borrow the window, so other bytes may change before a node is added or removed at its end. Any other change of the
-/// tree makes it out of date.
+/// A path from the root of a tree to a place: the nodes above the place. The place has a node or is empty. The path
+/// doesn't borrow the window, so other bytes may change before a node is added or removed at its end. Any other change
+/// of the tree makes it out of date.
 #[derive(Drop)]
 pub struct Path {
     pub(crate) root: usize,
@@ -150,7 +150,7 @@ impl Path {
         view.target(self.word())
     }
 
-    /// Makes the pointer word to the place point to a node, or to none.
+    /// Makes the pointer word to the place point to a node, or makes it null.
     pub(crate) fn set<A: Allocator>(&self, w: &mut Window<A>, node: Option<u32>)
         ensures { w.new ≡ with_bytes w.old (set_pointer w.old.bytes (end_word self.now) node) }
     {

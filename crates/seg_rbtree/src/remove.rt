@@ -127,7 +127,7 @@ fn restore<A: Allocator>(w: &mut Window<A>, path: &mut Path)
     }
 }
 
-/// One step of `restore`: repairs the subtree, or moves the lack further up. Returns whether there is more to do.
+/// One step of `restore`: repairs the subtree, or moves the lack further up. Returns whether another step is needed.
 fn lengthen<A: Allocator>(w: &mut Window<A>, path: &mut Path) -> bool
     ensures host { KeepsHost w.old w.new }
     ensures root { path.new.root ≡ path.old.root }
@@ -188,8 +188,8 @@ fn lower<A: Allocator>(w: &mut Window<A>, path: &mut Path, short: Step, sibling:
     let _ = path.push(node, side);
 }
 
-/// Takes a black node for the short subtree from a red child of its black sibling. If the sibling has none, its subtree
-/// is shortened too, so that both have the same lack, and the subtree above them is short.
+/// Takes a black node for the short subtree from a red child of its black sibling. If the sibling has no red child, its
+/// subtree is shortened too, so that both have the same lack, and the subtree above them is short.
 fn borrow<A: Allocator>(w: &mut Window<A>, path: &mut Path, short: Step, sibling: u32) -> bool
     ensures host { KeepsHost w.old w.new }
     ensures root { path.new.root ≡ path.old.root }

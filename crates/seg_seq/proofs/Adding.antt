@@ -39,7 +39,7 @@ module _ (allocator : ℕ) (old mid : List ℕ) (table : Table) (list : Place) (
   counts : (h : ℕ) → times h (positions (live mid)) ≡ times h (block_of payload ∷ positions (live old))
   counts h = taken_counts allocator old mid table list U payload f (Seq vs) blocks s given h
 
-  -- the list as it is before its new node is linked
+  -- the list before its new node is linked
   pub l : ListOf mid table list U vs blocks
   l = list_of mid table list U f vs blocks t.holds_it
 
@@ -201,7 +201,7 @@ module _ (allocator : ℕ) (old mid : List ℕ) (table : Table) (list : Place) (
       moves = moved;
     }
 
--- the same with the position that the code computes
+-- the same, with the position that the code computes
 pub item_pushed : (allocator : ℕ) (old mid new : List ℕ) (table : Table) (list : Place) (U payload at : ℕ) (f : form_at table list.type ≡ Some (Form.list U)) (vs : Values) (blocks : List ℕ)
     (s : Stands allocator old table list (Seq vs) blocks) (given : GivesBlock allocator old mid table (tag_of Kind.node list.type) 8 U payload) → at ≡ (payload + 8) % 2 ^ 32 →
     ((nodes : List ℕ) → HasRing mid list.at nodes → AreSpread mid (list.at ∷ payload ∷ nodes) → Relinks mid new list.at (payload ∷ nodes) (nodes ++ payload ∷ [])) →

@@ -1,4 +1,4 @@
--- The count in a cell is written, and bytes of the buffer that the cell points to.
+-- A cell's count is written, or bytes of the buffer to which the cell points.
 use Rattle.std.proofs.Common.{◌≡◌, ◌≢◌, ℕ, ◌+◌, ◌-◌, ◌*◌, ◌^◌, ◌<◌, ◌≤◌, ◌⊎◌, inl, inr, List, length, Some, refl, ap, ◌∙◌, subst, arith}
 use Rattle.seg_spec.specs.Bytes.{set_word, IsSame, ChangesOnly}
 use Rattle.seg_spec.specs.Pointer.{target}

@@ -39,7 +39,7 @@ use Rattle.seg_spec.proofs.MappedBlocks.{times_mapped}
 use Rattle.seg_seq.proofs.Homes.{are_spread, are_home, node_live, other_kept, home_kept, value_kept}
 use Rattle.seg_seq.proofs.Listed.{values_in, value_in, values_append, mapped_append, value_at_index, ListOf, holds_list}
 
--- ---- values apart
+-- ---- values before and after one of them
 
 module _ (bytes : List ℕ) (table : Table) (U : ℕ) where
   pub each_append : {xs ys : List Place} {vs ws : Values} {bs cs : List ℕ} → HoldsEach bytes table xs vs bs → HoldsEach bytes table ys ws cs → HoldsEach bytes table (xs ++ ys) (append vs ws) (bs ++ cs)
@@ -120,7 +120,7 @@ module _ (allocator : ℕ) (old : List ℕ) (table : Table) (list : Place) (U no
   low : AllByRecursion (λ q. 16 ≤ q) all
   low = each_weaker (λ q. IsBlock old q (tag_of Kind.node list.type) (8 + size table U)) (λ q. 16 ≤ q) (λ q k. k.after_header) all are_nodes
 
-  -- how often each block is in the parts
+  -- the blocks of all nodes are the node's block and the blocks of the others
   all_count : (h : ℕ) → times h (map block_of all) ≡ times h (b ∷ map block_of rest)
   all_count h =
       let a : times h (map block_of all) ≡ times h (map block_of xs ++ b ∷ map block_of ys) = ap (times h) (mapped_append xs (node ∷ ys)) in
@@ -140,7 +140,7 @@ module _ (allocator : ℕ) (old : List ℕ) (table : Table) (list : Place) (U no
   blocks_count : (h : ℕ) → times h blocks ≡ times h (map block_of all) + times h owned
   blocks_count h = ap (times h) blocks_are ∙ times-append h (map block_of all) owned
 
-  -- the blocks that stay
+  -- the blocks that the list then owns
   abbrev pub others : List ℕ
   others = map block_of (xs ++ ys) ++ (p.front ++ p.back)
 
@@ -228,7 +228,7 @@ module _ (allocator : ℕ) (old : List ℕ) (table : Table) (list : Place) (U no
         let two = (there (LiesIn one heap_start (length one)) b (positions (live one)) (live-lie one allocator one_heap) (let c = one_count b in let l = b_live in omega arith)).size in
         record { low = omega arith; high = omega arith }
 
-    -- the place of the item in between
+    -- the item between the two parts
     pub item_stands : Stands allocator one table (value_in U node) p.value p.its
     item_stands = record {
       heap = one_heap;
@@ -247,7 +247,7 @@ module _ (allocator : ℕ) (old : List ℕ) (table : Table) (list : Place) (U no
           omega arith;
     }
 
-    -- ---- apart from frozen objects, whose blocks aren't the list's
+    -- ---- with frozen objects, whose blocks aren't the list's
 
     module _ (theirs : ℕ → List ℕ) (now final : List Frozen) (beside : AreLive old ((s.home ∷ blocks) ++ blocks_by theirs now)) where
       abbrev shares : List ℕ
@@ -256,7 +256,7 @@ module _ (allocator : ℕ) (old : List ℕ) (table : Table) (list : Place) (U no
       all_fit : (h : ℕ) → times h (s.home ∷ map block_of all) + (times h owned + times h shares) ≤ times h (positions (live old))
       all_fit h = let o = beside h in let c = blocks_count h in let a = times-append h (s.home ∷ blocks) shares in omega arith
 
-      -- a block that an item or a frozen object owns
+      -- a block that an item or a frozen object owns isn't the block of the list's cell
       beside_other : (h : ℕ) → 1 ≤ times h owned + times h shares → h ≢ s.home
       beside_other h some e =
           let mine : 1 ≤ times s.home owned + times s.home shares = subst (λ k. 1 ≤ times k owned + times k shares) e some in
@@ -272,7 +272,7 @@ module _ (allocator : ℕ) (old : List ℕ) (table : Table) (list : Place) (U no
           let m = times-more h s.home (map block_of all) in
           other_kept allocator old s.heap list.at s.home inside s.aligned all low own one r.changes h (omega arith) (beside_other h some) (omega arith)
 
-      -- what a call finds that destroys the item
+      -- the state in which the call that destroys the item begins
       pub item_beside : (names : List ℕ) (kept : List Place) → SharedBeside old table (s.home ∷ blocks) names theirs kept now final → SharedBeside one table (item_stands.home ∷ p.its) names theirs kept now final
       unfolding item_stands
       item_beside names kept shared = record {
@@ -297,7 +297,7 @@ module _ (allocator : ℕ) (old : List ℕ) (table : Table) (list : Place) (U no
         abbrev left : List ℕ
         left = blocks_by theirs final
 
-        -- what the item and the frozen objects owned is freed or stays
+        -- each block of the item and of the frozen objects is freed or kept
         goes : (h : ℕ) → times h p.its + times h shares ≡ times h c.gives + times h left
         goes h = let a = c.all_are h in let m = times-append h p.its shares in let n = times-append h c.gives left in omega arith
 
@@ -313,7 +313,7 @@ module _ (allocator : ℕ) (old : List ℕ) (table : Table) (list : Place) (U no
         pub node_live_still : IsLive two (block_of node)
         node_live_still = is_live two b b_two
 
-        -- the blocks of the frozen objects that stay
+        -- the blocks of the remaining frozen objects are kept
         left_one : (h : ℕ) → 1 ≤ times h left → KeepsBlock old one h
         left_one h some = beside_kept h (let n = owned_count h in let g = goes h in omega arith)
 
@@ -334,7 +334,7 @@ module _ (allocator : ℕ) (old : List ℕ) (table : Table) (list : Place) (U no
           left_new : (h : ℕ) → 1 ≤ times h left → KeepsBlock two new h
           left_new h some = (given_kept allocator two new b two_heap g h (left_two h some) (left_other h some)).whole.kept
 
-          -- every other block
+          -- any other block
           module _ (h : ℕ) (some : 1 ≤ times h (positions (live old))) (ne : h ≢ b) (none : times h p.its + times h shares ≡ 0) where
             some_one : 1 ≤ times h (positions (live one))
             some_one = let o = one_count h in omega arith
@@ -375,7 +375,7 @@ module _ (allocator : ℕ) (old : List ℕ) (table : Table) (list : Place) (U no
               let z : 1 ≤ times b (positions (live new)) = subst (λ k. 1 ≤ times k (positions (live new))) e some in absurd (omega arith) in
               ownable_linked two new table h (given_kept allocator two new b two_heap g h some_two ne) (live_at (IsOwnable two table) (live two) h c.changes.ownable some_two))
 
-          -- a block that the list has still, or the one that it lies in
+          -- the blocks that the list still owns are kept, and so is the block that it lies in
           kept_now : (h : ℕ) → 1 ≤ times h (s.home ∷ others) → KeepsBlock one new h
           kept_now h some =
               let a = times-append h (map block_of rest) (p.front ++ p.back) in
@@ -416,7 +416,7 @@ module _ (allocator : ℕ) (old : List ℕ) (table : Table) (list : Place) (U no
           node_same : (q : ℕ) → 1 ≤ times q (xs ++ ys) → IsSame one new q (8 + size table U)
           node_same q some = payload-same one new q (tag_of Kind.node list.type) (8 + size table U) (node_kept q some) (node_now q (rest_some q some))
 
-          -- the values that stay
+          -- the values of the other nodes are kept
           value_new : (q : ℕ) → 1 ≤ times q (xs ++ ys) → IsSame old new (q + 8) (size table U)
           value_new q some = IsSame-part one new q (8 + size table U) (q + 8) (size table U) (omega arith) (omega arith) (node_same q some) ∙ value_same q (rest_some q some)
 

@@ -1,4 +1,4 @@
--- The first item of a list, and the items around one.
+-- The first item of a list, and the neighbours of an item.
 use Rattle.std.proofs.Common.{◌≡◌, ℕ, zero, suc, ◌+◌, ◌-◌, ◌%◌, ◌^◌, ◌<◌, ◌≤◌, inr, List, [], ◌∷◌, ◌++◌, length, map, get_or, Option, Some, None, refl, sym, ap, ◌∙◌, subst, arith, length-append}
 use Rattle.std.specs.Prelude.{slice_get}
 use Rattle.std.specs.List.{AllByRecursion}
@@ -63,7 +63,7 @@ module _ (allocator : ℕ) (bytes : List ℕ) (table : Table) (list : Place) (U 
   pub its_count : length its_list.nodes ≡ count vs
   its_count = sym (length_values its_list.nodes) ∙ count_is bytes table its_list.each
 
-  -- the node of an item, by the item's place
+  -- the place of an item is in the item's node
   pub node_of_item : (i at : ℕ) → Leads bytes table list (Selector.item i ∷ []) (record { at = at; type = U }) → (node : ℕ) × (slice_get its_list.nodes i ≡ Some node) × (at ≡ node + 8)
   node_of_item i at lead =
       let n = item_leads bytes table list U f vs blocks its_list i [] (record { at = at; type = U }) lead in
@@ -90,7 +90,7 @@ module _ (allocator : ℕ) (bytes : List ℕ) (table : Table) (list : Place) (U 
       go (x ∷ xs) zero p e a = let same : x ≡ p = cc in let b = a.0.1 in omega arith
       go (x ∷ xs) (suc i) p e a = go xs i p e a.1
 
-  -- the place of item i, if its node is known by the index
+  -- the place of item i, if the i-th node is known
   pub stands_at : (i node at : ℕ) → i < count vs → node ≡ get_or its_list.nodes i 0 → at ≡ (node + 8) % 2 ^ 32 → Leads bytes table list (Selector.item i ∷ []) (record { at = at; type = U })
   stands_at i node at h e at_is =
       let c = its_count in
@@ -99,7 +99,7 @@ module _ (allocator : ℕ) (bytes : List ℕ) (table : Table) (list : Place) (U 
       let is : at ≡ node + 8 = omega arith in
       rw is (leads_on bytes table list U f vs blocks its_list i node [] (value_in U node) known here)
 
-  -- the item after or before one
+  -- the neighbour of an item
   pub item_beside : (w : Way) (i item node other result : ℕ) → Leads bytes table list (Selector.item i ∷ []) (record { at = item; type = U }) → node ≡ (item + (2 ^ 32 - 8)) % 2 ^ 32 → other ≡ start bytes (link_of w node) →
       result ≡ (other + 8) % 2 ^ 32 → Leads bytes table list (Selector.item (around w (count vs) i 1) ∷ []) (record { at = result; type = U })
   item_beside w i item node other result lead node_is other_is result_is =
@@ -125,7 +125,7 @@ module _ (allocator : ℕ) (bytes : List ℕ) (table : Table) (list : Place) (U 
       go (Some p) [] r e = absurd r
       go (Some p) (x ∷ xs) r e = absurd (omega arith)
 
-  -- and another one the node of its first item
+  -- a list that isn't empty points to the node of its first item
   pub first_item : 1 ≤ count vs → (first : ℕ) × (target bytes list.at ≡ Some first) × Leads bytes table list (Selector.item 0 ∷ []) (record { at = first + 8; type = U })
   first_item some = go its_list.nodes refl (let c = its_count in omega arith)
     where
@@ -141,7 +141,7 @@ module _ (allocator : ℕ) (bytes : List ℕ) (table : Table) (list : Place) (U 
 abbrev one_more : Values → Value → Values
 one_more vs v = append vs (cons v nil)
 
--- values with one more apart
+-- lists of values that are equal with one more value at the end
 last_same : (vs ws : Values) (v w : Value) → count vs ≡ count ws → append vs (cons v nil) ≡ append ws (cons w nil) → (vs ≡ ws) × (v ≡ w)
 last_same nil nil v w e f = (refl, let same : v ≡ w = cc in same)
 last_same nil (cons u ws) v w e f = absurd (omega arith)
@@ -156,7 +156,7 @@ count_append : (vs ws : Values) → count (append vs ws) ≡ count vs + count ws
 count_append nil ws = omega arith
 count_append (cons v vs) ws = let r = count_append vs ws in omega arith
 
--- a ring from its last node on
+-- a ring, beginning at its last node
 rotated : (bytes : List ℕ) (o : Option ℕ) (xs : List ℕ) (node : ℕ) → IsRing bytes o (xs ++ node ∷ []) → IsRing bytes (Some node) (node ∷ xs)
 rotated bytes o [] node r = (refl, (ring_first bytes o node [] r).1)
 rotated bytes o (x ∷ ys) node r =
@@ -213,7 +213,7 @@ module _ (allocator : ℕ) (mid : List ℕ) (table : Table) (list : Place) (U no
   whole_nodes : AllByRecursion (λ q. IsSame mid new q (8 + size table U)) (xs ++ node ∷ [])
   whole_nodes = nodes-same mid new (tag_of Kind.node list.type) (8 + size table U) (xs ++ node ∷ []) nodes_kept_too are_nodes
 
-  -- what is true of each node, in the new order
+  -- a fact about each node, in the new order
   turn : (P : ℕ → Type 0) → AllByRecursion P (xs ++ node ∷ []) → AllByRecursion P (node ∷ xs)
   turn P a = ((each_right P xs (node ∷ []) a).0, each_left P xs (node ∷ []) a)
 
@@ -309,7 +309,7 @@ module _ (allocator : ℕ) (mid : List ℕ) (table : Table) (list : Place) (U no
   unfolding l_new
   first_stands = leads_on new table list U f (cons v vs) turned l_new 0 node [] (value_in U node) refl here
 
--- a list with one item more at its end, which the cell points to then
+-- an item was added at the list's end, and then the cell was made to point to it
 pub item_fronted : (allocator : ℕ) (old mid : List ℕ) (table : Table) (list : Place) (U at node : ℕ) (f : form_at table list.type ≡ Some (Form.list U)) (vs : Values) (v : Value) (blocks : List ℕ)
     (s : Stands allocator old table list (Seq vs) blocks) (a : AddsItem allocator old mid table list U (append vs (cons v nil)) blocks (count vs) at (λ i. Some i)) → node ≡ (at + (2 ^ 32 - 8)) % 2 ^ 32 →
     AddsItem allocator old (set_pointer mid list.at (Some node)) table list U (cons v vs) blocks 0 at (λ i. Some (suc i))
@@ -377,14 +377,14 @@ module _ (allocator : ℕ) (bytes : List ℕ) (table : Table) (list : Place) (U 
   pub counted_items : count_at bytes list.at ≡ count vs
   counted_items = sym its.ring.counted ∙ its_count allocator bytes table list U f vs blocks s
 
-  -- the item at an index, once its node was found
+  -- the item at an index, if its node was found
   pub item_found : (index node at : ℕ) → index < count vs → ((nodes : List ℕ) → HasRing bytes list.at nodes → AreSpread bytes (list.at ∷ nodes) → index < length nodes → node ≡ get_or nodes index 0) → at ≡ (node + 8) % 2 ^ 32 →
       Leads bytes table list (Selector.item index ∷ []) (record { at = at; type = U })
   item_found index node at h found at_is =
       let c = its_count allocator bytes table list U f vs blocks s in
       stands_at allocator bytes table list U f vs blocks s index node at h (found its.nodes its.ring (its_spread allocator bytes table list U f vs blocks s) (omega arith)) at_is
 
-  -- the last item, whose node is before the first one
+  -- the last item: its node is before the first node
   pub last_item : 1 ≤ count vs → (first node : ℕ) → first ≡ start bytes list.at → node ≡ start bytes (link_of way.Backward first) → Leads bytes table list (Selector.item (count vs - 1) ∷ []) (record { at = node + 8; type = U })
   last_item some first node first_is node_is =
       let spread = its_spread allocator bytes table list U f vs blocks s in
@@ -398,7 +398,7 @@ module _ (allocator : ℕ) (bytes : List ℕ) (table : Table) (list : Place) (U 
       let small = node_fits allocator bytes table list U f vs blocks s node (count vs - 1) known in
       stands_at allocator bytes table list U f vs blocks s (count vs - 1) node (node + 8) (omega arith) is (omega arith)
 
--- without the item at the last index
+-- removing at the last index removes the last value
 pub remove_nth-last : (vs : Values) → 1 ≤ count vs → remove_nth vs (count vs - 1) ≡ without_last vs
 remove_nth-last nil h = absurd (omega arith)
 remove_nth-last (cons v nil) h = refl

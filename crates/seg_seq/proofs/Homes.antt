@@ -40,7 +40,7 @@ module _ (allocator : ℕ) (bytes : List ℕ) (heap : IsHeap allocator bytes) (c
       let none : times (block_of p) (map block_of nodes) ≡ 0 = subst (λ h. times h (map block_of nodes) ≡ 0) (sym e) home_alone in
       absurd (omega arith)
 
-  -- a place lies in one allocated block
+  -- 8 bytes lie in one allocated block only
   one_home : (h k p : ℕ) → 1 ≤ times h (positions (live bytes)) → 1 ≤ times k (positions (live bytes)) → IsInside bytes h p 8 → IsInside bytes k p 8 → h ≡ k
   one_home h k p a b i j = go (there (OneOrApart bytes k) h (positions (live bytes)) (there (λ t. AllByRecursion (OneOrApart bytes t) (positions (live bytes))) k (positions (live bytes)) (live-apart bytes allocator heap) b) a)
     where
@@ -49,7 +49,7 @@ module _ (allocator : ℕ) (bytes : List ℕ) (heap : IsHeap allocator bytes) (c
       go (inr (inl l)) = absurd (omega (arith, i.low, j.high))
       go (inr (inr l)) = absurd (omega (arith, i.high, j.low))
 
-  -- the cell is different from all nodes
+  -- the cell's position differs from the position of each node
   cell_other : (p : ℕ) → 1 ≤ times p nodes → p ≢ cell
   cell_other p some e =
       node_other p some (one_home (block_of p) home p (node_live p some) home_live (node_inside p some) (subst (λ q. IsInside bytes home q 8) (sym e) inside))
@@ -82,10 +82,10 @@ module _ (allocator : ℕ) (bytes : List ℕ) (heap : IsHeap allocator bytes) (c
     each_there (HasHome bytes) nodes (λ p some. record { home = block_of p; inside = node_inside p some; home_live = node_live p some }),
   )
 
-  -- ---- what is kept if only the cell and the links of the nodes change
+  -- ---- only the cell and the links of the nodes change
 
   module _ (new : List ℕ) (changes : ChangesAt bytes new (cell ∷ nodes)) where
-    -- another block
+    -- all other blocks are kept
     pub other_kept : (h : ℕ) → 1 ≤ times h (positions (live bytes)) → h ≢ home → times h (map block_of nodes) ≡ 0 → KeepsBlock bytes new h
     other_kept h some ne none = block_same allocator bytes new (cell ∷ nodes) heap changes are_home h some away
       where
@@ -99,7 +99,7 @@ module _ (allocator : ℕ) (bytes : List ℕ) (heap : IsHeap allocator bytes) (c
             let z : times (block_of p) (map block_of nodes) ≡ 0 = subst (λ k. times k (map block_of nodes) ≡ 0) same none in
             absurd (omega arith)) (cases_eq cell p)
 
-    -- the block around the cell
+    -- the block of the cell is kept around the cell
     pub home_kept : KeepsBlockAround bytes new cell 8 home
     home_kept =
         let l = lies home home_live in
@@ -113,7 +113,7 @@ module _ (allocator : ℕ) (bytes : List ℕ) (heap : IsHeap allocator bytes) (c
               absurd (node_other p among (sym (one_home home (block_of p) p home_live (node_live p among) i (node_inside p among))))) (cases_eq cell p));
         }
 
-    -- what a node contains
+    -- the value in a node is kept
     pub value_kept : (q n : ℕ) → 1 ≤ times q nodes → 8 + n ≤ payload_size bytes (block_of q) → IsSame bytes new (q + 8) n
     value_kept q n some room =
         let low_q = node_low q some in

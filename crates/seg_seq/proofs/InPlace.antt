@@ -48,7 +48,7 @@ lent_keeps old lent xs same is =
     let written = lent_same old xs (same ∙ ap length is) in
     written ∙ ap (λ (p : Placement). with_bytes old p.bytes) (sym written)
 
--- ---- what the program reads in the table
+-- ---- reads of the table
 
 pub vector_form : (table : Table) (T U V : ℕ) (o : Option «Type») (k : «Type») → form_at table T ≡ map_option form_of o → o ≡ Some k → k ≡ kind.Vec V → (form_at table T ≡ Some (Form.vec V)) × (form_at table T ≡ Some (Form.vec U) → V ≡ U)
 vector_form table T U V o k read is vec =
@@ -80,7 +80,8 @@ module _ (allocator : ℕ) (old : Stored) (cell T U : ℕ) (vs : Values) (blocks
   large : 8 ≤ size old.types U
   large = size_large old.types h.stands.is_table U
 
-  -- the entry more would end past the block's units, or past the segment and so past them
+  -- the next entry would end after the block's units, or after the segment, which contains the
+  -- block
   is_short : (p : ℕ) → target old.window.bytes cell ≡ Some p → IsShort old.window.bytes cell (size old.types U) p → IsFull old (object_at cell T) U
   is_short p e short =
       let r = reached p e in
@@ -105,7 +106,7 @@ module _ (allocator : ℕ) (old : Stored) (cell T U : ℕ) (vs : Values) (blocks
     pub item_first : has.start ≡ start old.window.bytes cell
     item_first = rw has.start_is refl
 
-    -- its place in 32 bits is the place
+    -- the item's position has 32 bits
     pub item_at_word : room.at % 2 ^ 32 ≡ room.at
     item_at_word = let in_it = has.inside in let tiny = h.stands.heap.small in omega arith
 
@@ -127,7 +128,7 @@ module _ (allocator : ℕ) (old : Stored) (cell T U : ℕ) (vs : Values) (blocks
           let enough : len * size old.types U ≤ 16 * units_named old.window.bytes cell - 16 = rw longer (omega arith) in
           has_room allocator old.window.bytes old.types cell T (Seq vs) blocks content (of_form old.types T content (names_it old.types T U some h.form_is)) h.stands len (16 * units_named old.window.bytes cell - 16) refl enough
 
-      -- the item is a number, written in place
+      -- the item is a number, which is written in place
       module _ (number : form_at old.types U ≡ Some Form.i64) (x : ℕ) (fits_word : x < 2 ^ 64) where
         eight : size old.types U ≡ 8
         eight = size-form old.types h.stands.is_table U Form.i64 number

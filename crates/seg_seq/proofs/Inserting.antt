@@ -16,9 +16,10 @@ use Rattle.seg_spec.proofs.Writing.{set_number-changes}
 use Rattle.seg_seq.specs.Rings.{coupled, AreSpread, ChangesAt, HasRing, Relinks}
 use Rattle.seg_seq.proofs.Joins.{AreAligned, word_other, target_other, names, joined_next, joined_second, joined_length, joined_linked, linked_to, linked_beside, linked_append, last_among}
 
--- ---- places that are spread
+-- ---- places that don't overlap
 
--- some of the places, in any order, and in other bytes of that length
+-- of places that don't overlap, some in any order don't overlap either, also in other bytes of the
+-- same length
 pub spread_part : (old new xs ys : List ℕ) → length new ≡ length old → ((h : ℕ) → times h ys ≤ times h xs) → length ys ≤ length xs → AreSpread old xs → AreSpread new ys
 spread_part old new xs ys long fewer short s =
     let small = s.small in
@@ -36,7 +37,7 @@ spread_part old new xs ys long fewer short s =
 pub aligned_of : (n : ℕ) (xs : List ℕ) → AllByRecursion (λ p. (p % 8 ≡ 0) × (p + 8 ≤ n)) xs → AreAligned xs
 aligned_of n xs h = each_weaker (λ p. (p % 8 ≡ 0) × (p + 8 ≤ n)) (λ p. p % 8 ≡ 0) (λ p f. f.0) xs h
 
--- one of two places is the first once
+-- a place isn't among the other places
 pub first_once : (x : ℕ) (xs : List ℕ) → ((h : ℕ) → times h (x ∷ xs) ≤ 1) → times x xs ≡ 0
 first_once x xs once = let o = once x in let s = times-same x xs in omega arith
 
@@ -49,7 +50,7 @@ not_among x y xs none some e = let z : times y xs ≡ 0 = subst (λ k. times k x
 pub changes_none : (old places : List ℕ) → ChangesAt old old places
 changes_none old places = record { length_kept = refl; others = λ q m apart. refl }
 
--- the 4 bytes of a word in the 8 bytes at a place
+-- a word is written in the 8 bytes of a place
 pub changes_word : (old mid : List ℕ) (p at d : ℕ) (places : List ℕ) → 1 ≤ times p places → p ≤ at → at ≤ p + 4 → ChangesAt old mid places → ChangesAt old (set_word mid at d) places
 changes_word old mid p at d places some low high c = record {
   length_kept = length-set_number 4 mid at d ∙ c.length_kept;
@@ -89,7 +90,7 @@ ring_counted mid cell k others s r e =
       counted = sym (number-set_same 4 mid (cell + 4) k (omega arith) (omega arith) ∙ e);
     }
 
--- the coupled nodes, before the cell counts them
+-- the node is coupled to its neighbours, but not counted yet
 pub record Inserted (old mid : List ℕ) (cell node : ℕ) (nodes : List ℕ) : Type 0 where
   pub changes : ChangesAt old mid (cell ∷ node ∷ nodes)
   pub ring : IsRing mid (target mid cell) (nodes ++ node ∷ [])
@@ -112,7 +113,7 @@ inserted_counted old mid cell node nodes s r i =
           (spread_part old mid (cell ∷ node ∷ nodes) (cell ∷ (nodes ++ node ∷ [])) long (λ h. let a = times-append h nodes (node ∷ []) in omega arith) (omega arith) s) i.ring is;
     }
 
--- ---- the first node
+-- ---- the node is the only one
 
 pub inserted_first : (old : List ℕ) (cell node : ℕ) (nodes : List ℕ) → AreSpread old (cell ∷ node ∷ nodes) → HasRing old cell nodes → target old cell ≡ None →
     Inserted old (set_pointer (coupled old node node) cell (Some node)) cell node nodes
@@ -217,7 +218,7 @@ module _ (old : List ℕ) (cell node x : ℕ) (ys : List ℕ) (s : AreSpread old
         ∙ joined_second old last node last_fits.0 s.fit.1.0.0 cell s.fit.0.0 (cell_other node node_some);
   }
 
--- the same with what the code reads
+-- the same, with the words that the code reads
 pub inserted_more : (old : List ℕ) (cell node first at last : ℕ) (nodes : List ℕ) → AreSpread old (cell ∷ node ∷ nodes) → HasRing old cell nodes → target old cell ≡ Some first → at ≡ (first + 4) % 2 ^ 32 →
     last ≡ start old at → Inserted old (coupled (coupled old last node) node first) cell node nodes
 inserted_more old cell node first at last [] s r e at_is last_is = let no : IsRing old (Some first) [] = subst (λ t. IsRing old t []) e r.ring in absurd no

@@ -1,4 +1,4 @@
--- An item is added to a vector, from what the steps leave.
+-- An item is added to a vector, from how the steps change the bytes.
 use Rattle.std.proofs.Common.{◌≡◌, ℕ, ◌+◌, ◌*◌, ◌^◌, ◌<◌, ◌≤◌, inl, List, [], ◌∷◌, ◌++◌, Option, Some, None, refl, sym, ap, ◌∙◌, subst, arith}
 use Rattle.std.specs.Prelude.{option_map, option_to_list}
 use Rattle.std.specs.List.{AllByRecursion}
@@ -44,7 +44,7 @@ module _ (allocator : ℕ) (bytes : List ℕ) (table : Table) (place : Place) (U
       let each = subst (λ ws. HoldsEach bytes table (items table (start bytes place.at) U (count_at bytes place.at)) ws i.owned) (sym (same_items vs e.0 e.1)) e.2 in
       record { owned = i.owned; each = each; blocks_are = i.blocks_are; counts = sym (count_is bytes table each) ∙ how_many table U (start bytes place.at) (count_at bytes place.at) }
 
-  -- there are fewer than bytes
+  -- the items have at most 2^30 bytes
   pub few_items : count_at bytes place.at * size table U ≤ 2 ^ 30
   few_items = go (target bytes place.at) refl
     where
@@ -52,7 +52,7 @@ module _ (allocator : ℕ) (bytes : List ℕ) (table : Table) (place : Place) (U
       go None e = let none = Rattle.seg_seq.proofs.Rooms.none_counted allocator bytes table place (Form.vec U) (Seq vs) blocks f refl s e in rw none (omega arith)
       go (Some p) e = let fits = Rattle.seg_seq.proofs.Rooms.entries_fit allocator bytes table place (Form.vec U) (Seq vs) blocks f refl s p e in let n = s.heap.small in omega arith
 
-  -- so the request for one more fits in a word
+  -- the size for one item more has 32 bits
   pub next_small : (count_at bytes place.at + 1) * size table U < 2 ^ 32
   next_small =
       let few = few_items in
@@ -87,7 +87,7 @@ module _ (allocator : ℕ) (old mid : List ℕ) (table : Table) (place : Place) 
   large : 8 ≤ size table U
   large = size_large table s.is_table U
 
-  -- it has a buffer then
+  -- the vector now has a buffer
   pub has_buffer_now : (p : ℕ) × (target mid place.at ≡ Some p)
   has_buffer_now = go (target mid place.at) refl
     where

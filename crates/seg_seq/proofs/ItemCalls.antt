@@ -27,14 +27,14 @@ use Rattle.seg_seq.proofs.Rooms.{entries_fit}
 use Rattle.seg_seq.proofs.ItemRemoved.{some_buffer, last, value_is, item_stands as item_stands_there, item_beside, item_lost}
 use Rattle.seg_seq.proofs.ItemAdded.{has_each, count_few, has_buffer_now, item_within, item_added, item_stands}
 
--- the entries of a vector
+-- the entries of a vector's buffer are values of the item type
 pub vector_entry : (table : Table) (T U : ℕ) (content : Content) → form_at table T ≡ Some (Form.vec U) → NamesBuffer table T content → IsEntryOf table 0 U content.entry
 vector_entry table T U content f n = let c = rw f at n.0 in c.entry_is
 
 item_known : (table : Table) (T U : ℕ) → IsTable table → form_at table T ≡ Some (Form.vec U) → U < length table
 item_known table T U valid f = valid.forms T (Form.vec U) f
 
--- the same position, computed modulo the word
+-- a position doesn't change if it is computed modulo 2^32
 pub item_at : (first kept each before p n z at : ℕ) → first ≡ p → kept ≡ n → each ≡ z → before ≡ 0 → at ≡ (first + kept * each + before) % 2 ^ 32 → p + n * z < 2 ^ 32 → at ≡ p + n * z
 item_at first kept each before p n z at a b c d e l = let f : at ≡ (p + n * z + 0) % 2 ^ 32 = rw (a, b, c, d) at e in omega arith
 
@@ -56,7 +56,7 @@ module _ (allocator : ℕ) (old : Stored) (cell T U : ℕ) (vs : Values) (blocks
   module _ (mid counted new : Stored) (r : Reserves allocator old.window.bytes mid.window.bytes old.types (object_at cell T) (Seq vs) blocks (buffer_asks old.window.bytes cell each len) (len * each))
       (counted_is : counted.window.bytes ≡ set_word mid.window.bytes (cell + 4) len) (same_types : counted.types ≡ old.types) (first before at V : ℕ) (first_is : first ≡ start mid.window.bytes cell) (before_is : before ≡ 0)
       (at_is : at ≡ (first + kept * each + before) % 2 ^ 32) (V_is : V ≡ U) where
-    -- the item has any value
+    -- an item with any value was added
     pub any_pushed : (v : Value) → (IsWithin counted.window.bytes at (size counted.types V) → ChangesOnly counted.window.bytes new.window.bytes at (size counted.types V))
         → (IsWithin counted.window.bytes at (size counted.types V) → V < length counted.types → Holds new.window.bytes counted.types (object_at at V) v [])
         → PushesItem v allocator old new (object_at cell T) U vs blocks at
@@ -89,7 +89,7 @@ module _ (allocator : ℕ) (old : Stored) (cell T U : ℕ) (vs : Values) (blocks
         let same : default_of counted.types V ≡ default_of old.types U = ap (λ t. default_of t V) same_types ∙ ap (default_of old.types) V_is in
         any_pushed (default_of old.types U) changes (λ within known. subst (λ v. Holds new.window.bytes counted.types (object_at at V) v []) same (default within known))
 
-  -- one more item that is only counted
+  -- one item more is counted, but not written yet
   module _ (mid counted : Stored) (r : Reserves allocator old.window.bytes mid.window.bytes old.types (object_at cell T) (Seq vs) blocks (buffer_asks old.window.bytes cell each len) (len * each))
       (counted_is : counted.window.bytes ≡ set_word mid.window.bytes (cell + 4) len) (first before at : ℕ) (first_is : first ≡ start mid.window.bytes cell) (before_is : before ≡ 0)
       (at_is : at ≡ (first + kept * each + before) % 2 ^ 32) where
@@ -101,7 +101,7 @@ module _ (allocator : ℕ) (old : Stored) (cell T U : ℕ) (vs : Values) (blocks
       at_is = (let there : at ≡ (start mid.window.bytes cell + count_at old.window.bytes cell * size old.types U + 0) % 2 ^ 32 = rw (first_is, kept_is, one_size, before_is) at at_is in omega arith);
     }
 
--- what is then written there is the item
+-- the value that is then written is the item's
 module _ (allocator : ℕ) (old : Stored) (cell T U : ℕ) (vs : Values) (blocks : List ℕ) (h : HasItems allocator old (object_at cell T) U vs blocks) (counted new : Stored) (at : ℕ)
     (c : CountsItem allocator old counted (object_at cell T) U vs blocks at) (same_types : counted.types ≡ old.types) where
   counted_few : count_at old.window.bytes cell + 1 ≡ min (count_at old.window.bytes cell + 1) 4294967295

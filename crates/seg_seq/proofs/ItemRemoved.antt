@@ -1,5 +1,5 @@
 -- The last item of a vector is destroyed, with the frozen objects that lost their last cell, from
--- what the steps leave.
+-- how the steps change the bytes.
 use Rattle.std.proofs.Common.{◌≡◌, ◌≢◌, ℕ, ◌+◌, ◌*◌, ◌/◌, ◌%◌, ◌^◌, ◌<◌, ◌≤◌, ◌⊎◌, inl, inr, List, [], ◌∷◌, ◌++◌, length, Option, Some, None, refl, sym, ap, ◌∙◌, subst, arith}
 use Rattle.std.specs.Prelude.{option_map, option_to_list}
 use Rattle.std.specs.List.{AllByRecursion}
@@ -37,7 +37,7 @@ use Rattle.seg_seq.proofs.Rooms.{block_again, Reaches, reaches, none_counted}
 use Rattle.seg_seq.proofs.Items.{get_item, one_more, how_many, Last, last_of, all_but_last, its_items}
 use Rattle.seg_seq.proofs.ItemAdded.{same_items, HasEach, has_each}
 
--- the items of a buffer are at multiples of 8
+-- the position of an item is a multiple of 8
 aligned_item : (p n z : ℕ) → p % 8 ≡ 0 → z % 8 ≡ 0 → (p + n * z) % 8 ≡ 0
 aligned_item p n z a b =
     let k : z ≡ 8 * (z / 8) = omega arith in
@@ -81,7 +81,7 @@ module _ (allocator : ℕ) (old : List ℕ) (table : Table) (place : Place) (U :
         let all = subst (λ k. HoldsEach old table (items table p U k) vs e.owned) more (subst (λ a. HoldsEach old table (items table a U (count_at old place.at)) vs e.owned) there_is e.each) in
         last_of old table (items table p U n) item vs e.owned (subst (λ ps. HoldsEach old table ps vs e.owned) (one_more table U p n) all)
 
-    -- the blocks that stay
+    -- the blocks that the vector then owns
     pub others : List ℕ
     others = block_of p ∷ last.xs
 
@@ -108,7 +108,7 @@ module _ (allocator : ℕ) (old : List ℕ) (table : Table) (place : Place) (U :
       owned = λ h. omega (arith, s.owned h, blocks_are h, times-more h s.home blocks, times-append h (block_of p ∷ []) last.zs, times-append h (block_of p ∷ []) last.xs);
     }
 
-    -- what a call finds that destroys the item
+    -- the state in which the call that destroys the item begins
     pub item_beside : (names : List ℕ) (theirs : ℕ → List ℕ) (kept : List Place) (now final : List Frozen) → SharedBeside old table (s.home ∷ blocks) names theirs kept now final
         → SharedBeside old table (item_stands.home ∷ last.zs) names theirs kept now final
     unfolding item_stands others
@@ -129,7 +129,7 @@ module _ (allocator : ℕ) (old : List ℕ) (table : Table) (place : Place) (U :
       gives_are = refl;
     }
 
-    -- the item to destroy is the last one
+    -- the item at index n is the last one
     pub value_is : (v : Value) → nth vs n ≡ Some v → v ≡ last.value
     value_is v e =
         let at : count last.left ≡ n = sym (count_is old table last.lefts) ∙ how_many table U p n in
@@ -137,7 +137,7 @@ module _ (allocator : ℕ) (old : List ℕ) (table : Table) (place : Place) (U :
         let both : Some v ≡ Some last.value = sym e ∙ it in
         cc
 
-    -- ---- the item is cleared, apart from frozen objects, whose blocks aren't the vector's
+    -- ---- the item is cleared, with frozen objects, whose blocks aren't the vector's
 
     module _ (theirs : ℕ → List ℕ) (now final : List Frozen) (beside : AreLive old ((s.home ∷ blocks) ++ blocks_by theirs now)) (mid : List ℕ)
         (c : ClearsPlace old mid table item (default_of table U) last.zs [] theirs now final) where
@@ -150,14 +150,14 @@ module _ (allocator : ℕ) (old : List ℕ) (table : Table) (place : Place) (U :
       all_fit : (h : ℕ) → times h (s.home ∷ blocks) + times h shares ≤ times h (positions (live old))
       all_fit h = omega (arith, beside h, times-append h (s.home ∷ blocks) shares)
 
-      -- what the item and the frozen objects owned is freed or stays
+      -- each block of the item and of the frozen objects is freed or kept
       goes : (h : ℕ) → times h last.zs + times h shares ≡ times h c.gives + times h left
       goes h = omega (arith, c.all_are h, times-append h last.zs shares, times-append h c.gives left)
 
       live_mid : (h : ℕ) → times h (positions (live mid)) + times h c.gives ≡ times h (positions (live old))
       live_mid h = omega (arith, c.changes.live_are h, goes h, times-append h last.zs shares)
 
-      -- a block that isn't freed is kept, except for the buffer
+      -- each other block is kept, except the buffer's
       other_kept : (h : ℕ) → 1 ≤ times h (positions (live old)) → times h last.zs + times h shares ≡ 0 → h ≢ block_of p → KeepsBlock old mid h
       other_kept h some none other =
           let k = c.changes.kept h some (omega (arith, none, times-append h last.zs shares)) in
@@ -225,11 +225,11 @@ module _ (allocator : ℕ) (old : List ℕ) (table : Table) (place : Place) (U :
               (omega (arith, live_mid s.home, goes s.home, all_fit s.home, times-same s.home (others ++ left), times-append s.home others left, times-same s.home blocks, blocks_are s.home))
           stay h (inr other) = omega (arith, live_mid h, goes h, all_fit h, times-other h s.home (others ++ left) other, times-append h others left, times-other h s.home blocks other, blocks_are h)
 
-      -- the blocks of the frozen objects that stay
+      -- the blocks of the remaining frozen objects are still allocated
       left_mid : (h : ℕ) → 1 ≤ times h left → 1 ≤ times h (positions (live mid))
       left_mid h some = omega (arith, live_mid h, goes h, all_fit h, blocks_are h, times-more h s.home blocks)
 
-      -- ---- and the count is written
+      -- ---- the count is written
 
       module _ (new : List ℕ) (new_is : new ≡ set_word mid (place.at + 4) n) where
         small : n < 2 ^ 32

@@ -1,4 +1,4 @@
--- The items of a buffer, one after the other: the one at an index, and the last.
+-- The items of a buffer in order: the item at an index, and the last item.
 use Rattle.std.proofs.Common.{◌≡◌, ℕ, zero, suc, ◌+◌, ◌-◌, ◌*◌, ◌<◌, ◌≤◌, List, [], ◌∷◌, ◌++◌, length, Some, refl, sym, ap, ◌∙◌, subst, arith}
 use Rattle.std.specs.Prelude.{slice_get}
 use Rattle.std.proofs.lemmas.List.{append-nil}
@@ -27,7 +27,7 @@ module _ (table : Table) (U : ℕ) where
   how_many at zero = refl
   how_many at (suc n) = ap suc (how_many (at + size table U) n)
 
--- a vector's cell, opened
+-- the buffer and the items of a vector's cell
 module _ (bytes : List ℕ) (table : Table) (place : Place) (U : ℕ) (f : form_at table place.type ≡ Some (Form.vec U)) where
   abbrev pub its_items : Opened
   its_items = record { label = Label.seq; blocks = named bytes place.at; parts = items table (start bytes place.at) U (count_at bytes place.at) }
@@ -38,7 +38,7 @@ module _ (bytes : List ℕ) (table : Table) (place : Place) (U : ℕ) (f : form_
       into {place = place} (Form.vec U) its_items i (record { at = p; type = U }) f (record { named_room = room; ascending = tt; opened_is = refl }) refl
       (get_item table U (start bytes place.at) (count_at bytes place.at) i l ∙ ap (λ q. Some (record { at = q; type = U })) (sym is)) here
 
--- ---- the last one
+-- ---- the last item
 
 pub record Last (bytes : List ℕ) (table : Table) (places : List Place) (last : Place) (vs : Values) (blocks : List ℕ) : Type 0 where
   pub left : Values

@@ -28,7 +28,7 @@ target_other bytes at d q ha hq ne = word_target bytes (set_word bytes at d) q (
 pub names : (bytes : List ℕ) (at to : ℕ) → length bytes ≤ 2 ^ 30 → at + 4 ≤ length bytes → at % 4 ≡ 0 → to % 4 ≡ 0 → to < 2 ^ 32 → target (set_pointer bytes at (Some to)) at ≡ Some to
 names bytes at to small fits ha ht low = target-set_same bytes at (Some to) fits (omega arith) (λ t e. let same : to ≡ t = cc in (omega arith, λ odd. omega arith))
 
--- ---- two nodes that are coupled
+-- ---- two coupled nodes
 
 module _ (bytes : List ℕ) (x y : ℕ) (hx : x % 8 ≡ 0) (hy : y % 8 ≡ 0) where
   first : List ℕ
@@ -102,7 +102,7 @@ module _ (bytes : List ℕ) (a b : ℕ) (ha : a % 8 ≡ 0) (hb : b % 8 ≡ 0) wh
   kept : (u v : ℕ) → u % 8 ≡ 0 → v % 8 ≡ 0 → u ≢ a → v ≢ b → AreLinked bytes u v → AreLinked (coupled bytes a b) u v
   kept u v hu hv n m l = record { next = joined_next bytes a b ha hb u hu n ∙ l.next; previous = joined_previous bytes a b ha hb v hv m ∙ l.previous }
 
-  -- a chain apart from the two nodes that are linked
+  -- a chain that contains neither of the two nodes is kept
   pub linked_beside : (z x : ℕ) (ys : List ℕ) → z % 8 ≡ 0 → AreAligned (x ∷ ys) → times a (x ∷ ys) ≡ 0 → times b ys ≡ 0 → z ≢ b → IsLinked bytes z x ys → IsLinked (coupled bytes a b) z x ys
   linked_beside z x [] hz hs na nb ne l = kept x z hs.0 hz (absent_other a x [] na) ne l
   linked_beside z x (y ∷ ys) hz hs na nb ne l = (
@@ -110,7 +110,7 @@ module _ (bytes : List ℕ) (a b : ℕ) (ha : a % 8 ≡ 0) (hb : b % 8 ≡ 0) wh
     linked_beside z y ys hz hs.1 (absent_rest a x (y ∷ ys) na) (absent_rest b y ys nb) ne l.1,
   )
 
-  -- a chain whose last node is coupled to another one
+  -- the last node of a chain is coupled to another node
   pub linked_to : length bytes ≤ 2 ^ 30 → a + 8 ≤ length bytes → b + 8 ≤ length bytes → (z x : ℕ) (ys : List ℕ) → a ≡ last_of x ys → AreAligned (x ∷ ys) → ((h : ℕ) → times h (x ∷ ys) ≤ 1) → times b ys ≡ 0 →
       IsLinked bytes z x ys → IsLinked (coupled bytes a b) b x ys
   linked_to small fa fb z x [] e hs once nb l = subst (λ k. AreLinked (coupled bytes a b) k b) e (joined_linked bytes a b ha hb small fa fb)

@@ -1,4 +1,4 @@
--- A place during a call on it: what all steps keep, for any value of the place in between.
+-- A place during a call on it: facts that all steps keep, for any value of the place in between.
 use Rattle.std.proofs.Common.{◌≡◌, ◌≢◌, ℕ, ◌+◌, ◌≤◌, ◌⊎◌, inl, inr, List, ◌∷◌, refl, sym, ap, ◌∙◌, subst, arith}
 use Rattle.std.specs.List.{AllByRecursion}
 use Rattle.seg_spec.specs.Header.{free_word, back_start, back_size}
@@ -19,8 +19,9 @@ use Rattle.seg_spec.proofs.WriteInside.{tiles_kept, low_kept, KeptBut, live_kept
 use Rattle.seg_spec.proofs.Composing.{around_kept}
 use Rattle.seg_spec.proofs.Standing.{Frames, frames_twice, stands_after}
 
--- The heap is well-formed with these allocated blocks. The place and the frozen objects that it
--- releases own other blocks than before, and everything around them is kept.
+-- The heap is well-formed with these allocated blocks. The place, with the frozen objects that it
+-- releases, owned `blocks` and now owns `others`. The allocated blocks changed by exactly these.
+-- Everything around the place is kept.
 pub record Leaves (allocator : ℕ) (old mid : List ℕ) (table : Table) (place : Place) (blocks others : List ℕ) (spans : List Span) : Type 0 where
   pub allocator_is : word old 16 ≡ allocator
   pub heap : IsHeap allocator mid
@@ -88,7 +89,7 @@ module _ (allocator : ℕ) (old mid : List ℕ) (table : Table) (place : Place) 
     pub live_same : live new ≡ live mid
     live_same = live-kept mid new allocator l.heap (tiles_kept mid new at m changes allocator l.heap g within g_live)
 
-    -- every other block is kept
+    -- all other blocks are kept
     pub other_kept : (h : ℕ) → 1 ≤ times h (positions (live mid)) → h ≢ g → KeepsBlock mid new h
     other_kept h some ne = (but h some).kept ne
 
@@ -122,12 +123,12 @@ module _ (allocator : ℕ) (old mid : List ℕ) (table : Table) (place : Place) 
             let once : times h (positions spans) ≤ 1 = subst (λ bs. times h (positions bs) ≤ 1) l.live_is (live-once mid allocator l.heap h) in
             omega (arith, l.counts h)
 
-    -- bytes of a block that the place owns
+    -- bytes of a block that the place owns are written
     pub written_inside : 1 ≤ times g others → Leaves allocator old new table place blocks others spans
     written_inside mine = written (λ h some away. around_kept mid new place.at (size table place.type) h (omega (arith, (but h some).solid)) (other_kept h some (λ e.
         let none : times g others ≡ 0 = subst (λ x. times x others ≡ 0) e away in omega arith)))
 
-    -- bytes of the place itself
+    -- bytes of the place itself are written
     pub written_there : place.at ≤ at → at + m ≤ place.at + size table place.type → Leaves allocator old new table place blocks others spans
     written_there low high = written (λ h some away. one h some)
       where

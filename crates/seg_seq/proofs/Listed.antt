@@ -1,4 +1,4 @@
--- A list as its nodes and the values in them, and paths from its items.
+-- A list as its nodes and their values, and paths from its items.
 use Rattle.std.proofs.Common.{◌≡◌, ℕ, zero, suc, ◌+◌, List, [], ◌∷◌, ◌++◌, length, map, Some, refl, sym, ap, ◌∙◌, subst, arith}
 use Rattle.std.specs.Prelude.{slice_get}
 use Rattle.seg_spec.specs.Types.{Form, Table, form_at, size}
@@ -9,11 +9,11 @@ use Rattle.seg_spec.proofs.CellOwed.{same_form}
 use Rattle.seg_spec.proofs.OneReading.{Opens-one}
 use Rattle.seg_seq.specs.Rings.{HasRing}
 
--- the position of the values of nodes
+-- the places of the values of nodes
 abbrev pub values_in : ℕ → List ℕ → List Place
 values_in U nodes = places_of U (map (λ p. p + 8) nodes)
 
--- the position of the value of a node
+-- the place of the value of a node
 abbrev pub value_in : ℕ → ℕ → Place
 value_in U p = record { at = p + 8; type = U }
 
@@ -30,7 +30,7 @@ value_at_index U [] i p e = cc
 value_at_index U (x ∷ xs) zero p e = let same : x ≡ p = cc in ap (λ q. Some (value_in U q)) same
 value_at_index U (x ∷ xs) (suc i) p e = value_at_index U xs i p e
 
--- the node of a value
+-- the node that contains a value
 pub record NodeAt (nodes : List ℕ) (U i : ℕ) (part : Place) : Type 0 where
   pub node : ℕ
   pub node_is : slice_get nodes i ≡ Some node

@@ -49,7 +49,7 @@ mapped_at (x ∷ xs) (suc i) p e = mapped_at xs i p e
 pub leads_nowhere : (bytes : List ℕ) (table : Table) (place inner : Place) → Leads bytes table place [] inner → place ≡ inner
 leads_nowhere bytes table place inner here = refl
 
--- ---- the index that an item has then
+-- ---- the new index of an item
 
 gone : (j i : ℕ) → i ≡ j → without_index j i ≡ None
 gone j i e = let t : eqb i j ≡ true = grind (arith, nat_tests) in ap (λ b. cond b None (Some (cond (ltb i j) i (i - 1)))) t
@@ -72,12 +72,12 @@ if_none P o e = subst (λ (p : Option ℕ). IfSome p P) (sym e) tt
 if_some : (P : ℕ → Type 0) (o : Option ℕ) (k : ℕ) → o ≡ Some k → P k → IfSome o P
 if_some P o k e h = subst (λ (p : Option ℕ). IfSome p P) (sym e) h
 
--- an item that is cleared for any frozen objects
+-- an item is cleared, for any frozen objects
 abbrev pub Clears : ℕ → List ℕ → List ℕ → Table → Place → Type 0
 Clears allocator one two table place = (v : Value) (bs : List ℕ) (s : Stands allocator one table place v bs) →
     BesideShared one table (s.home ∷ bs) (named_in v) (ClearsPlace one two table place (default_of table place.type) bs [])
 
--- and the same of equal places, tables and bytes
+-- the same for equal places, tables and bytes
 pub clears_here : (allocator : ℕ) (one two mid : List ℕ) (table here_too : Table) (p q : Place) → here_too ≡ table → p ≡ q → two ≡ mid → Clears allocator one mid here_too p → Clears allocator one two table q
 clears_here allocator one two mid table here_too p q same at to k =
     subst (λ t. Clears allocator one two t q) same (subst (λ r. Clears allocator one two here_too r) at (subst (λ m. Clears allocator one m here_too p) (sym to) k))
@@ -197,7 +197,7 @@ module _ (allocator : ℕ) (old one two new : List ℕ) (table : Table) (list : 
     pub item_removed : LosesItem old new table list vs j (remove_nth vs j) s.home blocks
     item_removed v e theirs kept now final beside = removes theirs kept now final (subst (λ u. SharedBeside old table (s.home ∷ blocks) (named_in u) theirs kept now final) (value_is v e) beside)
 
-  -- the item's position fits the words of the program
+  -- the item's position has 32 bits
   pub item_small : node + 8 < 2 ^ 32
   item_small =
       let spread = dropped_spread allocator old table list U node xs ys f vs blocks l.owned s are_nodes blocks_are values in

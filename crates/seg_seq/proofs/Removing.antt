@@ -22,7 +22,7 @@ pub ring_first : (bytes : List ℕ) (o : Option ℕ) (x : ℕ) (xs : List ℕ) �
 ring_first bytes None x xs r = absurd r
 ring_first bytes (Some p) x xs r = (ap Some (sym r.0), subst (λ q. IsLinked bytes q x xs) (sym r.0) r.1)
 
--- the neighbours of a node, and the ring after they are linked
+-- the neighbours of a node, and the ring after these neighbours are linked to each other
 pub record Unlinked (bytes : List ℕ) (cell node : ℕ) (before after : List ℕ) : Type 0 where
   pub next : ℕ
   pub previous : ℕ
@@ -52,7 +52,7 @@ module _ (bytes : List ℕ) (cell node : ℕ) (nodes : List ℕ) (s : AreSpread 
     cell_counts : count_at (coupled bytes previous next) cell ≡ count_at bytes cell
     cell_counts = joined_second bytes previous next (fits previous some_previous).0 (fits next some_next).0 cell s.fit.0.0 (cell_other next some_next)
 
--- the first node of several
+-- the node is the first of several
 unlinked_first : (bytes : List ℕ) (cell node y : ℕ) (ys : List ℕ) → AreSpread bytes (cell ∷ node ∷ y ∷ ys) → IsRing bytes (target bytes cell) (node ∷ y ∷ ys) → Unlinked bytes cell node [] (y ∷ ys)
 unlinked_first bytes cell node y ys s r =
     let f = ring_first bytes (target bytes cell) node (y ∷ ys) r in
@@ -106,7 +106,7 @@ module _ (bytes : List ℕ) (cell node x : ℕ) (xs after : List ℕ) (s : AreSp
   front_once : (h : ℕ) → times h (x ∷ xs) ≤ 1
   front_once h = let c = counts h in let o = all_once h in omega arith
 
-  -- the cell still points to the first node, which is another one
+  -- the cell still points to another node, the first
   names_other : target bytes cell ≢ Some node
   names_other e =
       let both : Some x ≡ Some node = sym first.0 ∙ e in
@@ -129,7 +129,7 @@ module _ (bytes : List ℕ) (cell node x : ℕ) (xs after : List ℕ) (s : AreSp
   back_aligned : Rattle.seg_seq.proofs.Joins.AreAligned (node ∷ after)
   back_aligned = each_right (λ p. p % 8 ≡ 0) (x ∷ xs) (node ∷ after) (aligned_of (length bytes) nodes s.fit.1)
 
--- the last node
+-- the node is the last of several
 unlinked_last : (bytes : List ℕ) (cell node x : ℕ) (xs : List ℕ) → AreSpread bytes (cell ∷ x ∷ (xs ++ node ∷ [])) → IsRing bytes (target bytes cell) (x ∷ (xs ++ node ∷ [])) → Unlinked bytes cell node (x ∷ xs) []
 unlinked_last bytes cell node x xs s r =
     let t = times-same x (xs ++ node ∷ []) in
@@ -152,7 +152,7 @@ unlinked_last bytes cell node x xs s r =
       ring = inr (names_other bytes cell node x xs [] s r, rw (named, none) (refl, ring));
     }
 
--- a node between two others
+-- the node is between two others
 unlinked_between : (bytes : List ℕ) (cell node x : ℕ) (xs : List ℕ) (y : ℕ) (ys : List ℕ) → AreSpread bytes (cell ∷ x ∷ (xs ++ node ∷ y ∷ ys)) → IsRing bytes (target bytes cell) (x ∷ (xs ++ node ∷ y ∷ ys)) →
     Unlinked bytes cell node (x ∷ xs) (y ∷ ys)
 unlinked_between bytes cell node x xs y ys s r =
@@ -202,7 +202,7 @@ unlinked bytes cell node [] (y ∷ ys) s r some = unlinked_first bytes cell node
 unlinked bytes cell node (x ∷ xs) [] s r some = unlinked_last bytes cell node x xs s r
 unlinked bytes cell node (x ∷ xs) (y ∷ ys) s r some = unlinked_between bytes cell node x xs y ys s r
 
--- ---- what the writes leave
+-- ---- the bytes after the writes
 
 option_test : (o : Option ℕ) (n : ℕ) (b : Bool) → b ≡ option_eq eqb o (Some n) → b ≡ true → o ≡ Some n
 option_test None n b e t = let f : false ≡ true = sym e ∙ t in absurd (cc)
@@ -246,7 +246,7 @@ module _ (old : List ℕ) (cell node : ℕ) (before after : List ℕ) (r : HasRi
   one_changes : ChangesAt old one (cell ∷ before ++ node ∷ after)
   one_changes = changes_word old old cell (cell + 4) k (cell ∷ before ++ node ∷ after) at_cell (omega arith) (omega arith) (changes_none old (cell ∷ before ++ node ∷ after))
 
-  -- it was the only one
+  -- the node was the only one
   pub removed_only : k ≡ 0 → Relinks old (set_pointer (set_word old (cell + 4) k) cell None) cell (before ++ node ∷ after) (before ++ after)
   removed_only zero_is =
       let c = count_one in

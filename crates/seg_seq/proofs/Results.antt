@@ -1,4 +1,4 @@
--- What the results of calls imply for the calls above.
+-- The results of calls, as the callers need them.
 use Rattle.std.proofs.Common.{ℕ}
 use Rattle.std.proofs.lemmas.Bool.{false≢true}
 use Rattle.std.specs.Result.{IsErr, MatchResult}

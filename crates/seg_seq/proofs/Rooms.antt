@@ -1,4 +1,4 @@
--- The buffer to which a place points: its position, and how many entries it has.
+-- The buffer to which a place points: its position, and the number of its entries.
 use Rattle.std.proofs.Common.{◌≡◌, ◌≢◌, ℕ, ◌+◌, ◌*◌, ◌≤◌, true, List, [], ◌++◌, length, Some, None, refl, ap, ◌∙◌, arith}
 use Rattle.std.proofs.Math.Nat.{mul-one}
 use Rattle.seg_spec.specs.Bytes.{slice, IsSame}
@@ -19,7 +19,7 @@ use Rattle.seg_spec.proofs.LiveLaws.{times-same, there, LiesIn, live-lie}
 use Rattle.seg_spec.proofs.PlaceSteps.{owned_live, owned_other, place_within}
 use Rattle.seg_spec.proofs.Buffered.{Buffered, buffered}
 
--- a block is still there with its header, and has room for m bytes
+-- a block with the same header is still a block, with room for m bytes
 pub block_again : (old new : List ℕ) (p tag n m : ℕ) → IsSame old new (block_of p) 16 → m ≤ payload_size old (block_of p) → IsBlock old p tag n → IsBlock new p tag m
 block_again old new p tag n m header fits b =
     let h = block_of p in
@@ -35,7 +35,7 @@ module _ (allocator : ℕ) (bytes : List ℕ) (table : Table) (place : Place) (f
   pub cell_fits : place.at + 8 ≤ length bytes
   cell_fits = let w = place_within allocator bytes table place v blocks s in let l = size_large table s.is_table place.type in omega arith
 
-  -- the block of the buffer
+  -- the buffer's block is allocated and belongs to the place
   pub record Reaches (p : ℕ) : Type 0 where
     pub low : 16 ≤ p
     pub block_is : IsBlock bytes p (tag_of Kind.buffer place.type) (count_at bytes place.at * item_size table form)
@@ -61,7 +61,7 @@ module _ (allocator : ℕ) (bytes : List ℕ) (table : Table) (place : Place) (f
         other = owned_other allocator bytes table place v blocks s (block_of p) mine;
       }
 
-  -- its entries lie in the segment
+  -- the buffer's entries lie in the segment
   pub entries_fit : (p : ℕ) → target bytes place.at ≡ Some p → p + count_at bytes place.at * item_size table form ≤ length bytes
   entries_fit p e = let r = reaches p e in omega (arith, r.high, r.block_is.room)
 

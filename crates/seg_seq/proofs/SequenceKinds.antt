@@ -10,7 +10,7 @@ use Rattle.seg_seq.specs.Lists.{IsList}
 use Rattle.seg_seq.specs.declared.kind.Kind.{Kind}
 use Rattle.seg_seq.specs.declared.kind.Kind.TheVariants as kind
 
--- the bytes of a string
+-- the entries of a string's buffer are single bytes
 pub record NamesText (table : Table) (T : ℕ) (content : Content) : Type 0 where
   pub names : NamesBuffer table T content
   pub size_is : content.entry.size ≡ 1
@@ -41,7 +41,7 @@ module _ (table : Table) (T : ℕ) (c : Content) where
     pub buffer_vector : (U : ℕ) → form_at table T ≡ Some (Form.vec U) → NamesBuffer table T c
     buffer_vector U f = elim is [ inl e ↦ let no = rw f at (subst Kinds e of) in absurd no | inr e ↦ names_vector U f (subst Kinds e of) ]
 
--- a type with a string's layout is a string
+-- a type with the layout of a string is a string
 pub text_of : (table : Table) (T : ℕ) (form : Option Form) (c : Content) → KindOf table T form (Ok (kind.Text, c)) → form ≡ Some Form.str
 text_of table T (Some Form.str) c k = refl
 text_of table T None c k = absurd k
@@ -54,7 +54,7 @@ text_of table T (Some (Form.map U)) c k = absurd k
 text_of table T (Some (Form.own U)) c k = absurd k
 text_of table T (Some (Form.shared U)) c k = absurd k
 
--- a vector whose entries contain values of a type is one of that type
+-- a vector whose entries contain values of a type is a vector of that type
 pub vector_of : (table : Table) (T V : ℕ) (form : Option Form) (c : Content) → KindOf table T form (Ok (kind.Vector, c)) → c.entry.held ≡ held.Value V → form ≡ Some (Form.vec V)
 vector_of table T V (Some (Form.vec U)) c k h = let same : held.Value U ≡ held.Value V = sym k.entry_is.held_is ∙ h in let e : U ≡ V = cc in ap (λ n. Some (Form.vec n)) e
 vector_of table T V None c k h = absurd k

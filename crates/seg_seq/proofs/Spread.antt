@@ -1,5 +1,5 @@
--- What is kept if 8 bytes change at each of several places in the payloads of allocated blocks: the
--- heap, and everything else.
+-- 8 bytes change at each of several places in the payloads of allocated blocks. The heap stays
+-- well-formed, and all other bytes are kept.
 use Rattle.std.proofs.Common.{◌≡◌, ℕ, ◌+◌, ◌*◌, ◌%◌, ◌^◌, ◌≤◌, ◌⊎◌, inl, inr, true, false, List, [], ◌∷◌, length, sym, ap, ◌∙◌, subst, arith}
 use Rattle.std.proofs.lemmas.Bool.{false≢true}
 use Rattle.std.specs.List.{AllByRecursion}
@@ -24,7 +24,7 @@ pub record HasHome (bytes : List ℕ) (p : ℕ) : Type 0 where
   pub home_live : 1 ≤ times home (positions (live bytes))
 
 module _ (allocator : ℕ) (old new : List ℕ) (places : List ℕ) (heap : IsHeap allocator old) (changes : ChangesAt old new places) (homes : AllByRecursion (HasHome old) places) where
-  -- what lies apart from the payload of each allocated block lies apart from each place
+  -- a range is kept if it overlaps no 8 bytes in the payload of an allocated block
   beside : (q m : ℕ) → ((h p : ℕ) → 1 ≤ times h (positions (live old)) → IsInside old h p 8 → Separate q m p 8) → IsSame old new q m
   beside q m f = changes.others q m (each_weaker (HasHome old) (λ p. Separate q m p 8) (λ p w. f w.home p w.home_live w.inside) places homes)
 
@@ -51,7 +51,7 @@ module _ (allocator : ℕ) (old new : List ℕ) (places : List ℕ) (heap : IsHe
       go (inr (inl l)) = inl (omega (arith, i.low, s.size))
       go (inr (inr r)) = inr (omega (arith, i.high))
 
-  -- each tile, with how it lies to each place
+  -- a range doesn't overlap the 8 bytes at a place
   abbrev Apart : ℕ → ℕ → ℕ → Type 0
   Apart q m p = Separate q m p 8
 
@@ -84,7 +84,7 @@ module _ (allocator : ℕ) (old new : List ℕ) (places : List ℕ) (heap : IsHe
   unfolding live
   gaps_free = gaps_between-live_of (tiles old) true heap_start (length old) heap.filled heap.apart
 
-  -- the bytes before the heap
+  -- the bytes before the heap are kept
   pub low_same : (p n : ℕ) → p + n ≤ heap_start → IsSame old new p n
   low_same p n fits = beside p n (λ h q some i. inl (let l = lies h some in omega (arith, l.low, i.low)))
 
@@ -107,7 +107,7 @@ module _ (allocator : ℕ) (old new : List ℕ) (places : List ℕ) (heap : IsHe
   pub ownable_same : (table : Table) → AllByRecursion (λ b. IsOwnable old table b.at) (live old) → AllByRecursion (λ b. IsOwnable new table b.at) (live new)
   ownable_same table a = IsOwnable-kept old new allocator heap tiles_same table a
 
-  -- ---- one allocated block
+  -- ---- a single allocated block
 
   module _ (x : ℕ) (some : 1 ≤ times x (positions (live old))) where
     pair : (h : ℕ) → 1 ≤ times h (positions (live old)) → OneOrApart old x h

@@ -1,4 +1,5 @@
--- A list before its new node is linked: the block is allocated, and differs from those before.
+-- A list before its new node is linked: the node's block is allocated, and differs from all blocks
+-- before.
 use Rattle.std.proofs.Common.{◌≡◌, ◌≢◌, ℕ, ◌+◌, ◌≤◌, ◌⊎◌, inl, inr, List, [], ◌∷◌, length, Option, Some, None, refl, sym, ap, ◌∙◌, subst, arith}
 use Rattle.std.proofs.lemmas.Bool.{cases_eq}
 use Rattle.seg_spec.specs.Types.{Form, Table, form_at, size}
@@ -15,7 +16,7 @@ use Rattle.seg_spec.proofs.Requested.{spent_fresh}
 use Rattle.seg_spec.proofs.Standing.{each_live_at, live_at, stands_still}
 use Rattle.seg_value.specs.Contents.{GivesBlock}
 
--- the block that was granted, and the allocated blocks with it
+-- the block that was granted, and the allocated blocks including it
 record Grants (allocator : ℕ) (bs after : List Span) (end u : ℕ) : Type 0 where
   at : ℕ
   taken : after_take allocator bs end u ≡ Some (at, after)
@@ -83,7 +84,7 @@ module _ (allocator : ℕ) (old mid : List ℕ) (table : Table) (list : Place) (
   taken_kept : (h : ℕ) → 1 ≤ times h (s.home ∷ blocks) → KeepsBlock old mid h
   taken_kept h some = (given.kept h (let o = s.owned h in omega arith)).0
 
-  -- the place doesn't move
+  -- the place still contains its value
   pub taken_stands : Stands allocator mid table list v blocks
   taken_stands = stands_still allocator old table list v blocks s mid given.heap given.front_kept taken_kept (each_live_at (IsOwnable mid table) (live mid) ownable_at)
       (λ h. let c = taken_counts h in let o = s.owned h in omega arith)

@@ -27,7 +27,7 @@ use Rattle.seg_seq.proofs.Rooms.{reaches, entries_fit, text_counts}
 use Rattle.seg_seq.proofs.TooMuch.{too_much}
 use Rattle.seg_seq.proofs.TextSteps.{names, room_made, text_written, byte_removed}
 
--- no buffer has that much room
+-- no buffer has room for so large a text
 no_such_room : (allocator : ℕ) (mid : List ℕ) (table : Table) (place : Place) (xs blocks : List ℕ) (n : ℕ)
     → form_at table place.type ≡ Some Form.str → Stands allocator mid table place (Text xs) blocks → HasRoomFor mid place.at n → n ≤ 2 ^ 30
 no_such_room allocator mid table place xs blocks n f s room = go (target mid place.at) refl
@@ -41,7 +41,7 @@ no_such_room allocator mid table place xs blocks n f s room = go (target mid pla
         omega (arith, r.high)
 
 module _ (allocator : ℕ) (old : Stored) (place : Place) (xs blocks : List ℕ) (t : HasText allocator old place xs blocks) (kept added : ℕ) where
-  -- more than any string has
+  -- no string is that long
   pub too_long : (new : Stored) → new.window.bytes ≡ old.window.bytes → 2 ^ 32 ≤ kept + added → LacksRoom allocator old new (text_asks old place (kept + added)) BadAlloc
   too_long new same much = record {
     code_is = refl;
@@ -51,7 +51,7 @@ module _ (allocator : ℕ) (old : Stored) (place : Place) (xs blocks : List ℕ)
     };
   }
 
-  -- no gap gives the room
+  -- no gap is large enough
   pub no_room_made : (new : Stored) (size len : ℕ) → size ≡ 1 → len ≡ min (kept + added) 4294967295 → Refuses allocator old.window.bytes new.window.bytes (buffer_asks old.window.bytes place.at size len)
       → LacksRoom allocator old new (text_asks old place (kept + added)) BadAlloc
   no_room_made new size len one len_is r = go (cases_lt (kept + added) (2 ^ 32))
@@ -62,7 +62,7 @@ module _ (allocator : ℕ) (old : Stored) (place : Place) (xs blocks : List ℕ)
           let all : len ≡ kept + added = omega arith in
           record { code_is = refl; refuses = rw (one, all) at r }
 
-  -- room is made
+  -- the buffer gets the room
   pub makes_room : (mid new : Stored) (size len at : ℕ) → size ≡ 1 → len ≡ min (kept + added) 4294967295 → kept ≤ length xs
       → Reserves allocator old.window.bytes mid.window.bytes old.types place (Text xs) blocks (buffer_asks old.window.bytes place.at size len) (len * size)
       → new.window.bytes ≡ set_word mid.window.bytes (place.at + 4) len → at ≡ start mid.window.bytes place.at + kept → ExtendsText allocator old new place kept added xs blocks at len
@@ -83,7 +83,7 @@ module _ (allocator : ℕ) (old : Stored) (place : Place) (xs blocks : List ℕ)
         at_is = at_is ∙ ap (λ o. Rattle.std.specs.Prelude.unwrap_or o 0 + kept) (sym same);
       }
 
-  -- the bytes are written there
+  -- the bytes are written into that room
   pub written_to : (mid new : Stored) (at len : ℕ) (bs : List ℕ) → added ≡ length bs → ExtendsText allocator old mid place kept added xs blocks at len → new.window.bytes ≡ put mid.window.bytes at bs
       → ComesToHold allocator old new place (Text (take kept xs ++ bs)) (text_asks old place (kept + length bs)) [] blocks
   written_to mid new at len bs n m new_is =
@@ -117,16 +117,16 @@ counts_few allocator old place xs blocks t p e =
     let small = t.stands.heap.small in
     omega arith
 
--- one byte
+-- a write of one byte
 pub one_byte : (bytes : List ℕ) (at x : ℕ) → x < 256 → set_byte bytes at x ≡ put bytes at (x ∷ [])
 unfolding set_number
 one_byte bytes at x small = let same : x % 256 ≡ x = omega arith in ap (λ y. put bytes at (y ∷ [])) same
 
--- what a string's buffer contains
+-- a string's buffer contains bytes
 pub text_entry : (table : Table) (T : ℕ) (content : Content) → form_at table T ≡ Some Form.str → NamesBuffer table T content → content.entry.held ≡ Bytes
 text_entry table T content f n = let c = rw f at n.0 in c.held_is
 
--- the last byte is dropped
+-- the last byte is removed
 pub byte_popped : (allocator : ℕ) (old new : Stored) (place : Place) (xs blocks : List ℕ) → HasText allocator old place xs blocks → (n : ℕ) → length xs ≡ n + 1 → new.window.bytes ≡ set_word old.window.bytes (place.at + 4) n
     → ComesToHold allocator old new place (Text (take n xs)) [] [] blocks
 byte_popped allocator old new place xs blocks t n more new_is = record {

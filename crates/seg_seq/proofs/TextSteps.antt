@@ -1,4 +1,4 @@
--- Strings whose text is replaced, from what the steps leave.
+-- Strings whose text is replaced, from how the steps change the bytes.
 use Rattle.std.proofs.Common.{◌≡◌, ℕ, ◌+◌, ◌*◌, ◌^◌, ◌<◌, ◌≤◌, ◌⊎◌, inl, inr, List, [], ◌∷◌, ◌++◌, length, take, drop, Option, Some, None, refl, sym, ap, ◌∙◌, arith}
 use Rattle.std.proofs.Math.Seq.{take-add}
 use Rattle.std.proofs.lemmas.List.{take-append-drop, length-drop, same_lists, places, append-nil, take_all}
@@ -54,16 +54,16 @@ no_length : (xs : List ℕ) → length xs ≡ 0 → xs ≡ []
 no_length [] e = refl
 no_length (x ∷ xs) e = absurd (omega (arith, e))
 
--- what a string contains that points to the same buffer as before
+-- a string that still points to its buffer contains the bytes that are there now
 holds_text : (old new : List ℕ) (table : Table) (place : Place) (others ys : List ℕ) → form_at table place.type ≡ Some Form.str → others ≡ named old place.at ++ [] → target new place.at ≡ target old place.at
     → NamesRoom new place.at (tag_of Kind.buffer place.type) 1 → ys ≡ slice new (start new place.at) (count_at new place.at) → Holds new table place (Text ys) others
 holds_text old new table place others ys f own names room text =
     let same : others ≡ named new place.at ++ [] = rw names own in
     rw same (holds_buffered new table place Form.str (Text ys) [] f refl room (ap (λ bs. Text bs) text, refl))
 
--- ---- room is made, and the count is written
+-- ---- the buffer gets room, and the count is written
 
--- what the string has then
+-- the string after the count is written: it has its first bytes, and n more
 pub record Made (allocator : ℕ) (old new : List ℕ) (table : Table) (place : Place) (xs blocks : List ℕ) (asks : List Ask) (kept n : ℕ) : Type 0 where
   pub ys : List ℕ
   pub prefix : take kept ys ≡ take kept xs
@@ -151,7 +151,7 @@ module _ (allocator : ℕ) (old mid : List ℕ) (table : Table) (place : Place) 
   m : Leaves allocator old mid table place blocks others made.left
   m = begun allocator old mid table place v (Text ys) blocks others made.left s made.changes
 
-  -- nothing is written
+  -- there are no bytes to write
   none_written : length bs ≡ 0 → Succeeds allocator old new table place (Text (take kept ys ++ bs)) asks [] blocks others
   none_written e =
       let nothing : bs ≡ [] = no_length bs e in
@@ -199,7 +199,7 @@ module _ (allocator : ℕ) (old mid : List ℕ) (table : Table) (place : Place) 
           let known = text_counts allocator mid table place ys others f u in
           absurd (omega arith)
 
--- ---- the last byte is dropped
+-- ---- the last byte is removed
 
 module _ (allocator : ℕ) (old : List ℕ) (table : Table) (place : Place) (xs blocks : List ℕ) (f : form_at table place.type ≡ Some Form.str) (s : Stands allocator old table place (Text xs) blocks)
     (n : ℕ) (more : length xs ≡ n + 1) (new : List ℕ) (new_is : new ≡ set_word old (place.at + 4) n) where

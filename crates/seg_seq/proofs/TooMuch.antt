@@ -1,4 +1,4 @@
--- No free block has room for more bytes than a segment has.
+-- No free block is large enough for a request that is larger than a segment.
 use Rattle.std.proofs.Common.{◌≡◌, ℕ, ◌*◌, ◌^◌, ◌≤◌, true, List, length, Option, Some, None, refl, sym, subst, arith}
 use Rattle.seg_spec.specs.Pointer.{target}
 use Rattle.seg_spec.specs.Types.{Form, Table, form_at}
@@ -13,7 +13,7 @@ use Rattle.seg_spec.proofs.NoSpace.{too_large}
 use Rattle.seg_value.proofs.Enlarging.{ask, asks_once, least_first}
 use Rattle.seg_seq.proofs.Rooms.{reaches}
 
--- a buffer of that many entries has no room
+-- no request for a buffer of 2^32 bytes or more is granted
 module _ (allocator : ℕ) (old : List ℕ) (table : Table) (place : Place) (form : Form) (v : Value) (blocks : List ℕ) (f : form_at table place.type ≡ Some form) (b : has_buffer (Some form) ≡ true)
     (s : Stands allocator old table place v blocks) (item wanted : ℕ) (much : 2 ^ 32 ≤ wanted * item) where
   named_short : 16 * units_named old place.at ≤ length old

@@ -1,4 +1,4 @@
--- The neighbours in a ring, and the node some steps away.
+-- The neighbours in a ring, and the node at a distance.
 use Rattle.std.proofs.Common.{◌≡◌, ℕ, zero, suc, ◌+◌, ◌-◌, ◌%◌, ◌^◌, ◌<◌, ◌≤◌, ⊎_elim, true, false, leb, ltb, cond, List, [], ◌∷◌, length, get_or, Some, refl, sym, ap, ◌∙◌, subst, arith}
 use Rattle.std.specs.Prelude.{unwrap_or}
 use Rattle.std.specs.List.{AllByRecursion}
@@ -38,7 +38,7 @@ fits_at n [] i h l = absurd (omega arith)
 fits_at n (x ∷ xs) zero h l = h.0
 fits_at n (x ∷ xs) (suc i) h l = fits_at n xs i h.1 (omega arith)
 
--- one step each way
+-- the index after k steps, in each direction
 around_on : (n i k : ℕ) → i + k < n → around way.Forward n i k ≡ i + k
 around_on n i k h = let t : ltb (i + k) n ≡ true = grind (arith, nat_tests) in ap (λ b. cond b (i + k) (i + k - n)) t
 
@@ -55,7 +55,7 @@ pub around_less : (w : Way) (n i k : ℕ) → i < n → k ≤ n → around w n i
 around_less way.Forward n i k h l = ⊎_elim (λ f. let e = around_on n i k f in omega arith) (λ f. let e = around_over n i k f in omega arith) (cases_lt (i + k) n)
 around_less way.Backward n i k h l = ⊎_elim (λ f. let e = around_under n i k f in omega arith) (λ f. let e = around_back n i k f in omega arith) (cases_lt i k)
 
--- one step more
+-- k + 1 steps are k steps and then one
 pub around_more : (w : Way) (n i k : ℕ) → i < n → k + 1 ≤ n → around w n (around w n i k) 1 ≡ around w n i (k + 1)
 around_more way.Forward n i k h l = ⊎_elim
     (λ f. let e = around_on n i k f in ⊎_elim
@@ -108,11 +108,11 @@ module _ (bytes : List ℕ) (cell : ℕ) (nodes : List ℕ) (r : HasRing bytes c
       let ring : IsRing bytes (target bytes cell) (x ∷ ys) = subst (λ zs. IsRing bytes (target bytes cell) zs) (sym e) r.ring in
       stepped w x ys i (ring_first bytes (target bytes cell) x ys ring).1 h (subst (λ zs. AllByRecursion (λ p. (p % 8 ≡ 0) × (p + 8 ≤ length bytes)) zs) (sym e) s.fit.1)
 
-  -- the neighbour of a node by its index
+  -- the neighbour of the node at an index
   pub neighbour_named : (w : Way) (i : ℕ) → i < length nodes → start bytes (link_of w (get_or nodes i 0)) ≡ get_or nodes (around w (length nodes) i 1) 0
   neighbour_named w i h = ap (λ t. unwrap_or t 0) (named w i nodes refl h)
 
-  -- one step of a walk
+  -- one step of a walk along the ring
   pub walked : (w : Way) (i k node after : ℕ) → i < length nodes → k + 1 ≤ length nodes → node ≡ get_or nodes (around w (length nodes) i k) 0 → after ≡ start bytes (link_of w node) →
       after ≡ get_or nodes (around w (length nodes) i (k + 1)) 0
   walked w i k node after h l e f =
@@ -128,7 +128,7 @@ module _ (bytes : List ℕ) (cell : ℕ) (nodes : List ℕ) (r : HasRing bytes c
   pub starts : 1 ≤ length nodes → start bytes cell ≡ get_or nodes 0 0
   starts h = first_named nodes refl h
 
-  -- from either end
+  -- walks from the first and from the last node
   pub forward_is : (index : ℕ) → index < length nodes → around way.Forward (length nodes) 0 index ≡ index
   forward_is index h = around_on (length nodes) 0 index (omega arith) ∙ (omega arith)
 

@@ -12,13 +12,13 @@ use Rattle.seg_seq.specs.declared.room.Room.{Room}
 abbrev pub NamesNone : List ℕ → ℕ → Type 0
 NamesNone bytes cell = (target bytes cell ≡ None) ⊎ (length bytes < cell + 8)
 
--- the buffer at `start` has no room for one more entry, or the segment ends before it
+-- the buffer at `start` has no room for one more entry, or the entry would end after the segment
 abbrev pub IsShort : List ℕ → ℕ → ℕ → ℕ → Type 0
 IsShort bytes cell size start =
     (16 * units_named bytes cell < (count_at bytes cell + 1) * size + 16)
     ⊎ (length bytes < start + (count_at bytes cell + 1) * size)
 
--- the cell has a buffer without room
+-- the cell has a buffer without room for one more entry
 pub record NamesShort (bytes : List ℕ) (cell size : ℕ) : Type 0 where
   pub start : ℕ
   pub start_is : target bytes cell ≡ Some start

@@ -25,7 +25,7 @@ pub record HasNumbers (table : Table) (T : ℕ) : Type 0 where
   pub number_is : form_at table item ≡ Some Form.i64
 
 -- the kind of the sequences of a type, and the layout of what their cells point to; `OtherType` if
--- its values are no sequences
+-- the type's values aren't sequences
 abbrev pub KindOf : Table → ℕ → Option Form → Result (sequence.Kind × Content) Code → Type 0
 KindOf table T (Some Form.str) (Ok (kind.Text, content)) = IsText (tag_of Kind.buffer T) content
 KindOf table T (Some (Form.vec U)) (Ok (kind.Vector, content)) =

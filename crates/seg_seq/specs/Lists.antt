@@ -1,8 +1,8 @@
 -- Lists before and after calls. U is the type of the items, vs are the items, and `blocks` the
 -- blocks that the list owns.
---     IsList table T U content         the type is a list of values of type U, with these nodes
+--     IsList table T U content         the type is a list of values of type U, and its nodes have this layout
 --     HasList allocator heap list U vs blocks     a place has a list with these items
---     IsNoList table T                 the type is no list
+--     IsNoList table T                 the type isn't a list
 --     MovesItems old new table list to      a path from an item reaches the same place, from the item's new index
 --     without_index j i                the new index of item i after item j was removed
 --     AddsItem ..                      the list has one item more: a default value, in a new node
@@ -38,7 +38,7 @@ pub record HasList (allocator : ℕ) (heap : Stored) (list : Place) (U : ℕ) (v
 abbrev pub IsNoList : Table → ℕ → Type 0
 IsNoList table T = (U : ℕ) → form_at table T ≢ Some (Form.list U)
 
--- a path from an item reaches the same place, from the item's new index, if the item is still there
+-- a path from an item reaches the same place, from the item's new index, if the item wasn't removed
 abbrev pub MovesItems : List ℕ → List ℕ → Table → Place → (ℕ → Option ℕ) → Type 0
 MovesItems old new table list to = (i : ℕ) (path : List Selector) (inner : Place) →
     Leads old table list (Selector.item i ∷ path) inner →
@@ -64,7 +64,7 @@ pub record RemovesItem (old new : List ℕ) (table : Table) (list : Place) (item
   pub loses : LosesPart old new table list (Seq items) j blocks theirs now final
   pub moves : MovesItems old new table list (without_index j)
 
--- the same for any frozen objects, if the list lies in the block `home`
+-- the same, for any frozen objects, if the list lies in the block `home`
 abbrev pub LosesItem : List ℕ → List ℕ → Table → Place → Values → ℕ → Values → ℕ → List ℕ → Type 0
 LosesItem old new table list vs j items home blocks = (v : Value) → nth vs j ≡ Some v →
     BesideShared old table (home ∷ blocks) (named_in v)

@@ -6,7 +6,7 @@
 --     HasRing bytes cell nodes            the cell points to these nodes and counts them
 --     Relinks old new cell nodes others   the ring was replaced by another, and nothing else changed
 --     link_of way node                    the pointer word of a node to its neighbour
---     around way n i steps                the index that many steps from index i in a ring of n nodes
+--     around way n i steps                the index at a distance from index i in a ring of n nodes
 use Rattle.std.specs.Prelude.{◌≡◌, ℕ, ◌+◌, ◌-◌, ◌%◌, ◌^◌, ◌≤◌, nat_le, nat_lt, if◌then◌else◌, List, ◌∷◌, length, Some}
 use Rattle.std.specs.List.{AllByRecursion}
 use Rattle.seg_spec.specs.Bytes.{IsSame}
@@ -18,7 +18,8 @@ use Rattle.seg_spec.specs.Sound.{times}
 use Rattle.seg_seq.specs.declared.ring.Way.{Way}
 use Rattle.seg_seq.specs.declared.ring.Way.TheVariants as way
 
--- x points to y as the next node, and y points to x as the previous one
+-- the bytes after x and y were coupled: x points to y as the next node, and y to x as the previous
+-- one
 abbrev pub coupled : List ℕ → ℕ → ℕ → List ℕ
 coupled bytes x y = set_pointer (set_pointer bytes x (Some y)) (y + 4) (Some x)
 
@@ -49,7 +50,7 @@ abbrev pub link_of : Way → ℕ → ℕ
 link_of way.Forward node = node
 link_of way.Backward node = (node + 4) % 2 ^ 32
 
--- the number of steps is at most n
+-- the index after `steps` steps, of which there are at most n
 abbrev pub around : Way → ℕ → ℕ → ℕ → ℕ
 around way.Forward n i steps = if nat_lt (i + steps) n then i + steps else i + steps - n
 around way.Backward n i steps = if nat_le steps i then i - steps else i + n - steps

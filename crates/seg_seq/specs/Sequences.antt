@@ -7,7 +7,7 @@
 --     IsFull heap place U                         a vector's buffer has no room for one more item
 --     LacksByte heap place                        a string's buffer has no room for one more byte
 --     Declines code old new result                the call returned a code, and nothing changed
---     HasNone old new n code                      n is 0, so nothing could be taken, and nothing changed
+--     HasNone old new n code                      n is 0, so there is nothing to remove, and nothing changed
 --     LacksRoom allocator old new asks code       one of the requests wasn't granted, and nothing changed
 --     ComesToHold allocator old new place w asks gives blocks
 --         the place contains w, after requests that were granted; the blocks `gives` were freed

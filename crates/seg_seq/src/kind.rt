@@ -20,7 +20,7 @@ pub(crate) enum Kind {
 impl Kind {
     ghost use Rattle.seg_seq.specs.Kinds.{KindOf};
 
-    /// The kind of the sequence at a place, and the layout of what its cell points to. `OtherType` if the place is no
+    /// The kind of the sequence at a place, and the layout of what its cell points to. `OtherType` if the place isn't a
     /// sequence.
     #[inline(always)]
     pub(crate) fn of<F: Fit, A: Allocator>(

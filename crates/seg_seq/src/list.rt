@@ -54,7 +54,7 @@ pub fn prev<F: Fit, A: Allocator>(heap: &Heap<F, A>, item: u32) -> u32
     item_of(neighbour(heap, node_of(item), Way::Backward))
 }
 
-/// Adds a default item at the front of a list, and returns its position. `OtherType` if the place is no list,
+/// Adds a default item at the front of a list, and returns its position. `OtherType` if the place isn't a list,
 /// `BadAlloc` if there is no room for the item; then nothing changes.
 pub fn push_front<F: Fit, A: Allocator>(heap: &mut Heap<F, A>, list: Place) -> Result<u32, Code>
     ensures window { KeepsHost heap.old.window heap.new.window }
@@ -104,7 +104,7 @@ pub(crate) fn push_node<F: Fit, A: Allocator>(
     Ok(item_of(node))
 }
 
-/// Destroys the first item of a list. `OtherType` if the place is no list, `Null` if the list is empty.
+/// Destroys the first item of a list. `OtherType` if the place isn't a list, `Null` if the list is empty.
 pub fn pop_front<F: Fit, A: Allocator>(heap: &mut Heap<F, A>, list: Place) -> Result<(), Code>
     ensures window { KeepsHost heap.old.window heap.new.window }
     ensures types { heap.new.types ≡ heap.old.types }

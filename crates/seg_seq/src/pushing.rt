@@ -19,7 +19,7 @@ use std::alloc::Allocator;
 const NUMBER: usize = 8;
 
 /// Appends a default item to a vector whose buffer has room for it, and returns the item. `None` if there is no room,
-/// or the place is no vector; then nothing changes.
+/// or the place isn't a vector; then nothing changes.
 #[inline(always)]
 pub fn push_in_place<F: Fit, A: Allocator>(heap: &mut Heap<F, A>, vector: Place) -> Option<Place>
     ensures window { KeepsHost heap.old.window heap.new.window }

@@ -13,7 +13,7 @@ use seg_raw::Code;
 use seg_value::{Heap, Place};
 use std::alloc::Allocator;
 
-/// Appends bytes to a string. `OtherType` if the place is no string, `BadAlloc` if there is no room for them; then
+/// Appends bytes to a string. `OtherType` if the place isn't a string, `BadAlloc` if there is no room for them; then
 /// nothing changes.
 pub fn append<F: Fit, A: Allocator>(
     heap: &mut Heap<F, A>,
@@ -33,7 +33,7 @@ pub fn append<F: Fit, A: Allocator>(
     write(heap, text, kept, bytes)
 }
 
-/// Replaces the text of a string. `OtherType` if the place is no string, `BadAlloc` if there is no room for the new
+/// Replaces the text of a string. `OtherType` if the place isn't a string, `BadAlloc` if there is no room for the new
 /// text; then the old one stays.
 pub fn assign<F: Fit, A: Allocator>(
     heap: &mut Heap<F, A>,
@@ -52,7 +52,7 @@ pub fn assign<F: Fit, A: Allocator>(
     write(heap, text, 0, bytes)
 }
 
-/// Appends a byte to a string, and returns the string's new length. `OtherType` if the place is no string, `BadAlloc`
+/// Appends a byte to a string, and returns the string's new length. `OtherType` if the place isn't a string, `BadAlloc`
 /// if there is no room for it; then nothing changes.
 #[inline(always)]
 pub fn push_byte<F: Fit, A: Allocator>(
@@ -78,8 +78,8 @@ pub fn push_byte<F: Fit, A: Allocator>(
     }
 }
 
-/// Like [`push_byte`], into a buffer that has room for the byte. `None` if there is no room, or the place is no string;
-/// then nothing changes.
+/// Like [`push_byte`], into a buffer that has room for the byte. `None` if there is no room, or the place isn't a
+/// string; then nothing changes.
 #[inline(always)]
 fn push_byte_in_place<F: Fit, A: Allocator>(
     heap: &mut Heap<F, A>,

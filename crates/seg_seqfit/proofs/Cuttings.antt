@@ -45,7 +45,7 @@ module _ (old : List ℕ) (large : 736 ≤ length old) (h : IsHeap 0 old) (xs : 
     in_front : (b : Span) → Contains (live old) b → (704 ≤ b.at) × (end_of b ≤ at)
     in_front = ends.in_front old large h xs at u l parts is_free
 
-    -- a gap is cut, which some block is in front of, or another
+    -- a gap is cut that has a block or another gap before it
     module _ (link : ℕ) (link_is : link ≡ link_past 24 xs) (above : 704 < at) where
       abbrev pub cut_off : List ℕ
       cut_off = set_pointer (with_size (at / 16)) link None

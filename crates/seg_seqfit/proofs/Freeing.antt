@@ -20,11 +20,11 @@ link from zero ms start word alone there none some = none refl ∙ ap (link_past
 link from (suc n) ms start word alone there none some = some (omega arith) ∙ ap (link_past start) (sym (there (λ e. omega (arith, e))))
 
 module _ (old : List ℕ) (at u room : ℕ) (h : IsHeap 0 old) (held : Contains (live old) (record { at = at; units = u })) (room_is : room ≡ room_at (gaps old) (at + 16 * u)) (b : HasFollowing old at u room h held room_is) where
-  -- the pointer word of the list after the block and the gap after it
+  -- the pointer word of the list after the block and the gap that follows it
   pub link_is : (start word : ℕ) → (room ≡ 0 → word ≡ start) → (1 ≤ room → word ≡ at + 16 * u + 12) → word ≡ link_past start b.ms
   link_is start word = link (at + 16 * u) room b.ms start word b.alone b.there
 
-  -- the block's own tile and those after it, at a position that is the block's
+  -- the block's tile and the tiles after it fill the range
   pub fill_from : (place to : ℕ) → place ≡ at → to ≡ at + 16 * (u + room) → Fill place (tile place u true ∷ b.ms) to
   fill_from place to is end =
       let places = around (before old at u h held) (b.ms ++ b.rest) heap_start (length old) at u true b.tiling.tiled.filled in

@@ -53,7 +53,7 @@ Links-after bytes (t ∷ xs) ys p last l =
     [ true ↦ (λ l. Links-after bytes xs ys p last l) | false ↦ (λ l. Links-after bytes xs ys (t.at + 12) last l.1) ] in
     go l
 
--- the words before the one after some tiles stay, and the list from that word on changes
+-- the list changes only from the pointer word after some tiles on
 pub Links-changed : (old new : List ℕ) (xs ys zs : List Tile) (p from to : ℕ) (last last' : Option ℕ) → p + 4 ≤ from → Fill from xs to → Agrees old new p (link_past p xs)
     → Links old p (free_of (xs ++ ys)) last → Links new (link_past p xs) (free_of zs) last' → Links new p (free_of (xs ++ zs)) last'
 Links-changed old new [] ys zs p from to last last' low f same l l' = l'
@@ -75,7 +75,7 @@ Links-changed old new (t ∷ xs) ys zs p from to last last' low f same l l' =
     within (inl e) = omega arith
     within (inr h) = omega (arith, f.0, f.1)
 
--- the list after one word, moved to another word
+-- the list from one pointer word on, moved to another pointer word
 pub Links-moved : (old new : List ℕ) (ts : List Tile) (p q from to : ℕ) (last : Option ℕ) → target new q ≡ target old p → Agrees old new (from + 8) to → Fill from ts to → Links old p (free_of ts) last → Links new q (free_of ts) last
 Links-moved old new [] p q from to last e same f l = e ∙ l
 Links-moved old new (t ∷ ts) p q from to last e same f l =
@@ -87,7 +87,7 @@ Links-moved old new (t ∷ ts) p q from to last e same f l =
     ] in
     go l
 
--- the target of a pointer word of the list
+-- the target of a pointer word of the list is aligned and not past the tiles
 pub names_tile : (bytes : List ℕ) (ts : List Tile) (p from to t : ℕ) → from % 16 ≡ 0 → Fill from ts to → Links bytes p (free_of ts) None → target bytes p ≡ Some t → (t % 16 ≡ 0) × (t ≤ to)
 names_tile bytes [] p from to t aligned f l e = absurd (no (sym e ∙ l))
   where
@@ -111,7 +111,6 @@ beside_own ts p from to t b low at_is f e =
     subst (λ (s : Span). (end_of s ≤ link_past p ts) ⊎ (link_past p ts + 4 ≤ s.at)) e
     (⊎_elim (λ is. inr (omega arith)) (λ above. inl (omega arith)) (link_past-cases ts p (from + 16 * t.units) to f))
 
--- an allocated tile doesn't overlap the pointer word after the tiles
 pub live_beside_link : (ts : List Tile) (p from to : ℕ) (b : Span) → p + 4 ≤ from → Fill from ts to → Contains (live_of ts) b → (end_of b ≤ link_past p ts) ⊎ (link_past p ts + 4 ≤ b.at)
 live_beside_link [] p from to b low f (n, k, e) = absurd (omega arith)
 live_beside_link (t ∷ ts) p from to b low f c =

@@ -57,7 +57,7 @@ pub near_first : (bytes : List ℕ) (xs ys : List Tile) (block : Block) (l : Boo
 near_first bytes xs ys block l was = record { before = xs; following = ys; live = l; tiled = was.tiled; link_is = refl }
 
 module _ (bytes : List ℕ) (xs : List Tile) (near : Block) (n : IsNear bytes xs near) where
-  -- no tile is before it
+  -- no tile is before this one
   pub near_none : ((ys zs : List Tile) (l : Bool) (t : Tile) → IsTiled bytes (ys ++ (t ∷ tile near.at near.units l ∷ zs)) → ⊥) → 24 ≡ link_past 24 xs
   near_none never =
       ⊎_elim (λ e. ap (link_past 24) (sym e) ∙ n.link_is)
@@ -65,7 +65,7 @@ module _ (bytes : List ℕ) (xs : List Tile) (near : Block) (n : IsNear bytes xs
       (ap (λ l. l ++ tile near.at near.units n.live ∷ n.following) h.parts ∙ append_assoc h.front (h.last ∷ []) (tile near.at near.units n.live ∷ n.following)) n.tiled)))
       (last_cases n.before)
 
-  -- this one is before it
+  -- the tile f is before this one
   module _ (f : Block) (flag : Bool) (flag_is : flag ≡ is_live_at bytes f.at) (read : (ys zs : List Tile) (l : Bool) (t : Tile) → IsTiled bytes (ys ++ (t ∷ tile near.at near.units l ∷ zs)) → (f.at ≡ t.at) × (f.units ≡ t.units))
       (some : (zs : List Tile) (l : Bool) → IsTiled bytes (tile near.at near.units l ∷ zs) → Some f ≡ None) where
     no : Some f ≡ None → ⊥

@@ -24,7 +24,7 @@ pub record IsLocal (old new : List ℕ) (link lo hi : ℕ) : Type 0 where
 
 -- ---- the pointer word doesn't overlap headers
 
--- a range without the pointer word
+-- a range that doesn't overlap the pointer word
 abbrev pub Misses : ℕ → ℕ → ℕ → Type 0
 Misses link from to = (to ≤ link) ⊎ (link + 4 ≤ from)
 
@@ -119,7 +119,7 @@ module _ (old new : List ℕ) (xs ms ns ys : List Tile) (lo hi : ℕ) (was : IsT
 
 -- ---- the position of a tile
 
--- a place in a part that may change
+-- a range outside a part that may change doesn't overlap a word in that part
 pub out_of : (from to lo hi p : ℕ) → (to ≤ lo) ⊎ (hi ≤ from) → lo ≤ p → p + 4 ≤ hi → (to ≤ p) ⊎ (p + 4 ≤ from)
 out_of from to lo hi p (inl h) low high = inl (omega arith)
 out_of from to lo hi p (inr h) low high = inr (omega arith)
@@ -164,7 +164,7 @@ IsLocal-set_size bytes at u live link lo hi low high (inr h) =
     IsLocal-trans bytes (set_word bytes at (size_word u live)) (set_size bytes at u live) link lo hi (IsLocal-word bytes at (size_word u live) link lo hi low high)
     (IsLocal-word (set_word bytes at (size_word u live)) (at + 16 * u + 4) u link lo hi (omega arith) (omega arith))
 
--- a pointer word in front of the part that may change
+-- a pointer word before the part that may change keeps its target
 pub target-local : (old new : List ℕ) (link lo hi p : ℕ) → IsLocal old new link lo hi → lo ≤ hi → p + 4 ≤ lo → (p + 4 ≤ link) ⊎ (link + 4 ≤ p) → target new p ≡ target old p
 target-local old new link lo hi p local le low beside =
     target-same old new p (number-agrees old new p (p + 4) 4 p (local.kept p (p + 4) beside (inl low) (inl (omega arith))) (omega arith) (omega arith))

@@ -14,7 +14,7 @@ use Rattle.seg_seqfit.proofs.LinkLaws.{Links-after, link_past-low, names_tile}
 use Rattle.seg_block.proofs.Tiled.{around, aligned_end}
 use Rattle.seg_seqfit.proofs.Retile.{IsLocal, retile, spares, out_of, link_names}
 
--- the target of the pointer word of a tile of the list
+-- the pointer word of a tile of the list has an aligned target that is not past the bytes
 pub named_after : (bytes : List ℕ) (xs ys : List Tile) (at u t : ℕ) → IsTiling 0 bytes (xs ++ tile at u false ∷ ys) → target bytes (at + 12) ≡ Some t → (t % 16 ≡ 0) × (t ≤ length bytes)
 named_after bytes xs ys at u t was e =
     let parts = around xs ys heap_start (length bytes) at u false was.tiled.filled in

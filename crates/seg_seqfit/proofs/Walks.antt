@@ -37,7 +37,8 @@ first_fit-passed g gs u h = rw (leb_no u g.units h) refl
 first_fit-here : (g : Span) (gs : List Span) (u : ℕ) → u ≤ g.units → first_fit (g ∷ gs) u ≡ Some g
 first_fit-here g gs u h = rw (le-leb u g.units h) refl
 
--- a walk reads the position of what a pointer word points to: nothing, or a free block from low on
+-- The pointer word isn't null. If its target is a block at `low` or above, `at` is the position of
+-- this block.
 abbrev pub Reads : List ℕ → ℕ → ℕ → ℕ → Type 0
 Reads bytes link low at =
     (target bytes link ≡ None → ⊥) × ((g : Span) → target bytes link ≡ Some (g.at + 16) → IsSized bytes g → low ≤ g.at → at ≡ g.at)
@@ -76,7 +77,7 @@ led_to bytes at distance p is named =
     let same = some_is (d == 1) ((at + 12 + d) % 2 ^ 32) (p + 16) named in
     omega (arith, is, same)
 
--- the target of a pointer word, if it is at `low` or above
+-- `next` is the target of a pointer word, if the target is at `low` or above
 pub record Follows (bytes : List ℕ) (link low : ℕ) (next : Option ℕ) : Type 0 where
   pub none : target bytes link ≡ None → next ≡ None
   pub named : (p : ℕ) → target bytes link ≡ Some (p + 16) → low ≤ p → next ≡ Some p
@@ -100,12 +101,12 @@ reads bytes link low at next f is = (λ e. never (sym is ∙ f.none e), λ g e s
 pub reads_none : (bytes : List ℕ) (link low : ℕ) (next : Option ℕ) → Follows bytes link low next → ((p : ℕ) → next ≡ Some p → ⊥) → ReadsNone bytes link low
 reads_none bytes link low next f is = λ g e sized le. is g.at (f.named g.at e le)
 
--- the positions that a walk hasn't reached
+-- the number of positions that a walk hasn't reached
 abbrev pub left : Option ℕ → ℕ
 left None = 0
 left (Some at) = 4294967296 - at
 
--- the rest is after the list's first word, in 32 bits
+-- the next block is after a position, and its own position has 32 bits
 abbrev pub IsAhead : ℕ → Option ℕ → Type 0
 IsAhead at next = IfSome next (λ p. (at < p) × (p < 4294967296))
 
@@ -126,12 +127,12 @@ fewer low at now next is inside bounds = subst (λ o. left next < left o) (sym i
     go None bounds = omega (arith, here)
     go (Some p) bounds = omega (arith, here, bounds)
 
--- the blocks from a position on are those from a lower one on too
+-- free blocks from a position on are also free blocks from a lower position on
 from_lower : (bytes : List ℕ) (gs : List Span) (from low : ℕ) → low ≤ from → AreFreeBlocks bytes from gs → AreFreeBlocks bytes low gs
 from_lower bytes [] from low le blocks = tt
 from_lower bytes (g ∷ gs) from low le blocks = (omega (arith, blocks.0), blocks.1, blocks.2)
 
--- those after a block, from the end of its header on
+-- the free blocks after a block lie after its header
 following : (bytes : List ℕ) (g : Span) (gs : List Span) (low at : ℕ) → at ≡ g.at → AreFreeBlocks bytes low (g ∷ gs) → AreFreeBlocks bytes (at + 16) gs
 following bytes g gs low at is blocks = from_lower bytes gs (end_of g) (at + 16) (omega (arith, blocks.1.large)) blocks.2
 
@@ -153,7 +154,7 @@ more bytes gs seen (g ∷ rest) u link low at reads small parts link_is first_is
 pub searched_more : (bytes : List ℕ) (gs : List Span) (u link low at : ℕ) → Reads bytes link low at → ((g : Span) → at ≡ g.at → IsSized bytes g → g.units < u) → IsSearched bytes gs u link low → IsSearched bytes gs u (at + 12) (at + 16)
 searched_more bytes gs u link low at reads small s = more bytes gs s.seen s.rest u link low at reads small s.parts s.link_is s.first_is s.links s.blocks
 
--- the block at that position
+-- the block at that position is the first one that fits
 found : (bytes : List ℕ) (gs seen rest : List Span) (u link low at : ℕ) (b : Block) → Reads bytes link low at → ((g : Span) → at ≡ g.at → IsSized bytes g → (b.at ≡ g.at) × (b.units ≡ g.units)) → u ≤ b.units
     → gs ≡ seen ++ rest → link ≡ link_after 24 seen → first_fit gs u ≡ first_fit rest u → Links bytes link rest None → AreFreeBlocks bytes low rest → IsFirstFit gs u link b.at b.units
 found bytes gs seen [] u link low at b reads read large parts link_is first_is links blocks = absurd (reads.0 links)
@@ -172,7 +173,7 @@ pub searched_found : (bytes : List ℕ) (gs : List Span) (u link low at : ℕ) (
     → IsSearched bytes gs u link low → IsFirstFit gs u link b.at b.units
 searched_found bytes gs u link low at b reads read large s = found bytes gs s.seen s.rest u link low at b reads read large s.parts s.link_is s.first_is s.links s.blocks
 
--- there is always one
+-- there always is a block at that position
 always : (bytes : List ℕ) (rest : List Span) (link low at : ℕ) → Reads bytes link low at → ((g : Span) → at ≡ g.at → IsSized bytes g → ⊥) → Links bytes link rest None → AreFreeBlocks bytes low rest → ⊥
 always bytes [] link low at reads read links blocks = reads.0 links
 always bytes (g ∷ rest) link low at reads read links blocks = read g (reads.1 g links.0 blocks.1 blocks.0) blocks.1
@@ -187,7 +188,7 @@ end bytes gs (g ∷ rest) u link low reads first_is links blocks = absurd (reads
 pub searched_end : (bytes : List ℕ) (gs : List Span) (u link low : ℕ) → ReadsNone bytes link low → IsSearched bytes gs u link low → first_fit gs u ≡ None
 searched_end bytes gs u link low reads s = end bytes gs s.rest u link low reads s.first_is s.links s.blocks
 
--- the state of such a walk
+-- the state of a walk that searches for a block that fits
 pub record IsSearching (bytes : List ℕ) (gs : List Span) (u link : ℕ) (next : Option ℕ) : Type 0 where
   pub low : ℕ
   pub searched : IsSearched bytes gs u link low
@@ -195,7 +196,7 @@ pub record IsSearching (bytes : List ℕ) (gs : List Span) (u link : ℕ) (next 
 
 -- ---- the walk to a block
 
--- each begins below a position, or at it or above
+-- each of these begins below a position; or each begins at the position or above
 abbrev pub AreBelow : ℕ → List Span → Type 0
 AreBelow at [] = ⊤
 AreBelow at (g ∷ gs) = (g.at < at) × AreBelow at gs
@@ -204,8 +205,8 @@ abbrev pub AreAbove : ℕ → List Span → Type 0
 AreAbove at [] = ⊤
 AreAbove at (g ∷ gs) = (at ≤ g.at) × AreAbove at gs
 
--- the free blocks before a pointer word are passed; the ones in `todo` are below the block, and the
--- rest above
+-- The free blocks before a pointer word are passed. Those in `todo` are below the block, and those
+-- in `rest` above it.
 pub record IsPassed (bytes : List ℕ) (seen rest : List Span) (block link low : ℕ) : Type 0 where
   pub done : List Span
   pub todo : List Span
@@ -250,7 +251,7 @@ pub passed_end : (bytes : List ℕ) (seen rest : List Span) (block link low : �
     → IsPassed bytes seen rest block link low → link ≡ link_after 24 seen
 passed_end bytes seen rest block link low never p = stop bytes seen rest p.done p.todo block link low never p.parts p.link_is p.links p.blocks p.below
 
--- the state of such a walk
+-- the state of a walk to a block's predecessor
 pub record IsPassing (bytes : List ℕ) (seen rest : List Span) (block link : ℕ) (next : Option ℕ) : Type 0 where
   pub low : ℕ
   pub passed : IsPassed bytes seen rest block link low

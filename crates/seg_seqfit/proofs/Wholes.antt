@@ -1,4 +1,4 @@
--- A free tile is removed from the free list: the word after it has its size already.
+-- A free tile is removed from the free list. The word after the tile already states its size.
 use Rattle.std.proofs.Common.{◌≡◌, ℕ, ◌+◌, ◌*◌, ◌≤◌, true, false, List, [], ◌∷◌, ◌++◌, length, Some, None, refl, sym, ap, ◌∙◌, arith, inl, inr, ◌⊎◌, ⊎_elim}
 use Rattle.seg_spec.specs.Bytes.{word, set_word}
 use Rattle.seg_spec.specs.Pointer.{target, distance, set_pointer}
@@ -47,7 +47,7 @@ module _ (old : List ℕ) (xs ys : List Tile) (at u : ℕ) (was : IsTiling 0 old
       (IsLocal-trans unlinked closed taken link at (at + 16 * u) (IsLocal-word unlinked (at + 12) (distance (at + 12) None) link at (at + 16 * u) (omega arith) (omega arith))
       (IsLocal-word closed at (size_word u true) link at (at + 16 * u) (omega arith) (omega arith)))
 
-  -- a word of the old bytes that none of these writes overlaps
+  -- a word that none of these writes overlaps is kept
   kept : (p : ℕ) → at + 4 ≤ p → (p + 4 ≤ at + 12) ⊎ (at + 16 ≤ p) → word taken p ≡ word old p
   kept p low out =
       let below_link = below in
@@ -69,7 +69,7 @@ module _ (old : List ℕ) (xs ys : List Tile) (at u : ℕ) (was : IsTiling 0 old
       no : true ≡ false → ⊥
       no e = cc
 
-  -- the next tile's header states the size already
+  -- the next tile's header already states the size
   next_was : (zs : List Tile) → Fill (at + 16 * u) zs (length old) → AreHeaders old u zs → at + 16 * u + 8 ≤ length old → word old (at + 16 * u + 4) ≡ u
   next_was [] f h room = absurd (omega (arith, f))
   next_was (z ∷ zs) f h room = ap (λ p. word old (p + 4)) (sym f.0) ∙ h.0.before_is

@@ -39,7 +39,7 @@ module _ (old : List ℕ) (xs ms ys : List Tile) (t : Tile) (at u : ℕ) (free :
   below : link_past 24 xs + 4 ≤ at
   below = link_past-low xs 24 heap_start at (omega arith) parts.0
 
-  -- the first tile's own word is the next in the list
+  -- the first tile's own word is the next pointer word of the list
   past_first : (p : ℕ) → link_past p (t ∷ ms) ≡ last
   past_first p = (λ i. link_past (cond (free i) p (t.at + 12)) ms) ∙ ap (λ q. link_past (q + 12) ms) fill.0
 

@@ -11,7 +11,7 @@ pub link_past-append : (xs ys : List Tile) (p : ℕ) →
 link_past-append [] ys p = refl
 link_past-append (t ∷ xs) ys p = link_past-append xs ys (cond t.live p (t.at + LINK))
 
--- an allocated tile has no pointer word of the list
+-- an allocated tile doesn't change the pointer word after the tiles
 pub leads_past : (link : ℕ) (xs : List Tile) (at u : ℕ) → link ≡ link_to xs →
     link ≡ link_to (xs ++ tile at u true ∷ [])
 leads_past link xs at u e = e ∙ sym (link_past-append xs (tile at u true ∷ []) FREE)

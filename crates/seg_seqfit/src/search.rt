@@ -56,7 +56,7 @@ pub(crate) fn first_fit<A: Allocator>(w: &Window<A>, need: u32) -> Option<Found>
     let mut link = FREE;
     let mut next = next_above(view, LIST);
     while let Some(at) = next {
-        // the only test that the words of this step lie inside the segment
+        // this is the only test that the words of this step lie inside the segment
         if view.len() < at as usize + UNIT as usize {
             return None;
         }

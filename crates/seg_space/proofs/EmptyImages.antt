@@ -58,7 +58,7 @@ pub few_kinds_of : (i : IndexKind) → word_of_kind i ≤ 1
 few_kinds_of kinds.Flat = omega arith
 few_kinds_of kinds.Tree = omega arith
 
--- the words of the first types point to nothing
+-- the pointer words of the types up to t are null
 pub one_more_null : (first old new : List ℕ) (t : ℕ) → ChangesOnly first old uniques_start uniques_size → t < 32 → new ≡ set_pointer old (unique_word t) None
     → (heap_start ≤ length first → (T : ℕ) → T < t → target old (unique_word T) ≡ None)
     → ChangesOnly first new uniques_start uniques_size × (heap_start ≤ length first → (T : ℕ) → T < t + 1 → target new (unique_word T) ≡ None)
@@ -74,7 +74,8 @@ one_more_null first old new t changes less new_is nulls =
 
 -- ---- the header
 
--- the steps of writing it: zeros, the magic bytes, the version, the length, the allocator, the kind of index, its cell
+-- The header is written in steps: zeros, the magic bytes, the version, the length, the allocator,
+-- the kind of index, and the index's cell.
 module _ (len allocator kind : ℕ) (old zeros magic version units with_allocator with_kind empty : List ℕ) (sized : IsImageLength len) (old_long : length old ≡ len) (zeros_is : zeros ≡ put old 0 (replicate len 0))
     (magic_is : magic ≡ put zeros 0 (codes "SEGIMAGE")) (version_is : version ≡ set_word magic version_word sharing_version) (units_is : units ≡ set_word version units_word (len / 16))
     (allocator_is : with_allocator ≡ set_word units allocator_word allocator) (kind_is : with_kind ≡ set_word with_allocator index_kind_word kind) (empty_is : empty ≡ set_pointer with_kind index_cell None)
@@ -113,7 +114,7 @@ module _ (len allocator kind : ℕ) (old zeros magic version units with_allocato
       let part : slice (slice zeros 0 len) p n ≡ slice zeros p n = slice-slice zeros 0 len p n fits ∙ ap (λ q. slice zeros q n) from in
       sym part ∙ ap (λ b. slice b p n) whole ∙ zeros_sliced len p n fits
 
-  -- what a step wrote is in the end
+  -- no later step changes these bytes
   from_kind : (p n : ℕ) → p + n ≤ 32 → IsSame with_kind empty p n
   from_kind p n l = c6.others p n (inl l)
 
@@ -138,7 +139,7 @@ module _ (len allocator kind : ℕ) (old zeros magic version units with_allocato
   long_enough : min_length ≤ len
   long_enough = sized.not_small
 
-  -- what is true of the bytes before the words of the unique objects, and of the pointer to the
+  -- the facts about the bytes before the words of the unique objects, and about the pointer to the
   -- free structure
   pub record Front (bytes : List ℕ) : Type 0 where
     pub magic_there : slice bytes 0 8 ≡ codes "SEGIMAGE"
@@ -175,7 +176,7 @@ module _ (len allocator kind : ℕ) (old zeros magic version units with_allocato
         types_there = zeros_then 64 512 (omega arith) (inr (omega arith)) (omega arith);
       }
 
-  -- ---- the unique objects' words, and the heap
+  -- ---- the words of the unique objects, and the heap
 
   module _ (ready new : List ℕ) (changes : ChangesOnly empty ready uniques_start uniques_size) (uniques : (T : ℕ) → T < 32 → target ready (unique_word T) ≡ None) (begins : Begins allocator ready new) where
     ready_long : length ready ≡ len

@@ -14,7 +14,7 @@ Links_same : (old new : List ℕ) (at : ℕ) (gs : List Span) (last : Option ℕ
 Links_same old new at [] last e a l = e ∙ l
 Links_same old new at (g ∷ gs) last e a l = (e ∙ l.0, Links_same old new (g.at + 12) gs last (link-kept old new g.at a.0) a.1 l.1)
 
--- the pointer to the free blocks, each header, and the allocator's own words in each gap
+-- the pointer to the free blocks, each header, and the allocator's own words in each gap are kept
 pub record KeepsOrder (a : ℕ) (old new : List ℕ) : Type 0 where
   pub length_kept : length new ≡ length old
   pub root : IsSame old new free_word 4

@@ -1,4 +1,4 @@
--- Zeros in the units that were added to a heap, after what may be the header of a gap.
+-- Zeros in the units that were added to a heap, after the possible header of a gap.
 use Rattle.std.proofs.Common.{◌≡◌, ℕ, ◌+◌, ◌-◌, ◌*◌, ◌/◌, ◌%◌, ◌≢◌, ◌<◌, ◌≤◌, ◌⊎◌, inl, inr, true, false, eqb, List, [], ◌∷◌, length, replicate, cond, refl, sym, ap, ◌∙◌, subst, arith}
 use Rattle.std.specs.Prelude.{nat_lt}
 use Rattle.std.specs.List.{AllByRecursion}
@@ -18,7 +18,7 @@ use Rattle.seg_space.specs.Sizes.{used_front}
 use Rattle.seg_space.proofs.KeptOrder.{KeepsOrder, order_live, order_heap}
 use Rattle.seg_space.proofs.ZeroedGaps.{free_before, tiles_after}
 
--- what is true of the allocated tiles and of the free ones is true of each
+-- a fact about each allocated tile and each free tile is a fact about each tile
 each_tile : (P : Span → Type 0) (ts : List Tile) → AllByRecursion P (live_of ts) → AllByRecursion P (free_of ts) → AllByRecursion (λ t. P (span_of t)) ts
 each_tile P [] l f = tt
 each_tile P (t ∷ ts) l f =
@@ -30,7 +30,7 @@ each_tile P (t ∷ ts) l f =
 
 -- ---- the positions of the gaps
 
--- a run that may have units begins there
+-- a gap that begins at a position has the fact of that position
 run_at : (P : ℕ → Type 0) (from to : ℕ) → P from → AllByRecursion (λ g. P g.at) (run from to)
 run_at P from to p = elim (nat_lt from to) as (λ c. AllByRecursion {X = Span} (λ g. P g.at) (cond c (record { at = from; units = (to - from) / 16 } ∷ []) [])) [ true ↦ (p, tt) | false ↦ tt ]
 
@@ -45,16 +45,16 @@ several_extended (b ∷ bs) end n two =
     let off : eqb n 1 ≡ false = grind (arith, nat_tests) in
     rw off (ap (λ cs. b ∷ cs) (several_extended bs end n two))
 
--- the position of the units after a block, and the same after the heap got one more unit: a block
--- that ended at the end got that unit
+-- The position of the units after a block, before and after the heap got one unit more. A block
+-- that ended at the end of the heap got that unit.
 abbrev Moved : ℕ → ℕ → ℕ → Type 0
 Moved end from later = ((later ≡ from) × (from < end)) ⊎ (later ≡ end + 16)
 
--- each gap begins two units before the end, or earlier
+-- each gap begins two units or more before the end
 abbrev Early : ℕ → List Span → Type 0
 Early end gs = AllByRecursion (λ g. g.at + 32 ≤ end) gs
 
--- so if all gaps were early, they still are
+-- if all gaps begin two units before the end, they do so after the heap got one unit more
 gaps_moved : (bs : List Span) (end from later : ℕ) → Moved end from later → AllByRecursion (λ b. (2 ≤ b.units) × (end_of b ≤ end)) bs → Early end (gaps_between from bs end)
     → Early end (gaps_between later (after_extend bs end 1) (end + 16))
 gaps_moved [] end from later (inl e) a g =
@@ -109,7 +109,7 @@ module _ (a : ℕ) (old mid : List ℕ) (extra end : ℕ) (heap : IsHeap a (with
   live_then : live mid ≡ after_extend (live front) end (extra / 16)
   live_then = e.extends ∙ ap (λ k. after_extend (live front) k (extra / 16)) end_is
 
-  -- by one unit
+  -- the heap grew by one unit
   module _ (one : extra ≡ 16) where
     units_one : extra / 16 ≡ 1
     units_one = omega arith
@@ -129,7 +129,7 @@ module _ (a : ℕ) (old mid : List ℕ) (extra end : ℕ) (heap : IsHeap a (with
     one_tiles : AllByRecursion (λ t. t.at + 16 ≤ end) (tiles mid)
     one_tiles = each_weaker _ (λ t. t.at + 16 ≤ end) (λ t h. omega (arith, h.1, e.length_kept, units_one)) (tiles mid) (tiles_after (tiles mid) heap_start (length mid) e.heap.filled)
 
-  -- by more
+  -- the heap grew by several units
   module _ (several : 32 ≤ extra) where
     live_is : live mid ≡ live front
     live_is = live_then ∙ several_extended (live front) end (extra / 16) (omega arith)

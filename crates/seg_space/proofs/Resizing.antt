@@ -1,4 +1,4 @@
--- A segment whose heap ends elsewhere still contains its picture.
+-- A segment whose heap has another end still contains its picture.
 use Rattle.std.proofs.Common.{◌≡◌, ◌≢◌, ℕ, suc, ◌+◌, ◌-◌, ◌*◌, ◌/◌, ◌%◌, ◌<◌, ◌≤◌, ◌⊎◌, inl, inr, ◌&&◌, true, false, eqb, List, [], ◌∷◌, ◌++◌, length, replicate, take, drop, cond, refl, sym, ap, ◌∙◌, subst, arith}
 use Rattle.std.specs.Prelude.{Contains, slice_index_or}
 use Rattle.std.specs.List.{AllByRecursion}
@@ -28,7 +28,7 @@ use Rattle.seg_space.specs.Sizes.{used_front, Grows, Shrinks}
 use Rattle.seg_space.proofs.ZeroedGaps.{free_before}
 use Rattle.seg_spec.proofs.CountedKept.{counted_still}
 
--- ---- bytes at the front of longer ones
+-- ---- the front of longer bytes
 
 pub slice_front : (bytes : List ℕ) (len p n : ℕ) → p + n ≤ len → slice (take len bytes) p n ≡ slice bytes p n
 unfolding slice
@@ -36,7 +36,7 @@ slice_front bytes len p n fits = slice-slice bytes 0 len p n fits ∙ ap (λ q. 
 
 -- ---- blocks that are no smaller
 
--- each block doesn't move, and is no smaller
+-- each block has the same position, and is no smaller
 abbrev NoSmaller : List Span → List Span → Type 0
 NoSmaller [] [] = Rattle.std.specs.Prelude.⊤
 NoSmaller [] (c ∷ cs) = ⊥
@@ -74,8 +74,8 @@ each_of P (b ∷ bs) f = (f b (0, omega arith, refl), each_of P bs (λ c h. f c 
 
 -- ---- the picture
 
--- new bytes with the header, the index's cell, the tables and the allocated blocks of the old ones,
--- and a heap in order
+-- the new bytes have the header, the index's cell, the tables and the allocated blocks of the old
+-- ones, and a well-formed heap
 pub record Resized (old new : List ℕ) : Type 0 where
   pub long : IsImageLength (length new)
   pub front : IsSame old new 0 units_word
@@ -220,7 +220,7 @@ extended old filled new n picture held front_is long sized e =
           (live old) (live_stated old (word old allocator_word) held.laid_out.heap) (each_of (λ b. Contains (live old) b) (live old) (λ b c. c));
     }
 
--- ---- the region around
+-- ---- the region around the segment
 
 drop_twice : (xs : List ℕ) (a b : ℕ) → drop b (drop a xs) ≡ drop (a + b) xs
 drop_twice xs a b = same_lists _ _ (simp (length-drop) (omega arith)) (λ k d l. grind (arith, places))
@@ -250,7 +250,7 @@ module _ (p q : Placement) (same_region : region_of q ≡ region_of p) (base : l
       let end : length q.before + length q.bytes ≡ length p.before + length p.bytes + extra = omega arith in
       sym (its_after q) ∙ ap (λ b. drop (length q.before + length q.bytes) b) same_region ∙ ap (λ n. drop n (region_of p)) end ∙ sym (drop_twice (region_of p) (length p.before + length p.bytes) extra) ∙ ap (drop extra) (its_after p)
 
--- a change of bytes after another
+-- two changes of a segment's bytes are one change
 pub host_then : (p q r : Placement) (b : List ℕ) → q ≡ with_bytes p q.bytes → r ≡ with_bytes q b → r ≡ with_bytes p r.bytes
 host_then p q r b e f = f ∙ ap (λ (x : Placement). with_bytes x b) e ∙ ap (with_bytes p) (sym (ap (λ (x : Placement). x.bytes) f))
 
@@ -261,7 +261,7 @@ module _ (allocator : ℕ) (old : Stored) (picture : Picture) (is : IsSegment al
   abbrev bytes : List ℕ
   bytes = old.window.bytes
 
-  -- by no bytes
+  -- no bytes were added
   same_bytes : extra ≡ 0 → q.bytes ≡ bytes
   same_bytes none = sym (take_all (length q.bytes) q.bytes (omega arith)) ∙ ap (λ n. take n q.bytes) (let e : length q.bytes ≡ length bytes = omega arith in e)
       ∙ front_bytes old.window q same_region base (length bytes) (omega arith) (omega arith) ∙ take_all (length bytes) bytes (omega arith)

@@ -9,7 +9,7 @@ use Rattle.seg_block.specs.declared.block.Block.{Block}
 use Rattle.seg_block.specs.Blocks.{IsSized, Covers}
 use Rattle.seg_space.specs.Gaps.{bytes_of, largest_of}
 
--- the tiles from a position on
+-- these tiles fill the bytes from a position on
 pub record Rest (bytes : List ℕ) (at : ℕ) (ts : List Tile) : Type 0 where
   pub aligned : at % 16 ≡ 0
   pub fill : Fill at ts (length bytes)
@@ -19,7 +19,7 @@ pub record Rest (bytes : List ℕ) (at : ℕ) (ts : List Tile) : Type 0 where
 pub all_rest : (allocator : ℕ) (bytes : List ℕ) → IsHeap allocator bytes → Rest bytes heap_start (tiles bytes)
 all_rest allocator bytes heap = record { aligned = omega arith; fill = heap.filled; before = 0; headers = heap.headers }
 
--- the first of them is read there
+-- the first of these tiles has its size in its header
 pub first_sized : (bytes : List ℕ) (at : ℕ) (t : Tile) (ts : List Tile) → Rest bytes at (t ∷ ts) → IsSized bytes (span at t.units)
 first_sized bytes at t ts r =
     let le = Fill-le ts (at + 16 * t.units) (length bytes) r.fill.2 in
@@ -28,7 +28,7 @@ first_sized bytes at t ts r =
 pub next_rest : (bytes : List ℕ) (at : ℕ) (t : Tile) (ts : List Tile) → Rest bytes at (t ∷ ts) → Rest bytes (at + 16 * t.units) ts
 next_rest bytes at t ts r = let a = r.aligned in record { aligned = omega arith; fill = r.fill.2; before = t.units; headers = r.headers.1 }
 
--- what a walk reads at its position
+-- the walk reads the first of these tiles
 pub record Reads (bytes : List ℕ) (at units : ℕ) (ts : List Tile) : Type 0 where
   pub tile : Tile
   pub others : List Tile
@@ -52,19 +52,19 @@ reads_tile bytes at units (t ∷ ts) r two fits is =
       rest = subst (λ u. Rest bytes (at + 16 * u) ts) same (next_rest bytes at t ts r);
     }
 
--- if nothing is read, there is no tile left
+-- if no block is read, there is no tile
 pub reads_none : (bytes : List ℕ) (at : ℕ) (ts : List Tile) (o : Option Block) → Rest bytes at ts → o ≡ None → ((g : Span) → at ≡ g.at → IsSized bytes g → IsSomeAnd o (λ f. Covers f g)) → ts ≡ []
 reads_none bytes at [] o r e read = refl
 reads_none bytes at (t ∷ ts) o r e read = absurd (let no : IsSomeAnd {T = Block} None (λ f. Covers f (span at t.units)) = rw e at (read (span at t.units) refl (first_sized bytes at t ts r)) in no)
 
--- nor at the end
+-- at the end of the bytes there is no tile
 pub rest_none : (bytes : List ℕ) (at : ℕ) (ts : List Tile) → Rest bytes at ts → length bytes ≤ at → ts ≡ []
 rest_none bytes at [] r le = refl
 rest_none bytes at (t ∷ ts) r le = absurd (let more = Fill-le ts (at + 16 * t.units) (length bytes) r.fill.2 in let two = r.fill.1 in omega arith)
 
 -- ---- counting
 
--- what was counted up to a position, and what is free from there on
+-- the counts up to a position; the tiles from there on add the rest
 pub record Counted (bytes : List ℕ) (at total largest : ℕ) : Type 0 where
   pub others : List Tile
   pub rest : Rest bytes at others
@@ -118,7 +118,7 @@ counted_all allocator bytes at total largest o heap k e read =
     let l = rw none at k.largest_is in
     (rw all (omega arith), rw all (omega arith))
 
--- ---- one gap
+-- ---- a heap with one gap
 
 largest_low : (ts : List Tile) (from to : ℕ) → Fill from ts to → from + largest_of (free_of ts) ≤ to
 largest_low [] from to f = omega arith

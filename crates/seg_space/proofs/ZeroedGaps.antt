@@ -1,4 +1,4 @@
--- Zeros in the gaps of a heap, after what the allocator stores there.
+-- Zeros in the gaps of a heap, after the words that the allocator stores there.
 use Rattle.std.proofs.Common.{◌≡◌, ℕ, ◌+◌, ◌*◌, ◌≤◌, ◌⊎◌, inl, inr, true, false, List, [], ◌∷◌, ◌++◌, length, replicate, cond, refl, sym, ap, ◌∙◌, subst, arith, append-nil}
 use Rattle.std.proofs.lemmas.Bool.{false≢true}
 use Rattle.std.proofs.lemmas.List.{append_assoc, length-replicate}
@@ -63,7 +63,7 @@ free_before (t ∷ ts) from to f =
     let rest = each_weaker _ (λ g. (from ≤ g.at) × (2 ≤ g.units) × (end_of g ≤ to)) (λ g h. (omega (arith, h.0), h.1, h.2)) (free_of ts) (free_before ts (from + 16 * t.units) to f.2) in
     elim t.live as (λ b. AllByRecursion (λ g. (from ≤ g.at) × (2 ≤ g.units) × (end_of g ≤ to)) (cond b (free_of ts) (span_of t ∷ free_of ts))) [ true ↦ rest | false ↦ ((omega arith, two, omega arith), rest) ]
 
--- the next tile: an allocated one is passed, a free one zeroed
+-- at the next tile, nothing changes if it is allocated, and its gap is zeroed if it is free
 module _ (a : ℕ) (old mid : List ℕ) (at : ℕ) (z : Zeroing a old mid at) (t : Tile) (ts : List Tile) (parts : z.others ≡ t ∷ ts) where
   all_parts : tiles old ≡ (z.passed ++ t ∷ []) ++ ts
   all_parts = z.tiles_are ∙ ap (λ os. z.passed ++ os) parts ∙ sym (append_assoc z.passed (t ∷ []) ts)
@@ -132,7 +132,7 @@ module _ (a : ℕ) (old mid : List ℕ) (at : ℕ) (z : Zeroing a old mid at) (t
                 changes.others p n (each_right (LiesBeside a p n) (free_of z.passed) (span_of t ∷ []) both).0 ∙ z.beside p n (each_left (LiesBeside a p n) (free_of z.passed) (span_of t ∷ []) both);
           }
 
--- the same by what is read at the position
+-- the same, with the size that is read at the position
 module _ (a : ℕ) (old mid : List ℕ) (at units : ℕ) (z : Zeroing a old mid at) (two : 2 ≤ units) (fits : at + 16 * units ≤ length mid) (units_are : units ≡ units_at mid at) where
   it : Reads mid at units z.others
   it = reads_tile mid at units z.others z.rest two fits units_are
@@ -151,9 +151,9 @@ module _ (a : ℕ) (old mid : List ℕ) (at units : ℕ) (z : Zeroing a old mid 
       let there_is = subst (λ g. new ≡ put mid (spare_start a g) (replicate (spare_size a g) 0)) span_is new_is in
       subst (λ u. Zeroing a old new (at + 16 * u)) it.units_is (free_zeroed a old mid at z it.tile it.others it.tiles_are next_is new there_is few (sym it.live_is ∙ e))
 
--- ---- all of them
+-- ---- all gaps
 
--- a tile overlaps no free tile but itself
+-- a tile overlaps no free tile other than itself
 abbrev Beside : Tile → Span → Type 0
 Beside t g = ((t.live ≡ false) × (t.at ≡ g.at)) ⊎ Separate t.at (16 * t.units) g.at (16 * g.units)
 
@@ -177,7 +177,7 @@ all_beside (t ∷ ts) from to f =
       | false ↦ (λ e. ((inl (e, refl), mine), both))
     ] refl
 
--- what is true of each tile is true of the allocated ones
+-- a fact about each tile is a fact about each allocated one
 each_live_tile : (P : Tile → Type 0) (Q : Span → Type 0) → ((t : Tile) → t.live ≡ true → P t → Q (span_of t)) → (ts : List Tile) → AllByRecursion P ts → AllByRecursion Q (live_of ts)
 each_live_tile P Q f [] a = tt
 each_live_tile P Q f (t ∷ ts) a =
@@ -258,7 +258,7 @@ module _ (a : ℕ) (old new : List ℕ) (heap : IsHeap a old) (few : a ≤ 1) (z
   pub heap_same : IsHeap a new
   heap_same = order_heap a old new heap kept_order
 
-  -- an allocated block with its header
+  -- an allocated block is kept, and so is its header
   record LiveSame (b : Span) : Type 0 where
     first : IsSame old new b.at (16 * b.units)
     two : 2 ≤ b.units

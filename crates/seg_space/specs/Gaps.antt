@@ -15,27 +15,28 @@ abbrev pub bytes_of : List Span → ℕ
 bytes_of [] = 0
 bytes_of (g ∷ gs) = 16 * g.units + bytes_of gs
 
--- 0 if there is no gap
+-- the size of the largest gap in bytes, or 0 if there is no gap
 abbrev pub largest_of : List Span → ℕ
 largest_of [] = 0
 largest_of (g ∷ gs) = max (16 * g.units) (largest_of gs)
 
 -- ---- gaps that are zeroed
 
--- what this allocator doesn't use of a gap: the bytes after the header and its own words
+-- the bytes of a gap that this allocator doesn't use: those after the header and the allocator's
+-- own words
 abbrev pub spare_start : ℕ → Span → ℕ
 spare_start allocator g = g.at + (16 + 16 * allocator)
 
 abbrev pub spare_size : ℕ → Span → ℕ
 spare_size allocator g = 16 * g.units - (16 + 16 * allocator)
 
--- these bytes are 0
+-- the unused bytes of a gap are 0
 abbrev pub IsZeroed : ℕ → List ℕ → Span → Type 0
 IsZeroed allocator bytes g =
     slice bytes (spare_start allocator g) (spare_size allocator g)
     ≡ replicate (spare_size allocator g) 0
 
--- n bytes don't overlap them
+-- n bytes don't overlap the unused bytes of a gap
 abbrev pub LiesBeside : ℕ → ℕ → ℕ → Span → Type 0
 LiesBeside allocator p n g = Separate p n (spare_start allocator g) (spare_size allocator g)
 

@@ -13,7 +13,7 @@ use Rattle.seg_entry.specs.declared.kind.IndexKind.{IndexKind}
 use Rattle.seg_entry.specs.declared.kind.IndexKind.TheVariants as kind
 use Rattle.seg_manager.specs.Segments.{IsSegment}
 
--- no types and no roots
+-- the picture without types and roots
 abbrev pub nothing : Picture
 nothing = record { table = []; names = []; uniques = []; loose = []; frozen = [] }
 
@@ -21,7 +21,7 @@ abbrev pub word_of_kind : IndexKind → ℕ
 word_of_kind kind.Flat = 0
 word_of_kind kind.Tree = 1
 
--- An empty segment of this length at a base of a region. The region is kept around it. Its version
+-- An empty segment of this length, at a base of a region. The region is kept around it. Its version
 -- is the one that may have frozen objects.
 pub record IsNew (allocator : ℕ) (s : Stored) (region : List ℕ) (base len : ℕ)
     (index : IndexKind) : Type 0 where

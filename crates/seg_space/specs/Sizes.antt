@@ -1,6 +1,6 @@
 -- Changes of a segment's size.
 --     MayGrowTo extra len                        a segment may have `len` bytes after it grows by `extra`
---     used_front allocator extra                 how many of these bytes a header may use
+--     used_front allocator extra                 the number of these bytes that a header may use
 --     Grows allocator old new picture extra      the segment has more bytes at its end, and the same picture
 --     Shrinks allocator old new picture size     the gap at the end was cut, and the picture is the same
 use Rattle.std.specs.Prelude.{◌≡◌, ℕ, ◌+◌, ◌-◌, ◌*◌, ◌/◌, ◌%◌, ◌≤◌, ◌==◌, if◌then◌else◌, length, drop, replicate}
@@ -16,8 +16,8 @@ use Rattle.seg_manager.specs.Segments.{IsSegment}
 abbrev pub MayGrowTo : ℕ → ℕ → Type 0
 MayGrowTo extra len = (extra % 16 ≡ 0) × IsImageLength len
 
--- How many bytes at the front of the new ones the header of a gap and the allocator's own words may
--- use. A single unit gets no header.
+-- The number of bytes at the front of the new ones that the header of a gap and the allocator's own
+-- words may use. A single unit gets no header.
 abbrev pub used_front : ℕ → ℕ → ℕ
 used_front allocator extra = if extra == 16 then 0 else 16 + 16 * allocator
 
@@ -36,8 +36,8 @@ pub record Grows (allocator : ℕ) (old new : Stored) (picture : Picture) (extra
   pub before_is : new.window.before ≡ old.window.before
   pub after_is : new.window.after ≡ drop extra old.window.after
 
--- The picture, the allocated blocks and their bytes are kept. The bytes that were cut belong to the
--- host.
+-- The picture, the allocated blocks and their bytes are kept. The host gets the bytes that were
+-- cut.
 pub record Shrinks (allocator : ℕ) (old new : Stored) (picture : Picture) (size : ℕ) : Type 0 where
   pub segment : IsSegment allocator new picture
   pub result_is : size ≡ length new.window.bytes

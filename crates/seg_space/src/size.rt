@@ -70,7 +70,7 @@ pub fn shrink_to_fit<F: Fit, A: Allocator>(segment: &mut Segment<F, A>) -> u32
     let w = segment.heap_mut().window_mut();
     let cut = F::cut_end(w);
     let size = w.len().saturating_sub(cut.saturating_mul(UNIT));
-    // a smaller size is always allowed here
+    // this can't fail, since the size isn't larger
     let _ = w.resize(size);
     size
 }

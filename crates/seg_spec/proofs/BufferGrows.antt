@@ -1,4 +1,4 @@
--- A place before a call, after a block that it owns got more units in place.
+-- A place after a block that it owns got more units in place.
 use Rattle.std.proofs.Common.{◌≡◌, ◌≢◌, ℕ, ◌≤◌, ◌⊎◌, inl, inr, List, ◌∷◌, length, refl, sym, ap, ◌∙◌, subst, arith}
 use Rattle.std.specs.Prelude.{Contains}
 use Rattle.std.proofs.lemmas.Bool.{cases_eq}
@@ -24,11 +24,11 @@ module _ (allocator : ℕ) (old : List ℕ) (table : Table) (place : Place) (v :
   states : (b : Span) → Contains (live old) b → StatesSpan old (length old) b
   states b c = each_contained (StatesSpan old (length old)) (live old) b (live_stated old allocator s.heap) c
 
-  -- the units of the block are those that its header states
+  -- the header of the block states its units
   pub one_size : (b : Span) → Contains (live old) b → b.at ≡ at → b.units ≡ x
   one_size b c e = sym (states b c).units_is ∙ ap (units_at old) e ∙ (states (span at x) it).units_is
 
-  -- each allocated block is there again, with no fewer units
+  -- each allocated block is still allocated, with no fewer units
   record Again (h : ℕ) : Type 0 where
     whole : KeepsBlock old new h
     ownable : IsOwnable new table h
@@ -85,7 +85,7 @@ module _ (allocator : ℕ) (old : List ℕ) (table : Table) (place : Place) (v :
   pub grown_place : IsSame old new place.at (size table place.type)
   grown_place = same_place allocator old table place v blocks s new (again s.home (home_live allocator old table place v blocks s)).whole
 
-  -- its header states the new size
+  -- the block's header states the new size
   pub grown_units : units_at new at ≡ n
   grown_units =
       let there_is : Contains (live new) (span at n) = rw live_is (resized_here at n (live old) (span at x) it refl) in

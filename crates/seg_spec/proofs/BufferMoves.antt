@@ -1,5 +1,5 @@
--- A buffer that moves to a new block, step by step: the block gets its tag, the entries move there,
--- the cell points to it, and the old block is freed.
+-- A buffer moves to a new block, step by step: the block gets its tag, the entries move to it, the
+-- cell points to it, and the old block is freed.
 use Rattle.std.proofs.Common.{◌≡◌, ◌≢◌, ℕ, ◌+◌, ◌-◌, ◌*◌, ◌%◌, ◌^◌, ◌<◌, ◌≤◌, inr, true, List, [], ◌∷◌, ◌++◌, length, Option, Some, None, option_to_list, option_map, MatchOption, refl, sym, ap, ◌∙◌, subst, arith}
 use Rattle.std.specs.Prelude.{Contains}
 use Rattle.seg_spec.specs.Bytes.{set_word, IsSame, ChangesOnly}
@@ -39,7 +39,7 @@ less_room bytes at n m l h = go (target bytes at) h
     go None e = omega arith
     go (Some p) e = omega arith
 
--- the entries move, or no bytes if there was no buffer
+-- the entries move; if there was no buffer, nothing is written
 abbrev pub MovesFrom : Option ℕ → List ℕ → List ℕ → Table → Form → ℕ → ℕ → Type 0
 MovesFrom None old new table form to n = new ≡ old
 MovesFrom (Some from) old new table form to n = MovesEntries old new table form from to n
@@ -77,7 +77,7 @@ module _ (allocator : ℕ) (old taken : List ℕ) (table : Table) (place : Place
   g_lies : LiesIn tagged heap_start (length tagged) g
   g_lies = there (LiesIn tagged heap_start (length tagged)) g (positions (live tagged)) (live-lie tagged allocator tagged_stands.heap) g_live
 
-  -- the cell is unchanged
+  -- the cell still has its old target
   pub old_target : target tagged place.at ≡ target old place.at
   old_target =
       let large = size_large table s.is_table place.type in
@@ -90,7 +90,7 @@ module _ (allocator : ℕ) (old taken : List ℕ) (table : Table) (place : Place
       let kept = (marked_kept allocator old table place v blocks s u g place.type taken t two small allowed s.home (home_live allocator old table place v blocks s)).whole.kept in
       cell-count old tagged place.at (IsSame-part old tagged place.at (size table place.type) place.at 8 (omega arith) (omega arith) (same_place allocator old table place v blocks s tagged kept))
 
-  -- the block lies in the segment
+  -- the block's payload begins below 2^32
   pub block_small : g + 16 < 2 ^ 32
   block_small = omega (arith, g_lies.high, g_lies.size, tagged_stands.heap.small)
 
@@ -265,7 +265,7 @@ module _ (allocator : ℕ) (old taken : List ℕ) (table : Table) (place : Place
         (written_frames allocator moved table place v blocks moved_stands pointed cell_changes v (g ∷ its.owned) pointed_holds pointed_owned) (λ h some none. refl))
         (λ h some none. times-other h g [] (g_new h some))
 
-    -- ---- and the old block is freed
+    -- ---- the old block is freed
 
     old_named : named tagged place.at ≡ named old place.at
     old_named = ap (λ o. option_to_list (option_map block_of o)) old_target

@@ -1,4 +1,4 @@
--- The content of a place whose type has a buffer, for any position of the buffer.
+-- The content of a place with a buffer, for any position of the buffer.
 use Rattle.std.proofs.Common.{◌≡◌, ℕ, zero, suc, ◌+◌, ◌*◌, ◌%◌, ◌≤◌, ◌⊎◌, inl, inr, true, List, [], ◌∷◌, ◌++◌, length, map, Some, refl, sym, ap, ◌∙◌, subst, arith}
 use Rattle.std.proofs.Math.Nat.{mul-one, mul-le-mul_right}
 use Rattle.std.specs.List.{AllByRecursion}
@@ -28,12 +28,12 @@ HoldsEntries bytes table (Form.flat_map U) at n v owned =
     (vs : Values) × (v ≡ Map (keys_at bytes entries) vs) × IsAscending (keys_at bytes entries) × HoldsEach bytes table (places_of U (map (λ p. p + 8) entries)) vs owned
 HoldsEntries bytes table form at n v owned = ⊥
 
--- the bytes of an entry before its value
+-- the size of an entry's bytes before its value
 abbrev pub before_item : Form → ℕ
 before_item (Form.flat_map U) = 8
 before_item form = 0
 
--- a place with such a buffer
+-- the place has a buffer with such entries, and owns it
 pub record Buffered (bytes : List ℕ) (table : Table) (place : Place) (form : Form) (v : Value) (blocks : List ℕ) : Type 0 where
   pub owned : List ℕ
   pub room : NamesRoom bytes place.at (tag_of Kind.buffer place.type) (item_size table form)
@@ -90,7 +90,7 @@ module _ (bytes : List ℕ) (table : Table) where
       let same = same_form g form (sym e ∙ f) in
       buffered_by place form v blocks opened inside owned b (subst (λ h. Opens bytes table place h opened) same o) hs v_is blocks_is
 
-  -- a place with such entries
+  -- a place whose cell points to such entries contains the value
   pub holds_buffered : (place : Place) (form : Form) (v : Value) (owned : List ℕ) → form_at table place.type ≡ Some form → has_buffer (Some form) ≡ true →
       NamesRoom bytes place.at (tag_of Kind.buffer place.type) (item_size table form) → HoldsEntries bytes table form (start bytes place.at) (count_at bytes place.at) v owned →
       Holds bytes table place v (named bytes place.at ++ owned)
@@ -113,7 +113,7 @@ module _ (bytes : List ℕ) (table : Table) where
 
 -- ---- entries that move
 
--- what a move of n entries does to the bytes
+-- the bytes after n entries were moved
 abbrev pub MovesEntries : List ℕ → List ℕ → Table → Form → ℕ → ℕ → ℕ → Type 0
 MovesEntries old new table Form.str from to n = new ≡ put old to (slice old from (n * 1))
 MovesEntries old new table (Form.vec U) from to n = Shifts old new table 0 U (size table U) from to n
@@ -124,12 +124,12 @@ no_before : (ps : List ℕ) → map (λ p. p + 0) ps ≡ ps
 no_before [] = refl
 no_before (p ∷ ps) = let e : p + 0 ≡ p = omega arith in rw (e, no_before ps) refl
 
--- the keys after the first
+-- a key doesn't overlap the values of later entries
 all_after : (q s each m k : ℕ) → q ≤ s → AllByRecursion (λ p. (q + 8 ≤ p) ⊎ (p + m ≤ q)) (map (λ p. p + 8) (spaced s each k))
 all_after q s each m zero l = tt
 all_after q s each m (suc k) l = (inl (omega arith), all_after q (s + each) each m k (omega arith))
 
--- a key is right before each value
+-- a key doesn't overlap the values of its own entry and of others
 key_beside : (q s each m i k : ℕ) → 8 + m ≡ each → q ≡ s + i * each → AllByRecursion (λ p. (q + 8 ≤ p) ⊎ (p + m ≤ q)) (map (λ p. p + 8) (spaced s each k))
 key_beside q s each m i zero e at = tt
 key_beside q s each m zero (suc k) e at = all_after q s each m (suc k) (omega arith)
@@ -206,7 +206,7 @@ module _ (old new : List ℕ) (table : Table) (valid : IsTable table) (from to n
         allocator home e.0 owned heap beside (omega arith) m.back even (omega arith) refl e.3 in
         (e.0, e.1 ∙ ap (λ ks. Map ks e.0) (sym keys), subst IsAscending (sym keys) e.2, is)
 
-    -- and nothing else changes
+    -- no other bytes change
     pub entries_changes : (form : Form) → IsWithin old from (n * item_size table form) → MovesEntries old new table form from to n → ChangesOnly old new to (n * item_size table form)
     entries_changes Form.i64 from_in m = absurd m
     entries_changes (Form.list U) from_in m = absurd m
@@ -220,7 +220,7 @@ module _ (old new : List ℕ) (table : Table) (valid : IsTable table) (from to n
     entries_changes (Form.vec U) from_in m = shift_changes old (put old to (slice old from (n * size table U))) new table valid m.distance 0 (size table U) U n from to refl from_in m.changed
     entries_changes (Form.flat_map U) from_in m = shift_changes old (put old to (slice old from (n * (8 + size table U)))) new table valid m.distance 8 (8 + size table U) U n from to refl from_in m.changed
 
--- entries stay if their bytes and what their values own are kept
+-- entries stay if their bytes and the blocks of their values are kept
 pub entries_kept : (old new : List ℕ) (table : Table) → IsTable table → (form : Form) (at n : ℕ) (v : Value) (owned : List ℕ) → IsSame old new at (n * item_size table form) → AllByRecursion (KeepsBlock old new) owned
     → HoldsEntries old table form at n v owned → HoldsEntries new table form at n v owned
 entries_kept old new table valid Form.i64 at n v owned same kept e = absurd e
@@ -244,7 +244,7 @@ slice_none : (bytes : List ℕ) (at : ℕ) → slice bytes at 0 ≡ []
 unfolding slice
 slice_none bytes at = refl
 
--- no entries are anywhere
+-- an empty list of entries is at every position
 pub entries_none : (bytes : List ℕ) (table : Table) (form : Form) (at to : ℕ) (v : Value) (owned : List ℕ) → HoldsEntries bytes table form at 0 v owned → HoldsEntries bytes table form to 0 v owned
 entries_none bytes table Form.i64 at to v owned e = absurd e
 entries_none bytes table (Form.list U) at to v owned e = absurd e

@@ -1,5 +1,5 @@
--- The block to which a cell points shows what is freed with it, after unused entries of a buffer
--- got null pointers and a ring was opened.
+-- The block to which a cell points shows what is freed with it. Before that, the unused entries of
+-- a buffer got null pointers, and a ring was opened.
 use Rattle.std.proofs.Common.{◌≡◌, ◌≢◌, ℕ, zero, suc, ◌+◌, ◌-◌, ◌*◌, ◌/◌, ◌%◌, ◌^◌, ◌<◌, ◌≤◌, ◌⊎◌, inl, inr, ⊎_elim, true, List, [], ◌∷◌, ◌++◌, length, map, Option, Some, None, MatchOption, option_to_list, option_map, unwrap_or, refl, sym, ap, ◌∙◌, subst, arith}
 use Rattle.std.specs.Prelude.{nat_le}
 use Rattle.std.specs.List.{AllByRecursion}
@@ -27,7 +27,7 @@ use Rattle.seg_spec.proofs.Destruction.{others_more, no_common, heap_written, pa
 use Rattle.seg_spec.proofs.PartsOwed.{each_parts, parts_append, named_inside}
 use Rattle.seg_spec.specs.Shared.{named_in, named_each}
 
--- ---- the headers of allocated blocks, if one payload is written
+-- ---- headers of allocated blocks, after one payload was written
 
 module _ (allocator : ℕ) (old new : List ℕ) (at m h : ℕ) (heap : IsHeap allocator old) (inside : IsInside old h at m) (owned : 1 ≤ times h (positions (live old))) (changes : ChangesOnly old new at m) where
   pub units_then : (x : ℕ) → 1 ≤ times x (positions (live old)) → units_at new x ≡ units_at old x
@@ -73,7 +73,7 @@ module _ (bytes : List ℕ) (table : Table) (place : Place) (p : ℕ) (e : targe
         owed_are = λ h. let n = times-append h owned [] in let f : times h xs ≡ times h (block_of p ∷ owned) = ap (times h) (is ∙ ap (λ bs. bs ++ owned) blocks) in omega arith;
       }
 
-  -- what a value points to, if its label is known
+  -- the targets of a value that isn't a shared cell are the targets of the values inside
   inside_names : (v : Value) (opened : Opened) (inside : Values) (label : Label) → v ≡ node opened.label inside → opened.label ≡ label → ((T q : ℕ) → label ≢ Label.shared T q) → named_each inside ≡ named_in v
   inside_names v opened inside label v_is e other = sym (ap named_in v_is ∙ ap (λ l. named_in (node l inside)) e ∙ named_inside label inside other)
 
@@ -167,7 +167,7 @@ nothing_parts : (bytes : List ℕ) (table : Table) (U : ℕ) (qs : List ℕ) →
 nothing_parts bytes table U [] a = no_parts
 nothing_parts bytes table U (q ∷ qs) a = more_parts {blocks = []} {names = []} (inr (a.0, refl, refl)) (nothing_parts bytes table U qs a.1)
 
--- the entries that fit need no more than the room
+-- if n entries fit in the room, n is at most the number of entries that fit
 fits_in : (n each room : ℕ) → 1 ≤ each → n * each ≤ room → n ≤ room / each
 fits_in n each room some l = le-div n room each (omega arith) l
 
@@ -198,7 +198,7 @@ module _ (allocator : ℕ) (old new : List ℕ) (table : Table) (valid : IsTable
       let all : suc k * (before + size table U) ≡ before + size table U + k * (before + size table U) = grind arith in
       (d.changes.others (start + before) (size table U) (inl (omega arith)), first_same k (start + (before + size table U)) (omega arith))
 
-  -- the whole buffer
+  -- the buffer goes with the blocks of its entries
   pub buffer_goes : (vs : Values) (xs : List ℕ) → SameBlocks (block_of p ∷ owned) xs → HoldsEach old table (entries_at table p before U n) vs owned →
       (IsBlock new p (tag_of Kind.buffer T) 0 → OpensBlock new table p Kind.buffer T (form_at table T) (entries_of new table p before U) []) → Uncouples allocator old new table p xs (named_each vs)
   buffer_goes vs xs same hs shows =

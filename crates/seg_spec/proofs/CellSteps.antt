@@ -1,4 +1,4 @@
--- Changing cells one after the other.
+-- Changes of cells, one after the other.
 use Rattle.std.proofs.Common.{◌≡◌, ℕ, zero, suc, ◌+◌, ◌*◌, ◌%◌, ◌^◌, ◌<◌, ◌≤◌, ◌⊎◌, inl, inr, List, [], ◌∷◌, ◌++◌, length, map, take, Option, Some, None, sum_by, refl, sym, ap, ◌∙◌, subst, arith, add-zero, add_assoc, add-one}
 use Rattle.std.specs.Prelude.{All, slice_get}
 use Rattle.std.specs.List.{AllByRecursion}
@@ -34,11 +34,11 @@ no_cells table T e =
     get_or_past (built (cells_by table) [] table) T [] (omega arith)
 
 module _ (table : Table) (valid : IsTable table) where
-  -- a type that isn't there has no cell
+  -- a type that isn't in the table has no cell
   pub each_none : (P : ℕ → Option Form → Type 0) (T : ℕ) → form_at table T ≡ None → EachCell table T P
   each_none P T e = rw (no_cells table T e) tt
 
-  -- any type but a struct has one
+  -- a type that isn't a struct has one cell
   pub one_cell : (T : ℕ) (form : Form) → form_at table T ≡ Some form → IsOne table valid form → cells table T ≡ record { from = 0; type = T } ∷ []
   one_cell T Form.i64 f h = absurd h
   one_cell T (Form.struct Us) f h = absurd h
@@ -56,7 +56,8 @@ module _ (table : Table) (valid : IsTable table) where
   pub each_i64 : (P : ℕ → Option Form → Type 0) (T : ℕ) → form_at table T ≡ Some Form.i64 → P 0 (Some Form.i64) → EachCell table T P
   each_i64 P T f p = rw (cells-form table valid T Form.i64 f) (rw f p, tt)
 
-  -- an induction over types, by their forms: a struct's fields come before it
+  -- A fact about all types is proved by their forms. For a struct it may use the fact for the
+  -- fields, whose ids are lower.
   module _ (Q : ℕ → Type 0) (on_none : (T : ℕ) → form_at table T ≡ None → Q T) (on_one : (T : ℕ) (form : Form) → form_at table T ≡ Some form → IsOne table valid form → Q T) (on_i64 : (T : ℕ) → form_at table T ≡ Some Form.i64 → Q T)
       (on_struct : (T : ℕ) (Us : List ℕ) → form_at table T ≡ Some (Form.struct Us) → AllByRecursion Q Us → Q T) where
     each_below : (k : ℕ) → ((U : ℕ) → U < k → Q U) → (Us : List ℕ) → All (λ U. U < k) Us → AllByRecursion Q Us
@@ -137,9 +138,9 @@ module _ (table : Table) (valid : IsTable table) where
   pub each_cell_weaker : (P Q : ℕ → Option Form → Type 0) (T : ℕ) → ((d : ℕ) (form : Option Form) → d + 8 ≤ size table T → d % 8 ≡ 0 → P d form → Q d form) → EachCell table T P → EachCell table T Q
   each_cell_weaker P Q T f a = each_both _ _ _ (λ c p l. f c.from (form_at table c.type) l.0 l.1 p) (cells table T) a (cells_lie T)
 
--- ---- changes one after the other
+-- ---- two changes, one after the other
 
--- R only depends on the bytes of the cell
+-- R depends only on the bytes of the cell
 abbrev pub IsLocal : (List ℕ → List ℕ → ℕ → Option Form → Type 0) → Type 0
 IsLocal R = (a b c d : List ℕ) (at : ℕ) (form : Option Form) → IsSame a c at 8 → IsSame b d at 8 → R a b at form → R c d at form
 
@@ -166,11 +167,11 @@ module _ (R : List ℕ → List ℕ → ℕ → Option Form → Type 0) (local :
   same_sym : (a b : List ℕ) (at n : ℕ) → IsSame a b at n → IsSame b a at n
   same_sym a b at n s = sym s
 
-  -- the cells changed in a first step, and these bytes were kept in a second
+  -- the cells changed in the first step, and their bytes were kept in the second
   pub cells_then : (a b c : List ℕ) (at T : ℕ) → IsSame b c at (size table T) → EachCell table T (λ d form. R a b (at + d) form) → EachCell table T (λ d form. R a c (at + d) form)
   cells_then a b c at T s k = each_cell_weaker table valid _ _ T (λ d form fits aligned r. local a b a c (at + d) form refl (IsSame-part b c at (size table T) (at + d) 8 (omega arith) (omega arith) s) r) k
 
-  -- these bytes were kept in a first step, and the cells changed in a second
+  -- the bytes were kept in the first step, and the cells changed in the second
   pub cells_after : (a b c : List ℕ) (at T : ℕ) → IsSame a b at (size table T) → EachCell table T (λ d form. R b c (at + d) form) → EachCell table T (λ d form. R a c (at + d) form)
   cells_after a b c at T s k = each_cell_weaker table valid _ _ T (λ d form fits aligned r. local b c a c (at + d) form (same_sym a b (at + d) 8 (IsSame-part a b at (size table T) (at + d) 8 (omega arith) (omega arith) s)) refl r) k
 
@@ -209,7 +210,7 @@ module _ (R : List ℕ → List ℕ → ℕ → Option Form → Type 0) (local :
       let shift : n + sum_by (size table) (V ∷ Us) ≡ n + size table V + sum_by (size table) Us = omega arith in
       (k.0, field_push P (n + size table V) Us U k.1 (rw shift at l))
 
-  -- one more field
+  -- one field more changed
   pub one_more_field : (a b c : List ℕ) (at : ℕ) (Us : List ℕ) (U : ℕ) → ChangesFields a b at Us → ChangesCells R b c table (at + sum_by (size table) Us) U → ChangesFields a c at (Us ++ U ∷ [])
   one_more_field a b c at Us U k l =
       let total = sum_push Us U in
@@ -227,7 +228,7 @@ module _ (R : List ℕ → List ℕ → ℕ → Option Form → Type 0) (local :
       place_it : (at s d : ℕ) (form : Option Form) → R a c (at + s + d) form → R a c (at + (0 + s + d)) form
       place_it at s d form r = let e : at + (0 + s + d) ≡ at + s + d = omega arith in rw e r
 
-  -- all fields of a struct
+  -- all fields of a struct changed
   pub struct_changed : (a b : List ℕ) (at T : ℕ) (Us : List ℕ) → form_at table T ≡ Some (Form.struct Us) → ChangesFields a b at Us → ChangesCells R a b table at T
   struct_changed a b at T Us f k = record {
     changes = rw (size-form table valid T (Form.struct Us) f) k.changes;
@@ -237,7 +238,7 @@ module _ (R : List ℕ → List ℕ → ℕ → Option Form → Type 0) (local :
   pub none_changed : (a : List ℕ) (at T : ℕ) → form_at table T ≡ None → ChangesCells R a a table at T
   none_changed a at T f = record { changes = ChangesOnly-none a at (size table T); cells = each_none table valid (λ d form. R a a (at + d) form) T f }
 
-  -- a type that isn't there has 8 bytes and no cell
+  -- a type that isn't in the table has 8 bytes and no cell
   pub none_written : (a b : List ℕ) (at T : ℕ) → form_at table T ≡ None → ChangesOnly a b at 8 → ChangesCells R a b table at T
   none_written a b at T f k = record {
     changes = rw (size_none table valid T f) k;
@@ -259,7 +260,7 @@ module _ (R : List ℕ → List ℕ → ℕ → Option Form → Type 0) (local :
     cells = each_one table valid (λ d form. R a b (at + d) form) T form f h (rw (add-zero at) r);
   }
 
--- ---- the two ways in which cells change
+-- ---- the two kinds of changes
 
 long-same : (old new : List ℕ) (at : ℕ) → IsSame old new at 8 → long new at ≡ long old at
 long-same old new at h = number-slice 8 old new at at h
@@ -306,7 +307,7 @@ further_local n a b c d at (Some (Form.struct Us)) s t r = further_cell n a b c 
 
 -- ---- the fields of a type, by their index
 
--- the types of a type's fields; none if it is no struct
+-- the types of the type's fields, or the empty list if the type isn't a struct
 abbrev pub field_types : Table → ℕ → List ℕ
 field_types table T = map (λ (c : Cell). c.type) (fields_of table T)
 
@@ -324,7 +325,7 @@ length_fields table n (U ∷ Us) = ap (λ k. suc k) (length_fields table (n + si
 same_cell : (c d : Cell) → Some c ≡ Some d → c ≡ d
 same_cell c d e = cc
 
--- the field at an index
+-- the field at an index, with its position and type
 pub record NthField (table : Table) (n i : ℕ) (Us : List ℕ) (from U : ℕ) : Type 0 where
   pub from_is : from ≡ n + sum_by (size table) (take i Us)
   pub next : take (i + 1) Us ≡ take i Us ++ U ∷ []
@@ -412,7 +413,7 @@ module _ (R : List ℕ → List ℕ → ℕ → Option Form → Type 0) (local :
       let k' = rw (types, all_fields Us n (omega arith)) at k in
       struct_changed R local table valid a b at T Us f k'
 
-  -- an index that has no field is past all
+  -- if an index is past the fields, all fields were changed before it
   pub past_fields : (n : ℕ) → slice_get (fields_of table T) n ≡ None → (b : List ℕ) → ChangesFields R local table valid a b at (take n (field_types table T)) → ChangesFields R local table valid a b at (take (n + 1) (field_types table T))
   past_fields n e b k =
       let types = field_types_struct table T Us f in
@@ -436,7 +437,7 @@ spaced_push at step (suc i) =
     rw (two, ← further) (ap (λ ps. at ∷ ps) (spaced_push (at + step) step i))
 
 module _ (R : List ℕ → List ℕ → ℕ → Option Form → Type 0) (local : IsLocal R) (table : Table) (valid : IsTable table) (T before each : ℕ) (fits : before + size table T ≤ each) where
-  -- the position of the values of entries
+  -- the positions of the values of entries
   abbrev pub value_positions : ℕ → ℕ → List ℕ
   value_positions start k = map (λ p. p + before) (spaced start each k)
 
@@ -484,7 +485,7 @@ module _ (R : List ℕ → List ℕ → ℕ → Option Form → Type 0) (local :
       each_position [] = tt
       each_position (p ∷ ps) = ((none p).cells, each_position ps)
 
-  -- the place of an entry's value
+  -- the position of an entry's value
   pub entry_position : (a : List ℕ) (at n i : ℕ) → i < n → IsWithin a at (n * each) → (at + i * each + before) % 2 ^ 32 ≡ at + i * each + before
   entry_position a at n i less w =
       let whole = mul-le-mul_right each less in

@@ -1,5 +1,5 @@
--- A frozen object has at most as many cells as a segment has bytes, since each shared cell has
--- bytes of its own.
+-- A frozen object has at most as many cells as a segment has bytes, since shared cells don't
+-- overlap.
 use Rattle.std.proofs.Common.{◌≡◌, ℕ, suc, ◌+◌, ◌*◌, ◌≤◌, true, false, List, [], ◌∷◌, ◌++◌, length, map, Option, Some, None, option_to_list, option_map, MatchOption, sum_by, cond, eqb, refl, sym, ap, ◌∙◌, subst, arith}
 use Rattle.std.specs.List.{AllByRecursion}
 use Rattle.std.proofs.Math.Nat.{mul-le-mul_left}
@@ -24,7 +24,7 @@ use Rattle.seg_spec.proofs.FewBlocks.{split_at}
 use Rattle.seg_spec.proofs.Fits.{length-spaced}
 use Rattle.seg_spec.proofs.CountedPictures.{cells_append}
 
--- ---- the room of several blocks together
+-- ---- the total size of several blocks
 
 abbrev room_of : (ℕ → ℕ) → List ℕ → ℕ
 room_of room [] = 0
@@ -34,7 +34,7 @@ room_append : (room : ℕ → ℕ) (xs ys : List ℕ) → room_of room (xs ++ ys
 room_append room [] ys = omega arith
 room_append room (x ∷ xs) ys = omega (arith, room_append room xs ys)
 
--- blocks that occur in a list no less often have no less room
+-- a list that contains each block at least as often has at least the same total size
 room_more : (room : ℕ → ℕ) (xs ys : List ℕ) → ((h : ℕ) → times h xs ≤ times h ys) → room_of room xs ≤ room_of room ys
 room_more room [] ys o = omega arith
 room_more room (x ∷ xs) ys o =
@@ -48,9 +48,9 @@ room_more room (x ∷ xs) ys o =
     let whole : room_of room ys ≡ room_of room (r.left ++ x ∷ r.right) = ap (room_of room) r.is in
     omega (arith, room_append room r.left (x ∷ r.right), room_append room r.left r.right)
 
--- ---- what allocated blocks have in a heap
+-- ---- the total size of allocated blocks
 
--- the bytes of a block, by its header
+-- the size of a block in bytes, by its header
 bytes_at : List ℕ → ℕ → ℕ
 bytes_at bytes h = 16 * units_at bytes h
 
@@ -73,9 +73,9 @@ all_room : (allocator : ℕ) (bytes : List ℕ) → IsHeap allocator bytes → r
 unfolding live
 all_room allocator bytes heap = let l = live_room bytes (tiles bytes) heap_start (length bytes) 0 heap.filled heap.headers in omega arith
 
--- ---- the cells that point to objects in a value
+-- ---- the references in a value
 
--- how many objects a label refers to by itself
+-- the number of references that a label itself is
 abbrev own_names : Label → ℕ
 own_names (Label.shared T p) = 1
 own_names _ = 0
@@ -98,10 +98,10 @@ names_more : (v : Value) (vs : Values) → length (names_each (cons v vs)) ≡ l
 unfolding names_each
 names_more v vs = length-append (names_in v) (names_each vs)
 
--- ---- places have room for them
+-- ---- places have room for the references in them
 
 module _ (bytes : List ℕ) (table : Table) (valid : IsTable table) where
-  -- the bytes of several places
+  -- the total size of several places
   abbrev width : List Place → ℕ
   width [] = 0
   width (q ∷ qs) = size table q.type + width qs
@@ -121,7 +121,7 @@ module _ (bytes : List ℕ) (table : Table) (valid : IsTable table) where
   named_has None tag n each e = rw e (omega arith)
   named_has (Some p) tag n each b = omega (arith, block_has bytes p tag (n * each) b)
 
-  -- places in a buffer that a cell points to
+  -- a buffer to which a cell points has room for its places
   buffer_has : (U : ℕ) (ps : List ℕ) (o : Option ℕ) (tag n each : ℕ) → length ps ≡ n → size table U ≤ each → MatchOption o (n ≡ 0) (λ p. IsBlock bytes p tag (n * each))
       → width (places_of U ps) ≤ room (option_to_list (option_map block_of o))
   buffer_has U ps o tag n each long le b =
@@ -135,8 +135,8 @@ module _ (bytes : List ℕ) (table : Table) (valid : IsTable table) where
   nodes_have tag more U f [] a = omega arith
   nodes_have tag more U f (p ∷ ps) a = omega (arith, block_has bytes p tag (more + size table U) a.0, nodes_have tag more U f ps a.1)
 
-  -- the cell itself, and the blocks that it points to, have room for the places inside and for a
-  -- name
+  -- The cell's own bytes and the blocks to which it points have room for the places inside, and for
+  -- a reference.
   abbrev HasRoom : ℕ → Opened → Type 0
   HasRoom n opened = own_names opened.label + width opened.parts ≤ n + room opened.blocks
 
@@ -197,9 +197,9 @@ module _ (bytes : List ℕ) (table : Table) (valid : IsTable table) where
       let others = roots_room hs in
       omega (arith, length-append (names_each root.values) (cells_in roots), room_append (bytes_at bytes) blocks rest)
 
--- ---- the cells of a picture
+-- ---- the references in a picture
 
--- no name occurs there more often than there are names
+-- a list of references contains each target at most as often as its length
 few_named : (p : ℕ) (qs : List Place) → times_named p qs ≤ length qs
 few_named p [] = omega arith
 few_named p (q ∷ qs) =
@@ -230,7 +230,8 @@ all_cells picture =
       cells_beside picture.loose frozen,
     )
 
--- the blocks of the roots are allocated, and none occurs there twice
+-- The blocks of the roots are allocated, each once. So a picture has at most as many references as
+-- its segment has bytes.
 cells_fit : (bytes : List ℕ) (picture : Picture) → IsHeld bytes picture → length (cells_in (roots_of picture)) ≤ length bytes
 cells_fit bytes picture held =
     let cells = roots_room bytes picture.table held.laid_out.is_table held.roots in

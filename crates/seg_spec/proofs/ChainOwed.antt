@@ -1,4 +1,4 @@
--- The nodes of a list whose ring is open, destroyed from the first on.
+-- The nodes of a list whose ring was opened, destroyed from the first on.
 use Rattle.std.proofs.Common.{◌≡◌, ℕ, ◌+◌, inl, List, [], ◌∷◌, ◌++◌, map, Some, None, refl, arith}
 use Rattle.seg_spec.specs.Pointer.{target}
 use Rattle.seg_spec.specs.Types.{Form, Table, form_at, size}
@@ -10,7 +10,7 @@ use Rattle.seg_spec.specs.Owing.{no_parts, more_parts, OpensBlock, Owes, owes, O
 use Rattle.seg_spec.proofs.LiveLaws.{times-append}
 use Rattle.seg_spec.specs.Shared.{named_in, named_each}
 
--- each node points to the next, and the last one none
+-- each node points to the next node, and the last one has a null pointer
 abbrev pub IsChain : List ℕ → ℕ → List ℕ → Type 0
 IsChain bytes x [] = target bytes x ≡ None
 IsChain bytes x (y ∷ ys) = (target bytes x ≡ Some y) × IsChain bytes y ys
@@ -19,7 +19,7 @@ module _ (bytes : List ℕ) (table : Table) (T U : ℕ) (f : form_at table T ≡
   abbrev pub items_in : List ℕ → List Place
   items_in nodes = places_of U (map (λ p. p + 8) nodes)
 
-  -- what is freed with a node: itself, those after it, and what their values own
+  -- what is freed with a node: the node itself, the nodes after it, and what their values own
   pub record ChainOwes (x : ℕ) (nodes owned named : List ℕ) : Type 0 where
     pub blocks : List ℕ
     pub names : List ℕ

@@ -1,7 +1,7 @@
--- The frozen objects of an image stay counted if its next number stays.
---     next_same         the number stays if the bytes after the pointer to the free structure do
+-- The frozen objects of an image still count their cells if the image's next number is kept.
+--     next_same         the number is kept if the bytes after the pointer to the free structure are kept
 --     counted_still     the same picture is counted
---     counted_with      so is one with one more object that points to none of them
+--     counted_with      the picture with one more object is counted, if the object points to no frozen one
 use Rattle.std.proofs.Common.{◌≡◌, ℕ, List, [], ◌∷◌, ◌++◌, sym, ap, ◌∙◌, subst, arith}
 use Rattle.seg_spec.specs.Bytes.{word}
 use Rattle.seg_spec.specs.Header.{next_word, back_start, back_size, KeepsBack}
@@ -30,6 +30,6 @@ counted_with next picture other before root after split others none same c =
       falling = subst IsFalling (sym same) c.falling;
     }
 
--- what a call keeps that only changes the heap
+-- a call that only changes the heap keeps the counts
 pub counted_on : (old new : List ℕ) (picture : Picture) → KeepsBack old new → AreCounted (word old next_word) picture → AreCounted (word new next_word) picture
 counted_on old new picture back c = counted_still old new picture (next_same old new back) c

@@ -1,5 +1,5 @@
--- The counts of the frozen objects of a picture if a part of a root changes: what is apart from the
--- part, and the objects that stay.
+-- The counts of a picture's frozen objects, if a part of a root changes: the blocks apart from the
+-- part, and the objects that remain.
 use Rattle.std.proofs.Common.{◌≡◌, ℕ, zero, suc, ◌+◌, ◌<◌, ◌≤◌, ℤ, List, [], ◌∷◌, ◌++◌, length, map, get_or, Option, Some, None, option_and_then, refl, sym, ap, ◌∙◌, subst, append_assoc, arith, pos}
 use Rattle.std.specs.List.{AllByRecursion}
 use Rattle.std.proofs.lemmas.List.{append-nil}
@@ -52,7 +52,7 @@ same_frozen picture by_name roots = refl
 same_frozen picture by_type roots = refl
 same_frozen picture loose roots = refl
 
--- ---- the same targets in another order
+-- ---- the same targets, in any order
 
 pub record SameNames (xs ys : List Place) : Type 0 where
   pub counts : (p : ℕ) → times_named p xs ≡ times_named p ys
@@ -76,7 +76,7 @@ names_swapped xs ys = record {
   below = λ n fs all. each_joined (IsBelow n fs) ys xs (each_right (IsBelow n fs) xs ys all) (each_left (IsBelow n fs) xs ys all);
 }
 
--- some of them first
+-- the targets of the middle list may come first
 pub names_first : (xs ys zs : List Place) → SameNames (xs ++ (ys ++ zs)) (ys ++ (xs ++ zs))
 names_first xs ys zs = names_then (names_same (sym (append_assoc xs ys zs))) (names_then (names_joined (names_swapped xs ys) (names_same {xs = zs} refl)) (names_same (append_assoc ys xs zs)))
 
@@ -129,7 +129,7 @@ unfolding names_in names_each
 copies_names zero v none = refl
 copies_names (suc n) v none = ap (λ xs. xs ++ names_each (copies n v)) none ∙ copies_names n v none
 
--- nor do several
+-- several defaults point to nothing either
 pub defaults_none : (n : ℕ) (table : Table) (T : ℕ) → names_each (copies n (default_of table T)) ≡ []
 defaults_none n table T = copies_names n (default_of table T) (default_names table T)
 
@@ -139,7 +139,7 @@ pub names_cons : (v : Value) (vs : Values) → names_each (cons v vs) ≡ names_
 unfolding names_each
 names_cons v vs = refl
 
--- what value i points to, and what the others do, also if it becomes another value
+-- the targets of value i, and the targets of the other values, also if value i is replaced
 pub record NthNames (vs : Values) (i : ℕ) (u : Value) : Type 0 where
   pub others : List Place
   pub now : SameNames (names_each vs) (names_in u ++ others)
@@ -239,7 +239,7 @@ module _ (root : Root) (j : ℕ) (item : Value) (item_is : nth root.values j ≡
         (names_then (names_joined root_names (names_same {xs = cells_in (before ++ after)} refl)) (names_same (append_assoc (names_in v) beside_part (cells_in (before ++ after)))))
         (counted_apart next picture before root after split c)
 
-    -- the cells around the part, with those in its new value
+    -- the cells outside the part, with the cells of its new value
     cells_then : (w : Value) (other : Picture) → owners_in other ≡ before ++ with_item root j (with_value_at path w) ∷ after → SameNames (names_in w ++ kept_cells) (cells_in (owners_in other))
     unfolding kept_cells
     cells_then w other owners =
@@ -263,8 +263,8 @@ module _ (root : Root) (j : ℕ) (item : Value) (item_is : nth root.values j ≡
           falling = subst IsFalling (sym frozen) (falling_left gone picture.frozen c.falling);
         }
 
-    -- The part becomes another value, whose cells point to existing objects. They were counted, and
-    -- its old targets released.
+    -- The part becomes another value, whose cells point to existing objects. These cells were
+    -- counted first, and then the old targets were released.
     pub counted_shared : (w : Value) → AllByRecursion (IsBelow next picture.frozen) (names_in w) → (other : Picture) → owners_in other ≡ before ++ with_item root j (with_value_at path w) ∷ after
         → other.frozen ≡ left (names_in v) (raised_by (names_in w) picture.frozen) → AreCounted next other
     counted_shared w below other owners frozen =
@@ -275,11 +275,12 @@ module _ (root : Root) (j : ℕ) (item : Value) (item_is : nth root.values j ≡
           falling = subst IsFalling (sym frozen) r.0;
         }
 
-    -- it points to the same objects
+    -- the part becomes another value, which points to the same objects
     pub counted_still : (w : Value) → SameNames (names_in v) (names_in w) → (other : Picture) → owners_in other ≡ before ++ with_item root j (with_value_at path w) ∷ after → other.frozen ≡ picture.frozen → AreCounted next other
     counted_still w same other owners frozen = counted_then [] w same other owners (frozen ∙ sym (none_gone picture.frozen c.counted.some))
 
-    -- what is apart from blocks of the root, if the part releases cells with these targets
+    -- the part releases cells with these targets, and frozen objects are apart from the root's
+    -- blocks
     module _ (bytes : List ℕ) (held : IsHeld bytes picture) where
       abbrev beside_root : OwnerBeside bytes picture held before root after
       beside_root = owner_beside next bytes picture held before root after split c
@@ -302,8 +303,7 @@ module _ (root : Root) (j : ℕ) (item : Value) (item_is : nth root.values j ≡
             };
           }
 
--- ---- a call on a place that releases cells, or points to other objects, with the frozen objects
--- that stay
+-- ---- a call on a place that releases cells or points to other objects
 
 module _ (bytes new : List ℕ) (picture : Picture) (held : IsHeld bytes picture) (which : Listed) (before : List Root) (root : Root) (after : List Root) (among : roots_in picture which ≡ before ++ root ∷ after)
     (j : ℕ) (within : j < count root.values) (path : List Selector) (q : Place) (leads : Leads bytes picture.table (item_of picture.table root j) path q)
@@ -352,7 +352,7 @@ module _ (bytes new : List ℕ) (picture : Picture) (held : IsHeld bytes picture
       (blocks_by theirs picture.frozen) (blocks_by theirs final) within
       leads was goes (moves c.changes) (roots_held new picture.table theirs final c.holds) (table_kept picture which (before ++ item_then ∷ after)) laid_out_then roots_now roots_then
 
-  -- the other owners lie in blocks that are kept
+  -- the blocks of the other owners are kept
   record OthersKept : Type 0 where
     fronts : List ℕ
     backs : List ℕ

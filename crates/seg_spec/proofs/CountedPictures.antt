@@ -1,5 +1,5 @@
--- The counts of the frozen objects of a picture: what they own apart from a root, and the objects
--- that stay if the root is destroyed.
+-- The counts of a picture's frozen objects, if a root is destroyed: the blocks apart from the root,
+-- and the objects that remain.
 use Rattle.std.proofs.Common.{◌≡◌, ◌≢◌, ℕ, zero, suc, ◌+◌, ◌-◌, ◌≤◌, true, false, List, [], ◌∷◌, ◌++◌, length, map, cond, eqb, refl, sym, ap, ◌∙◌, subst, arith}
 use Rattle.std.specs.List.{AllByRecursion}
 use Rattle.std.proofs.lemmas.Bool.Decides.{nat_tests}
@@ -27,9 +27,9 @@ use Rattle.seg_spec.proofs.SharedLaws.{named-append, names_later, left_each, cou
 use Rattle.seg_spec.proofs.Releasing.{everywhere, left_same, names_apart, turn_same, counted_next, falling_lowered, none_gone}
 use Rattle.seg_spec.proofs.Lowering.{positions_of, each_positions, picked}
 
--- ---- the objects that are freed and those that stay
+-- ---- the objects that are freed and the objects that remain
 
--- each block of the objects belongs to one that stays, or to one that is freed
+-- each block of the objects belongs to an object that remains, or to one that is freed
 pub left_and_freed : (theirs : ℕ → List ℕ) (gone : List Place) (fs : List Frozen) (h : ℕ) → times h (blocks_by theirs fs) ≡ times h (blocks_by theirs (left gone fs)) + times h (blocks_by theirs (freed gone fs))
 left_and_freed theirs gone [] h = refl
 left_and_freed theirs gone (f ∷ fs) h = go (f.count - times_named f.at gone) (left_and_freed theirs (gone ++ names_in f.value) fs h) (left_and_freed theirs gone fs h)
@@ -53,7 +53,7 @@ falling_left gone (f ∷ fs) l = go (f.count - times_named f.at gone) (falling_l
     go zero without with_it = without
     go (suc n) without with_it = (left_each (λ (g : Frozen). g.number ≤ f.number) (λ g k h. h) gone fs l.0, with_it)
 
--- ---- the same cells in another order
+-- ---- the same cells, in any order
 
 pub counted_by : (next : ℕ) (fs : List Frozen) (xs ys : List Place) → ((p : ℕ) → times_named p xs ≡ times_named p ys) → AllByRecursion (IsBelow next fs) ys → IsCounted next fs xs → IsCounted next fs ys
 counted_by next fs xs ys same named c = record {
@@ -66,7 +66,7 @@ counted_by next fs xs ys same named c = record {
       (λ f e. e ∙ (let a = named-append f.at xs (names_of fs) in let b = named-append f.at ys (names_of fs) in let s = same f.at in omega arith)) fs c.counts;
 }
 
--- some of them first
+-- the cells of the middle list may come first
 pub counted_first : (next : ℕ) (fs : List Frozen) (xs ys zs : List Place) → IsCounted next fs (xs ++ (ys ++ zs)) → IsCounted next fs (ys ++ (xs ++ zs))
 counted_first next fs xs ys zs c =
     let P = IsBelow next fs in
@@ -82,7 +82,8 @@ counted_first next fs xs ys zs c =
 
 -- ---- cells that are released one list after the other
 
--- the same objects stay if cells are released at once or some of them first
+-- releasing the cells of two lists at once leaves the same objects as releasing one list after the
+-- other
 pub left_in_turn : (most next : ℕ) (xs ys kept : List Place) (fs : List Frozen) → length xs + length (names_of fs) ≤ most → IsFalling fs → IsCounted next fs ((xs ++ ys) ++ kept) → left (xs ++ ys) fs ≡ left ys (left xs fs)
 left_in_turn most next [] ys kept fs few falling c = ap (left ys) (sym (none_gone fs c.some))
 left_in_turn zero next (q ∷ rest) ys kept fs few falling c = absurd (omega arith)
@@ -110,7 +111,7 @@ left_in_turn (suc most) next (q ∷ rest) ys kept fs few falling c =
     turn_same q (rest ++ ys) fs c.distinct later ∙ left_same ((rest ++ ys) ++ more) ((rest ++ more) ++ ys) fewer (everywhere _ _ fewer same)
     ∙ left_in_turn most next (rest ++ more) ys kept fewer (omega arith) (falling_lowered q.at fs falling) then ∙ ap (left ys) (sym (turn_same q rest fs c.distinct later))
 
--- targets at these positions among others
+-- the targets at some positions, and the other targets
 record Chosen (P : Place → Type 0) (xs ys : List ℕ) (qs : List Place) : Type 0 where
   first : List Place
   rest : List Place
@@ -144,7 +145,7 @@ chosen P (x ∷ xs) ys qs same a =
       each = (behind.0, r.each);
     }
 
--- some targets are released before others
+-- the targets xs are released first, and ys afterwards
 pub record InTurn (kept : List Place) (final : List Frozen) (xs ys : List ℕ) (now : List Frozen) : Type 0 where
   pub others : List Place
   pub mid : List Frozen
@@ -174,7 +175,7 @@ in_turn kept final xs ys now r =
       };
     }
 
--- if no target remains to be released, all is done
+-- if no target remains to be released, the remaining objects are the final ones
 pub all_released : (kept : List Place) (final : List Frozen) (now : List Frozen) → IsReleasing kept final [] now → now ≡ final
 all_released kept final now r = go r.pending r.pending_are r.counted.some r.leaves
   where
@@ -189,7 +190,7 @@ pub record Owned (bytes : List ℕ) (table : Table) (fs : List Frozen) (blocks :
   pub holds : HoldFrozen bytes table theirs fs
   pub blocks_are : blocks ≡ blocks_by theirs fs
 
--- an object before others
+-- the blocks of an object are added to the blocks of others
 abbrev with_first : ℕ → List ℕ → (ℕ → List ℕ) → ℕ → List ℕ
 with_first at its theirs p = cond (eqb at p) its (theirs p)
 
@@ -224,7 +225,7 @@ module _ (bytes : List ℕ) (table : Table) where
         blocks_are = ap (λ bs. bs ++ ys) own ∙ ap (λ bs. with_first f.at xs r.theirs f.at ++ bs) (r.blocks_are ∙ blocks_others f.at xs r.theirs fs d.0);
       }
 
--- ---- what several values point to
+-- ---- the targets of several values
 
 pub named_more : (v : Value) (vs : Values) → named_each (cons v vs) ≡ named_in v ++ named_each vs
 unfolding named_each
@@ -237,13 +238,13 @@ named_nothing = refl
 pub named_one : (v : Value) → named_each (cons v nil) ≡ named_in v
 named_one v = named_more v nil ∙ ap (λ ns. named_in v ++ ns) named_nothing ∙ append-nil (named_in v)
 
--- ---- a root that is destroyed
+-- ---- a root is destroyed
 
 pub cells_append : (xs ys : List Root) → cells_in (xs ++ ys) ≡ cells_in xs ++ cells_in ys
 cells_append [] ys = refl
 cells_append (x ∷ xs) ys = ap (λ cs. names_each x.values ++ cs) (cells_append xs ys) ∙ sym (append_assoc (names_each x.values) (cells_in xs) (cells_in ys))
 
--- the cells in it, and those in the others
+-- the cells in the root and the cells in the others are all that are counted
 pub counted_apart : (next : ℕ) (picture : Picture) (before : List Root) (root : Root) (after : List Root) → owners_in picture ≡ before ++ root ∷ after → AreCounted next picture
     → IsCounted next picture.frozen (names_each root.values ++ cells_in (before ++ after))
 counted_apart next picture before root after split c =
@@ -251,7 +252,7 @@ counted_apart next picture before root after split c =
     (counted_first next picture.frozen (cells_in before) (names_each root.values) (cells_in after)
     (subst (IsCounted next picture.frozen) (ap cells_in split ∙ cells_append before (root ∷ after)) c.counted))
 
--- the frozen objects count the cells that point to them again
+-- after the root is destroyed, the frozen objects count the remaining cells
 pub counted_without : (next : ℕ) (picture other : Picture) (before : List Root) (root : Root) (after : List Root) → owners_in picture ≡ before ++ root ∷ after → owners_in other ≡ before ++ after → other.frozen ≡ picture.frozen
     → AreCounted next picture → AreCounted next (without_cells (names_each root.values) other)
 counted_without next picture other before root after split others same c =
@@ -262,7 +263,7 @@ counted_without next picture other before root after split others same c =
       falling = subst (λ fs. IsFalling (left gone fs)) (sym same) (falling_left gone picture.frozen c.falling);
     }
 
--- and if the root is elsewhere
+-- the same, if the root is at another place among the owners
 pub counted_elsewhere : (next : ℕ) (picture other : Picture) (before after others_before others_after : List Root) (root : Root) → owners_in picture ≡ before ++ root ∷ after → owners_in other ≡ others_before ++ root ∷ others_after
     → before ++ after ≡ others_before ++ others_after → other.frozen ≡ picture.frozen → AreCounted next picture → AreCounted next other
 counted_elsewhere next picture other before after others_before others_after root split others same frozen c =
@@ -274,14 +275,14 @@ counted_elsewhere next picture other before after others_before others_after roo
     subst (IsCounted next picture.frozen) (sym (ap cells_in others ∙ cells_append others_before (root ∷ others_after))) (counted_first next picture.frozen mine (cells_in others_before) (cells_in others_after) moved) in
     record { counted = subst (λ fs. IsCounted next fs (cells_in (owners_in other))) (sym frozen) all; falling = subst IsFalling (sym frozen) c.falling }
 
--- the root among all, with the frozen objects behind
+-- the root before all others and the frozen objects
 pub owners_first : (picture : Picture) (before : List Root) (root : Root) (after : List Root) → owners_in picture ≡ before ++ root ∷ after
     → roots_of picture ≡ before ++ ((root ∷ []) ++ (after ++ (frozen_roots picture ++ [])))
 owners_first picture before root after split =
     let regrouped : roots_of picture ≡ owners_in picture ++ frozen_roots picture = simp append_assoc in
     regrouped ∙ ap (λ rs. rs ++ frozen_roots picture) split ∙ simp (append_assoc, append-nil)
 
--- what is apart from a root whose values are destroyed
+-- the values of the root are destroyed, and frozen objects are apart from its blocks
 pub record OwnerBeside (bytes : List ℕ) (picture : Picture) (held : IsHeld bytes picture) (before : List Root) (root : Root) (after : List Root) : Type 0 where
   pub apart : StretchesComeApart bytes picture held before (root ∷ []) after (frozen_roots picture) []
   pub theirs : ℕ → List ℕ

@@ -1,4 +1,4 @@
--- Destruction, step by step: what waits, and what is kept apart from it.
+-- Destruction, step by step: the blocks that wait, and what is kept apart from them.
 use Rattle.std.proofs.Common.{◌≡◌, ◌≢◌, ℕ, ◌+◌, ◌-◌, ◌*◌, ◌≤◌, ◌⊎◌, inl, inr, ⊎_elim, true, false, eqb, ◌<◌, List, [], ◌∷◌, ◌++◌, length, Option, Some, None, refl, sym, ap, ◌∙◌, subst, arith, map, suc}
 use Rattle.std.specs.List.{AllByRecursion}
 use Rattle.std.proofs.lemmas.Bool.Decides.{nat_tests}
@@ -59,7 +59,7 @@ others_twice a b c xs ys zs f k l = record {
 pub others_more : (a b xs zs : List ℕ) → ((h : ℕ) → times h zs ≡ 0 → times h xs ≡ 0) → KeepsOthers a b xs → KeepsOthers a b zs
 others_more a b xs zs f k = record { length_kept = k.length_kept; front_kept = k.front_kept; live_kept = k.live_kept; others = λ h some none. k.others h some (f h none) }
 
--- blocks that are allocated once each have no block in common with others
+-- if allocated blocks are listed once each, two parts of the list have no block in common
 pub no_common : (allocator : ℕ) (a : List ℕ) → IsHeap allocator a → (xs ys : List ℕ) → AreLive a (xs ++ ys) → (h : ℕ) → 1 ≤ times h ys → (1 ≤ times h (positions (live a))) × (times h xs ≡ 0)
 no_common allocator a heap xs ys owned h some =
     let n = times-append h xs ys in
@@ -90,9 +90,9 @@ module _ (allocator : ℕ) (old new : List ℕ) (at m h : ℕ) (heap : IsHeap al
             link_kept = target-same old new (k + 12) (b.outside (k + 12) 4 (omega arith) (omega arith));
           }
 
--- ---- waiting blocks keep waiting
+-- ---- waiting blocks are kept
 
--- if each of these blocks is kept with its link
+-- blocks still wait if each of them is kept with its link
 pub pends_kept : (allocator : ℕ) (a b : List ℕ) (table : Table) → IsTable table → (first : Option ℕ) (blocks names : List ℕ) → IsHeap allocator b → ((h : ℕ) → 1 ≤ times h blocks → KeepsLinked a b h)
     → Pends allocator a table first blocks names → Pends allocator b table first blocks names
 pends_kept allocator a b table valid first blocks names heap linked w = record {
@@ -131,7 +131,7 @@ module _ (allocator : ℕ) (a b : List ℕ) (table : Table) (valid : IsTable tab
 
 -- ---- a block whose payload is kept
 
--- m bytes of its payload
+-- m bytes of the payload of a block that is kept
 pub inside_same : (old new : List ℕ) (home at m : ℕ) → IsInside old home at m → KeepsLinked old new home → IsSame old new at m
 inside_same old new home at m i k =
     let low = i.low in
@@ -159,7 +159,7 @@ module _ (allocator : ℕ) (old new : List ℕ) (table : Table) (valid : IsTable
   parts_then places xs ns a owned parts = parts_kept old new table valid (each_weaker (Inside old) (SamePlace old new table) (λ q i. inside_same old new home q.at (size table q.type) i home_kept) places a)
       (each_there (KeepsBlock old new) xs (λ h some. let n = no_common allocator old heap zs xs owned h some in (keeps.others h n.0 n.1).whole.kept)) parts
 
--- ---- blocks join those that wait
+-- ---- blocks are added to the waiting ones
 
 pub releasing_same : (kept : List Place) (final : List Frozen) (ns ms : List ℕ) (now : List Frozen) → SameBlocks ns ms → IsReleasing kept final ns now → IsReleasing kept final ms now
 releasing_same kept final ns ms now same r =
@@ -184,7 +184,7 @@ pub awaits_blocks : (allocator : ℕ) (a : List ℕ) (table : Table) (first : Op
     → Awaits allocator a table first ys names kept theirs final
 awaits_blocks allocator a table first xs ys names kept theirs final same w = record { named = w.named; frozen = w.frozen; beside = beside_same allocator a table first xs ys w.named theirs w.frozen same w.beside; releasing = w.releasing }
 
--- if the blocks of all objects are kept and allocated, so are the blocks of the objects that stay
+-- if the blocks of all objects are kept and allocated, so are the blocks of the objects that remain
 pub final_kept : (allocator : ℕ) (old new : List ℕ) (table : Table) (first : Option ℕ) (blocks names : List ℕ) (kept : List Place) (theirs : ℕ → List ℕ) (final : List Frozen)
     → (w : Awaits allocator old table first blocks names kept theirs final) → AreLive old blocks → ((h : ℕ) → 1 ≤ times h (blocks_by theirs w.frozen) → KeepsBlock old new h) → KeepFrozen old new theirs final
 final_kept allocator old new table first blocks names kept theirs final w owned whole =
@@ -224,7 +224,7 @@ adds_same allocator a b table f xs ys zs more kept theirs final same k = record 
     all : SameBlocks (xs ++ zs) (ys ++ zs)
     all h = omega (arith, same h, times-append h xs zs, times-append h ys zs)
 
--- one more block waits
+-- one block more waits
 pub adds_pushed : (allocator : ℕ) (old : List ℕ) (table : Table) → IsTable table → (p : ℕ) (first : Option ℕ) (xs ys ns more : List ℕ) (kept : List Place) (theirs : ℕ → List ℕ) (final : List Frozen) → GoesWith old table p xs ns
     → Awaits allocator old table first ys (ns ++ more) kept theirs final → AreLive old (xs ++ ys) → Adds allocator old (set_pointer old (block_of p + 12) first) table (Some p) xs ys more kept theirs final
 adds_pushed allocator old table valid p first xs ys ns more kept theirs final o waiting owned =
@@ -273,7 +273,7 @@ adds_pushed allocator old table valid p first xs ys ns more kept theirs final o 
       };
     }
 
--- ---- the first one that waits
+-- ---- the first waiting block
 
 pub pops : (allocator : ℕ) (bytes : List ℕ) (table : Table) (p : ℕ) (blocks names : List ℕ) (kept : List Place) (theirs : ℕ → List ℕ) (final : List Frozen) → Awaits allocator bytes table (Some p) blocks names kept theirs final
     → Pops allocator bytes table p (link_at bytes (block_of p)) blocks names kept theirs final
@@ -321,7 +321,7 @@ no_cell_gone (f ∷ fs) a =
     let again : suc (f.count - 1) ≡ f.count = omega arith in
     ap (λ n. kept_with f n (left (names_in f.value) fs) (left [] fs)) whole ∙ ap (λ n. with_count f n ∷ left [] fs) again ∙ ap (λ rs. f ∷ rs) (no_cell_gone fs a.1)
 
--- if nothing remains to be released, the objects are those that stay
+-- if no target remains to be released, the remaining objects are the final ones
 pub released : (kept : List Place) (final : List Frozen) (names : List ℕ) (now : List Frozen) → IsReleasing kept final names now → SameBlocks names [] → now ≡ final
 released kept final names now r none = go r.pending r.pending_are r.leaves
   where
@@ -335,8 +335,8 @@ pub gives_more : (bs : List Span) (xs : List ℕ) (at : ℕ) → after_gives bs 
 gives_more bs [] at = refl
 gives_more bs (x ∷ xs) at = gives_more (without x bs) xs at
 
--- the state of destruction: these blocks were freed, and those are freed with waiting blocks or
--- belong to frozen objects
+-- The state of destruction: some blocks were freed, and the others are freed with waiting blocks or
+-- belong to frozen objects.
 pub record HasFreed (allocator : ℕ) (old new : List ℕ) (table : Table) (first : Option ℕ) (blocks : List ℕ) (kept_cells : List Place) (theirs : ℕ → List ℕ) (final : List Frozen) (turns : ℕ) : Type 0 where
   pub given : List ℕ
   pub left : List ℕ
@@ -389,8 +389,8 @@ module _ (allocator : ℕ) (old now : List ℕ) (table : Table) (valid : IsTable
   pub left_live : AreLive now f.left
   left_live h = omega (arith, owned h, f.live_are h, f.blocks_are h, times-append h f.given f.left)
 
-  -- one step: the first block is taken out, what it points to is added to the others, and it is
-  -- freed
+  -- One step: the first block is removed from the list, its values and links are added to the list,
+  -- and it is freed.
   module _ (p : ℕ) (next : Option ℕ) (pop : Pops allocator now table p next f.left [] kept_cells theirs final) where
     pub pop_live : AreLive now (pop.popped ++ pop.others)
     pop_live h = omega (arith, left_live h, pop.blocks_are h)
@@ -487,7 +487,7 @@ module _ (allocator : ℕ) (old now : List ℕ) (table : Table) (valid : IsTable
           front : KeepsFront opened new × KeepsBack opened new
           front = front_kept opened new g.kept large
 
-  -- if no block waits any more, all were freed except the blocks of the objects that stay
+  -- if no block waits, all blocks were freed except the blocks of the objects that remain
   pub all_freed : first ≡ None → Destroys allocator old now table blocks theirs final
   all_freed none = go (subst (λ o. Awaits allocator now table o f.left [] kept_cells theirs final) none f.awaits)
     where
@@ -515,7 +515,7 @@ module _ (allocator : ℕ) (old now : List ℕ) (table : Table) (valid : IsTable
             ownable = subst (λ fs. (h : ℕ) → 1 ≤ times h (blocks_by theirs fs) → IsOwnable now table h) now_is w.ownable;
           }
 
-  -- more turns than there is room for blocks are enough
+  -- destruction ends within as many steps as there is room for blocks
   pub enough_turns : IsHeap allocator old → length old < 16 * turns + 16 → Destroys allocator old now table blocks theirs final
   enough_turns heap many = go first refl
     where

@@ -1,4 +1,4 @@
--- An image with something wrong isn't sound.
+-- An image with a fault isn't sound.
 use Rattle.std.proofs.Common.{◌≡◌, ℕ, ◌%◌, List, length, sym, ap, ◌∙◌, subst, arith}
 use Rattle.std.specs.Prelude.{flat_map}
 use Rattle.seg_spec.specs.Bytes.{word, slice}
@@ -16,14 +16,14 @@ tiles_held bytes s =
     let l = s.held.laid_out in
     record { filled = l.heap.filled; headers = l.heap.headers; apart = l.heap.apart; ownable = l.blocks; of_version = tags_of_version bytes s }
 
--- the table of an image whose front is right is its picture's table
+-- an image whose header and types are right has the types of its picture
 pub front_table : (bytes : List ℕ) (table : Table) (s : IsSound bytes) → HasFront bytes table → s.picture.table ≡ table
 front_table bytes table s f = HasTable-one bytes 64 s.picture.table table s.held.laid_out.is_table f.is_table s.held.laid_out.types f.types
 
 no_tiles : (bytes : List ℕ) → LacksTiles bytes → IsSound bytes → ⊥
 no_tiles bytes l s = l.2 (subst (HasTiles bytes) (front_table bytes l.0 s l.1) (tiles_held bytes s))
 
--- a table in order has no first wrong entry
+-- a valid table has no entry that is wrong
 pub right_types : (bytes : List ℕ) (table : Table) (k : ℕ) → HasFront bytes table → LacksType bytes k → ⊥
 right_types bytes table k f l =
     let h = f.header in

@@ -6,9 +6,9 @@ use Rattle.seg_spec.specs.Heap.{Tile, span_of, tiles, Fill, live_of, live, heap_
 use Rattle.seg_spec.specs.Sound.{times}
 use Rattle.seg_spec.proofs.LiveLaws.{times-append, times-same, times-other}
 
--- ---- a list is no longer than one with each element as often
+-- ---- lists that contain each block at least as often are at least as long
 
--- a list around a block that is in it
+-- the parts of a list before and after a block
 pub record SplitAt (h : ℕ) (ys : List ℕ) : Type 0 where
   pub left : List ℕ
   pub right : List ℕ
@@ -38,7 +38,7 @@ few_in (t ∷ ts) from to f =
     let two = f.1 in
     elim t.live as (λ b. from + 32 * length (cond b (span_of t ∷ live_of ts) (live_of ts)) ≤ to) [ true ↦ omega arith | false ↦ omega arith ]
 
--- each allocated block has 2 units at least
+-- each allocated block has at least 2 units
 pub few_live : (allocator : ℕ) (bytes : List ℕ) → IsHeap allocator bytes → heap_start + 32 * length (live bytes) ≤ length bytes
 unfolding live
 few_live allocator bytes heap = few_in (tiles bytes) heap_start (length bytes) heap.filled

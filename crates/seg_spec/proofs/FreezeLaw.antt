@@ -1,5 +1,5 @@
--- An object was frozen, and a cell points to it: the cell, the allocated blocks, and the values of
--- the frozen objects.
+-- An object was frozen, and then a cell was made to point to it: the cell, the allocated blocks,
+-- and the values of the frozen objects.
 use Rattle.std.proofs.Common.{◌≡◌, ◌≢◌, ℕ, List, [], ◌∷◌, ◌++◌, map, ◌∙◌, ap, arith}
 use Rattle.std.specs.List.{AllByRecursion}
 use Rattle.seg_spec.specs.Bytes.{word}
@@ -31,7 +31,7 @@ module _ {allocator : ℕ} {old new : List ℕ} {table : Table} {cell : Place} {
   freezes_roots = roots_held new table theirs_then frozen_then c.holds
 
   module _ (hold : HoldFrozen old table theirs now) (owned : AreLive old (blocks_by theirs now)) where
-    -- none of them is in the new block
+    -- no other object is in the new block
     pub others_elsewhere : AllByRecursion (λ (f : Frozen). f.at ≢ c.payload) (left names now)
     others_elsewhere = left_each (λ at. at ≢ c.payload) names now (not_there old table theirs c.payload now (omega (arith, owned (block_of c.payload), c.was_free)) hold)
 

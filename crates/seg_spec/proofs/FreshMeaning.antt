@@ -1,5 +1,5 @@
--- References keep their meaning if frozen objects are freed, if more cells point to those that
--- stay, and if an object is added before the others.
+-- References keep their meaning if frozen objects are freed, if more cells point to the remaining
+-- ones, and if an object is added before the others.
 use Rattle.std.proofs.Common.{◌≡◌, ◌≢◌, ℕ, zero, suc, ◌+◌, ◌-◌, ◌<◌, inl, inr, Bool, true, false, List, [], ◌∷◌, ◌++◌, Some, refl, sym, ◌∙◌, ap, subst, arith}
 use Rattle.std.specs.Prelude.{◌==◌, if◌then◌else◌}
 use Rattle.std.specs.List.{AllByRecursion}
@@ -12,7 +12,7 @@ use Rattle.seg_spec.proofs.SharedLaws.{below_elsewhere, NamesLater, names_later,
 use Rattle.seg_spec.proofs.Sharing.{distinct_raised}
 use Rattle.seg_spec.proofs.Unfolding.{same_tree, found_here, found_after, deep_enough, means_among, means_the_same}
 
--- each object points to lower numbers only
+-- each object points only to objects with lower numbers
 abbrev NameLower : List Frozen → Type 0
 NameLower fs = AllByRecursion (λ (f : Frozen). AllByRecursion (IsBelow f.number fs) (names_in f.value)) fs
 
@@ -49,7 +49,7 @@ below_raised_by : (n : ℕ) (names : List Place) (fs : List Frozen) (q : Place) 
 below_raised_by n [] fs q h = h
 below_raised_by n (r ∷ names) fs q h = below_raised_by n names fs q (below_raised_one n r.at (raised_by names fs) q h)
 
--- ---- cells more
+-- ---- more cells
 
 distinct_raised_by : (names : List Place) (fs : List Frozen) → AreDistinct fs → AreDistinct (raised_by names fs)
 distinct_raised_by [] fs d = d
@@ -75,7 +75,7 @@ meaning_raised names fs (suc n) at =
     ap (owner_by (λ v. replaced (meaning n (raised_by names fs)) v)) (value_raised_by names fs at)
     ∙ (λ i. owner_by (λ v. replaced (λ p. meaning_raised names fs n p i) v) (value_at_position fs at))
 
--- ---- objects that stay
+-- ---- objects that remain
 
 module _ (next : ℕ) (fs : List Frozen) {cells : List Place} (c : IsCounted next fs cells) where
   pub all_mean : (n : ℕ) (q : Place) → IsBelow n fs q → meaning next fs q.at ≡ meaning n fs q.at
@@ -83,7 +83,7 @@ module _ (next : ℕ) (fs : List Frozen) {cells : List Place} (c : IsCounted nex
       let deep = deep_enough fs c.distinct c.falling in
       deep next (n + next) q (omega arith) (below_weaker n next fs q c.numbered b) ∙ sym (deep n (n + next) q (omega arith) b)
 
-  -- a reference to an object that stays keeps its meaning
+  -- a reference to an object that remains keeps its meaning
   pub left_means : (names gone : List Place) (gs : List Frozen) → gs ≡ left gone (raised_by names fs) → AreDistinct gs → NameLower gs → (n : ℕ) (q : Place) → IsBelow n gs q → meaning next fs q.at ≡ meaning n gs q.at
   left_means names gone gs is d l n q b = subst (λ hs. AreDistinct hs → NameLower hs → IsBelow n hs q → meaning next fs q.at ≡ meaning n hs q.at) (sym is) go d l b
     where
@@ -95,7 +95,7 @@ module _ (next : ℕ) (fs : List Frozen) {cells : List Place} (c : IsCounted nex
           all_mean n q (below_raised_by n names fs q (below_before n gone more q below))
           ∙ sym (means_the_same gone more (distinct_raised_by names fs c.distinct) distinct lower n q below ∙ meaning_raised names fs n q.at)
 
-  -- ---- an object in front of those that stay
+  -- ---- an object before the ones that remain
 
   module _ (f : Frozen) (gone : List Place) (gs : List Frozen) (is : gs ≡ f ∷ left gone fs) (distinct : AreDistinct gs) (falling : IsFalling gs) (lower : NameLower gs) where
     abbrev stay : List Frozen
@@ -124,7 +124,7 @@ module _ (next : ℕ) (fs : List Frozen) {cells : List Place} (c : IsCounted nex
         go (inl h) = absurd (other (sym h.0))
         go (inr h) = stays n q h
 
-    -- and a reference to that object means its value
+    -- a reference to the new object means the object's value
     pub first_means : meaning (suc f.number) gs f.at ≡ Full (replaced (meaning next fs) f.value)
     unfolding meaning NamesLater
     first_means =

@@ -14,14 +14,14 @@ use Rattle.seg_spec.proofs.LiveLaws.{times-append, there, each_there, LiesIn, li
 use Rattle.seg_spec.proofs.Composing.{around_twice, around_kept}
 use Rattle.seg_spec.proofs.RootFrame.{HoldsRoot-kept}
 
--- how often a block is one of these objects
+-- the blocks of two lists of objects are counted separately
 pub times_by : (theirs : ℕ → List ℕ) (fs gs : List Frozen) (h : ℕ) → times h (blocks_by theirs (fs ++ gs)) ≡ times h (blocks_by theirs fs) + times h (blocks_by theirs gs)
 times_by theirs [] gs h = omega arith
 times_by theirs (f ∷ fs) gs h =
     let rest = times_by theirs fs gs h in
     omega (arith, times-append h (theirs f.at) (blocks_by theirs (fs ++ gs)), times-append h (theirs f.at) (blocks_by theirs fs))
 
--- if all of their blocks are kept
+-- the objects keep their values if their blocks are kept
 pub hold_kept : (old new : List ℕ) (table : Table) → IsTable table → (theirs : ℕ → List ℕ) (fs : List Frozen) → ((h : ℕ) → 1 ≤ times h (blocks_by theirs fs) → KeepsBlock old new h)
     → HoldFrozen old table theirs fs → HoldFrozen new table theirs fs
 hold_kept old new table valid theirs [] kept hold = tt
@@ -30,7 +30,7 @@ hold_kept old new table valid theirs (f ∷ fs) kept hold = (
   hold_kept old new table valid theirs fs (λ h some. kept h (omega (arith, times-append h (theirs f.at) (blocks_by theirs fs)))) hold.1,
 )
 
--- ---- their blocks are kept, but for the counts
+-- ---- the objects' blocks are kept, except for the counts
 
 pub frozen_twice : (a b c : List ℕ) (theirs : ℕ → List ℕ) (fs : List Frozen) → KeepFrozen a b theirs fs → KeepFrozen b c theirs fs → KeepFrozen a c theirs fs
 frozen_twice a b c theirs [] j k = tt
@@ -40,7 +40,7 @@ frozen_twice a b c theirs (f ∷ fs) j k = (one (theirs f.at) j.0 k.0, frozen_tw
     one [] j k = tt
     one (h ∷ hs) j k = (around_twice a b c f.at 4 h j.0 k.0, one hs j.1 k.1)
 
--- if all of their blocks are kept, and were allocated before
+-- the blocks of the objects were allocated and are kept
 module _ (allocator : ℕ) (old new : List ℕ) (heap : IsHeap allocator old) (theirs : ℕ → List ℕ) where
   pub frozen_kept : (fs : List Frozen) → ((h : ℕ) → 1 ≤ times h (blocks_by theirs fs) → 1 ≤ times h (positions (live old))) → ((h : ℕ) → 1 ≤ times h (blocks_by theirs fs) → KeepsBlock old new h)
       → KeepFrozen old new theirs fs
@@ -53,9 +53,9 @@ module _ (allocator : ℕ) (old new : List ℕ) (heap : IsHeap allocator old) (t
     frozen_kept fs (λ h some. lives h (omega (arith, times-append h (theirs f.at) (blocks_by theirs fs)))) (λ h some. kept h (omega (arith, times-append h (theirs f.at) (blocks_by theirs fs)))),
   )
 
--- ---- those that stay
+-- ---- the objects that remain
 
--- what is true of the position of each object is true of those that stay
+-- a fact about the position of each object is a fact about the objects that remain
 pub left_each : (Q : ℕ → Type 0) (gone : List Place) (fs : List Frozen) → AllByRecursion (λ f. Q f.at) fs → AllByRecursion (λ f. Q f.at) (left gone fs)
 left_each Q gone [] a = tt
 left_each Q gone (f ∷ fs) a = go (f.count - times_named f.at gone) (left_each Q (gone ++ names_in f.value) fs a.1) (left_each Q gone fs a.1)

@@ -1,4 +1,4 @@
--- What is kept, and which blocks wait, after a block is freed.
+-- The blocks that are kept, and the blocks that wait, after a block is freed.
 use Rattle.std.proofs.Common.{◌≡◌, ◌≢◌, ℕ, zero, suc, ◌+◌, ◌-◌, ◌*◌, ◌≤◌, ◌<◌, ◌⊎◌, inl, inr, true, false, List, [], ◌∷◌, length, Option, eqb, refl, sym, ap, ◌∙◌, subst, arith, min}
 use Rattle.std.specs.Prelude.{Contains, slice_index_or}
 use Rattle.std.proofs.lemmas.Bool.Decides.{nat_tests}
@@ -17,7 +17,7 @@ use Rattle.seg_spec.proofs.KeptLaws.{each_contained, StatesSpan, live_stated, bl
 use Rattle.seg_spec.specs.Owing.{KeepsLinked}
 use Rattle.seg_spec.proofs.Owed.{Waits-kept}
 
--- the block at a position
+-- the block at a position of the list
 pub record Found (k : ℕ) (bs : List Span) : Type 0 where
   pub block : Span
   pub among : Contains bs block
@@ -49,14 +49,14 @@ still_among at (c ∷ cs) b h ne = go (λ k. still_among at cs b k ne) h.0 h.1 h
     go rest (suc i) l e (inl same) = let on : eqb c.at at ≡ true = grind (arith, nat_tests) in rw on (i, omega arith, e)
     go rest (suc i) l e (inr other) = let off : eqb c.at at ≡ false = grind (arith, nat_tests) in rw off (more_among c b (without at cs) (rest (i, omega arith, e)))
 
--- after several were freed
+-- a block that isn't freed is still allocated
 still_given : (gives : List ℕ) (bs : List Span) (b : Span) → Contains bs b → times b.at gives ≡ 0 → Contains (after_gives bs gives) b
 still_given [] bs b h none = h
 still_given (x ∷ xs) bs b h none =
     let other = (not_there b.at (x ∷ xs) none).0 in
     still_given xs (without x bs) b (still_among x bs b h (λ e. other (sym e))) (omega (arith, none, times-more b.at x xs))
 
--- a block that is kept and stays allocated keeps its size, and between calls its link
+-- a block that is kept and stays allocated keeps its size and its link
 pub kept_linked : (allocator : ℕ) (old new : List ℕ) (table : Table) → IsHeap allocator old → IsHeap allocator new → (gives : List ℕ) → live new ≡ after_gives (live old) gives → (h : ℕ) → 1 ≤ times h (positions (live old))
     → times h gives ≡ 0 → IsOwnable old table h → IsOwnable new table h → KeepsBlock old new h → KeepsLinked old new h
 kept_linked allocator old new table heap heap_then gives live_is h some none was is k =
@@ -71,7 +71,7 @@ kept_linked allocator old new table heap heap_then gives live_is h some none was
     }
 
 module _ (allocator : ℕ) (old new : List ℕ) (at : ℕ) (heap : IsHeap allocator old) (g : Gives allocator old new at) where
-  -- every other allocated block is kept, with its size, tag and link
+  -- all other allocated blocks are kept, with their sizes, tags and links
   pub given_kept : (k : ℕ) → 1 ≤ times k (positions (live old)) → k ≢ at → KeepsLinked old new k
   given_kept k some ne =
       let f = found k (live old) some in
@@ -91,6 +91,6 @@ module _ (allocator : ℕ) (old new : List ℕ) (at : ℕ) (heap : IsHeap alloca
       } in
       subst (λ h. KeepsLinked old new h) b_at r
 
-  -- the waiting blocks keep waiting if the block isn't one of them
+  -- the same blocks wait if the freed block isn't one of them
   pub waits_then : (table : Table) → IsTable table → {first : Option ℕ} (ys ms : List ℕ) → ((h : ℕ) → 1 ≤ times h ys → (1 ≤ times h (positions (live old))) × (h ≢ at)) → Waits old table first ys ms → Waits new table first ys ms
   waits_then table valid ys ms apart w = Waits-kept old new table valid (each_there (KeepsLinked old new) ys (λ h some. let a = apart h some in given_kept h a.0 a.1)) w

@@ -24,7 +24,7 @@ module _ (old new : List ℕ) (h : ℕ) (changes : ChangesOnly old new (h + 8) 8
   the_block : LiesIn old heap_start (length old) h
   the_block = there _ h (positions (live old)) (live-lie old allocator heap) owned
 
-  -- the first 8 bytes of each header are kept, and all 32 of a free tile
+  -- the first 8 bytes of each header are kept
   front_same : (t : Tile) → Spot old h t → (d m : ℕ) → d + m ≤ 8 → IsSame old new (t.at + d) m
   front_same t s d m fits = changes.others (t.at + d) m (go s.one_or_apart)
     where
@@ -89,7 +89,7 @@ module _ (old new : List ℕ) (h : ℕ) (changes : ChangesOnly old new (h + 8) 8
     small = rw changes.length_kept heap.small;
   }
 
-  -- every other allocated block is kept with its tag and link, and this one with its payload
+  -- all other allocated blocks are kept with their tags and links, and this block's payload is kept
   pub labelled_other : (k : ℕ) → 1 ≤ times k (positions (live old)) → k ≢ h → KeepsLinked old new k
   labelled_other k some other =
       let l = there _ k (positions (live old)) (live-lie old allocator heap) some in

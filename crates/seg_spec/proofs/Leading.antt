@@ -1,5 +1,5 @@
 -- If a place and the blocks that it owns are kept, each path from it still reaches the same place.
--- Which path reaches a part.
+-- Then the paths that reach a part.
 use Rattle.std.proofs.Common.{◌≡◌, ℕ, zero, suc, ◌<◌, ◌⊎◌, inl, inr, true, false, ℤ, pos, negsuc, List, [], ◌∷◌, ◌++◌, length, Some, refl, sym, ap, ◌∙◌, subst, ltb, arith}
 use Rattle.std.specs.Prelude.{slice_get, get_or, not, ◌&&◌, nat_lt}
 use Rattle.std.specs.List.{AllByRecursion}
@@ -33,7 +33,7 @@ module _ (old new : List ℕ) (table : Table) (valid : IsTable table) where
       into form opened i part f stays.opens index part_is
       (Leads-kept rest m.holds_it (each_at (SamePlace old new table) opened.parts i part stays.parts part_is) (each_left _ m.zs m.ys (each_right _ m.xs (m.zs ++ m.ys) inside)))
 
-  -- the same from one of several places
+  -- the same for several places
   pub Leads-each : {places : List Place} {vs : Values} {blocks : List ℕ} {inner : Place} {path : List Selector} (part : Place) (i : ℕ) → HoldsEach old table places vs blocks → slice_get places i ≡ Some part
       → AllByRecursion (SamePlace old new table) places → AllByRecursion (KeepsBlock old new) blocks → Leads old table part path inner → Leads new table part path inner
   Leads-each {places = places} part i h e same kept l =
@@ -66,7 +66,7 @@ same_key keys a b i e f =
     let q = position-Some (same_int b) keys i (pos 0) f in
     same_int_is a (get_or keys i (pos 0)) p.1 ∙ sym (same_int_is b (get_or keys i (pos 0)) q.1)
 
--- one selector selects a part
+-- only one selector selects a part
 pub same_selector : (label : Label) (s t : Selector) (i : ℕ) → index_of label s ≡ Some i → index_of label t ≡ Some i → s ≡ t
 same_selector Label.seq (Selector.item a) (Selector.item b) i e f = let g : a ≡ b = cc in ap Selector.item g
 same_selector Label.struct (Selector.field a) (Selector.field b) i e f = let g : a ≡ b = cc in ap Selector.field g
@@ -74,7 +74,7 @@ same_selector (Label.map keys) (Selector.key a) (Selector.key b) i e f = ap Sele
 same_selector Label.opt Selector.content Selector.content i e f = refl
 same_selector label s t i e f = cc
 
--- an element of a list is one before another, that one, or one after it
+-- an item of a list is before an item, after it, or is this item
 pub placed_beside : {X : Type 0} (before : List X) (x : X) (after : List X) (i : ℕ) (y : X) → slice_get (before ++ x ∷ after) i ≡ Some y
     → (slice_get before i ≡ Some y) ⊎ (((i ≡ length before) × (y ≡ x)) ⊎ ((k : ℕ) × (slice_get after k ≡ Some y)))
 placed_beside [] x after zero y e = inr (inl (refl, let f : x ≡ y = cc in sym f))

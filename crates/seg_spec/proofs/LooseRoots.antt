@@ -16,8 +16,8 @@ pub each_joined : {X : Type 0} (Q : X → Type 0) (xs ys : List X) → AllByRecu
 each_joined Q [] ys a b = b
 each_joined Q (x ∷ xs) ys a b = (a.0, each_joined Q xs ys a.1 b)
 
--- the new bytes have a heap in order, in which these allocated blocks were given up and others
--- taken on
+-- The new heap is well-formed. From the allocated blocks `its` were removed, and `theirs` were added.
+-- The other blocks are kept.
 pub record Trades (old new : List ℕ) (picture : Picture) (its theirs : List ℕ) : Type 0 where
   pub length_kept : length new ≡ length old
   pub front_kept : KeepsFront old new
@@ -27,7 +27,7 @@ pub record Trades (old new : List ℕ) (picture : Picture) (its theirs : List �
   pub kept : (h : ℕ) → 1 ≤ times h (positions (live old)) → times h its ≡ 0 → KeepsBlock old new h
   pub counts : (h : ℕ) → times h (positions (live new)) + times h its ≡ times h (positions (live old)) + times h theirs
 
--- the loose objects are among the plain ones
+-- loose objects are plain
 plain_loose : (us ls : List Root) → AllByRecursion IsPlain (us ++ ls) → AllByRecursion IsPlain ls
 plain_loose us ls a = each_right IsPlain us ls a
 
@@ -35,7 +35,7 @@ module _ (old new : List ℕ) (picture : Picture) (held : IsHeld old picture) (b
   pub apart : RootsComeApart old picture held (roots_before picture loose before) gone (roots_after picture loose after)
   apart = roots_come_apart old picture held (roots_before picture loose before) gone (roots_after picture loose after) (roots_are picture loose before gone after split)
 
-  -- the blocks of the removed ones
+  -- the blocks of the removed objects
   pub its : List ℕ
   its = apart.its
 
@@ -43,7 +43,7 @@ module _ (old new : List ℕ) (picture : Picture) (held : IsHeld old picture) (b
   unfolding its
   holds_its = apart.holds_them
 
-  -- they are allocated, each once
+  -- these blocks are allocated, each once
   all_counts : (h : ℕ) → times h (positions (live old)) ≡ times h held.index_blocks + times h apart.left + times h its + times h apart.right
   unfolding its
   all_counts h =

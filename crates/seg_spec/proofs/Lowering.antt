@@ -1,5 +1,5 @@
--- A cell is released: its object counts one cell fewer, or is freed, and its own cells are
--- released.
+-- A cell is released. Its object counts one cell fewer, or is freed, and then the object's own
+-- cells are released.
 use Rattle.std.proofs.Common.{◌≡◌, ◌≢◌, ℕ, ◌-◌, ◌≤◌, ◌⊎◌, inl, inr, true, false, List, [], ◌∷◌, ◌++◌, map, eqb, refl, sym, ap, ◌∙◌, subst, arith}
 use Rattle.std.specs.List.{AllByRecursion}
 use Rattle.std.proofs.lemmas.Bool.{cases_eq}
@@ -20,7 +20,7 @@ use Rattle.seg_spec.proofs.Releasing.{left_same, everywhere, turn_same, counted_
 abbrev pub positions_of : List Place → List ℕ
 positions_of qs = map (λ q. q.at) qs
 
--- what a value points to, by positions
+-- the positions of a value's targets
 mutual
   unfolding names_in named_in
 
@@ -37,7 +37,7 @@ mutual
   each_positions nil = refl
   each_positions (cons v vs) = map-append (λ (q : Place). q.at) (names_in v) (names_each vs) ∙ ap (λ ps. ps ++ positions_of (names_each vs)) (named_positions v) ∙ ap (λ ps. named_in v ++ ps) (each_positions vs)
 
--- ---- a target among others
+-- ---- a target in a list
 
 pub record Picked (p : ℕ) (qs : List Place) : Type 0 where
   pub before : List Place
@@ -56,7 +56,7 @@ picked p (q ∷ qs) some = go (cases_eq q.at p) (λ later. picked p qs later)
         let r = pick (omega (arith, some, times-other p q.at (positions_of qs) ne)) in
         record { before = q ∷ r.before; name = r.name; after = r.after; are = ap (λ xs. q ∷ xs) r.are; at_is = r.at_is }
 
--- ---- the object that it points to
+-- ---- the object of the target
 
 pub record Named (p : ℕ) (now : List Frozen) : Type 0 where
   pub before : List Frozen
@@ -91,7 +91,7 @@ named n p (f ∷ fs) q e d s b = go (cases_eq f.at p) b (λ later. named n p fs 
           let_go_is = rw test r.let_go_is;
         }
 
--- ---- after the turn
+-- ---- after the step
 
 pub record Turned (kept : List Place) (final : List Frozen) (p : ℕ) (names : List ℕ) (now : List Frozen) : Type 0 where
   pub it : Named p now

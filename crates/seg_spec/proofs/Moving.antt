@@ -1,4 +1,4 @@
--- A value that moves with its cells, which keep their targets, stays the same value.
+-- A value that is moved with its cells stays the same value, since the cells keep their targets.
 use Rattle.std.proofs.Common.{◌≡◌, ℕ, ◌+◌, ◌*◌, List, [], ◌∷◌, ◌++◌, map, Option, Some, get_or, refl, sym, ap, ◌∙◌, subst, arith, add-zero, add_assoc}
 use Rattle.std.proofs.Math.Nat.{mul-one}
 use Rattle.std.specs.List.{AllByRecursion}
@@ -13,9 +13,9 @@ use Rattle.seg_spec.specs.Cells.{EachCell, IsMoved}
 use Rattle.seg_spec.proofs.Frame.{SamePlace, each_left, each_right, each_of_map, each_map, each_weaker, buffer-same, buffer-kept, spaced-same, nodes-same, nodes-kept, IsRing-same, IsTree-same, keys_at-same, places-same, inner-same, shorter, further, HoldsEach-kept}
 use Rattle.seg_spec.proofs.CellLaws.{cells-form}
 
--- ---- the cells of a struct are its fields' cells
+-- ---- the cells of a struct are the cells of its fields
 
--- of each cell of fields that are one after the other
+-- P is true of each cell of fields in a row
 abbrev pub EachField : Table → ℕ → List ℕ → (ℕ → Option Form → Type 0) → Type 0
 EachField table n [] P = Unit {0}
 EachField table n (U ∷ Us) P = EachCell table U (λ d form. P (n + d) form) × EachField table (n + size table U) Us P
@@ -50,7 +50,8 @@ module _ (table : Table) (valid : IsTable table) (P : ℕ → Option Form → Ty
 -- ---- one cell
 
 module _ (old new : List ℕ) (table : Table) (valid : IsTable table) where
-  -- a step into the moved place, if the blocks to which its cell points are kept
+  -- a step of reading has the same result at the new position, if the blocks to which the cell
+  -- points are kept
   pub record Opens_there (place : Place) (to : ℕ) (form : Form) (opened : Opened) : Type 0 where
     pub opens : Opens new table (record { at = to; type = place.type }) form opened
     pub parts : AllByRecursion (SamePlace old new table) opened.parts

@@ -1,4 +1,4 @@
--- A block is allocated, gets its tag, and is written inside.
+-- A block is allocated, gets its tag, and then bytes in it are written.
 use Rattle.std.proofs.Common.{◌≡◌, ◌≢◌, ℕ, zero, suc, ◌+◌, ◌-◌, ◌*◌, ◌%◌, ◌^◌, ◌≤◌, ◌<◌, inl, inr, true, false, List, [], ◌∷◌, length, Option, Some, None, MatchOption, option_map, cond, refl, sym, ap, ◌∙◌, subst, arith, min}
 use Rattle.std.specs.Prelude.{Contains, slice_index_or, nat_le, nat_lt}
 use Rattle.std.proofs.lemmas.Bool.Decides.{nat_tests}
@@ -21,7 +21,7 @@ use Rattle.seg_spec.specs.Owing.{KeepsLinked}
 use Rattle.seg_spec.proofs.Labels.{labelled_live, labelled_heap, labelled_other}
 use Rattle.seg_spec.proofs.Giving.{found}
 
--- ---- with one block more
+-- ---- lists of blocks with one block more
 
 front_in : (b : Span) (bs : List Span) → Contains (b ∷ bs) b
 front_in b bs = (0, omega arith, refl)
@@ -45,7 +45,7 @@ old_in b x (c ∷ cs) h =
     kept_in zero l e rest = (0, omega arith, e)
     kept_in (suc i) l e rest = later_in c x (with_block b cs) (rest (i, omega arith, e))
 
--- ---- what was taken
+-- ---- the block that was allocated
 
 pub record Took (allocator : ℕ) (old new : List ℕ) (u h : ℕ) : Type 0 where
   pub units : ℕ
@@ -154,7 +154,7 @@ module _ (allocator u h tag : ℕ) (old taken new : List ℕ) (heap : IsHeap all
       let s = each_contained (StatesSpan taken (length taken)) (live taken) (record { at = h; units = got.units }) (live_stated taken allocator t.heap) there_is in
       omega (arith, got.enough, s.high)
 
-  -- ---- and then written inside
+  -- ---- bytes in the block are written
 
   module _ (at n : ℕ) (low : h + 16 ≤ at) (high : at + n ≤ h + 16 * u) (changes : ChangesOnly tagged new at n) where
     units_taken : units_at taken h ≡ got.units
@@ -193,7 +193,7 @@ module _ (allocator u h tag : ℕ) (old taken new : List ℕ) (heap : IsHeap all
           link_kept = target-same tagged new (k + 12) (word-same tagged new (k + 12) (b.outside (k + 12) 4 (omega arith) (omega arith)));
         }
 
-    -- every block that was allocated is kept with its link
+    -- all blocks that were allocated before are kept with their links
     pub all_kept : (k : ℕ) → 1 ≤ times k (positions (live old)) → KeepsLinked old new k
     all_kept k some =
         let ne = other_than k some in

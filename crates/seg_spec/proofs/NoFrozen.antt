@@ -1,4 +1,4 @@
--- If no number was given so far, no object is frozen.
+-- If no number was given to an object so far, no object is frozen.
 use Rattle.std.proofs.Common.{◌≡◌, ◌<◌, [], ◌∷◌, List, refl, arith}
 use Rattle.std.specs.List.{AllByRecursion}
 use Rattle.seg_spec.specs.Frozen.{Frozen}

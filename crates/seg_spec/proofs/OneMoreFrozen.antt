@@ -1,4 +1,4 @@
--- The blocks of frozen objects after one more was frozen.
+-- The blocks of frozen objects after another object was frozen.
 use Rattle.std.proofs.Common.{◌≡◌, ◌≢◌, ℕ, ◌-◌, ◌≤◌, true, false, List, [], ◌∷◌, ◌++◌, eqb, refl, sym, ◌∙◌, ap, subst, arith}
 use Rattle.std.specs.List.{AllByRecursion}
 use Rattle.std.proofs.lemmas.Bool.Decides.{nat_tests}
@@ -37,7 +37,7 @@ module _ (p : ℕ) (its : List ℕ) (theirs : ℕ → List ℕ) where
   keep_others old new [] a k = tt
   keep_others old new (f ∷ fs) a k = (subst (AllByRecursion (KeepsBlockAround old new f.at 4)) (with_other f.at a.0) k.0, keep_others old new fs a.1 k.1)
 
--- objects whose blocks are allocated aren't in a block that was free
+-- an object whose blocks were allocated before isn't in the new block
 pub not_there : (bytes : List ℕ) (table : Table) (theirs : ℕ → List ℕ) (p : ℕ) (fs : List Frozen) → times (block_of p) (blocks_by theirs fs) ≡ 0 → HoldFrozen bytes table theirs fs → AllByRecursion (λ (f : Frozen). f.at ≢ p) fs
 not_there bytes table theirs p [] free hold = tt
 not_there bytes table theirs p (f ∷ fs) free hold =
@@ -51,6 +51,6 @@ not_there bytes table theirs p (f ∷ fs) free hold =
         let mine : 1 ≤ times (block_of p) (theirs f.at) = subst (λ x. 1 ≤ times (block_of x) (theirs f.at)) e (omega (arith, own, times-same (block_of f.at) it.inside)) in
         absurd (omega (arith, times-append (block_of p) (theirs f.at) (blocks_by theirs fs)))
 
--- an object to which none of these cells points stays
+-- an object remains if none of the released cells points to it
 pub stays_left : (payload T number : ℕ) (w : Value) (gone : List Place) (fs : List Frozen) → times_named payload gone ≡ 0 → left gone (frozen_now payload T number w ∷ fs) ≡ frozen_now payload T number w ∷ left gone fs
 stays_left payload T number w gone fs none = ap (λ n. kept_with (frozen_now payload T number w) (1 - n) (left (gone ++ names_in w) fs) (left gone fs)) none

@@ -8,7 +8,7 @@ use Rattle.seg_spec.specs.Spending.{spent}
 use Rattle.seg_spec.proofs.LiveLaws.{times-other, times-with_block}
 use Rattle.seg_spec.proofs.Requested.{spent_fresh}
 
--- the block that was granted, and the allocated blocks with it
+-- the granted block, and the allocated blocks including it
 record Grants (allocator : ℕ) (bs after : List Span) (end u : ℕ) : Type 0 where
   at : ℕ
   taken : after_take allocator bs end u ≡ Some (at, after)
@@ -35,7 +35,7 @@ module _ (allocator : ℕ) (bs after : List Span) (end u : ℕ) (e : after_asks 
   pub spent_one : spent allocator bs end (units_for u ∷ []) [] ≡ Some after
   spent_one = spent_fresh allocator bs after end grants.at (units_for u) (rw grants.taken refl)
 
-  -- if it is known which block is new
+  -- the block that wasn't allocated before is the granted block
   module _ (block : ℕ) (was_free : times block (positions bs) ≡ 0) (now_live : times block (positions after) ≡ 1) where
     pub counts_one : (h : ℕ) → times h (positions after) ≡ times h (block ∷ positions bs)
     counts_one h = grants.counts h ∙ ap (λ a. times h (a ∷ positions bs)) (go (cases_eq grants.at block))

@@ -1,4 +1,4 @@
--- Waiting blocks that are kept keep waiting, and one more may be added.
+-- The same blocks wait if they are kept, and one block more may be added.
 use Rattle.std.proofs.Common.{◌≡◌, ℕ, zero, suc, ◌+◌, ◌-◌, ◌*◌, ◌/◌, ◌≤◌, inl, inr, List, ◌++◌, map, Option, Some, None, refl, sym, ◌∙◌, subst, arith}
 use Rattle.std.proofs.Math.Nat.{div-mul-le_self}
 use Rattle.std.specs.List.{AllByRecursion}
@@ -53,7 +53,7 @@ module _ (old new : List ℕ) (table : Table) (valid : IsTable table) where
   whole_payload : (p tag n : ℕ) → KeepsWhole old new (block_of p) → IsBlock old p tag n → IsSame old new p (payload_size old (block_of p))
   whole_payload p tag n k b = let e : p - 16 + 16 ≡ p = omega (arith, b.after_header) in rw e at k.kept.payload
 
-  -- what a block shows, if it is kept
+  -- the values and links of a block that is kept
   pub record Shown (p : ℕ) (kind : Kind) (T : ℕ) (form : Option Form) (values : List Place) (links : List ℕ) : Type 0 where
     pub opens : OpensBlock new table p kind T form values links
     pub values_same : AllByRecursion (SamePlace old new table) values
@@ -124,7 +124,7 @@ module _ (old new : List ℕ) (table : Table) (valid : IsTable table) where
       own_link : (xs ns : List ℕ) → AllByRecursion (KeepsLinked old new) xs → Owes old table p xs ns → KeepsLinked old new (block_of p)
       own_link xs ns mine (owes kind T values links us bs vs ws o parts rest is names_are) = (subst (λ hs. AllByRecursion (KeepsLinked old new) hs) is mine).0
 
-  -- one more block waits before the others
+  -- one block more waits, before the others
   pub push_waits : {p : ℕ} {first : Option ℕ} {xs ys ns ms : List ℕ} → Owes old table p xs ns → Waits old table first ys ms → AllByRecursion (KeepsWhole old new) xs → AllByRecursion (KeepsLinked old new) ys →
       link_at new (block_of p) ≡ first → Waits new table (Some p) (xs ++ ys) (ns ++ ms)
   push_waits {first = first} o w ks ls link = waits first (Owes-kept ks o) link (Waits-kept ls w)

@@ -12,7 +12,7 @@ use Rattle.seg_spec.proofs.Writing.{set_number-changes}
 use Rattle.seg_spec.proofs.CellSteps.{ChangesOnly-trans, ChangesOnly-wider}
 
 module _ (bytes : List ℕ) (table : Table) where
-  -- the target of an own with a value
+  -- an own with a value points to the value's object
   pub record FullOwn (place : Place) (U : ℕ) (v : Value) (blocks : List ℕ) : Type 0 where
     pub object : ℕ
     pub inside : List ℕ
@@ -35,7 +35,7 @@ module _ (bytes : List ℕ) (table : Table) where
   values_of : Value → Values
   values_of (Value.node l vs) = vs
 
-  -- one value inside, in items that begin at a position
+  -- a list of one item, whose place begins at a position
   record OneItem (at U n : ℕ) (v : Value) (owned : List ℕ) : Type 0 where
     n_is : n ≡ 1
     holds_it : Holds bytes table (record { at = at; type = U }) v owned
@@ -90,7 +90,7 @@ module _ (bytes : List ℕ) (table : Table) where
       let o' : Opens bytes table place (Form.own U) opened = subst (λ h. Opens bytes table place h opened) same o in
       empty_by place U opened inside owned o' hs (sym (ap values_of v_is))
 
-  -- an own that points to nothing and counts nothing
+  -- an own with a null pointer and the count 0 is empty
   pub null_own : (place : Place) (U : ℕ) → form_at table place.type ≡ Some (Form.own U) → target bytes place.at ≡ None → count_at bytes place.at ≡ 0 → Holds bytes table place Empty []
   null_own place U f none zero_count = holds {place = place} (Form.own U) (record { label = Label.opt; blocks = []; parts = [] }) nil [] f
       (record { named_room = rw none zero_count; counted = rw (none, zero_count) refl; opened_is = rw (none, zero_count) refl }) holds_none refl refl

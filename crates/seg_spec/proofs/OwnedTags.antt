@@ -1,4 +1,5 @@
--- Blocks that values, names and roots own have the tags of their kinds: a block that is tagged as a frozen object is one.
+-- The blocks of values, names and roots have the tags of their kinds. So a block with the tag of a
+-- frozen object is one.
 use Rattle.std.proofs.Common.{◌≡◌, ◌≢◌, ℕ, zero, suc, ◌*◌, ◌%◌, ◌⊎◌, inl, inr, List, [], ◌∷◌, ◌++◌, map, Option, Some, None, option_to_list, option_map, MatchOption, sym, ap, subst, arith}
 use Rattle.std.specs.List.{AllByRecursion}
 use Rattle.std.proofs.lemmas.Bool.{cases_eq}
@@ -24,7 +25,7 @@ use Rattle.seg_spec.proofs.LooseRoots.{each_joined}
 use Rattle.seg_spec.proofs.NoFrozen.{none_numbered}
 
 module _ (bytes : List ℕ) where
-  -- a block isn't tagged as a frozen object
+  -- the block doesn't have the tag of a frozen object
   abbrev pub IsOther : ℕ → Type 0
   IsOther h = tag_at bytes h % 256 ≢ kind_number Kind.frozen
 
@@ -75,7 +76,7 @@ module _ (bytes : List ℕ) where
       each_other holds_none = tt
       each_other (holds_more {blocks = xs} {owned = ys} h hs) = each_joined IsOther xs ys (owned_other h) (each_other hs)
 
-    -- a root without words before its values is no frozen object
+    -- a root without words before its values isn't a frozen object
     kind_other : (name : List ℕ) (T : ℕ) → tag_of (kind_with [] name) T % 256 ≢ kind_number Kind.frozen
     kind_other [] T e = absurd (omega arith)
     kind_other (b ∷ name) T e = absurd (omega arith)
@@ -101,7 +102,7 @@ entries_plain bytes (x ∷ entries) [] e = tt
 entries_plain bytes [] (r ∷ names) e = absurd e
 entries_plain bytes (x ∷ entries) (r ∷ names) e = (e.0.no_words, entries_plain bytes entries names e.1)
 
--- if no object is frozen, no allocated block is tagged as one
+-- if no object is frozen, no allocated block has the tag of a frozen object
 pub none_tagged : (bytes : List ℕ) (picture : Picture) → IsHeld bytes picture → picture.frozen ≡ [] → AllByRecursion (IsOther bytes) (positions (live bytes))
 none_tagged bytes picture held none =
     let l = held.laid_out in
@@ -116,7 +117,7 @@ none_tagged bytes picture held none =
     (subst (AllByRecursion (IsOther bytes)) (sym l.names.blocks_are) (index_other bytes (word bytes index_kind_word) l.names.index l.names.opens))
     (roots_other bytes picture.table all held.roots))
 
--- a sound image has tags of its version
+-- the tags of a sound image are allowed in its version
 pub tags_of_version : (bytes : List ℕ) → IsSound bytes → AllByRecursion (λ (b : Span). IsTagOf (word bytes version_word) (tag_at bytes b.at)) (live bytes)
 tags_of_version bytes s = go (cases_eq (word bytes version_word) sharing_version)
   where

@@ -1,5 +1,5 @@
--- An owner of blocks is destroyed, with the frozen objects that lost their last cell: each other
--- block is kept, and has one owner again.
+-- An owner of blocks is destroyed, with the frozen objects that lost their last cell. Each other
+-- block is kept, and still has one owner.
 use Rattle.std.proofs.Common.{◌≡◌, ℕ, zero, suc, ◌+◌, ◌≤◌, List, [], ◌++◌, map, refl, sym, ap, ◌∙◌, arith}
 use Rattle.std.specs.List.{AllByRecursion}
 use Rattle.std.proofs.lemmas.List.{append_assoc, append-nil}
@@ -68,11 +68,11 @@ laid_out_with bytes picture index_blocks frozen l = record {
   plain = l.plain;
 }
 
--- so is one with fewer of them
+-- a picture with fewer frozen objects is laid out in the same way
 pub laid_out_without : (bytes : List ℕ) (picture : Picture) (index_blocks : List ℕ) (gone : List Place) → IsLaidOut bytes picture index_blocks → IsLaidOut bytes (without_cells gone picture) index_blocks
 laid_out_without bytes picture index_blocks gone l = laid_out_with bytes picture index_blocks (left gone picture.frozen) l
 
--- the roots without one, and with the frozen objects that stay
+-- the owners without the destroyed one, and the frozen objects that remain
 pub owners_left : (other : Picture) (before after : List Root) (gone : List Place) (fs : List Frozen) → owners_in other ≡ before ++ after → other.frozen ≡ fs
     → roots_of (without_cells gone other) ≡ before ++ ([] ++ (after ++ (map root_of_frozen (left gone fs) ++ [])))
 owners_left other before after gone fs split same =
@@ -104,7 +104,7 @@ module _ (old new : List ℕ) (picture : Picture) (held : IsHeld old picture) (b
       (ownable_after (word old allocator_word) old new picture.table b.apart.firsts b.theirs cells picture.frozen held.laid_out.heap held.laid_out.blocks d)
       (kept_all held.index_blocks (λ h. omega (arith, b.counts h)))
 
-  -- the others are there, with the frozen objects that stay
+  -- the image contains the other roots, and the frozen objects that remain
   pub held_without : (other : Picture) → other.table ≡ picture.table → owners_in other ≡ before ++ after → other.frozen ≡ picture.frozen → IsLaidOut new (without_cells cells other) held.index_blocks → IsHeld new (without_cells cells other)
   held_without other same_table split same laid_out =
       b.apart.becomes new (without_cells cells other) [] (map root_of_frozen rest) held.index_blocks [] (blocks_by b.theirs rest) same_table (owners_left other before after cells picture.frozen split same) laid_out

@@ -1,4 +1,4 @@
--- A value inside a place is cleared, with frozen objects that lose their last cell: the place
+-- A value inside a place is cleared, with the frozen objects that lost their last cell. The place
 -- contains the changed value, and everything around it is kept.
 use Rattle.std.proofs.Common.{◌≡◌, ◌≢◌, ℕ, ◌+◌, ◌*◌, ◌%◌, ◌≤◌, inl, inr, ⊎_elim, List, [], ◌∷◌, ◌++◌, length, refl, sym, ap, ◌∙◌, subst, arith}
 use Rattle.std.proofs.lemmas.Bool.{cases_eq}
@@ -106,7 +106,7 @@ module _ (allocator : ℕ) (old : List ℕ) (table : Table) (place : Place) (v :
     unfolding inner_stands
     inner_home = refl
 
-    -- what a call finds that destroys the value
+    -- the state in which the call that destroys the value begins
     pub inner_beside : (theirs : ℕ → List ℕ) (kept : List Place) (now final : List Frozen) → SharedBeside old table (s.home ∷ blocks) (named_in c.value) theirs kept now final
         → SharedBeside old table (block ∷ c.its) (named_in c.value) theirs kept now final
     inner_beside theirs kept now final beside = shared_fewer old table (s.home ∷ blocks) (block ∷ c.its) (named_in c.value) theirs kept now final fewer beside
@@ -172,8 +172,8 @@ module _ (allocator : ℕ) (old : List ℕ) (table : Table) (place : Place) (v :
       place_same = place_around place.at (size table place.type) (omega arith) (omega arith)
           (⊎_elim (λ l. inl (omega (arith, inside.low))) (λ l. inr (omega (arith, inside.high))) (there (λ h. Separate place.at (size table place.type) h (16 * units_at old h)) block rest place_beside mine))
 
-      -- each path from a part apart from the value, also in the same block, still reaches the same
-      -- place
+      -- Each path from a part that doesn't overlap the value still reaches the same place, also if
+      -- the part is in the same block.
       pub beside_paths : (other : Place) (u : Value) (bs : List ℕ) → Holds old table other u bs → IsInside old block other.at (size table other.type)
           → Separate other.at (size table other.type) inner.at (size table inner.type) → ((h : ℕ) → 1 ≤ times h bs → (1 ≤ times h rest) × (h ≢ block)) → KeepsPathsInside old mid table other
       beside_paths other u bs holds_it in_block apart ours path goal way =
@@ -237,7 +237,7 @@ module _ (allocator : ℕ) (old : List ℕ) (table : Table) (place : Place) (v :
             (cases_eq s.home h);
       }
 
-      -- a block that the place doesn't own is kept whole
+      -- a block is kept whole unless the place or a frozen object owned it
       kept_mid : (h : ℕ) → 1 ≤ times h (positions (live old)) → times h (blocks ++ shares) ≡ 0 → KeepsBlock old mid h
       kept_mid h some none =
           let both = times-append h blocks shares in
@@ -256,7 +256,7 @@ module _ (allocator : ℕ) (old : List ℕ) (table : Table) (place : Place) (v :
           go (inr (inl before)) = inr (omega (arith, inside.high))
           go (inr (inr following)) = let l = lies h some in inl (omega (arith, inside.low, l.size))
 
-      -- the blocks of the frozen objects that stay
+      -- the blocks of the remaining frozen objects
       left_mid : (h : ℕ) → 1 ≤ times h left → (1 ≤ times h (positions (live mid))) × (times h rest ≡ 0) × (h ≢ s.home)
       left_mid h some = (
         omega (arith, live_mid h, stays h, gone h, all_fit h, counts h),
@@ -264,7 +264,7 @@ module _ (allocator : ℕ) (old : List ℕ) (table : Table) (place : Place) (v :
         λ e. let z : times s.home left ≡ times h left = ap (λ x. times x left) (sym e) in absurd (omega (arith, home_stays, stays s.home)),
       )
 
-      -- then the place gets another value, with the other blocks
+      -- a second call gives the place another value, which owns the remaining blocks
       module _ (new : List ℕ) (u : Value) (last : ChangesPlace mid new table place u rest (live mid) rest rest) where
         left_kept : (h : ℕ) → 1 ≤ times h left → KeepsBlock mid new h
         left_kept h some =

@@ -1,4 +1,4 @@
--- The values in a block or in a struct, added one after the other to the waiting blocks.
+-- The values in a block or in a struct are added to the waiting blocks, one after the other.
 use Rattle.std.proofs.Common.{◌≡◌, ℕ, zero, suc, ◌+◌, ◌-◌, ◌*◌, ◌%◌, ◌^◌, ◌<◌, ◌≤◌, inl, inr, List, [], ◌∷◌, ◌++◌, length, map, drop, Option, Some, None, refl, sym, ap, ◌∙◌, subst, arith, add-zero, add_assoc, ◌≢◌}
 use Rattle.std.specs.Prelude.{slice_get}
 use Rattle.std.specs.List.{AllByRecursion}
@@ -19,7 +19,7 @@ use Rattle.seg_spec.proofs.Destruction.{places_inside, parts_then, same_adds, ad
 use Rattle.seg_spec.specs.Shared.{named_in, named_each}
 use Rattle.seg_spec.specs.Frozen.{Frozen}
 
--- ---- what a value consists of
+-- ---- the parts of a value
 
 pub each_parts : (bytes : List ℕ) (table : Table) {places : List Place} {vs : Values} {owned : List ℕ} → HoldsEach bytes table places vs owned → AreParts bytes table places owned (named_each vs)
 unfolding named_each
@@ -35,7 +35,7 @@ parts_append bytes table {qs = qs} {ys = ys} {ms = ms} (more_parts {place = plac
     append_is : (xs ys zs : List ℕ) → (xs ++ ys) ++ zs ≡ xs ++ (ys ++ zs)
     append_is xs ys zs = Rattle.std.proofs.Common.append_assoc xs ys zs
 
--- what a value points to that isn't a shared cell: what the values inside name
+-- the targets of a value that isn't a shared cell are the targets of the values inside
 pub named_inside : (label : Label) (vs : Values) → ((T q : ℕ) → label ≢ Label.shared T q) → named_in (node label vs) ≡ named_each vs
 unfolding named_in
 named_inside (Label.int k) vs other = refl
@@ -124,7 +124,7 @@ fields_inside bytes table valid home place Us f i =
     each_weaker (InFields table place.at (Rattle.std.proofs.Common.sum_by (size table) Us)) (λ q. IsInside bytes home q.at (size table q.type))
     (λ q l. record { low = omega (arith, i.low, l.low); high = omega (arith, i.high, l.high, total) }) (fields table place.at Us) (fields_in table place.at Us)
 
--- the entries from one on
+-- the entries from index i on are entry i and those from i + 1 on
 pub entry_next : (table : Table) (start before U i n : ℕ) → i < n →
     entries_at table (start + i * (before + size table U)) before U (n - i) ≡ record { at = start + i * (before + size table U) + before; type = U } ∷ entries_at table (start + (i + 1) * (before + size table U)) before U (n - (i + 1))
 entry_next table start before U i n less =
@@ -142,10 +142,10 @@ entries_inside bytes table home start before U (suc n) i =
     let high = i.high in
     (record { low = omega arith; high = omega arith }, entries_inside bytes table home (start + each) before U n (record { low = omega arith; high = omega arith }))
 
--- ---- parts that are added one after the other
+-- ---- parts that are added, one after the other
 
--- the state so far: xs are what the parts own; ys were freed with waiting blocks before, or belong
--- to frozen objects
+-- The state after some parts were added: xs are the blocks that the parts own. The blocks ys were
+-- already freed with waiting blocks, or belong to frozen objects.
 pub record Joined (allocator : ℕ) (old new : List ℕ) (table : Table) (first : Option ℕ) (home : ℕ) (places : List Place) (xs ys more : List ℕ) (kept : List Place) (theirs : ℕ → List ℕ) (final : List Frozen) : Type 0 where
   pub done : List ℕ
   pub rest : List ℕ
@@ -179,7 +179,7 @@ module _ (allocator : ℕ) (old : List ℕ) (table : Table) (valid : IsTable tab
       no_rest b bs vs no_parts = (refl, refl)
 
   module _ (now new : List ℕ) (first next : Option ℕ) (place : Place) (later : List Place) where
-    -- one more part
+    -- one part more was added
     pub joined_more : Joined allocator old now table first home (place ∷ later) xs ys more kept theirs final →
         ((its others ns names : List ℕ) → IsPart now table place its ns → IsInside now home place.at (size table place.type) → Awaits allocator now table first others (ns ++ names) kept theirs final
         → AreLive now (home ∷ (its ++ others)) → Adds allocator now new table next its others names kept theirs final) →

@@ -1,4 +1,4 @@
--- Paths that continue after a place, and those after its buffer was cut.
+-- Paths that continue after a place, and paths after the place's buffer was cut.
 use Rattle.std.proofs.Common.{◌≡◌, ℕ, ◌<◌, ◌⊎◌, inl, inr, List, ◌∷◌, ◌++◌, length, Some, sym, ap, ◌∙◌, subst, arith}
 use Rattle.std.proofs.lemmas.List.{length-append}
 use Rattle.std.specs.Prelude.{slice_get}
@@ -15,7 +15,7 @@ use Rattle.seg_spec.proofs.OneReading.{Opens-one}
 use Rattle.seg_spec.proofs.Paths.{Leads-append}
 use Rattle.seg_spec.proofs.RootPaths.{place_paths}
 
--- a path from the part that a selector selects
+-- a selector selects one part only
 same_part : (bytes : List ℕ) (table : Table) (form other_form : Form) (opened other : Opened) (place : Place) (s : Selector) (i k : ℕ) (part other_part : Place) → form ≡ other_form → Opens bytes table place form opened
     → Opens bytes table place other_form other
     → index_of opened.label s ≡ Some i → index_of other.label s ≡ Some k → slice_get opened.parts i ≡ Some part → slice_get other.parts k ≡ Some other_part → other_part ≡ part
@@ -25,7 +25,7 @@ same_part bytes table form other_form opened other place s i k part other_part e
     let b : Some other_part ≡ Some part = sym is' ∙ ap (λ (x : Opened). slice_get x.parts k) (sym same) ∙ ap (slice_get opened.parts) (sym at) ∙ is in
     cc
 
--- a path that continues another one continues from its end
+-- the rest of a longer path begins at the shorter path's end
 pub Leads-after : (bytes : List ℕ) (table : Table) {place inner target : Place} {path more : List Selector} → Leads bytes table place path inner → Leads bytes table place (path ++ more) target → Leads bytes table inner more target
 Leads-after bytes table here l = l
 Leads-after bytes table {place = place} {target = target} {more = more} (into {s = s} {path = path} form opened i part f o index part_is rest) (into other_form other k other_part g p index' other_is l) =

@@ -22,7 +22,7 @@ module _ (allocator : ℕ) (old : List ℕ) (table : Table) (place : Place) (v :
   pub home_live : 1 ≤ times s.home (positions (live old))
   home_live = omega (arith, s.owned s.home, times-same s.home blocks)
 
-  -- a block that the place owns is allocated, and isn't the one that the place lies in
+  -- a block that the place owns is allocated, and isn't the block in which the place lies
   pub owned_live : (h : ℕ) → 1 ≤ times h blocks → 1 ≤ times h (positions (live old))
   owned_live h some = ⊎_elim (λ e. omega (arith, s.owned h, subst (λ x. times h (x ∷ blocks) ≡ 1 + times h blocks) (sym e) (times-same h blocks))) (λ ne. omega (arith, s.owned h, times-other h s.home blocks ne)) (cases_eq s.home h)
 
@@ -75,8 +75,8 @@ module _ (allocator : ℕ) (old : List ℕ) (table : Table) (place : Place) (v :
     pub blocks_then : AllByRecursion (KeepsBlock old new) blocks
     blocks_then = each_there (KeepsBlock old new) blocks (λ h some. whole_then h (owned_live h some) (owned_other h some))
 
-    -- the place contains another value then; some of its blocks may go elsewhere, and all allocated
-    -- blocks are those before
+    -- The place contains another value. It may own other blocks than before, but the allocated
+    -- blocks are the same.
     pub changes_place : (w : Value) (others given : List ℕ) → Holds new table place w others → ChangesPlace old new table place w others (live old) given given
     changes_place w others given h = record {
       length_kept = changes.length_kept;

@@ -8,7 +8,7 @@ use Rattle.seg_spec.specs.Reads.{items, HoldsEach}
 use Rattle.seg_spec.specs.Index.{Root}
 use Rattle.seg_spec.specs.Sound.{kind_with, payload_of, HoldsRoot}
 
--- its block: its values, then its name
+-- the root's block contains its values and then its name
 pub record HoldsPlain (bytes : List ℕ) (table : Table) (root : Root) (blocks : List ℕ) : Type 0 where
   pub block : IsBlock bytes root.at (tag_of (kind_with [] root.name) root.type) (count root.values * size table root.type + length root.name)
   pub name_is : slice bytes (root.at + count root.values * size table root.type) (length root.name) ≡ root.name

@@ -1,4 +1,4 @@
--- One more block waits: a write to its link.
+-- One block more waits: its link is written.
 use Rattle.std.proofs.Common.{◌≡◌, ◌≢◌, ℕ, ◌+◌, ◌-◌, ◌*◌, ◌^◌, ◌%◌, ◌<◌, ◌≤◌, inl, inr, ⊎_elim, List, ◌∷◌, ◌++◌, length, Option, Some, sym, ap, subst, arith}
 use Rattle.std.specs.Prelude.{nat_le}
 use Rattle.std.proofs.lemmas.Bool.{cases_eq}
@@ -38,7 +38,7 @@ module _ (bytes : List ℕ) (table : Table) where
   pub owes_begins : (p : ℕ) (blocks names : List ℕ) → Owes bytes table p blocks names → Begins p blocks
   owes_begins p blocks names (owes kind T values links xs ys ns ms o parts more is names_are) = record { rest = xs ++ ys; blocks_are = is; after_header = shown_low p kind T (form_at table T) values links o }
 
-  -- the first waiting block is freed itself, so its payload is after a header
+  -- the first waiting block is freed too, and its payload begins after a header
   pub waits_begins : (q : ℕ) (first : Option ℕ) (blocks names : List ℕ) → first ≡ Some q → Waits bytes table first blocks names → (16 ≤ q) × (1 ≤ times (block_of q) blocks)
   waits_begins q first blocks names e none_waits = absurd (cc)
   waits_begins q first blocks names e (waits {p = p} {xs = xs} {ys = ys} {ns = ns} next o link more) =
@@ -49,7 +49,7 @@ module _ (bytes : List ℕ) (table : Table) where
       let n3 = times-same (block_of p) b.rest in
       (subst (λ r. 16 ≤ r) same b.after_header, subst (λ r. 1 ≤ times (block_of r) (xs ++ ys)) same (omega arith))
 
--- what pushing leaves
+-- the block was put in front of the waiting ones
 pub record Pushed (allocator : ℕ) (old new : List ℕ) (table : Table) (p : ℕ) (blocks names : List ℕ) : Type 0 where
   pub heap : IsHeap allocator new
   pub live_kept : live new ≡ live old

@@ -1,4 +1,4 @@
--- One cell more points to a frozen object: the object's count is raised in the bytes.
+-- One more cell points to a frozen object, and the object's count is raised in the bytes.
 use Rattle.std.proofs.Common.{◌≡◌, ◌≢◌, ℕ, suc, ◌+◌, ◌≤◌, ⊎_elim, Bool, true, false, List, [], ◌∷◌, ◌++◌, length, cond, eqb, refl, sym, ap, ◌∙◌, subst, arith}
 use Rattle.std.specs.List.{AllByRecursion}
 use Rattle.std.proofs.lemmas.Bool.{cases_eq}
@@ -55,7 +55,7 @@ falling_raised p (f ∷ fs) l = (go (eqb f.at p), falling_raised p fs l.1)
     go true = each f.number fs l.0
     go false = each f.number fs l.0
 
--- a cell that is counted among some may be counted among others
+-- the order in which cells are counted doesn't matter
 pub counted_moved : (next : ℕ) (q : Place) (xs kept : List Place) (fs : List Frozen) → IsCounted next fs (q ∷ (xs ++ kept)) → IsCounted next fs (xs ++ q ∷ kept)
 counted_moved next q xs kept fs c = record {
   distinct = c.distinct;
@@ -104,7 +104,7 @@ module _ (allocator : ℕ) (old : List ℕ) (table : Table) (valid : IsTable tab
   there_is : IsFrozenThere old table k.object mine
   there_is = frozen_there old table k.object mine hold_on.0
 
-  -- the blocks of the objects before and after, and of one at its place between them
+  -- the blocks of the objects before an object, of the object, and of the objects after it
   among : (f : Frozen) → f.at ≡ k.object.at → (h : ℕ) → times h (blocks_by theirs (k.before ++ f ∷ k.after)) ≡ times h lefts + times h mine + times h rights
   among f same h =
       let e : times h (theirs f.at) ≡ times h mine = ap (λ x. times h (theirs x)) same in
@@ -116,7 +116,7 @@ module _ (allocator : ℕ) (old : List ℕ) (table : Table) (valid : IsTable tab
   raised_is : raised q.at now ≡ k.before ++ with_count k.object (suc k.object.count) ∷ k.after
   raised_is = ap (raised q.at) k.are ∙ raised_there q.at k.before k.object k.after k.at_is (subst AreDistinct k.are counted.distinct)
 
-  -- they own the same blocks
+  -- the raised objects own the same blocks
   pub by_raised : (h : ℕ) → times h (blocks_by theirs (raised q.at now)) ≡ times h (blocks_by theirs now)
   by_raised h = ap (λ fs. times h (blocks_by theirs fs)) raised_is ∙ among (with_count k.object (suc k.object.count)) refl h ∙ sym (shares_count h)
 
@@ -161,7 +161,7 @@ module _ (allocator : ℕ) (old : List ℕ) (table : Table) (valid : IsTable tab
     linked : (h : ℕ) → 1 ≤ times h (positions (live old)) → h ≢ block_of k.object.at → KeepsLinked old new h
     linked h some other = beside_it allocator old new table valid k.object (suc k.object.count) mine (lefts ++ rights) heap there_is fits changes_there count_there h some other
 
-    -- a block of another object
+    -- the blocks of the other objects are kept
     others_kept : (h : ℕ) → 1 ≤ times h lefts + times h rights → KeepsBlock old new h
     others_kept h some =
         let o = once h in
@@ -177,7 +177,7 @@ module _ (allocator : ℕ) (old : List ℕ) (table : Table) (valid : IsTable tab
         (hold_kept old new table valid theirs k.before (λ h l. others_kept h (omega (arith, l))) (each_left Holds_it k.before (k.object ∷ k.after) all_hold))
         (it, hold_kept old new table valid theirs k.after (λ h l. others_kept h (omega (arith, l))) hold_on.1))
 
-    -- the objects are kept, but for the count
+    -- the objects are kept, except for the count
     pub kept_raised : KeepFrozen old new theirs (raised q.at now)
     kept_raised =
         let before_it = frozen_kept allocator old new heap theirs k.before (λ h l. omega (arith, l, owned h, shares_count h)) (λ h l. others_kept h (omega (arith, l))) in

@@ -1,5 +1,5 @@
--- A cell that points to a frozen object is released: the object's count in the bytes is lowered,
--- and at 0 it waits to be destroyed.
+-- A cell that points to a frozen object is released. The object's count in the bytes is lowered,
+-- and at 0 the object waits to be destroyed.
 use Rattle.std.proofs.Common.{◌≡◌, ◌≢◌, ℕ, suc, ◌+◌, ◌-◌, ◌*◌, ◌^◌, ◌<◌, ◌≤◌, inl, inr, ⊎_elim, List, [], ◌∷◌, ◌++◌, length, Option, refl, sym, ap, ◌∙◌, subst, arith}
 use Rattle.std.specs.Prelude.{nat_le}
 use Rattle.std.specs.List.{AllByRecursion}
@@ -35,7 +35,7 @@ no_bytes : (bytes : List ℕ) (at : ℕ) → slice bytes at 0 ≡ []
 unfolding slice
 no_bytes bytes at = refl
 
--- an object in bytes
+-- a block of the bytes contains this object
 pub record IsFrozenThere (bytes : List ℕ) (table : Table) (f : Frozen) (blocks : List ℕ) : Type 0 where
   pub block : IsBlock bytes f.at (tag_of Kind.frozen f.type) (8 + size table f.type)
   pub count_is : word bytes f.at ≡ f.count
@@ -76,7 +76,7 @@ module _ (bytes : List ℕ) (table : Table) (f : Frozen) (blocks : List ℕ) whe
         blocks_are = o.blocks_are ∙ ap (λ p. block_of p ∷ o.inside) (sym begins);
       }
 
--- ---- its count is lowered
+-- ---- the object's count is lowered
 
 module _ (allocator : ℕ) (old new : List ℕ) (table : Table) (valid : IsTable table) (f : Frozen) (n : ℕ) (mine others : List ℕ) (heap : IsHeap allocator old) (o : IsFrozenThere old table f mine)
     (owned : AreLive old (mine ++ others)) (changes : ChangesOnly old new f.at 4) (count_is : word new f.at ≡ n) where
@@ -98,7 +98,7 @@ module _ (allocator : ℕ) (old new : List ℕ) (table : Table) (valid : IsTable
   pub lowered_heap : IsHeap allocator new
   lowered_heap = heap_written allocator old new f.at 4 (block_of f.at) heap inside here changes
 
-  -- so the own block is kept, but for the count
+  -- the object's block is kept, except for the count
   pub lowered_around : KeepsBlockAround old new f.at 4 (block_of f.at)
   lowered_around =
       let own_block = block_of f.at in
@@ -114,7 +114,7 @@ module _ (allocator : ℕ) (old new : List ℕ) (table : Table) (valid : IsTable
         payload = λ g m low high apart. changes.others g m apart;
       }
 
-  -- all but the object's own block stays
+  -- all other blocks are kept
   pub beside_it : (h : ℕ) → 1 ≤ times h (positions (live old)) → h ≢ block_of f.at → KeepsLinked old new h
   beside_it h some other = lowered_keeps.others h some (times-other h (block_of f.at) [] (λ e. other (sym e)))
 
@@ -144,7 +144,7 @@ module _ (allocator : ℕ) (old new : List ℕ) (table : Table) (valid : IsTable
     blocks_are = o.blocks_are;
   }
 
-  -- it shows what is freed with it
+  -- the object's block shows what is freed with it
   pub lowered_goes : GoesWith new table f.at mine (named_in f.value)
   lowered_goes = record {
     owed = block_of f.at ∷ ((o.inside ++ []) ++ []);
@@ -174,7 +174,7 @@ module _ (allocator : ℕ) (old : List ℕ) (table : Table) (valid : IsTable tab
   k : Named p frozen
   k = turn.it
 
-  -- the object's own blocks, and the blocks of the others
+  -- the object's blocks
   abbrev mine : List ℕ
   mine = theirs k.object.at
 
@@ -214,7 +214,7 @@ module _ (allocator : ℕ) (old : List ℕ) (table : Table) (valid : IsTable tab
   fits : AreLive old (mine ++ (w.owed ++ (lefts ++ rights)))
   fits h = omega (arith, owned h, all_are h, times-append h mine (w.owed ++ (lefts ++ rights)))
 
-  -- its count has room
+  -- the count lies in the bytes
   count_fits : p + 4 ≤ length old
   count_fits =
       let here : 1 ≤ times (block_of k.object.at) (positions (live old)) =
@@ -230,7 +230,7 @@ module _ (allocator : ℕ) (old : List ℕ) (table : Table) (valid : IsTable tab
     pub written_is : word (set_word old p v) p ≡ v
     written_is = number-set_same 4 old p v count_fits (omega arith)
 
-  -- as its count is lowered
+  -- the count is lowered by one
   module _ (new : List ℕ) (changes : ChangesOnly old new p 4) (lowered_is : word new p ≡ word old p - 1) where
     was : word old p ≡ k.object.count
     was = subst (λ x. word old x ≡ k.object.count) k.at_is there_is.count_is
@@ -260,7 +260,7 @@ module _ (allocator : ℕ) (old : List ℕ) (table : Table) (valid : IsTable tab
         beside_it allocator old new table valid k.object (k.object.count - 1) mine others w.pends.heap there_is fits changes_there count_there h n.0
         (λ e. let m : 1 ≤ times h mine = subst (λ x. 1 ≤ times x mine) (sym e) own_there in absurd (omega (arith, n.1)))
 
-    -- its own block only changed after the header
+    -- the object's block changed only in its payload
     own_ownable : IsOwnable new table (block_of k.object.at)
     own_ownable =
         let own = block_of k.object.at in
@@ -274,7 +274,7 @@ module _ (allocator : ℕ) (old : List ℕ) (table : Table) (valid : IsTable tab
           link_is = target-same old new (block_of k.object.at + 12) (changes_there.others (block_of k.object.at + 12) 4 (inl (omega (arith, low)))) ∙ o.link_is;
         }
 
-    -- the blocks of the objects before and after, and of one in between
+    -- the blocks of the objects before an object, of the object, and of the objects after it
     among : (f : Frozen) → f.at ≡ k.object.at → (h : ℕ) → times h (blocks_by theirs (k.before ++ f ∷ k.after)) ≡ times h lefts + times h mine + times h rights
     among f same h =
         let e : times h (theirs f.at) ≡ times h mine = ap (λ q. times h (theirs q)) same in
@@ -310,7 +310,7 @@ module _ (allocator : ℕ) (old : List ℕ) (table : Table) (valid : IsTable tab
     none_own : (h : ℕ) → times h ys ≡ 0 → times h (block_of k.object.at ∷ []) ≡ 0
     none_own h none = times-other h (block_of k.object.at) [] (λ e. let m : 1 ≤ times h mine = subst (λ x. 1 ≤ times x mine) e own_there in absurd (omega (arith, all_are h)))
 
-    -- the objects are kept, but for its count
+    -- the objects are kept, except for the count
     lowered_kept : KeepFrozen old new theirs final
     lowered_kept =
         let whole : (h : ℕ) → 1 ≤ times h lefts + times h rights → KeepsBlock old new h = λ h l. (others_linked h (omega (arith, l, times-append h w.owed (lefts ++ rights), times-append h lefts rights))).whole.kept in
@@ -330,7 +330,7 @@ module _ (allocator : ℕ) (old : List ℕ) (table : Table) (valid : IsTable tab
         released_each (λ at. AllByRecursion (KeepsBlockAround old new at 4) (theirs at)) kept final (p ∷ more ++ ms) frozen waiting.releasing
         (subst (KeepFrozen old new theirs) (sym k.are) (each_joined (λ f. AllByRecursion (KeepsBlockAround old new f.at 4) (theirs f.at)) k.before (k.object ∷ k.after) before_it (it, after_it)))
 
-    -- other cells point to it still
+    -- other cells still point to the object
     pub stays : (n : ℕ) → word new p ≡ suc n → Adds allocator old new table first [] ys more kept theirs final
     stays n there_some =
         let some : k.object.count - 1 ≡ suc n = sym count_is ∙ there_some in
@@ -369,7 +369,7 @@ module _ (allocator : ℕ) (old : List ℕ) (table : Table) (valid : IsTable tab
           };
         }
 
-    -- no cell points to it any more: it waits
+    -- no other cell points to the object, so it waits
     pub goes : (last : List ℕ) (next : Option ℕ) → word new p ≡ 0 → ((xs ys ns names : List ℕ) → GoesWith new table p xs ns → Awaits allocator new table first ys (ns ++ names) kept theirs final → AreLive new (xs ++ ys)
         → Adds allocator new last table next xs ys names kept theirs final) → Adds allocator old last table next [] ys more kept theirs final
     goes last next there_none push =

@@ -1,4 +1,4 @@
--- Cells that are released one after another: the same objects stay, in any order.
+-- Cells that are released one after the other: the same objects remain, in any order.
 use Rattle.std.proofs.Common.{◌≡◌, ◌≢◌, ℕ, zero, suc, ◌+◌, ◌-◌, ◌<◌, ◌≤◌, inl, inr, Bool, true, false, List, [], ◌∷◌, ◌++◌, length, map, cond, eqb, refl, sym, ap, ◌∙◌, subst, arith}
 use Rattle.std.specs.List.{AllByRecursion}
 use Rattle.std.proofs.lemmas.Bool.Decides.{nat_tests}
@@ -22,7 +22,7 @@ named_same p q qs e = subst (λ x. times_named x (q ∷ qs) ≡ 1 + times_named 
 named_other : (p : ℕ) (q : Place) (qs : List Place) → q.at ≢ p → times_named p (q ∷ qs) ≡ times_named p qs
 named_other p q qs e = times-other p q.at (map (λ (r : Place). r.at) qs) e
 
--- ---- how many cells point to each object decides which stay
+-- ---- whether an object remains depends on the number of its cells
 
 abbrev NamedEqually : List Place → List Place → List Frozen → Type 0
 NamedEqually xs ys fs = AllByRecursion (λ (f : Frozen). times_named f.at xs ≡ times_named f.at ys) fs
@@ -48,9 +48,9 @@ left_same xs ys (f ∷ fs) a =
     kept_same f (f.count - times_named f.at xs) (f.count - times_named f.at ys) (left (xs ++ ns) fs) (left (ys ++ ns) fs) (left xs fs) (left ys fs)
     (ap (λ n. f.count - n) a.0) (left_same (xs ++ ns) (ys ++ ns) fs more) (left_same xs ys fs a.1)
 
--- ---- what the objects point to after a step
+-- ---- the targets of the objects after a step
 
--- a sum over the targets
+-- a sum over the targets of all objects, with one object taken out
 pub names_apart : (size : List Place → ℕ) → size [] ≡ 0 → ((xs ys : List Place) → size (xs ++ ys) ≡ size xs + size ys) → (p : ℕ) (fs : List Frozen)
     → size (let_go p fs) + size (names_of (lowered p fs)) ≡ size (names_of fs)
 names_apart size none joined p [] = omega arith
@@ -68,7 +68,7 @@ names_apart size none joined p (f ∷ fs) = go (eqb f.at p) (names_apart size no
 named_apart : (r p : ℕ) (fs : List Frozen) → times_named r (let_go p fs) + times_named r (names_of (lowered p fs)) ≡ times_named r (names_of fs)
 named_apart r p fs = names_apart (times_named r) refl (named-append r) p fs
 
--- ---- a step doesn't change which objects stay
+-- ---- a step doesn't change which objects remain
 
 pub turn_same : (q : Place) (rest : List Place) (fs : List Frozen) → AreDistinct fs → NamesLater fs → left (q ∷ rest) fs ≡ left (rest ++ let_go q.at fs) (lowered q.at fs)
 unfolding NamesLater
@@ -120,7 +120,7 @@ turn_same q rest (f ∷ fs) d l = go (eqb f.at q.at) refl (turn_same q rest fs d
             let d = named-append p rest (let_go q.at fs) in
             omega arith
 
--- ---- a turn
+-- ---- one step
 
 module _ (P : Frozen → Type 0) (whatever : (f : Frozen) (n : ℕ) → P f → P (with_count f (suc n))) where
   lowered_each : (p : ℕ) (fs : List Frozen) → AllByRecursion P fs → AllByRecursion P (lowered p fs)
@@ -162,11 +162,11 @@ falling_lowered p (f ∷ fs) d = go (eqb f.at p) (falling_lowered p fs d.1)
 some_lowered : (p : ℕ) (fs : List Frozen) → AllByRecursion (λ (f : Frozen). 1 ≤ f.count) fs → AllByRecursion (λ (f : Frozen). 1 ≤ f.count) (lowered p fs)
 some_lowered p fs a = lowered_each (λ (f : Frozen). 1 ≤ f.count) (λ f n h. omega arith) p fs a
 
--- an object counts the released cell, and each of these
+-- the object at p counts the released cell and each of these cells
 abbrev CountsBeside : ℕ → List Place → List Frozen → Type 0
 CountsBeside p names fs = AllByRecursion (λ (f : Frozen). f.at ≡ p → 1 + times_named p names ≤ f.count) fs
 
--- an object with another cell stays
+-- an object with another cell remains
 below_lowered : (n p : ℕ) (fs : List Frozen) (q : Place) → AllByRecursion (λ (f : Frozen). f.at ≡ p → q.at ≡ p → 2 ≤ f.count) fs → IsBelow n fs q → IsBelow n (lowered p fs) q
 below_lowered n p [] q a h = h
 below_lowered n p (f ∷ fs) q a h = go (eqb f.at p) refl h (λ k. below_lowered n p fs q a.1 k)
@@ -241,7 +241,7 @@ module _ (next : ℕ) (q : Place) (rest kept : List Place) (fs : List Frozen) (c
   abbrev all_names : List Place
   all_names = cells ++ names_of (lowered q.at fs)
 
-  -- all targets from before but the one
+  -- all targets before the step, without the released one
   one_fewer : (r : ℕ) → times_named r (((q ∷ rest) ++ kept) ++ names_of fs) ≡ times_named r (q ∷ []) + times_named r all_names
   one_fewer r =
       let a = named-append r (q ∷ []) ((rest ++ kept) ++ names_of fs) in
@@ -306,7 +306,7 @@ counted_permuted next xs ys kept fs s c = record {
         let e = named_permuted p xs ys s in
         omega arith
 
--- ---- all turns
+-- ---- all steps
 
 pub none_gone : (fs : List Frozen) → AllByRecursion (λ (f : Frozen). 1 ≤ f.count) fs → left [] fs ≡ fs
 none_gone [] a = refl

@@ -8,7 +8,7 @@ use Rattle.seg_spec.specs.Heap.{Span, span, room_at, gaps_of, granted, expanded,
 use Rattle.seg_spec.specs.Demand.{Ask, after_ask, after_gives}
 use Rattle.seg_spec.specs.Spending.{spent}
 
--- ---- the requests one by one
+-- ---- one request after the other
 
 or_some : {A : Type 0} (a b : Option A) (x : A) → option_or a b ≡ Some x → (a ≡ Some x) ⊎ (b ≡ Some x)
 or_some None b x e = inr e
@@ -48,28 +48,28 @@ expanded_some x room u n e = go (cases_lt x u) (cases_lt (x + room) u)
         let least = granted_least (x + room) u in
         (omega arith, omega arith)
 
--- ---- what was granted
+-- ---- the result of a request
 
--- the block of x units at a position has n units now, no fewer than it had, and no fewer than the least
+-- the block of x units at a position now has n units, at least as many as before and as `least`
 pub record GrewTo (bs after : List Span) (at x least : ℕ) : Type 0 where
   pub units : ℕ
   pub no_fewer : x ≤ units
   pub enough : least ≤ units
   pub after_is : after ≡ resized at units bs
 
--- a block was taken, of no fewer units than the least
+-- a block of at least `least` units was allocated
 pub record TookFor (allocator : ℕ) (bs : List Span) (end g : ℕ) (after : List Span) (least : ℕ) : Type 0 where
   pub units : ℕ
   pub enough : least ≤ units
   pub taken : after_take allocator bs end units ≡ Some (g, after)
 
 module _ (allocator : ℕ) (bs : List Span) (end least : ℕ) where
-  -- by what was granted
+  -- the fact about what was granted
   abbrev pub GrantedAs : ℕ → ℕ → Granted → Type 0
   GrantedAs at x (same after) = GrewTo bs after at x least
   GrantedAs at x (fresh g after) = TookFor allocator bs end g after least
 
-  -- the same, without an old block
+  -- the same for a request without an old block
   abbrev pub GrantedNew : Granted → Type 0
   GrantedNew (same after) = ⊥
   GrantedNew (fresh g after) = TookFor allocator bs end g after least
@@ -132,11 +132,11 @@ module _ (allocator : ℕ) (bs : List Span) (end least : ℕ) where
 
 -- ---- the allocated blocks after one request
 
--- it grew in place
+-- the old block grew in place
 pub spent_same : (allocator : ℕ) (bs after : List Span) (end : ℕ) (ask : Ask) → after_ask allocator bs end ask ≡ Some (same after) → spent allocator bs end (ask ∷ []) [] ≡ Some after
 spent_same allocator bs after end ask e = rw e refl
 
--- or its old block is freed
+-- a new block was allocated, and the old one is freed
 pub spent_fresh : (allocator : ℕ) (bs after : List Span) (end g : ℕ) (ask : Ask) → after_ask allocator bs end ask ≡ Some (fresh g after) → spent allocator bs end (ask ∷ []) [] ≡ Some (after_gives after (option_to_list ask.old))
 spent_fresh allocator bs after end g ask e = rw e (ap (λ ps. Some (after_gives after ps)) (append-nil (option_to_list ask.old ++ []) ∙ append-nil (option_to_list ask.old)))
 

@@ -24,12 +24,12 @@ use Rattle.seg_spec.proofs.CellOwed.{block_there, same_form}
 use Rattle.seg_spec.specs.Shared.{named_in, named_each}
 use Rattle.seg_spec.proofs.PartsOwed.{named_inside}
 
--- the last of nodes
+-- the last of several nodes
 abbrev pub last_of : ℕ → List ℕ → ℕ
 last_of x [] = x
 last_of x (y ∷ ys) = last_of y ys
 
--- the node before the first one is the last
+-- the previous node of the first node is the last one
 pub last_named : (bytes : List ℕ) (first x : ℕ) (ys : List ℕ) → IsLinked bytes first x ys → target bytes (first + 4) ≡ Some (last_of x ys)
 last_named bytes first x [] l = l.previous
 last_named bytes first x (y ∷ ys) l = last_named bytes first y ys l.1
@@ -152,7 +152,7 @@ module _ (allocator : ℕ) (old : List ℕ) (table : Table) (valid : IsTable tab
       }
 
 module _ (allocator : ℕ) (old : List ℕ) (table : Table) (valid : IsTable table) (heap : IsHeap allocator old) (place : Place) (p : ℕ) (e : target old place.at ≡ Some p) (v : Value) (xs : List ℕ) (fits : AreLive old xs) where
-  -- a list's ring, once its last node points to no next one
+  -- the list's ring after its last node got a null pointer
   pub record ListGoes : Type 0 where
     pub last : ℕ
     pub names : target old (p + 4) ≡ Some last

@@ -1,4 +1,4 @@
--- Paths from the roots of an image, if a root is kept, and if a place changes.
+-- Paths from the roots of an image, after a root is kept, and after a place changes.
 use Rattle.std.proofs.Common.{◌≡◌, ℕ, ◌+◌, ◌*◌, ◌<◌, ◌≤◌, List, [], ◌∷◌, ◌++◌, sym, subst, length, arith}
 use Rattle.std.specs.List.{AllByRecursion}
 use Rattle.seg_spec.specs.Types.{Table, IsTable, size}
@@ -20,7 +20,7 @@ use Rattle.seg_spec.proofs.SliceLaws.{IsSame-part}
 use Rattle.seg_spec.proofs.Writing.{root_apart}
 
 module _ (old new : List ℕ) (table : Table) (valid : IsTable table) where
-  -- a root whose blocks are kept
+  -- the blocks of the root are kept
   pub root_paths : (root : Root) (blocks : List ℕ) → HoldsRoot old table root blocks → AllByRecursion (KeepsBlock old new) blocks → KeepsPaths old new table root
   root_paths root blocks o kept i path target within l =
       let all = subst (AllByRecursion (KeepsBlock old new)) o.blocks_are kept in
@@ -41,7 +41,7 @@ each_joined : (P : Root → Type 0) (xs ys : List Root) → AllByRecursion P xs 
 each_joined P [] ys a b = b
 each_joined P (x ∷ xs) ys a b = (a.0, each_joined P xs ys a.1 b)
 
--- a call on a place inside a root
+-- a call changes a place inside a root
 module _ (old new : List ℕ) (picture : Picture) (held : IsHeld old picture) (which : Listed) (before : List Root) (root : Root) (after : List Root) (among : roots_in picture which ≡ before ++ root ∷ after)
     (j : ℕ) (within : j < count root.values) (path : List Selector) (q : Place) (leads : Leads old picture.table (item_of picture.table root j) path q)
     (v w : Value) (blocks others : List ℕ) (was : Holds old picture.table q v blocks) {spans : List Span} (c : ChangesPlace old new picture.table q w others spans blocks others) where

@@ -1,5 +1,5 @@
--- What writes inside the payloads of several allocated blocks keep: the heap, and all of it apart
--- from the written bytes. Of the bytes before the heap only the word of the free structure is known
+-- Writes inside the payloads of several allocated blocks. The heap stays well-formed, and all of it
+-- outside the written bytes is kept. Before the heap only the word of the free structure is known
 -- to be kept.
 use Rattle.std.proofs.Common.{◌≡◌, ◌≢◌, ℕ, ◌+◌, ◌*◌, ◌≤◌, ◌⊎◌, inl, inr, true, false, List, [], ◌∷◌, length, refl, sym, ◌∙◌, subst, arith}
 use Rattle.std.proofs.lemmas.Bool.{false≢true}
@@ -91,7 +91,7 @@ module _ (old new : List ℕ) (allocator : ℕ) (heap : IsHeap allocator old) (r
   pub ownable_same : (table : Table) → AllByRecursion (λ b. IsOwnable old table b.at) (live old) → AllByRecursion (λ b. IsOwnable new table b.at) (live new)
   ownable_same table o = IsOwnable-kept old new allocator heap tiles_same table o
 
-  -- ---- an allocated block
+  -- ---- a single allocated block
 
   module _ (x : ℕ) (is_live : 1 ≤ times x (positions (live old))) where
     lies : LiesIn old heap_start (length old) x
@@ -108,11 +108,11 @@ module _ (old new : List ℕ) (allocator : ℕ) (heap : IsHeap allocator old) (r
         go (inr (inl l)) = inr (let high = w.inside.high in omega arith)
         go (inr (inr l)) = inl (let low = w.inside.low in let two = lies.size in omega arith)
 
-    -- its header
+    -- the block's header is kept
     pub header_same : IsSame old new x 16
     header_same = beside x 16 lies.low (each_weaker _ _ (λ r w. header_off r w) ranges writable)
 
-    -- a part of it that doesn't overlap the written ranges
+    -- a part of the block that doesn't overlap the written ranges is kept
     pub part_same : (p m : ℕ) → x ≤ p → p + m ≤ x + 16 * units_at old x → AllByRecursion (λ r. (r.block ≡ x) → Separate p m r.at r.n) ranges → IsSame old new p m
     part_same p m low high apart = beside p m (let at = lies.low in omega arith) (each_both _ _ _ (λ r w a. go r w a (one_or_apart r w)) ranges writable apart)
       where
@@ -137,7 +137,7 @@ module _ (old new : List ℕ) (allocator : ℕ) (heap : IsHeap allocator old) (r
     pub link_same : link_at new x ≡ link_at old x
     link_same = target-same old new (x + 12) (IsSame-part old new x 16 (x + 12) 4 (omega arith) (omega arith) header_same)
 
-    -- no range lies in it
+    -- a block is kept if no range lies in it
     pub whole_then : AllByRecursion (λ r. r.block ≢ x) ranges → KeepsBlock old new x
     whole_then others = record {
       live = header_then.live;
@@ -146,7 +146,7 @@ module _ (old new : List ℕ) (allocator : ℕ) (heap : IsHeap allocator old) (r
       payload = part_same (x + 16) (payload_size old x) (omega arith) (let two = lies.size in omega arith) (each_weaker _ _ (λ r ne e. absurd (ne e)) ranges others);
     }
 
-    -- every range in it is within n bytes
+    -- a block is kept around n bytes if each range in it lies within these
     pub around_then : (at n : ℕ) → AllByRecursion (λ r. r.block ≡ x → (at ≤ r.at) × (r.at + r.n ≤ at + n)) ranges → KeepsBlockAround old new at n x
     around_then at n within = record {
       solid = let two = lies.size in omega arith;

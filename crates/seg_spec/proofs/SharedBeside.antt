@@ -1,4 +1,4 @@
--- What is found when a value is destroyed apart from frozen objects.
+-- The state in which the destruction of a value begins, with frozen objects apart from it.
 use Rattle.std.proofs.Common.{◌≡◌, ℕ, ◌≤◌, List, [], ◌++◌, Option, None, refl, sym, subst, arith}
 use Rattle.seg_spec.specs.Types.{Table}
 use Rattle.seg_spec.specs.Heap.{IsHeap}
@@ -11,7 +11,7 @@ use Rattle.seg_spec.specs.Clearing.{SharedBeside}
 use Rattle.seg_spec.proofs.LiveLaws.{times-append}
 use Rattle.seg_spec.proofs.Destruction.{releasing_same}
 
--- nothing waits yet: what the value points to is still to be released
+-- no block waits yet, and the targets of the value remain to be released
 pub awaits_shared : (allocator : ℕ) (bytes : List ℕ) (table : Table) (first : Option ℕ) (besides names : List ℕ) (theirs : ℕ → List ℕ) (kept : List Place) (now final : List Frozen) → first ≡ None → IsHeap allocator bytes
     → SharedBeside bytes table besides names theirs kept now final → Awaits allocator bytes table first (blocks_by theirs now) (names ++ []) kept theirs final
 awaits_shared allocator bytes table first besides names theirs kept now final none heap s = record {
@@ -27,7 +27,7 @@ awaits_shared allocator bytes table first besides names theirs kept now final no
   releasing = releasing_same kept final names ((names ++ []) ++ []) now (λ h. omega (arith, times-append h (names ++ []) [], times-append h names [])) s.releasing;
 }
 
--- fewer blocks, with the same frozen objects
+-- the same for fewer blocks
 pub shared_fewer : (bytes : List ℕ) (table : Table) (more fewer names : List ℕ) (theirs : ℕ → List ℕ) (kept : List Place) (now final : List Frozen) → ((h : ℕ) → times h fewer ≤ times h more)
     → SharedBeside bytes table more names theirs kept now final → SharedBeside bytes table fewer names theirs kept now final
 shared_fewer bytes table more fewer names theirs kept now final less s = record {

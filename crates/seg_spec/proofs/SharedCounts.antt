@@ -1,4 +1,5 @@
--- The counts of frozen objects after a cell was made to share one of them, or one more was frozen.
+-- The counts of frozen objects after a cell was made to share one of them, or another object was
+-- frozen.
 use Rattle.std.proofs.Common.{◌≡◌, ℕ, suc, ◌<◌, ◌≤◌, List, [], ◌∷◌, ◌++◌, subst, arith}
 use Rattle.std.specs.List.{AllByRecursion}
 use Rattle.seg_spec.specs.Types.{Table}
@@ -22,7 +23,7 @@ below_all : (next : ℕ) (names : List Place) (fs : List Frozen) (q : Place) →
 below_all next [] fs q b = b
 below_all next (n ∷ names) fs q b = below_raised next n.at (raised_by names fs) q (below_all next names fs q b)
 
--- more cells, besides these
+-- more cells were counted
 raised_all : (next : ℕ) (names xs kept : List Place) (fs : List Frozen) → IsFalling fs → IsCounted next fs (xs ++ kept) → AllByRecursion (IsBelow next fs) names
     → IsFalling (raised_by names fs) × IsCounted next (raised_by names fs) (xs ++ (names ++ kept))
 raised_all next [] xs kept fs falling counted below = (falling, counted)
@@ -31,14 +32,14 @@ raised_all next (q ∷ names) xs kept fs falling counted below =
     let more = shared next (raised_by names fs) (xs ++ (names ++ kept)) q r.1 (below_all next names fs q below.0) in
     (falling_raised q.at (raised_by names fs) r.0, counted_moved next q xs (names ++ kept) (raised q.at (raised_by names fs)) more)
 
--- a cell that contained v contains w
+-- a cell that contained v now contains w
 pub shared_counts : (next : ℕ) (v w : Value) (kept : List Place) (now : List Frozen) → IsFalling now → IsCounted next now (names_in v ++ kept) → AllByRecursion (IsBelow next now) (names_in w)
     → IsFalling (left (names_in v) (raised_by (names_in w) now)) × IsCounted next (left (names_in v) (raised_by (names_in w) now)) (names_in w ++ kept)
 shared_counts next v w kept now falling counted below =
     let r = raised_all next (names_in w) (names_in v) kept now falling counted below in
     (falling_left (names_in v) (raised_by (names_in w) now) r.0, counted_again next (names_in v) (names_in w ++ kept) (raised_by (names_in w) now) r.0 r.1)
 
--- an object with the value w became frozen, and a cell that contained v points to it
+-- an object with the value w was frozen, and a cell that contained v now points to it
 pub frozen_counts : (bytes : List ℕ) (table : Table) (besides : List ℕ) (next : ℕ) (theirs : ℕ → List ℕ) (T p : ℕ) (v w : Value) (kept : List Place) (now : List Frozen)
     → FrozenBeside bytes table besides (names_in w ++ (names_in v ++ kept)) next theirs now
     → times (block_of p) (positions (live bytes)) ≡ 0

@@ -1,4 +1,4 @@
--- Frozen objects: which of them stay after cells were released.
+-- Frozen objects: those that remain after cells were released.
 use Rattle.std.proofs.Common.{◌≡◌, ◌≢◌, ℕ, zero, suc, ◌+◌, ◌-◌, ◌<◌, ◌≤◌, inl, inr, List, [], ◌∷◌, ◌++◌, map, refl, sym, ap, ◌∙◌, subst, arith}
 use Rattle.std.specs.List.{AllByRecursion}
 use Rattle.std.proofs.lemmas.List.{map-append}
@@ -9,13 +9,13 @@ use Rattle.seg_spec.specs.Shared.{names_in, names_of, times_named, IsBelow, AreD
 use Rattle.seg_spec.proofs.LiveLaws.{times-append, times-same, times-other}
 use Rattle.seg_spec.proofs.Frame.{each_weaker, each_left, each_right}
 
--- a target with a number below n has one below m
+-- a target whose number is less than n is one whose number is less than m, if n is at most m
 pub wider : (n m : ℕ) (fs : List Frozen) (q : Place) → n ≤ m → IsBelow n fs q → IsBelow m fs q
 wider n m [] q l h = h
 wider n m (f ∷ fs) q l (inl h) = inl (h.0, h.1, (let less = h.2 in omega arith))
 wider n m (f ∷ fs) q l (inr h) = inr (wider n m fs q l h)
 
--- ---- how many cells point to an object
+-- ---- the number of cells that point to an object
 
 pub named-append : (p : ℕ) (xs ys : List Place) → times_named p (xs ++ ys) ≡ times_named p xs + times_named p ys
 named-append p xs ys = ap (times p) (map-append (λ (q : Place). q.at) xs ys) ∙ times-append p (map (λ (q : Place). q.at) xs) (map (λ (q : Place). q.at) ys)
@@ -23,7 +23,7 @@ named-append p xs ys = ap (times p) (map-append (λ (q : Place). q.at) xs ys) �
 named_here : (p : ℕ) (q : Place) (qs : List Place) → q.at ≡ p → 1 ≤ times_named p (q ∷ qs)
 named_here p q qs e = subst (λ x. 1 ≤ times p (x ∷ map (λ (r : Place). r.at) qs)) (sym e) (let n = times-same p (map (λ (r : Place). r.at) qs) in omega arith)
 
--- a target among others has at least one cell
+-- no target is at p if none is counted there
 not_none : (p : ℕ) (qs : List Place) → times_named p qs ≡ 0 → AllByRecursion (λ (q : Place). q.at ≢ p) qs
 not_none p [] e = tt
 not_none p (q ∷ qs) e =
@@ -34,13 +34,13 @@ unnamed : (p : ℕ) (qs : List Place) → AllByRecursion (λ (q : Place). q.at �
 unnamed p [] a = refl
 unnamed p (q ∷ qs) a = times-other p q.at (map (λ (r : Place). r.at) qs) a.0 ∙ unnamed p qs a.1
 
--- ---- each points only to objects after it
+-- ---- each object points only to objects after it
 
 unfoldable pub NamesLater : List Frozen → Type 0
 NamesLater [] = Unit {0}
 NamesLater (f ∷ fs) = AllByRecursion (IsBelow f.number fs) (names_in f.value) × NamesLater fs
 
--- a target with a number below n isn't an object with a number of n or more
+-- a target whose number is less than n isn't an object whose number is n or more
 below_later : (n : ℕ) (f : Frozen) (fs : List Frozen) (q : Place) → n ≤ f.number → IsBelow n (f ∷ fs) q → IsBelow n fs q
 below_later n f fs q l (inl h) = absurd (let less = h.2 in omega arith)
 below_later n f fs q l (inr h) = h
@@ -59,7 +59,7 @@ unfolding NamesLater
 names_later [] l a = tt
 names_later (f ∷ fs) l a = (later_each f.number f fs (names_in f.value) (omega arith) a.0, names_later fs l.1 (later_all f fs fs l.0 a.1))
 
--- objects that are elsewhere point elsewhere
+-- a target among objects at other positions isn't at p
 pub below_elsewhere : (p n : ℕ) (fs : List Frozen) (q : Place) → AllByRecursion (λ (g : Frozen). g.at ≢ p) fs → IsBelow n fs q → q.at ≢ p
 below_elsewhere p n [] q a h = absurd h
 below_elsewhere p n (f ∷ fs) q a (inl h) = λ e. a.0 (h.0 ∙ e)
@@ -76,14 +76,14 @@ later_elsewhere p (f ∷ fs) a l =
     named-append p (names_in f.value) (names_of fs)
     ∙ (let first = elsewhere p f.number fs (names_in f.value) a.1 l.0 in let rest = later_elsewhere p fs a.1 l.1 in omega arith)
 
--- neither the first object nor those after it point to it
+-- neither the first object nor the objects after it point to the first
 pub first_unnamed : (f : Frozen) (fs : List Frozen) → AllByRecursion (λ (g : Frozen). g.at ≢ f.at) fs → NamesLater (f ∷ fs) → times_named f.at (names_of (f ∷ fs)) ≡ 0
 unfolding NamesLater
 first_unnamed f fs a l =
     named-append f.at (names_in f.value) (names_of fs)
     ∙ (let own = elsewhere f.at f.number fs (names_in f.value) a l.0 in let rest = later_elsewhere f.at fs a l.1 in omega arith)
 
--- ---- objects that stay are the same, except for their counts
+-- ---- objects that remain are the same, except for their counts
 
 module _ (P : Frozen → Type 0) (whatever : (f : Frozen) (n : ℕ) → P f → P (with_count f n)) where
   pub left_each : (gone : List Place) (fs : List Frozen) → AllByRecursion P fs → AllByRecursion P (left gone fs)
@@ -94,9 +94,9 @@ module _ (P : Frozen → Type 0) (whatever : (f : Frozen) (n : ℕ) → P f → 
       go zero without with_it = without
       go (suc n) without with_it = (whatever f (suc n) a.0, with_it)
 
--- ---- the objects that stay
+-- ---- the objects that remain
 
--- each object counts these cells: the released ones, the ones that stay, and the ones in the
+-- each object counts these cells: the released cells, the remaining cells, and the cells in the
 -- objects themselves
 pub CountsAll : List Place → List Place → List Frozen → Type 0
 CountsAll gone stay fs = AllByRecursion (λ (f : Frozen). f.count ≡ times_named f.at gone + times_named f.at stay + times_named f.at (names_of fs)) fs
@@ -106,7 +106,7 @@ pub record Left (stay : List Place) (fs rs : List Frozen) : Type 0 where
   pub later : NamesLater rs
   pub some : AllByRecursion (λ (r : Frozen). 1 ≤ r.count) rs
   pub counts : AllByRecursion (λ (r : Frozen). r.count ≡ times_named r.at stay + times_named r.at (names_of rs)) rs
-  -- what a cell that stays points to stays
+  -- the target of a remaining cell remains
   pub stays : (n : ℕ) → AllByRecursion (λ (q : Place). IsBelow n fs q → IsBelow n rs q) stay
 
 counts_more : (gone stay gone' stay' : List Place) (f : Frozen) (fs gs : List Frozen)
@@ -144,7 +144,7 @@ stays_with n k f fs rs (q ∷ qs) a = (step, stays_with n k f fs rs qs a.1)
     step (inl h) = inl h
     step (inr h) = inr (a.0 h)
 
--- the targets that stay, if each of them was one of the objects
+-- all of these targets remain
 all_stay : (n : ℕ) (fs rs : List Frozen) (qs : List Place) → AllByRecursion (λ (q : Place). IsBelow n fs q → IsBelow n rs q) qs → AllByRecursion (IsBelow n fs) qs → AllByRecursion (IsBelow n rs) qs
 all_stay n fs rs [] a b = tt
 all_stay n fs rs (q ∷ qs) a b = (a.0 b.0, all_stay n fs rs qs a.1 b.1)
@@ -206,7 +206,7 @@ module _ (next : ℕ) (gone kept : List Place) (fs : List Frozen) (falling : IsF
   unfolding CountsAll
   rest = what_is_left gone kept fs counted.distinct (names_later fs falling counted.falling) (counts_apart gone kept fs fs counted.counts)
 
-  -- the remaining cells are counted by the objects that stay
+  -- the objects that remain count the remaining cells
   pub counted_again : IsCounted next (left gone fs) kept
   counted_again = record {
     distinct = rest.distinct;
@@ -225,7 +225,7 @@ unnamed_over stay more rs [] a = tt
 unnamed_over stay more rs (g ∷ gs) a =
     ((let x = named-append g.at stay more in let y = named-append g.at more (names_of rs) in let now = a.0 in omega arith), unnamed_over stay more rs gs a.1)
 
--- no cell that stays points to an object that is freed
+-- no remaining cell points to an object that is freed
 pub what_goes : (gone stay : List Place) (fs : List Frozen) → AreDistinct fs → NamesLater fs → CountsAll gone stay fs
     → AllByRecursion (λ (f : Frozen). times_named f.at stay + times_named f.at (names_of (left gone fs)) ≡ 0) (freed gone fs)
 unfolding NamesLater CountsAll
@@ -255,7 +255,7 @@ module _ (next : ℕ) (gone kept : List Place) (fs : List Frozen) (falling : IsF
   unfolding CountsAll
   unnamed_freed = what_goes gone kept fs counted.distinct (names_later fs falling counted.falling) (counts_apart gone kept fs fs counted.counts)
 
--- each object either stays or is freed
+-- each object remains or is freed
 pub left_or_freed : (p : ℕ) (gone : List Place) (fs : List Frozen)
     → times p (map (λ (f : Frozen). f.at) (left gone fs)) + times p (map (λ (f : Frozen). f.at) (freed gone fs)) ≡ times p (map (λ (f : Frozen). f.at) fs)
 left_or_freed p gone [] = refl

@@ -1,4 +1,4 @@
--- Frozen objects apart from blocks, through a step that keeps the objects' own blocks.
+-- Frozen objects apart from other blocks, after a step that keeps the objects' blocks.
 use Rattle.std.proofs.Common.{ℕ, ◌≤◌, List, ◌++◌, arith}
 use Rattle.std.specs.List.{AllByRecursion}
 use Rattle.seg_spec.specs.Types.{Table, IsTable}
@@ -13,7 +13,7 @@ use Rattle.seg_spec.proofs.LiveLaws.{times-append}
 use Rattle.seg_spec.proofs.FrozenBlocks.{hold_kept}
 use Rattle.seg_spec.proofs.Standing.{live_at}
 
--- they are still allocated, apart from other blocks now
+-- the objects' blocks are still allocated, apart from the blocks that the step left
 pub shared_still : (old new : List ℕ) (table : Table) → IsTable table → (besides others names : List ℕ) (theirs : ℕ → List ℕ) (kept : List Place) (now final : List Frozen)
     → ((h : ℕ) → 1 ≤ times h (blocks_by theirs now) → KeepsBlock old new h) → AllByRecursion (λ b. IsOwnable new table b.at) (live new) → AreLive new (others ++ blocks_by theirs now)
     → SharedBeside old table besides names theirs kept now final → SharedBeside new table others names theirs kept now final

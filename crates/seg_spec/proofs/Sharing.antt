@@ -1,4 +1,4 @@
--- Frozen objects with one more cell, and with one more object.
+-- Frozen objects after one more cell points to them, and after one more object is added.
 use Rattle.std.proofs.Common.{◌≡◌, ◌≢◌, ℕ, suc, ◌+◌, ◌<◌, ◌≤◌, inl, inr, ⊎_elim, Bool, true, false, List, [], ◌∷◌, ◌++◌, map, cond, eqb, refl, sym, ap, ◌∙◌, subst, arith}
 use Rattle.std.specs.List.{AllByRecursion}
 use Rattle.std.proofs.lemmas.Bool.Decides.{nat_tests}
@@ -12,7 +12,7 @@ use Rattle.seg_spec.proofs.LiveLaws.{times-same, times-other}
 use Rattle.seg_spec.proofs.Frame.{each_weaker, each_left, each_right}
 use Rattle.seg_spec.proofs.SharedLaws.{named-append, elsewhere, wider}
 
--- ---- one cell more points to an object
+-- ---- one more cell points to an object
 
 one_raised : Frozen → ℕ → Frozen
 one_raised f p = cond (eqb f.at p) (with_count f (suc f.count)) f
@@ -98,7 +98,7 @@ shared next fs cells q c h = record {
         go true = omega arith
         go false = a.0
 
--- ---- one object more
+-- ---- one more object
 
 names_elsewhere : (p : ℕ) (all fs : List Frozen) → AllByRecursion (λ (g : Frozen). g.at ≢ p) all → AllByRecursion (λ (f : Frozen). AllByRecursion (IsBelow f.number all) (names_in f.value)) fs → times_named p (names_of fs) ≡ 0
 names_elsewhere p all [] d a = refl

@@ -1,4 +1,4 @@
--- What the cells of a value point to, and values that move with their cells.
+-- The targets of a value's cells, and values that are moved with their cells.
 use Rattle.std.proofs.Common.{◌≡◌, ◌≢◌, ℕ, zero, suc, ◌+◌, ◌-◌, ◌*◌, ◌%◌, ◌^◌, ◌<◌, ◌≤◌, ◌⊎◌, inl, inr, List, [], ◌∷◌, ◌++◌, length, map, Option, Some, None, MatchOption, option_to_list, option_map, cond, eqb, false, refl, sym, ap, ◌∙◌, subst, arith, add-zero, add_assoc}
 use Rattle.std.specs.List.{AllByRecursion}
 use Rattle.std.proofs.lemmas.Bool.Decides.{nat_tests}
@@ -25,11 +25,11 @@ use Rattle.seg_spec.proofs.Moving.{EachField, fields_struct, Holds-moved}
 use Rattle.seg_spec.proofs.CellSteps.{ChangesOnly-trans, each_i64, each_one, each_cell_weaker}
 use Rattle.seg_spec.proofs.WriteInside.{KeptBut, live_kept_but}
 
--- ---- what cells point to
+-- ---- the targets of cells
 
 module _ (bytes : List ℕ) (table : Table) (valid : IsTable table) where
-  -- if the word points to something, it is the payload of one of the blocks, or of one that other
-  -- values share
+  -- If the pointer isn't null, its target is the payload of one of the blocks, or of a frozen
+  -- object.
   abbrev pub NamesIn : List ℕ → ℕ → Type 0
   NamesIn blocks at = (t : ℕ) → target bytes at ≡ Some t → (16 ≤ t) × ((1 ≤ times (block_of t) blocks) ⊎ (t % 16 ≡ 0))
 
@@ -277,7 +277,7 @@ module _ (old raw new : List ℕ) (table : Table) (valid : IsTable table) (n : �
       part_there : (i m : ℕ) → i + m ≤ suc k * each → slice raw (to + i) m ≡ slice old (from + i) m
       part_there i m fits = sym (slice-slice raw to (suc k * each) i m fits) ∙ ap (λ xs. slice xs i m) s ∙ slice-slice old from (suc k * each) i m fits
 
--- ---- the typed move
+-- ---- a move of typed values
 
 module _ (old raw new : List ℕ) (table : Table) (valid : IsTable table) (n : ℕ) (before each T k from to : ℕ) (moved : raw ≡ put old to (slice old from (k * each))) (from_in : IsWithin old from (k * each))
     (changed : ChangesEach (λ a b at form. IsFurther a b n at form) raw new table T to (k * each) (values_at old raw new table valid n before to each k)) where

@@ -1,5 +1,4 @@
--- A place of a call, through the steps of the call: it doesn't move, and everything around it is
--- kept.
+-- A place during the steps of a call: it doesn't move, and everything around it is kept.
 use Rattle.std.proofs.Common.{◌≡◌, ◌≢◌, ℕ, ◌+◌, ◌-◌, ◌*◌, ◌^◌, ◌<◌, ◌≤◌, ◌⊎◌, inl, inr, true, List, [], ◌∷◌, length, Some, refl, sym, ap, ◌∙◌, subst, arith}
 use Rattle.std.proofs.lemmas.Bool.{cases_eq}
 use Rattle.std.specs.List.{AllByRecursion}
@@ -29,8 +28,8 @@ use Rattle.seg_spec.proofs.PlaceSteps.{home_live, heap_then, live_then, ownable_
 
 -- ---- frames
 
--- the bytes before the heap are kept, and so is each allocated block that doesn't go, but for n
--- bytes from a position on
+-- The bytes before the heap are kept. So is each allocated block that isn't in `gone`, except for n
+-- bytes at a position.
 pub record Frames (old new : List ℕ) (at n : ℕ) (gone : List ℕ) : Type 0 where
   pub length_kept : length new ≡ length old
   pub front_kept : KeepsFront old new
@@ -48,7 +47,7 @@ frames_twice a b c at n gone more x y apart = record {
   stays = λ h some none. y.stays h (x.stays h some none) (apart h some none);
 }
 
--- what is true of the position of each allocated block
+-- a fact about the position of each allocated block
 pub each_live_at : (P : ℕ → Type 0) (bs : List Span) → ((h : ℕ) → 1 ≤ times h (positions bs) → P h) → AllByRecursion (λ b. P b.at) bs
 each_live_at P bs f = each_of_map P (λ b. b.at) bs (each_there P (positions bs) f)
 
@@ -68,13 +67,13 @@ module _ (allocator : ℕ) (old : List ℕ) (table : Table) (place : Place) (v :
   solid : (h : ℕ) → 1 ≤ times h (positions (live old)) → 2 ≤ units_at old h
   solid h some = (there (LiesIn old heap_start (length old)) h (positions (live old)) (live-lie old allocator s.heap) some).size
 
-  -- the place is kept with the block that it lies in
+  -- the place is kept if its block is kept
   pub same_place : (new : List ℕ) → KeepsBlock old new s.home → IsSame old new place.at (size table place.type)
   same_place new k =
       let two = solid s.home (home_live allocator old table place v blocks s) in
       IsSame-part old new (s.home + 16) (payload_size old s.home) place.at (size table place.type) s.inside.low (omega (arith, s.inside.high)) k.payload
 
-  -- ---- every allocated block is kept, and others exist besides
+  -- ---- all allocated blocks are kept, and there may be new ones
 
   module _ (new : List ℕ) (heap : IsHeap allocator new) (front : KeepsFront old new) (kept : (h : ℕ) → 1 ≤ times h (s.home ∷ blocks) → KeepsBlock old new h)
       (ownable : AllByRecursion (λ b. IsOwnable new table b.at) (live new)) (stay : (h : ℕ) → times h (s.home ∷ blocks) ≤ times h (positions (live new))) where
@@ -179,7 +178,7 @@ module _ (allocator : ℕ) (old : List ℕ) (table : Table) (place : Place) (v :
       stays = λ h some away. omega (arith, marked_counts h);
     }
 
-  -- ---- another allocated block is written inside
+  -- ---- bytes inside another allocated block are written
 
   module _ (new : List ℕ) (g at m : ℕ) (changes : ChangesOnly old new at m) (inside : IsInside old g at m) (g_live : 1 ≤ times g (positions (live old))) (apart : times g (s.home ∷ blocks) ≡ 0) where
     beside_but : (h : ℕ) → 1 ≤ times h (positions (live old)) → KeptBut old new at m changes allocator s.heap g inside g_live h
@@ -226,7 +225,7 @@ module _ (allocator : ℕ) (old : List ℕ) (table : Table) (place : Place) (v :
         not_it : (h : ℕ) → times h (g ∷ []) ≡ 0 → g ≢ h
         not_it h away e = let one : times g (g ∷ []) ≡ 0 = subst (λ x. times x (g ∷ []) ≡ 0) (sym e) away in omega (arith, times-same g [])
 
-    -- the block itself is there, with its tag
+    -- the block is still allocated, with its tag
     pub beside_block : (p tag n : ℕ) → p ≡ g + 16 → IsBlock old p tag n → IsBlock new p tag n
     beside_block p tag n e b =
         let own : p - 16 ≡ g = omega arith in
@@ -243,7 +242,7 @@ module _ (allocator : ℕ) (old : List ℕ) (table : Table) (place : Place) (v :
           room = rw own (omega arith);
         }
 
-  -- ---- the place is written, and contains another value
+  -- ---- the place is written, and then contains another value
 
   module _ (new : List ℕ) (changes : ChangesOnly old new place.at (size table place.type)) (w : Value) (others : List ℕ) (holds_it : Holds new table place w others)
       (owned : (h : ℕ) → times h (s.home ∷ others) ≤ times h (positions (live old))) where
@@ -337,7 +336,7 @@ module _ (allocator : ℕ) (old : List ℕ) (table : Table) (place : Place) (v :
         not_it : (h : ℕ) → times h (g ∷ []) ≡ 0 → g ≢ h
         not_it h away e = let one : times g (g ∷ []) ≡ 0 = subst (λ x. times x (g ∷ []) ≡ 0) (sym e) away in omega (arith, times-same g [])
 
--- what the steps leave, as a whole
+-- all changes of the steps together
 pub changes_of : (allocator : ℕ) (old new : List ℕ) (table : Table) (place : Place) (w : Value) (others gone : List ℕ) (spans : List Span)
     → word old 16 ≡ allocator → Stands allocator new table place w others → Frames old new place.at (size table place.type) gone → live new ≡ spans
     → ((h : ℕ) → times h (positions spans) + times h gone ≡ times h (positions (live old)) + times h others) → ChangesPlace old new table place w others spans gone others
@@ -353,7 +352,7 @@ changes_of allocator old new table place w others gone spans allocator_is s f li
   kept = f.kept;
 }
 
--- what calls find of the place afterwards
+-- the place after the call, as the next call needs it
 pub stands_after : (allocator : ℕ) (old new : List ℕ) (table : Table) (place : Place) (v w : Value) (blocks others : List ℕ) (spans : List Span) (s : Stands allocator old table place v blocks)
     → ChangesPlace old new table place w others spans blocks others → Stands allocator new table place w others
 stands_after allocator old new table place v w blocks others spans s c =

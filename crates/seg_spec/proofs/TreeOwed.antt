@@ -41,11 +41,11 @@ module _ (bytes : List ℕ) (table : Table) where
       }
 
   module _ (T U : ℕ) (f : form_at table T ≡ Some (Form.map U)) where
-    -- the position of the values of nodes
+    -- the places of the values of nodes
     abbrev pub values_in : List ℕ → List Place
     values_in nodes = places_of U (map (λ p. p + map_words) nodes)
 
-    -- what is freed with the tree at a pointer: its nodes and what their values own
+    -- what is freed with the tree at a pointer: its nodes, and the blocks that their values own
     pub record TreeOwes (o : Option ℕ) (nodes owned named : List ℕ) : Type 0 where
       pub blocks : List ℕ
       pub names : List ℕ

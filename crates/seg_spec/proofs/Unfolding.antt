@@ -9,7 +9,7 @@ use Rattle.seg_spec.specs.Shared.{names_in, names_each, IsBelow, AreDistinct, wi
 use Rattle.seg_spec.proofs.Frame.{each_left, each_right, each_weaker}
 use Rattle.seg_spec.proofs.SharedLaws.{below_elsewhere, left_each, wider}
 
--- ---- values that mean the same
+-- ---- values with the same meaning
 
 abbrev Agree : (ℕ → Value) → (ℕ → Value) → List Place → Type 0
 Agree f g names = AllByRecursion (λ (q : Place). f q.at ≡ g q.at) names
@@ -17,7 +17,7 @@ Agree f g names = AllByRecursion (λ (q : Place). f q.at ≡ g q.at) names
 mutual
   unfolding names_in replaced
 
-  -- a value means the same if what it points to does
+  -- a value has the same meaning if its targets have
   pub same_tree : (f g : ℕ → Value) (v : Value) → Agree f g (names_in v) → replaced f v ≡ replaced g v
   same_tree f g (node (Label.shared T p) vs) a = a.0
   same_tree f g (node (Label.int k) vs) a = ap (node (Label.int k)) (same_trees f g vs a)
@@ -34,7 +34,7 @@ mutual
       let rest = same_trees f g vs (each_right _ (names_in v) (names_each vs) a) in
       ap (λ u. cons u (replaced_each f vs)) first ∙ ap (cons (replaced g v)) rest
 
--- ---- what a reference finds
+-- ---- the object of a reference
 
 pub record Found (n : ℕ) (fs : List Frozen) (q : Place) : Type 0 where
   pub object : Frozen
@@ -59,7 +59,7 @@ found_in n all (f ∷ fs) q d a (inr h) =
 pub found : (n : ℕ) (fs : List Frozen) (q : Place) → AreDistinct fs → AllByRecursion (λ (f : Frozen). AllByRecursion (IsBelow f.number fs) (names_in f.value)) fs → IsBelow n fs q → Found n fs q
 found n fs q d a h = let f = found_in n fs fs q d a h in record { object = f.0; less = f.1; value_is = f.2; names = f.3 }
 
--- ---- numbers fall, so the tree doesn't depend on the allowed depth
+-- ---- objects point to lower numbers, so the tree doesn't depend on the allowed depth
 
 module _ (fs : List Frozen) (distinct : AreDistinct fs) (falling : AllByRecursion (λ (f : Frozen). AllByRecursion (IsBelow f.number fs) (names_in f.value)) fs) where
   all_agree : (n m : ℕ) → ((q : Place) → IsBelow n fs q → meaning n fs q.at ≡ meaning m fs q.at) → (qs : List Place) → AllByRecursion (IsBelow n fs) qs → Agree (meaning n fs) (meaning m fs) qs
@@ -77,7 +77,7 @@ module _ (fs : List Frozen) (distinct : AreDistinct fs) (falling : AllByRecursio
       let trees = same_tree (meaning n fs) (meaning m fs) f.object.value inside in
       ap (owner_by (λ v. replaced (meaning n fs) v)) f.value_is ∙ ap Full trees ∙ sym (ap (owner_by (λ v. replaced (meaning m fs) v)) f.value_is)
 
--- ---- objects that are among others, with the same values, read as there
+-- ---- objects have the same meaning among more objects
 
 module _ (fs gs : List Frozen) (distinct : AreDistinct gs) (falling : AllByRecursion (λ (g : Frozen). AllByRecursion (IsBelow g.number gs) (names_in g.value)) gs)
     (same_value : (n : ℕ) (q : Place) → IsBelow n gs q → value_at_position gs q.at ≡ value_at_position fs q.at) where
@@ -92,7 +92,7 @@ module _ (fs gs : List Frozen) (distinct : AreDistinct gs) (falling : AllByRecur
       let there : value_at_position fs q.at ≡ Some g.object.value = sym (same_value (suc n) q h) ∙ g.value_is in
       ap (owner_by (λ v. replaced (meaning n gs) v)) g.value_is ∙ ap Full trees ∙ sym (ap (owner_by (λ v. replaced (meaning n fs) v)) there)
 
--- ---- objects that stay read as before
+-- ---- objects that remain have the same meaning
 
 left_value : (n : ℕ) (gone : List Place) (fs : List Frozen) (q : Place) → AreDistinct fs → IsBelow n (left gone fs) q → value_at_position (left gone fs) q.at ≡ value_at_position fs q.at
 left_value n gone [] q d h = absurd h

@@ -1,4 +1,4 @@
--- An image whose version is set to the one that may have frozen objects has the same content.
+-- An image has the same content after its version is set to the one that may have frozen objects.
 use Rattle.std.proofs.Common.{◌≡◌, ℕ, ◌+◌, ◌-◌, ◌≤◌, inl, inr, List, ◌++◌, length, sym, ap, ◌∙◌, subst, arith}
 use Rattle.seg_spec.specs.Bytes.{word, ChangesOnly, IsSame}
 use Rattle.seg_spec.specs.Header.{version_word, units_word, allocator_word, index_kind_word, free_word, next_word, index_cell, reserved, reserved_size, types_start, types_size, uniques_start, uniques_size, heap_start, sharing_version}

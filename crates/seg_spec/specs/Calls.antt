@@ -1,4 +1,4 @@
--- What calls on places find, and how they fail.
+-- The premises of calls on places, and how calls fail.
 --     IsLoose bytes table object v inside           an object without an owner contains v, and v owns the
 --                                                   blocks `inside`
 --     Refuses allocator old new asks                a request can't be granted, and nothing changed

@@ -5,9 +5,9 @@
 --                                        value's start, and of the form of its type
 --     ChangesCells R old new table at T  only the value of type T at a position changed, and R relates the
 --                                        old and the new bytes of each of its cells
---     Shifts old new table before T each from to n   n entries were copied, and their pointers corrected
+--     Shifts old new table before T each from to n   n entries were copied, and their pointers were corrected
 --     IsDefaulted old new at form        the cell is now 0, or empty
---     IsMoved old new from to form       the cell points to and counts what another cell did
+--     IsMoved old new from to form       the cell has the target and the count that another cell had
 --     IsFurther old new n at form        the distance in the cell grew by n, unless its pointer is null
 use Rattle.std.specs.Prelude.{◌≡◌, ℕ, ◌+◌, ◌*◌, ◌%◌, ◌^◌, ◌==◌, ◌≤◌, ◌⊎◌, if◌then◌else◌, List, length, map, Option, Some}
 use Rattle.std.specs.List.{AllByRecursion}
@@ -18,7 +18,7 @@ use Rattle.seg_spec.specs.Reads.{count_at, spaced}
 use Rattle.seg_spec.specs.Fresh.{IsFreshCell}
 use Rattle.seg_spec.specs.Header.{max_length}
 
--- The bytes are at most as many as a segment has.
+-- The number of bytes is at most the longest length of a segment.
 pub record IsWithin (bytes : List ℕ) (at n : ℕ) : Type 0 where
   pub fits : at + n ≤ length bytes
   pub small : length bytes ≤ max_length
@@ -30,17 +30,18 @@ EachCell table T P = AllByRecursion (λ c. P c.from (form_at table c.type)) (cel
 abbrev pub IsDefaulted : List ℕ → List ℕ → ℕ → Option Form → Type 0
 IsDefaulted old new at form = IsFreshCell new at form
 
--- the cell at `to` now points to and counts what the one at `from` did
+-- the cell at `to` now has the target and the count that the cell at `from` had
 abbrev pub IsMoved : List ℕ → List ℕ → ℕ → ℕ → Option Form → Type 0
 IsMoved old new from to (Some Form.i64) = long new to ≡ long old from
 IsMoved old new from to _ =
     (target new to ≡ target old from) × (count_at new to ≡ count_at old from)
 
--- a distance that grew by n, unless it is the null pointer's
+-- a distance that grew by n, or the null pointer's distance
 abbrev pub further : ℕ → ℕ → ℕ
 further n distance = if distance == 1 then 1 else (distance + n) % 2 ^ 32
 
--- The distance in the cell grew by n. Its count, or the number that the cell is, stays.
+-- The distance in the cell grew by n. The cell's count is kept, and so is the number in a cell
+-- without a pointer.
 abbrev pub IsFurther : List ℕ → List ℕ → ℕ → ℕ → Option Form → Type 0
 IsFurther old new n at (Some Form.i64) = long new at ≡ long old at
 IsFurther old new n at _ =
@@ -61,7 +62,7 @@ pub record ChangesEach (R : List ℕ → List ℕ → ℕ → Option Form → Ty
       IsSame old new q m
 
 -- n entries were copied. Each has `each` bytes, and a value of the type T after `before` bytes. The
--- distances in the values grew by how much the entries moved down.
+-- distances in the values grew by the number of bytes by which the entries moved down.
 pub record Shifts (old new : List ℕ) (table : Table) (before T each from to n : ℕ) : Type 0 where
   pub distance : ℕ
   pub back : (to + distance) % 2 ^ 32 ≡ from

@@ -1,7 +1,7 @@
--- What a call finds and leaves that destroys a value, and the frozen objects that lose their last
--- cell. Frozen objects are in `now` before the call and in `final` after it. `theirs` gives the
--- blocks of each, by its position. `names` are the positions to which the destroyed shared cells
--- pointed.
+-- The premises and results of a call that destroys a value, and the frozen objects that lose their
+-- last cell. Frozen objects are in `now` before the call and in `final` after it. `theirs` gives
+-- the blocks of each, by its position. `names` are the positions to which the destroyed shared
+-- cells pointed.
 --     SharedBeside bytes table besides names theirs kept now final
 --                        these frozen objects exist apart from the blocks `besides`; without the cells
 --                        `names` they become `final`
@@ -26,7 +26,7 @@ use Rattle.seg_spec.specs.Shared.{IsReleasing}
 use Rattle.seg_spec.specs.Destroying.{AreLive, HoldFrozen, KeepFrozen}
 
 -- The frozen objects own the blocks `theirs`. These and `besides` are allocated and differ. If the
--- cells `names` are destroyed and the cells `kept` stay, the objects become `final`.
+-- cells `names` are destroyed and the cells `kept` remain, the objects become `final`.
 pub record SharedBeside (bytes : List ℕ) (table : Table) (besides names : List ℕ)
     (theirs : ℕ → List ℕ) (kept : List Place) (now final : List Frozen) : Type 0 where
   pub holds : HoldFrozen bytes table theirs now
@@ -41,7 +41,7 @@ BesideShared bytes table besides names claim =
     SharedBeside bytes table besides names theirs kept now final → claim theirs now final
 
 -- The place now contains w with the blocks `news`, which its old value owned. Its other old blocks
--- were freed, and the blocks of frozen objects without a cell.
+-- were freed, and so were the blocks of frozen objects without a cell.
 pub record ClearsPlace (old new : List ℕ) (table : Table) (place : Place) (w : Value)
     (olds news : List ℕ) (theirs : ℕ → List ℕ) (now final : List Frozen) : Type 0 where
   pub gives : List ℕ

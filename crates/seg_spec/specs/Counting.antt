@@ -1,12 +1,12 @@
 -- The counts of the frozen objects of a picture. A frozen object counts the shared cells that point
 -- to it, in all roots and in other frozen objects.
---     cells_in roots           what the shared cells in the values of these roots point to
+--     cells_in roots           the targets of the shared cells in the values of these roots
 --     owners_in picture        the roots that aren't frozen objects
 --     AreCounted next picture  each frozen object counts its cells; the objects' numbers are below next,
 --                              and don't rise along the list
---     without_cells gone picture   the picture without the cells that point to `gone`: frozen objects
---                              whose last cell is among them are gone too
---     FrozenGone bytes picture gone blocks     the blocks of the frozen objects that are then gone
+--     without_cells gone picture   the picture without the cells that point to `gone`, and without the frozen
+--                              objects whose last cell is among them
+--     FrozenGone bytes picture gone blocks     the blocks of these frozen objects
 use Rattle.std.specs.Prelude.{◌≡◌, ℕ, List, [], ◌∷◌, ◌++◌}
 use Rattle.seg_spec.specs.Reads.{Place}
 use Rattle.seg_spec.specs.Index.{Root}

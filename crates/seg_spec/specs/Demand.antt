@@ -1,13 +1,13 @@
 -- The requests of operations to the heap, in order, and the blocks that they free. A request has
--- two sizes: the preferred one, and the least one. The heap is a list of allocated blocks and an
+-- two sizes, the preferred one and the least one. The heap is a list of allocated blocks and an
 -- end.
 --     need n                              the size in units of a block for n payload bytes
 --     Ask                                 a request: the block that may grow, the preferred and the least
 --                                         size in units
---     block_for n, growth old item n m    the request for a new block; the one for a buffer of n items
+--     block_for n, growth old item n m    the request for a new block; the request for a buffer of n items
 --                                         that needs room for m
 --     after_asks allocator bs end asks    the allocated blocks after all requests, if all are granted
---     NoRoom allocator bs end asks        a request isn't granted, after those before it were
+--     NoRoom allocator bs end asks        a request isn't granted, but the requests before it are
 --     FindsNoGap bs end ask, IsDenied     no free block is large enough for a request; the first such
 --                                         request of a list
 --     after_gives bs ats                  the allocated blocks after these were freed
@@ -41,21 +41,21 @@ growth old item count wanted = record {
   limit = need (wanted * item);
 }
 
--- no request if a block of `units` units has room for `wanted` items, else the growth
+-- no request if a block of `units` units has room for `wanted` items, otherwise the growth
 abbrev pub growth_if_needed : ℕ → Option ℕ → ℕ → ℕ → ℕ → List Ask
 growth_if_needed units old item count wanted =
     if nat_le (wanted * item) (16 * units - 16) then [] else growth old item count wanted ∷ []
 
 -- ---- requests to a heap, given by its allocated blocks and its end
 
--- what a request is granted, with or without a block that may grow
+-- the result of a request, with or without a block that may grow
 abbrev pub after_request_of : ℕ → List Span → ℕ → Option ℕ → ℕ → ℕ → Option Granted
 after_request_of allocator bs end None preferred limit =
     after_request allocator bs end preferred limit
 after_request_of allocator bs end (Some at) preferred limit =
     after_request_at allocator bs end at (room_at bs at) preferred limit
 
--- what one request is granted
+-- the result of one request
 abbrev pub after_ask : ℕ → List Span → ℕ → Ask → Option Granted
 after_ask allocator bs end ask = after_request_of allocator bs end ask.old ask.preferred ask.limit
 
@@ -64,8 +64,8 @@ abbrev pub blocks_then : Granted → List Span
 blocks_then (same bs) = bs
 blocks_then (fresh at bs) = bs
 
--- The allocated blocks after all requests, each applied to the result of those before it. None if
--- one isn't granted.
+-- The allocated blocks after all requests, each applied to the result of the requests before it;
+-- none if a request isn't granted.
 abbrev pub after_asks : ℕ → List Span → ℕ → List Ask → Option (List Span)
 after_asks allocator bs end [] = Some bs
 after_asks allocator bs end (ask ∷ asks) = option_and_then
@@ -74,13 +74,14 @@ after_asks allocator bs end (ask ∷ asks) = option_and_then
 abbrev pub NoRoom : ℕ → List Span → ℕ → List Ask → Type 0
 NoRoom allocator bs end asks = after_asks allocator bs end asks ≡ None
 
--- No free block has the least size, nor has the request's old block with the free block after it.
+-- No free block has the least size, nor does the request's old block together with the free block
+-- after it.
 pub record FindsNoGap (bs : List Span) (end : ℕ) (ask : Ask) : Type 0 where
   pub gaps_too_small : AllByRecursion (λ g. g.units < ask.limit) (gaps_of bs end)
   pub old_too_small : IfSome ask.old
       (λ at. room_at bs at + room_at (gaps_of bs end) (at + 16 * room_at bs at) < ask.limit)
 
--- a request that isn't granted, after those before it were
+-- the first request that isn't granted
 pub record IsDenied (allocator : ℕ) (bs : List Span) (end : ℕ) (asks : List Ask) : Type 0 where
   pub before : List Ask
   pub ask : Ask

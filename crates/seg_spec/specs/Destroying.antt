@@ -1,10 +1,10 @@
--- What destruction finds and leaves. It works without recursion and memory: blocks that are still
--- to be freed wait in a list through the links of their headers. A waiting block *shows* what is
--- freed with it: its values, and the nodes after it (`Owing`). A frozen object isn't in this list:
--- it counts its cells, and is only added when the last one is released. `names` are the positions
--- to which destroyed shared cells point. `theirs` gives the blocks of each frozen object, by its
--- position. `final` are the frozen objects that stay in the end. The order of blocks in a list
--- doesn't matter.
+-- The premises and results of destruction. It works without recursion and memory: blocks that are
+-- still to be freed wait in a list through the links of their headers. A waiting block *shows* what
+-- is freed with it: its values, and the nodes after it (`Owing`). A frozen object isn't in this
+-- list: it counts its cells, and is only added when its last cell is released. `names` are the
+-- positions to which destroyed shared cells point. `theirs` gives the blocks of each frozen object,
+-- by its position. `final` are the frozen objects that remain in the end. The order of blocks in a
+-- list doesn't matter.
 --     AreLive bytes blocks                       these blocks are allocated, and each is listed at most once
 --     GoesWith bytes table p blocks names        the block with payload p, with all that is freed with it
 --     Pends allocator bytes table first owed names
@@ -19,9 +19,9 @@
 --                                                the same, and `names` and the waiting blocks are still to
 --                                                be released
 --     Adds allocator old new table first xs ys names kept theirs final
---                                                blocks were added to those that wait, or released
+--                                                blocks were added to the waiting ones, or released
 --     Pops allocator bytes table p next blocks names kept theirs final
---                                                the first waiting block was taken out
+--                                                the first waiting block was removed from the list
 --     DefaultsRest old new table p before U used     the unused entries of a buffer have null pointers
 --     Uncouples allocator old new table p blocks names
 --                                                a block was prepared to show what is freed with it
@@ -29,7 +29,7 @@
 --                                                are kept
 --     Destroys allocator old new table blocks theirs final
 --                                                some of the blocks were freed, and the others belong to
---                                                the frozen objects that stay
+--                                                the frozen objects that remain
 use Rattle.std.specs.Prelude.{◌≡◌, ℕ, ◌+◌, ◌-◌, ◌*◌, ◌/◌, ◌≤◌, List, ◌++◌, length, map, Option}
 use Rattle.std.specs.List.{AllByRecursion}
 use Rattle.seg_spec.specs.Bytes.{IsSame, ChangesOnly}
@@ -49,7 +49,7 @@ use Rattle.seg_spec.specs.Shared.{IsReleasing}
 abbrev pub AreLive : List ℕ → List ℕ → Type 0
 AreLive bytes blocks = (h : ℕ) → times h blocks ≤ times h (positions (live bytes))
 
--- The block with payload p shows that it is freed with `blocks`, itself included. Their shared
+-- The block with payload p shows that it is freed with `blocks`, which include itself. Their shared
 -- cells point to `names`.
 pub record GoesWith (bytes : List ℕ) (table : Table) (p : ℕ) (blocks names : List ℕ) :
     Type 0 where
@@ -87,8 +87,8 @@ abbrev pub KeepFrozen : List ℕ → List ℕ → (ℕ → List ℕ) → List Fr
 KeepFrozen old new theirs frozen =
     AllByRecursion (λ f. AllByRecursion (KeepsBlockAround old new f.at 4) (theirs f.at)) frozen
 
--- Blocks wait from `first` on, and frozen objects exist apart from them. `blocks` are the blocks of
--- both.
+-- Blocks wait from `first` on, and frozen objects exist apart from them. `blocks` are the waiting
+-- blocks and the blocks of the frozen objects.
 pub record PendsBeside (allocator : ℕ) (bytes : List ℕ) (table : Table) (first : Option ℕ)
     (blocks names : List ℕ) (theirs : ℕ → List ℕ) (frozen : List Frozen) : Type 0 where
   pub owed : List ℕ
@@ -97,7 +97,7 @@ pub record PendsBeside (allocator : ℕ) (bytes : List ℕ) (table : Table) (fir
   pub ownable : (h : ℕ) → 1 ≤ times h (blocks_by theirs frozen) → IsOwnable bytes table h
   pub blocks_are : SameBlocks blocks (owed ++ blocks_by theirs frozen)
 
--- Waiting blocks and frozen objects own `blocks`. If the waiting blocks are freed and `names`
+-- Waiting blocks and frozen objects own `blocks`. If the waiting blocks are freed and `names` are
 -- released, the frozen objects become `final`.
 pub record Awaits (allocator : ℕ) (bytes : List ℕ) (table : Table) (first : Option ℕ)
     (blocks names : List ℕ) (kept : List Place) (theirs : ℕ → List ℕ) (final : List Frozen) :
@@ -116,8 +116,8 @@ pub record Adds (allocator : ℕ) (old new : List ℕ) (table : Table) (first : 
   pub shared_kept : KeepFrozen old new theirs final
   pub awaits : Awaits allocator new table first (xs ++ ys) names kept theirs final
 
--- The block with payload p was taken out. It shows what is freed with it, and the other blocks wait
--- from `next` on.
+-- The block with payload p was removed from the list. It shows what is freed with it, and the other
+-- blocks wait from `next` on.
 pub record Pops (allocator : ℕ) (bytes : List ℕ) (table : Table) (p : ℕ) (next : Option ℕ)
     (blocks names : List ℕ) (kept : List Place) (theirs : ℕ → List ℕ) (final : List Frozen) :
     Type 0 where

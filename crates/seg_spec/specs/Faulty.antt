@@ -1,13 +1,13 @@
--- What is wrong with an image that isn't sound. The parts of an image are checked in an order, and
--- each `Lacks..` says that one part is wrong and all parts before it are right. Except for a type's
--- number they leave out positions, because it depends on the checker's order which of several
+-- The faults of images that aren't sound. The parts of an image are checked in an order, and each
+-- `Lacks..` states that one part is wrong and all parts before it are right. Except for a type's
+-- number they leave out positions, since the order of the checker's steps decides which of several
 -- faults it finds.
 --     IsImageLength n            n may be the length of an image
 --     IsTagOf version tag        an image of this version may have a block with this tag
---     HasTiles bytes table       the blocks are right: all of the heap but the free structure
+--     HasTiles bytes table       the blocks are right: the whole heap except the free structure
 --     HoldsAll bytes             a sound image, except that a block may have several owners or none
 --     LacksHeader, LacksType, LacksTiles, LacksGaps, LacksContent, LacksOwner
---         what is wrong, with all before it right; LacksOwner is a case of LacksContent
+--         one part is wrong, and all parts before it are right; LacksOwner is a case of LacksContent
 --     Failure, Lacks bytes failure        a name for each of the first five
 use Rattle.std.specs.Prelude.{◌≡◌, ℕ, ◌%◌, ◌≤◌, true, List, [], ◌++◌, length}
 use Rattle.std.specs.List.{AllByRecursion}
@@ -56,7 +56,7 @@ pub record HoldsAll (bytes : List ℕ) : Type 0 where
   pub live_ones : AllByRecursion (λ h. 1 ≤ times h (positions (live bytes)))
       (index_blocks ++ root_blocks)
 
--- ---- what is wrong, with all before it right
+-- ---- one part is wrong, and all parts before it are right
 
 -- header and types are right
 pub record HasFront (bytes : List ℕ) (table : Table) : Type 0 where
@@ -95,7 +95,7 @@ LacksOwner bytes = HoldsAll bytes × (IsSound bytes → ⊥)
 
 -- ---- the failures by name
 
--- in the order in which they are checked
+-- the failures, in the order in which they are checked
 pub data Failure : Type 0 where
   bad_header : Failure
   bad_type : (k : ℕ) → Failure

@@ -6,7 +6,8 @@ use Rattle.std.specs.Prelude.{ℕ, ◌+◌, List, [], ◌∷◌, ◌++◌}
 use Rattle.seg_spec.specs.Value.{Value, nil, cons}
 use Rattle.seg_spec.specs.Index.{Root}
 
--- the position of its payload, its type, its number, how many cells point to it, and its value
+-- the position of the object's payload, its type, its number, the number of cells that point to it,
+-- and its value
 pub record Frozen : Type 0 where
   pub at : ℕ
   pub type : ℕ
@@ -14,7 +15,7 @@ pub record Frozen : Type 0 where
   pub count : ℕ
   pub value : Value
 
--- the bytes before its value: its count and its number
+-- the size of the object's count and number, which precede its value
 abbrev pub frozen_words : ℕ
 frozen_words = 8
 

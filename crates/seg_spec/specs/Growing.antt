@@ -1,4 +1,4 @@
--- What calls leave that request blocks, and buffers that grow.
+-- The results of calls that request blocks, and buffers that grow.
 --     Succeeds allocator old new table place w asks gives blocks others   the requests were granted, and the
 --                                                 place contains w
 --     HasRoomFor bytes at n                       the buffer of a cell has room for n bytes
@@ -16,8 +16,8 @@ use Rattle.seg_spec.specs.Roots.{ChangesPlace}
 use Rattle.seg_spec.specs.Demand.{Ask, after_gives}
 use Rattle.seg_spec.specs.Spending.{spent}
 
--- The common form of success. The requests were granted, and the buffers that they replaced were
--- freed together with `gives`. The place owned `blocks`; it now contains w and owns `others`.
+-- The common form of success. The requests were granted. The buffers that were replaced were freed,
+-- together with `gives`. The place owned `blocks`. It now contains w and owns `others`.
 pub record Succeeds (allocator : ℕ) (old new : List ℕ) (table : Table) (place : Place) (w : Value)
     (asks : List Ask) (gives blocks others : List ℕ) : Type 0 where
   pub left : List Span
@@ -35,7 +35,7 @@ pub record Reserves (allocator : ℕ) (old new : List ℕ) (table : Table) (plac
   pub succeeds : Succeeds allocator old new table place v asks [] blocks others
   pub room : HasRoomFor new place.at n
 
--- The buffer of a place moved to a block of u units, allocated before, and the old buffer was
+-- The buffer of a place moved to a block of u units that was allocated before. The old buffer was
 -- freed.
 pub record MovesBuffer (allocator : ℕ) (old taken new : List ℕ) (table : Table) (place : Place)
     (v : Value) (blocks : List ℕ) (u : ℕ) : Type 0 where

@@ -1,7 +1,7 @@
 -- Sound images: the bytes of a segment that can be saved and opened.
 --     IsSound bytes      a well-formed image without loose objects, whose frozen objects count their cells;
---                        this is what `check` accepts
---     upgraded bytes     an image after it was opened
+--                        `check` accepts exactly these
+--     upgraded bytes     the image after it was opened
 use Rattle.std.specs.Prelude.{◌≡◌, ℕ, List, []}
 use Rattle.seg_spec.specs.Bytes.{word, set_word}
 use Rattle.seg_spec.specs.Header.{next_word, version_word, sharing_version}

@@ -1,6 +1,6 @@
--- Blocks that wait to be destroyed, and what is freed with each. A waiting block shows this by
--- itself: its values, and for a node the pointers to further nodes. Each entry that a buffer has
--- room for is a value, with null pointers if it is unused. See `Destroying`.
+-- Blocks that wait to be destroyed, and what is freed with each. A waiting block shows this itself:
+-- by its values, and for a node by the pointers to further nodes. Each entry for which a buffer has
+-- room is a value, and has null pointers if it is unused. See `Destroying`.
 --     OpensBlock bytes table p kind T form values links
 --                                         what a waiting block shows: the places of its values, and the
 --                                         pointer words to further nodes
@@ -28,14 +28,14 @@ NamesNothing bytes at (Some Form.i64) = ⊤
 NamesNothing bytes at _ = target bytes at ≡ None
 
 -- A value of a waiting block owns `blocks`, and its shared cells point to `names`. Or its pointers
--- are all null, like in an unused entry.
+-- are all null, as in an unused entry.
 abbrev pub IsPart : List ℕ → Table → Place → List ℕ → List ℕ → Type 0
 IsPart bytes table place blocks names =
     ((v : Value) × Holds bytes table place v blocks × (names ≡ named_in v)) ⊎
     (EachCell table place.type (λ d form. NamesNothing bytes (place.at + d) form) ×
     (blocks ≡ []) × (names ≡ []))
 
--- the values of a block, with the blocks and the names of each
+-- the values of a block, each with its blocks and its targets
 pub data AreParts (bytes : List ℕ) (table : Table) :
     List Place → List ℕ → List ℕ → Type 0 where
   no_parts : AreParts bytes table [] [] []
@@ -48,7 +48,7 @@ abbrev pub entries_at : Table → ℕ → ℕ → ℕ → ℕ → List Place
 entries_at table start before U n =
     places_of U (map (λ q. q + before) (spaced start (before + size table U) n))
 
--- the values of all entries that a block has room for
+-- the values of all entries for which a block has room
 abbrev pub entries_of : List ℕ → Table → ℕ → ℕ → ℕ → List Place
 entries_of bytes table p before U =
     entries_at table p before U (payload_size bytes (block_of p) / (before + size table U))
@@ -87,7 +87,7 @@ mutual
         AreParts bytes table values xs ns → OwesLinks bytes table links ys ms →
         blocks ≡ block_of p ∷ (xs ++ ys) → names ≡ ns ++ ms → Owes bytes table p blocks names
 
-  -- each of these pointer words is null, or points to a node that is freed with its own blocks
+  -- each of these pointer words is null, or points to a node that is freed with its blocks
   pub data OwesLinks (bytes : List ℕ) (table : Table) :
       List ℕ → List ℕ → List ℕ → Type 0 where
     no_links : OwesLinks bytes table [] [] []
@@ -97,7 +97,7 @@ mutual
         Owes bytes table p xs ns → OwesLinks bytes table ats ys ms →
         OwesLinks bytes table (at ∷ ats) (xs ++ ys) (ns ++ ms)
 
--- a list of blocks, through their links
+-- a list of waiting blocks, through their links
 pub data Waits (bytes : List ℕ) (table : Table) : Option ℕ → List ℕ → List ℕ → Type 0 where
   none_waits : Waits bytes table None [] []
   waits : {p : ℕ} {xs ys ns ms : List ℕ} (next : Option ℕ) → Owes bytes table p xs ns →

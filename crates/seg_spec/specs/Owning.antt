@@ -20,7 +20,7 @@ pub record StandsBeside (bytes : List ℕ) (home at n : ℕ) (blocks : List ℕ)
   pub others : (h : ℕ) → 1 ≤ times h blocks → (1 ≤ times h (positions (live bytes))) × (h ≢ home)
 
 -- The heap is well-formed. The place lies in an allocated block and contains v, which owns these
--- other allocated blocks, each once.
+-- other allocated blocks. Each of these is listed once.
 pub record Stands (allocator : ℕ) (bytes : List ℕ) (table : Table) (place : Place) (v : Value)
     (blocks : List ℕ) : Type 0 where
   pub heap : IsHeap allocator bytes

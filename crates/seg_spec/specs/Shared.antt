@@ -1,23 +1,23 @@
 -- Frozen objects: objects that several values share, in images of version 2. The value of a frozen
--- object never changes. The object counts the shared cells that point to it. Its number is above
--- the numbers of the objects to which it points, so there are no cycles.
+-- object never changes. The object counts the shared cells that point to it. Its number is greater
+-- than the numbers of the objects to which it points, so there are no cycles.
 --
--- A shared cell reads as the position of its object, so what a place contains depends only on its
--- own bytes and blocks. Clients see trees instead: `unfolded` replaces each shared cell by a copy
--- of its object.
---     names_in v, names_of frozen          what the shared cells in a value point to, or in frozen objects
+-- A shared cell reads as the position of its object, so the content of a place depends only on the
+-- place's own bytes and blocks. Clients see trees instead: `unfolded` replaces each shared cell by
+-- a copy of its object.
+--     names_in v, names_of frozen          the targets of the shared cells in a value, or in frozen objects
 --     named_in v                           the positions of these objects
 --     IsBelow n frozen place               one of the objects has this place, and a number below n
---     IsCounted next frozen cells          each object counts the cells that point to it, these and those
---                                          in the objects; objects point to those with lower numbers only;
---                                          next is above all numbers
+--     IsCounted next frozen cells          each object counts the cells that point to it: these, and the cells
+--                                          in the objects; each object points only to objects with lower
+--                                          numbers; `next` is greater than all numbers
 --     unfolded n frozen v                  the value as a tree: each shared cell owns a copy of its object
---     raised p frozen                      the objects, if one more cell points to the one at position p
---     raised_by names frozen               the objects, if one more cell points to each of these
---     IsReleasing kept final names now     cells that point to these positions are still to be released, and
+--     raised p frozen                      the objects after one more cell points to the object at position p
+--     raised_by names frozen               the objects after one more cell points to each of these
+--     IsReleasing kept final names now     cells that point to these positions remain to be released, and
 --                                          others are kept; in the end the objects are `final`
---     left gone frozen, freed gone frozen  the objects that stay if cells that point to `gone` are released,
---                                          and those that are freed because no cell points to them any more
+--     left gone frozen, freed gone frozen  the objects that remain if cells that point to `gone` are released,
+--                                          and the objects that are freed because no cell points to them
 use Rattle.std.specs.Prelude.{◌≡◌, ◌≢◌, ℕ, zero, suc, ◌-◌, ◌<◌, ◌≤◌, ◌==◌, ◌⊎◌, ⊤, if◌then◌else◌, List, [], ◌∷◌, ◌++◌, map, Option, Some, None}
 use Rattle.std.specs.List.{AllByRecursion}
 use Rattle.seg_spec.specs.Value.{Label, Value, node, Values, nil, cons, Empty, Full}
@@ -25,7 +25,7 @@ use Rattle.seg_spec.specs.Reads.{Place}
 use Rattle.seg_spec.specs.Frozen.{Frozen}
 use Rattle.seg_spec.specs.Sound.{times, SameBlocks}
 
--- ---- what shared cells point to
+-- ---- the targets of shared cells
 
 unfoldable mutual
   pub names_in : Value → List Place
@@ -45,12 +45,12 @@ unfoldable mutual
   named_each nil = []
   named_each (cons v vs) = named_in v ++ named_each vs
 
--- what the shared cells in all objects point to
+-- the targets of the shared cells in all objects
 abbrev pub names_of : List Frozen → List Place
 names_of [] = []
 names_of (f ∷ fs) = names_in f.value ++ names_of fs
 
--- how many cells point to the object at a position
+-- the number of cells that point to the object at a position
 abbrev pub times_named : ℕ → List Place → ℕ
 times_named p names = times p (map (λ q. q.at) names)
 
@@ -106,7 +106,7 @@ meaning (suc n) frozen p =
 abbrev pub unfolded : ℕ → List Frozen → Value → Value
 unfolded n frozen v = replaced (meaning n frozen) v
 
--- ---- a new cell
+-- ---- new cells
 
 abbrev pub with_count : Frozen → ℕ → Frozen
 with_count f n = record f { count = n }
@@ -127,19 +127,19 @@ abbrev pub IsFalling : List Frozen → Type 0
 IsFalling [] = ⊤
 IsFalling (f ∷ fs) = AllByRecursion (λ g. g.number ≤ f.number) fs × IsFalling fs
 
--- an object with n remaining cells: it stays if n isn't 0
+-- the object remains if n cells still point to it and n isn't 0
 abbrev pub kept_with : Frozen → ℕ → List Frozen → List Frozen → List Frozen
 kept_with f zero without with_it = without
 kept_with f (suc n) without with_it = with_count f (suc n) ∷ with_it
 
 -- The objects are by falling numbers. An object that is freed releases its own cells, which point
--- to objects after it.
+-- to later objects.
 abbrev pub left : List Place → List Frozen → List Frozen
 left gone [] = []
 left gone (f ∷ fs) = kept_with f (f.count - times_named f.at gone)
     (left (gone ++ names_in f.value) fs) (left gone fs)
 
--- an object with n remaining cells: it is freed if n is 0
+-- the object is freed if n cells still point to it and n is 0
 abbrev pub freed_with : Frozen → ℕ → List Frozen → List Frozen → List Frozen
 freed_with f zero without with_it = f ∷ without
 freed_with f (suc n) without with_it = with_it
@@ -150,8 +150,8 @@ freed gone [] = []
 freed gone (f ∷ fs) = freed_with f (f.count - times_named f.at gone)
     (freed (gone ++ names_in f.value) fs) (freed gone fs)
 
--- Cells that point to these positions are still to be released, and cells that point to `kept`
--- stay. In the end the objects are `final`.
+-- Cells that point to these positions remain to be released, and cells that point to `kept` aren't
+-- released. In the end the objects are `final`.
 pub record IsReleasing (kept : List Place) (final : List Frozen) (names : List ℕ)
     (now : List Frozen) : Type 0 where
   pub pending : List Place

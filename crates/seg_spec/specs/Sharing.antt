@@ -1,8 +1,8 @@
 -- Calls that make a cell share a frozen object, or freeze an object. `theirs` gives the blocks of
 -- each frozen object, by its position.
 --     FrozenBeside bytes table besides cells next theirs now
---                            frozen objects exist apart from these blocks, and count these cells and their own
---     cell_count object      the count in a cell that points to this object, or to none
+--                            frozen objects exist apart from these blocks, and count these cells and their own cells
+--     cell_count object      the count in a cell that points to this object, or has a null pointer
 --     frozen_now payload T number v
 --                            a new frozen object, with one cell
 --     MovesFrozen allocator old new table T object v inside payload
@@ -27,8 +27,8 @@ use Rattle.seg_spec.specs.Frozen.{Frozen, frozen_words, root_of_frozen, blocks_b
 use Rattle.seg_spec.specs.Shared.{IsCounted, IsFalling, left}
 use Rattle.seg_spec.specs.Destroying.{AreLive, HoldFrozen, KeepFrozen}
 
--- The frozen objects own the blocks `theirs`. These and `besides` are allocated and differ. They
--- count `cells` and the cells in themselves.
+-- The frozen objects own the blocks `theirs`. These and `besides` are allocated and differ. The
+-- objects count `cells` and the cells in the objects.
 pub record FrozenBeside (bytes : List ℕ) (table : Table) (besides : List ℕ) (cells : List Place)
     (next : ℕ) (theirs : ℕ → List ℕ) (now : List Frozen) : Type 0 where
   pub holds : HoldFrozen bytes table theirs now
@@ -47,8 +47,8 @@ abbrev pub frozen_now : ℕ → ℕ → ℕ → Value → Frozen
 frozen_now payload T number v =
     record { at = payload; type = T; number = number; count = 1; value = v }
 
--- The object was moved from its block, which was freed, to a new one, and is frozen there with the
--- next number. All other allocated blocks are kept with their links.
+-- The object was moved from its block, which was freed, to a new block, and is frozen there with
+-- the next number. All other allocated blocks are kept with their links.
 pub record MovesFrozen (allocator : ℕ) (old new : List ℕ) (table : Table) (T object : ℕ)
     (v : Value) (inside : List ℕ) (payload : ℕ) : Type 0 where
   pub length_kept : length new ≡ length old
@@ -75,8 +75,8 @@ abbrev pub with_blocks : ℕ → List ℕ → (ℕ → List ℕ) → ℕ → Lis
 with_blocks payload its theirs p = if p == payload then its else theirs p
 
 -- An object was moved to a new block, and is frozen there. The cell owned `blocks`, and now points
--- to the object; what it pointed to before was released. Of the frozen objects `now` those stay
--- that have other cells than those that point to `names`.
+-- to the object; its old target was released. Of the frozen objects `now`, those remain that have
+-- other cells than the cells that point to `names`.
 pub record Freezes (allocator : ℕ) (old new : List ℕ) (table : Table) (cell : Place) (T object : ℕ)
     (v : Value) (inside blocks : List ℕ) (names : List Place) (theirs : ℕ → List ℕ)
     (now : List Frozen) : Type 0 where

@@ -1,7 +1,7 @@
--- What a call leaves that cuts a buffer to the size that it needs.
+-- The result of a call that cuts a buffer to the size that it needs.
 --     KeepsPathsInside old new table place       each path from a place still reaches the same place
 --     ShrinksPlace old new table place form v blocks others
---         the value stays, and so does each path into it
+--         the value is kept, and so is each path into it
 use Rattle.std.specs.Prelude.{ℕ, ◌*◌, List, length}
 use Rattle.seg_spec.specs.Pointer.{target}
 use Rattle.seg_spec.specs.Types.{Form, Table}
@@ -16,8 +16,8 @@ KeepsPathsInside old new table place =
     (path : List Selector) (inner : Place) → Leads old table place path inner →
     Leads new table place path inner
 
--- The buffer of a place of this form was cut in place to its items, or freed if it has none. The
--- place contains the same value, now with the blocks `others`, and references into it stay valid.
+-- The buffer of a place of this form was cut in place to its items, or freed if it has no items.
+-- The place contains the same value, which now owns `others`. References into it stay valid.
 pub record ShrinksPlace (old new : List ℕ) (table : Table) (place : Place) (form : Form)
     (v : Value) (blocks others : List ℕ) : Type 0 where
   pub changes : ChangesPlace old new table place v others

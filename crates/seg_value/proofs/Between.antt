@@ -38,7 +38,7 @@ use Rattle.seg_cells.proofs.Shifts.{moved_changes}
 both : (ks ls : List ℤ) (us ws : Values) → Map ks us ≡ Map ls ws → (ks ≡ ls) × (us ≡ ws)
 both ks ls us ws e = (cc, cc)
 
--- multiples of 8
+-- products with a multiple of 8 are multiples of 8
 even_times : (i each : ℕ) → each % 8 ≡ 0 → (i * each) % 8 ≡ 0
 even_times zero each e = omega arith
 even_times (suc i) each e =
@@ -82,7 +82,7 @@ module _ (allocator : ℕ) (old : List ℕ) (table : Table) (place : Place) (U :
   lies : (h : ℕ) → 1 ≤ times h (positions (live old)) → LiesIn old heap_start (length old) h
   lies h some = there (LiesIn old heap_start (length old)) h (positions (live old)) (live-lie old allocator s.heap) some
 
-  -- a block that a value owns
+  -- a block that a value owns is allocated, and is neither the buffer nor the place's block
   record Inner (h : ℕ) : Type 0 where
     is_live : 1 ≤ times h (positions (live old))
     not_buffer : h ≢ block_of p
@@ -103,7 +103,7 @@ module _ (allocator : ℕ) (old : List ℕ) (table : Table) (place : Place) (U :
           let n1 : times (block_of p) blocks ≡ times (block_of p) (block_of p ∷ owned) = ap (times (block_of p)) blocks_are in
           omega (arith, s.owned (block_of p), times-more (block_of p) s.home blocks, times-same (block_of p) owned, live-once old allocator s.heap (block_of p))
 
-  -- the entries that are there
+  -- the entries of the map
   pub all_entries : Run old table U p (count_at old place.at) keys vs owned
   unfolding owned
   all_entries =
@@ -118,7 +118,7 @@ module _ (allocator : ℕ) (old : List ℕ) (table : Table) (place : Place) (U :
       let same = both keys (keys_at old (spaced (start old place.at) each (count_at old place.at))) vs e.0 e.1 in
       rw same.0 e.2
 
-  -- ---- what a call leaves, after all its writes
+  -- ---- the place after the writes of a call
 
   pub finished : (fin : List ℕ) (n : ℕ) (more : List ℤ) (ws : Values) → IsHeap allocator fin → live fin ≡ live old
       → AllByRecursion (λ b. IsOwnable fin table b.at) (live fin) → Frames old fin place.at (size table place.type) (block_of p ∷ [])
@@ -149,9 +149,9 @@ module _ (allocator : ℕ) (old : List ℕ) (table : Table) (place : Place) (U :
           let n = times-append h (block_of p ∷ []) owned in
           omega arith
 
-  -- ---- entries move in the buffer, and the cell counts others
+  -- ---- entries move in the buffer, and the cell's count changes
 
-  -- a first entries that stay, k that were moved, and c that the cell counts
+  -- the first a entries stay, k entries were moved, and the cell now counts c
   pub record Moved (new : List ℕ) (a to k c : ℕ) (k1 k2 : List ℤ) (v1 v2 : Values) (o1 o2 : List ℕ) : Type 0 where
     pub heap : IsHeap allocator new
     pub live_is : live new ≡ live old
@@ -198,7 +198,7 @@ module _ (allocator : ℕ) (old : List ℕ) (table : Table) (place : Place) (U :
         let beside : StandsBeside old (block_of p) to (k * each) o2 = record { inside = inside; home_live = g_live; others = λ h some. let i = inner h (ours_next h some) in (i.is_live, i.not_buffer) } in
         run_moved old moved table s.is_table U allocator (block_of p) from to k k2 v2 o2 s.heap even from_in to_in beside shifts ascending next
 
-    -- the cell
+    -- the cell is in a block that is still allocated
 
     still_live : (h : ℕ) → 1 ≤ times h (positions (live old)) → 1 ≤ times h (positions (live moved))
     still_live h some = subst (λ bs. 1 ≤ times h (positions bs)) (sym moved_live) some
@@ -235,7 +235,7 @@ module _ (allocator : ℕ) (old : List ℕ) (table : Table) (place : Place) (U :
         frames_twice old moved new place.at (size table place.type) (block_of p ∷ []) [] (frames_beside allocator old moved table (block_of p) to (k * each) s.heap moves inside g_live place.at (size table place.type))
         (frames_around allocator moved new table s.home (place.at + 4) 4 moved_heap counts cell_inside (still_live s.home home_there) place.at (size table place.type) (omega arith) (omega arith)) (λ h some none. refl)
 
-    -- the buffer after the move
+    -- the buffer's block keeps its size
     payload_moved : payload_size old (block_of p) ≤ payload_size moved (block_of p)
     payload_moved =
         let whole : IsBlock old p tag (payload_size old (block_of p)) = record { after_header = the_block.after_header; live = the_block.live; has_tag = the_block.has_tag; room = omega arith } in
@@ -263,7 +263,7 @@ module _ (allocator : ℕ) (old : List ℕ) (table : Table) (place : Place) (U :
     next_new : Run new table U to k k2 v2 o2
     next_new = run_kept moved new table s.is_table U to k k2 v2 o2 (buffer_same to (k * each) (omega arith) (omega arith)) (new_inner o2 ours_next) next_moved
 
-    -- the cell, as it is now
+    -- the cell still points to the buffer
     new_target : target new place.at ≡ Some p
     new_target =
         let large = size_large table s.is_table place.type in
@@ -308,7 +308,7 @@ module _ (allocator : ℕ) (old : List ℕ) (table : Table) (place : Place) (U :
   pub small_count : (n : ℕ) → n * each ≤ 2 ^ 30 → n < 2 ^ 32
   small_count n l = let e8 : 1 ≤ each = omega arith in let m = mul-le-mul_left n e8 in omega arith
 
-  -- ---- one is removed
+  -- ---- an entry is removed
 
   module _ (index k : ℕ) (counted : count_at old place.at ≡ index + (1 + k)) (moved new : List ℕ)
       (shifts : Shifts old moved table 8 U (8 + size table U) (p + index * (8 + size table U) + (8 + size table U)) (p + index * (8 + size table U)) k)
@@ -351,7 +351,7 @@ module _ (allocator : ℕ) (old : List ℕ) (table : Table) (place : Place) (U :
           paths = λ i below. subst (λ x. KeepsPathsInside old new table (record { at = x + i * (8 + size table U) + 8; type = U })) (sym start_is) (m.paths i below);
         }
 
-  -- ---- one is inserted
+  -- ---- an entry is inserted
 
   module _ (index k : ℕ) (counted : count_at old place.at ≡ index + k) (room : (index + (1 + k)) * (8 + size table U) ≤ payload_size old (block_of p)) (moved new : List ℕ)
       (shifts : Shifts old moved table 8 U (8 + size table U) (p + index * (8 + size table U)) (p + index * (8 + size table U) + (8 + size table U)) k) (new_is : new ≡ set_word moved (place.at + 4) (index + (1 + k))) where
@@ -508,7 +508,7 @@ module _ (allocator : ℕ) (old : List ℕ) (table : Table) (place : Place) (U :
           (cell-target new written place.at place_written ∙ then.named_then) (cell-count new written place.at place_written ∙ then.counted) block run ascend in
           rw (new_keys, new_values) done
 
-  -- ---- what the calls find and leave
+  -- ---- from the steps of the calls
 
   pub each_room : (n : ℕ) → n * each ≤ payload_size old (block_of p) → p + n * each ≤ length old
   each_room n l = let b = lies (block_of p) g_live in let o = own_block in omega (arith, b.high, b.size)
@@ -616,7 +616,7 @@ module _ (allocator : ℕ) (old : List ℕ) (table : Table) (place : Place) (U :
           let room = (the_block allocator old table place U keys vs blocks s f p e).room in
           omega (arith, each_room allocator old table place U keys vs blocks s f p e (count_at old place.at) room, s.heap.small)
 
-  -- one entry more is still counted
+  -- the count has room for one entry more
   pub one_more : (kept len : ℕ) → kept ≡ count_at old place.at → len ≡ min (kept + 1) 4294967295 → len ≡ kept + 1
   one_more kept len kept_is len_is =
       let few = count_fits in

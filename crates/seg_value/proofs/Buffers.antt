@@ -1,4 +1,4 @@
--- Buffers that grow, from what the steps of the calls leave.
+-- Buffers that grow, from how the steps of the calls change the bytes.
 use Rattle.std.proofs.Common.{◌≡◌, ℕ, ◌+◌, ◌-◌, ◌*◌, ◌%◌, ◌^◌, ◌<◌, ◌≤◌, ◌⊎◌, inl, inr, true, max, List, [], ◌∷◌, length, Option, Some, None, MatchOption, option_map, refl, sym, ap, ◌∙◌, subst, arith, zero-add}
 use Rattle.std.specs.Prelude.{Contains}
 use Rattle.std.proofs.Math.Nat.{mul-le-mul_left, mul-le-mul_right}
@@ -108,7 +108,7 @@ known table T form e = go (cases_lt T (length table))
     go (inl l) = l
     go (inr l) = let none : form_at table T ≡ None = slice_get_past table T l in let f : None ≡ Some form = sym none ∙ e in absurd (cc)
 
--- ---- the buffer that a place has
+-- ---- the buffer of a place
 
 module _ (allocator : ℕ) (old : List ℕ) (table : Table) (cell T : ℕ) (v : Value) (blocks : List ℕ) (content : Content) (of : OfForm table T content) (s : Stands allocator old table (object_at cell T) v blocks) where
   its : Buffered old table (object_at cell T) of.form v blocks
@@ -117,7 +117,7 @@ module _ (allocator : ℕ) (old : List ℕ) (table : Table) (cell T : ℕ) (v : 
   pub tag_small : tag_of block.Kind.buffer T < 2 ^ 32
   tag_small = let few = s.is_table.few in let k = known table T of.form of.form_is in omega arith
 
-  -- the block of the buffer is allocated
+  -- the buffer's block is allocated
   pub record Named (p : ℕ) : Type 0 where
     pub units : ℕ
     pub among : Contains (live old) (span (block_of p) units)
@@ -171,7 +171,7 @@ module _ (allocator : ℕ) (old : List ℕ) (table : Table) (cell T : ℕ) (v : 
       go (Form.shared U) = omega arith
       go (Form.struct Us) = omega arith
 
-  -- the entries have no more bytes than the segment
+  -- the entries have at most 2^30 bytes
   count_bytes : count_at old cell * item_size table of.form ≤ 2 ^ 30
   count_bytes = go (target old cell) refl
     where
@@ -195,9 +195,9 @@ module _ (allocator : ℕ) (old : List ℕ) (table : Table) (cell T : ℕ) (v : 
       let twice : 2 * count_at old cell * item_size table of.form ≡ 2 * (count_at old cell * item_size table of.form) = grind arith in
       largest 4 (2 * count_at old cell) limit (item_size table of.form) (2 ^ 32) (omega (arith, each_small)) (omega (arith, count_bytes)) small
 
-  -- ---- what is asked for
+  -- ---- the units to ask for
 
-  -- there is room already
+  -- if the buffer has enough room already, nothing is asked for
   pub has_room : (limit room : ℕ) → room ≡ 16 * units_named old cell - 16 → limit * content.entry.size ≤ room
       → Reserves allocator old old table (object_at cell T) v blocks (buffer_asks old cell content.entry.size limit) (limit * content.entry.size)
   has_room limit room e l = record {
@@ -242,7 +242,7 @@ module _ (allocator : ℕ) (before taken marked : List ℕ) (table : Table) (cel
       let e : count_at tagged cell * item_size table of.form ≡ count_at before cell * content.entry.size = ap (λ k. k * item_size table of.form) count_is ∙ ap (λ k. count_at before cell * k) (sym of.size_is) in
       omega arith
 
-  -- a cell with a null pointer
+  -- a buffer for a cell that had a null pointer
   pub first_buffer : (after : List ℕ) → target marked cell ≡ None → after ≡ set_pointer marked cell (Some payload) → MovesBuffer allocator before taken after table (object_at cell T) v blocks u
   first_buffer after none pointed_is =
       let e : target tagged cell ≡ None = rw marked_is at none in
@@ -250,7 +250,7 @@ module _ (allocator : ℕ) (before taken marked : List ℕ) (table : Table) (cel
       let m : MovesFrom (target tagged cell) tagged tagged table of.form (g + 16) (count_at tagged cell) = rw e refl in
       moves allocator before taken table (object_at cell T) v blocks of.form s of.form_is of.has_it u g t two small tagged all_fit m after (rw e p)
 
-  -- a buffer whose entries were moved
+  -- a buffer to which the entries of the old buffer were moved
   pub next_buffer : (p kept : ℕ) (moved pointed after : List ℕ) → target marked cell ≡ Some p → kept ≡ count_at marked cell
       → (content.entry.held ≡ held.Bytes → IsWithin marked p (kept * content.entry.size) → IsWithin marked payload (kept * content.entry.size) → moved ≡ put marked payload (slice marked p (kept * content.entry.size)))
       → ((U b : ℕ) → IsEntryOf table b U content.entry → IsWithin marked p (kept * content.entry.size) → IsWithin marked payload (kept * content.entry.size) → Shifts marked moved table b U content.entry.size p payload kept)
@@ -283,7 +283,7 @@ two_units n = omega arith
 
 module _ (allocator : ℕ) (old : List ℕ) (table : Table) (cell T : ℕ) (v : Value) (blocks : List ℕ) (content : Content) (of : OfForm table T content) (s : Stands allocator old table (object_at cell T) v blocks)
     (limit : ℕ) (much : 16 * units_named old cell - 16 < limit * content.entry.size) where
-  -- the units that the code asks for first
+  -- the preferred number of units
   pub wanted_is : (kept entries wanted : ℕ) → limit * content.entry.size < 2 ^ 32 → kept ≡ count_at old cell → (kept < 2 ^ 31 → entries ≡ max 4 (max (2 * kept) limit))
       → (entries * content.entry.size < 2 ^ 32 → wanted ≡ need (entries * content.entry.size))
       → wanted ≡ need (max 4 (max (2 * count_at old cell) limit) * content.entry.size)
@@ -295,7 +295,7 @@ module _ (allocator : ℕ) (old : List ℕ) (table : Table) (cell T : ℕ) (v : 
       let fits_too : entries * content.entry.size < 2 ^ 32 = rw entries_are fits in
       wanted_by fits_too ∙ ap (λ k. need (k * content.entry.size)) entries_are
 
-  -- or as many as any number of bytes takes
+  -- the preferred number of units, if the entries have 2^32 bytes or more
   pub wanted_large : (kept entries wanted : ℕ) → 2 ^ 32 ≤ limit * content.entry.size → kept ≡ count_at old cell → (kept < 2 ^ 31 → entries ≡ max 4 (max (2 * kept) limit))
       → (2 ^ 32 ≤ entries * content.entry.size → wanted ≡ need (2 ^ 32 - 1))
       → wanted ≡ need (2 ^ 32 - 1)
@@ -309,7 +309,7 @@ module _ (allocator : ℕ) (old : List ℕ) (table : Table) (cell T : ℕ) (v : 
   abbrev pub asked : Ask
   asked = ask allocator old cell content.entry.size limit
 
-  -- by what the request returned
+  -- the buffer after the request, by the request's result
   abbrev pub Enlarged : List ℕ → Option Grant → Type 0
   Enlarged = by_request.Enlarged allocator old cell content.entry.size limit (λ mid. Reserves allocator old mid table (object_at cell T) v blocks (ask allocator old cell content.entry.size limit ∷ []) (limit * content.entry.size))
 
@@ -346,14 +346,14 @@ module _ (allocator : ℕ) (old : List ℕ) (table : Table) (cell T : ℕ) (v : 
       → (old_block ≡ None → IsHeap allocator old → GrantsNew allocator old mid wanted least r) → Enlarged mid r
   enlarged = by_request.enlarged allocator old cell content.entry.size limit s.heap in_buffer _ grew
 
-  -- more than any segment has room for
+  -- a request for more bytes than any segment has
   pub enlarged_large : (mid : List ℕ) (r : Option Grant) (old_block : Option ℕ) (wanted least : ℕ) → old_block ≡ option_map block_of (target old cell)
       → 2 ^ 32 ≤ limit * content.entry.size → wanted ≡ need (2 ^ 32 - 1) → least ≡ need (2 ^ 32 - 1)
       → ((at x : ℕ) → old_block ≡ Some at → IsHeap allocator old → IsLiveBlock old at x → Grants allocator old mid at x wanted least r)
       → (old_block ≡ None → IsHeap allocator old → GrantsNew allocator old mid wanted least r) → Enlarged mid r
   enlarged_large = by_request.enlarged_large allocator old cell content.entry.size limit s.heap in_buffer _ grew
 
-  -- the entries that are there are fewer
+  -- the buffer has fewer entries than the request is for
   fewer : count_at old cell * content.entry.size < limit * content.entry.size
   fewer = go (target old cell) refl
     where

@@ -32,7 +32,7 @@ use Rattle.seg_value.proofs.Nulls.{no_cells_own}
 use Rattle.seg_value.specs.Waiting.{AddsIn}
 use Rattle.seg_value.proofs.Joining.{nothing_added}
 
--- a place that contains something has a type of the table
+-- the type of a place that contains a value is in the table
 pub typed : (bytes : List ℕ) (table : Table) (place : Place) (v : Value) (blocks : List ℕ) → Holds bytes table place v blocks → place.type < length table
 typed bytes table place v blocks (holds form opened inside owned f o hs v_is is) = below_length table place.type form f
 
@@ -104,7 +104,7 @@ module _ (allocator : ℕ) (old mid after new : List ℕ) (table : Table) (place
       none_left : (h : ℕ) → times h (blocks ++ shares) ≡ 0 → times h (d.gives ++ those) ≡ 0
       none_left h none = sym (d.blocks_are h) ∙ none
 
-      -- every block that isn't freed
+      -- a block that isn't freed
       module _ (h : ℕ) (some : 1 ≤ times h (positions (live old))) (none : times h (blocks ++ shares) ≡ 0) where
         some_mid : 1 ≤ times h (positions (live mid))
         some_mid = let l = live_mid h in omega arith
@@ -226,7 +226,7 @@ cleared allocator old mid after new table here there_too same same_too place v b
     (live_there allocator old mid after new table place v blocks s theirs kept now final b first a c h) in
     place_cleared allocator old mid after new table place v blocks s theirs kept now final b first a c h d
 
--- a number that is cleared in place
+-- a place with a number is cleared
 pub number_cleared : (allocator : ℕ) (old new : List ℕ) (table : Table) (place : Place) (v : Value) (blocks : List ℕ) (s : Stands allocator old table place v blocks) → (theirs : ℕ → List ℕ) (kept : List Place) (now final : List Frozen) →
     SharedBeside old table (s.home ∷ blocks) (named_in v) theirs kept now final → has_cells (form_at table place.type) ≡ false →
     (IsWithin old place.at (size table place.type) → ChangesOnly old new place.at (size table place.type)) →

@@ -1,4 +1,4 @@
--- Buffers that are cut or freed, from what the steps of the calls leave.
+-- Buffers that are cut or freed, from how the steps of the calls change the bytes.
 use Rattle.std.proofs.Common.{◌≡◌, ◌≢◌, ℕ, zero, suc, ◌+◌, ◌-◌, ◌*◌, ◌^◌, ◌<◌, ◌≤◌, ◌⊎◌, inl, inr, true, List, [], ◌∷◌, ◌++◌, length, min, Some, None, option_map, option_to_list, refl, sym, ap, ◌∙◌, subst, arith, zero-add}
 use Rattle.std.specs.Prelude.{Contains, slice_get}
 use Rattle.std.specs.List.{AllByRecursion}
@@ -80,7 +80,7 @@ module _ (old new : List ℕ) (table : Table) (valid : IsTable table) (place : P
         parts = rw (ap (λ (r : Opened). r.parts) o.opened_is) (inner-same old new table valid U 8 each entries (omega arith) all);
       }
 
--- the blocks of a step into such a place
+-- a place with a buffer owns the buffer's block, apart from what its items own
 names_buffer : (old : List ℕ) (table : Table) (place : Place) (form : Form) (opened : Opened) → has_buffer (Some form) ≡ true → Opens old table place form opened → opened.blocks ≡ named old place.at
 names_buffer old table place Form.i64 opened b o = absurd (cc)
 names_buffer old table place (Form.list U) opened b o = absurd (cc)
@@ -92,7 +92,7 @@ names_buffer old table place Form.str opened b o = ap (λ (r : Opened). r.blocks
 names_buffer old table place (Form.vec U) opened b o = ap (λ (r : Opened). r.blocks) o.opened_is
 names_buffer old table place (Form.flat_map U) opened b o = ap (λ (r : Opened). r.blocks) o.opened_is
 
--- without entries there are no places inside
+-- a place with a buffer that has no entries has no places inside
 no_parts_inside : (old : List ℕ) (table : Table) (place : Place) (form : Form) (opened : Opened) → has_buffer (Some form) ≡ true → count_at old place.at ≡ 0 → Opens old table place form opened → opened.parts ≡ []
 no_parts_inside old table place Form.i64 opened b none o = absurd (cc)
 no_parts_inside old table place (Form.list U) opened b none o = absurd (cc)
@@ -110,7 +110,7 @@ shrunk_between x room u l = (grind (arith, nat_tests), grind (arith, nat_tests))
 mul-le-mul_one : (a b : ℕ) → 1 ≤ a → 1 ≤ b → 1 ≤ a * b
 mul-le-mul_one a b l m = let k = mul-le-mul_right b l in omega arith
 
--- the bytes of an entry, by the form of the type
+-- the size of an entry, by the form of the type
 pub entry_bytes : (table : Table) (T : ℕ) (form : Form) (content : Content) → form_at table T ≡ Some form → has_buffer (Some form) ≡ true → ContentOf table T (form_at table T) (Some content) → content.entry.size ≡ item_size table form
 entry_bytes table T form content f b c = go form b (subst (λ o. ContentOf table T o (Some content)) f c)
   where
@@ -129,7 +129,7 @@ entry_bytes table T form content f b c = go form b (subst (λ o. ContentOf table
 
 module _ (allocator : ℕ) (old : List ℕ) (table : Table) (place : Place) (form : Form) (v : Value) (blocks : List ℕ) (f : form_at table place.type ≡ Some form) (b : has_buffer (Some form) ≡ true)
     (s : Stands allocator old table place v blocks) where
-  -- the state of the place afterwards
+  -- the place still contains its value, and its buffer is no larger than needed
   abbrev pub Left : List ℕ → Type 0
   Left new = (others : List ℕ) × ShrinksPlace old new table place form v blocks others
 
@@ -139,7 +139,7 @@ module _ (allocator : ℕ) (old : List ℕ) (table : Table) (place : Place) (for
   solid : (h : ℕ) → 1 ≤ times h (positions (live old)) → 2 ≤ units_at old h
   solid h some = (there (LiesIn old heap_start (length old)) h (positions (live old)) (live-lie old allocator s.heap) some).size
 
-  -- it has no buffer
+  -- a place without a buffer doesn't change
   pub left_alone : target old place.at ≡ None → Left old
   left_alone e = (
     blocks,
@@ -321,7 +321,7 @@ module _ (allocator : ℕ) (old : List ℕ) (table : Table) (place : Place) (for
           not_it : (h : ℕ) → times h blocks ≡ 0 → h ≢ block_of p
           not_it h away e = let none : times (block_of p) blocks ≡ 0 = subst (λ y. times y blocks ≡ 0) e away in omega (arith, mine)
 
-    -- as the code asks for it
+    -- the block is cut as the code computes its size
     pub cut_at : (kept each units at : ℕ) (new : List ℕ) → kept ≡ count_at old place.at → each ≡ item_size table form → 1 ≤ kept → 1 ≤ each → (kept * each < 2 ^ 32 → units ≡ need (kept * each)) → at ≡ p - 16
         → ((x : ℕ) → IsHeap allocator old → Contains (live old) (span at x) → units ≤ x → Shrinks allocator old new at x units) → Left new
     cut_at kept each units at new kept_is each_is some large units_by at_is shrinks =
@@ -340,7 +340,7 @@ module _ (allocator : ℕ) (old : List ℕ) (table : Table) (place : Place) (for
         let cut = shrinks k.block.units s.heap (rw at_is it) (rw units_is fits) in
         cut_down (kept * each) n_is more k.block.units it new (rw (at_is, units_is) at cut) fits
 
-    -- ---- a buffer without entries, that is freed
+    -- ---- a buffer without entries is freed
 
     module _ (empty : count_at old place.at ≡ 0) where
       abbrev pub unnamed : List ℕ
@@ -405,7 +405,7 @@ module _ (allocator : ℕ) (old : List ℕ) (table : Table) (place : Place) (for
           home_again : stands_unnamed.home ≡ s.home
           home_again = written_home allocator old table place v blocks s unnamed cell_changes v its.owned unnamed_holds fewer_owned
 
-      -- the block is there to be freed
+      -- the heap is still well-formed, so that the block can be freed
       pub unnamed_heap : IsHeap allocator unnamed
       unnamed_heap = stands_unnamed.heap
 

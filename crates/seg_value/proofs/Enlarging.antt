@@ -23,7 +23,7 @@ module _ (allocator : ℕ) (old : List ℕ) (cell each limit : ℕ) where
   abbrev pub ask : Ask
   ask = growth (option_map block_of (target old cell)) each (count_at old cell) limit
 
-  -- ---- what is asked for
+  -- ---- the request
 
   pub asks_nothing : (room : ℕ) → room ≡ 16 * units_named old cell - 16 → limit * each ≤ room → buffer_asks old cell each limit ≡ []
   asks_nothing room e l =
@@ -41,16 +41,16 @@ module _ (allocator : ℕ) (old : List ℕ) (cell each limit : ℕ) where
       let m = mul-le-mul_right each more in
       omega arith
 
-  -- ---- what was granted
+  -- ---- the result of the request
 
-  -- a new block of no fewer units than the least
+  -- a new block that is large enough
   pub record NewFor (mid : List ℕ) (g : ℕ) : Type 0 where
     pub units : ℕ
     pub enough : need (limit * each) ≤ units
     pub takes : Takes allocator old mid units (Some g)
     pub granted : after_ask allocator (live old) (length old) ask ≡ Some (fresh g (live mid))
 
-  -- by what the request returned; a buffer that grew in place is as it is to be
+  -- by the request's result; `Grown` is the fact about a buffer that grew in place
   abbrev pub Enlarged : (List ℕ → Type 0) → List ℕ → Option Grant → Type 0
   Enlarged Grown mid None = Refuses allocator old mid (ask ∷ [])
   Enlarged Grown mid (Some (Same at)) = Grown mid
@@ -124,7 +124,7 @@ module _ (allocator : ℕ) (old : List ℕ) (cell each limit : ℕ) where
           go None e = without_block e
           go (Some p) e = with_block p e
 
-    -- more than any segment has room for
+    -- a request for more bytes than any segment has
     pub enlarged_large : (mid : List ℕ) (r : Option Grant) (old_block : Option ℕ) (wanted least : ℕ) → old_block ≡ option_map block_of (target old cell)
         → 2 ^ 32 ≤ limit * each → wanted ≡ need (2 ^ 32 - 1) → least ≡ need (2 ^ 32 - 1)
         → ((at x : ℕ) → old_block ≡ Some at → IsHeap allocator old → IsLiveBlock old at x → Grants allocator old mid at x wanted least r)

@@ -33,7 +33,7 @@ use Rattle.seg_spec.specs.Sharing.{frozen_now, MovesFrozen}
 use Rattle.seg_value.proofs.HeaderLaws.{header_fits, header_heap, header_live, header_kept}
 use Rattle.seg_value.proofs.Turns.{is_live}
 
--- a block is there again, with its link
+-- a block is kept with its link
 abbrev IsKept : List ℕ → List ℕ → ℕ → Type 0
 IsKept old new h = KeepsBlock old new h × (link_at new h ≡ link_at old h)
 
@@ -97,7 +97,7 @@ module _ (allocator : ℕ) (a b c d : List ℕ) (table : Table) (valid : IsTable
   one : 1 * size table T ≡ size table T
   one = omega arith
 
-  -- while the value moves
+  -- the place of the value isn't in the value's blocks
   stands_b : StandsBeside b own (p + 8) (1 * size table T) inside
   stands_b = record {
     inside = subst (IsInside b (block_of p) (p + 8)) (sym one) place_inside;
@@ -177,7 +177,7 @@ module _ (allocator : ℕ) (a b c d : List ℕ) (table : Table) (valid : IsTable
           Holds-kept c d table valid (one_value values) (IsSame-part c d p (8 + size table T) (p + 8) (size table T) (omega arith) (omega arith) same)
           (each_there (KeepsBlock c d) inside (λ h some. (given_kept allocator c d (block_of object) heap_c gives h (subst (λ bs. 1 ≤ times h (positions bs)) (sym live_c) (old_b h (inside_live h some))) (inside_other h some)).whole.kept))
 
-      -- ---- then the words of the object are written, and the next number
+      -- ---- the frozen object's words and the next number are written
 
       module _ (number : ℕ) (number_is : number ≡ word a next_word) (small : suc number < 2 ^ 32) where
         e : List ℕ
@@ -302,7 +302,7 @@ module _ (allocator : ℕ) (a b c d : List ℕ) (table : Table) (valid : IsTable
           kept = kept_f;
         }
 
--- all of it, by what each step promises
+-- the whole call, from what each step ensures
 pub all_moved : (allocator : ℕ) (a b c d f : List ℕ) (table here : Table) (T object p to number next : ℕ) (v : Value) (inside : List ℕ) → IsTable table → IsHeap allocator a → IsLoose a table (record { at = object; type = T }) v inside
     → number ≡ word a next_word → suc number < 2 ^ 32 → GivesBlock allocator a b table (tag_of Kind.frozen T) frozen_words T p → here ≡ table → to ≡ (p + 8) % 2 ^ 32
     → (IsWithin b object (1 * size here T) → IsWithin b to (1 * size here T) → ChangesOnly b c to (1 * size here T))

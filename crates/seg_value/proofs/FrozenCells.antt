@@ -98,7 +98,7 @@ module _ (allocator : ℕ) (old mid : List ℕ) (table : Table) (cell : Place) (
   home_mid = still_home allocator old table cell v blocks s mid m.heap m.front_kept (λ h some. kept_mid h (omega (arith, some))) (each_live_at (IsOwnable mid table) (live mid) ownable_at)
       (λ h. omega (arith, counts h, live_mid h))
 
-  -- the others are elsewhere
+  -- the other frozen objects have other positions
   apart : AllByRecursion (λ (g : Frozen). g.at ≢ p) now
   apart = not_there old table theirs p now (omega (arith, m.was_free, counts (block_of p))) b.holds
 
@@ -162,7 +162,7 @@ module _ (allocator : ℕ) (old mid : List ℕ) (table : Table) (cell : Place) (
       let few = m.heap.small in
       (record { low = omega arith; aligned = omega arith }, omega arith)
 
-  -- a block inside the object is kept, while the cell is changed
+  -- a block inside the object is kept while the cell changes
   inside_there : (new : List ℕ) (h : ℕ) → 1 ≤ times h inside → KeepsBlockAround mid new p 4 h → KeepsBlock mid new h
   inside_there new h some k =
       let mine = counts h in
@@ -230,6 +230,6 @@ module _ (allocator : ℕ) (old mid : List ℕ) (table : Table) (cell : Place) (
           (keep_others p (own ∷ inside) theirs mid new (left (names_in v) now) apart_left c.shared_kept.1);
     }
 
--- the promise of a call that moves an object of a type, for an equal type
+-- the same call, for an equal type
 pub moved_as : (allocator : ℕ) (old mid : List ℕ) (table : Table) (t T object p : ℕ) (w : Value) (inside : List ℕ) → t ≡ T → MovesFrozen allocator old mid table t object w inside p → MovesFrozen allocator old mid table T object w inside p
 moved_as allocator old mid table t T object p w inside e m = subst (λ x. MovesFrozen allocator old mid table x object w inside p) e m

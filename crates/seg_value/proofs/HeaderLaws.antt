@@ -16,7 +16,7 @@ above : (ts : List Tile) (from to : ℕ) → Fill from ts to → AllByRecursion 
 above [] from to f = tt
 above (t ∷ ts) from to f = (omega (arith, f.0), each_weaker _ _ (λ s a. omega (arith, a)) ts (above ts (from + 16 * t.units) to f.2))
 
--- a heap ends after the header of its segment
+-- a heap begins after the segment's header
 pub header_fits : (allocator : ℕ) (bytes : List ℕ) → IsHeap allocator bytes → heap_start ≤ length bytes
 header_fits allocator bytes heap = Fill-le (tiles bytes) heap_start (length bytes) heap.filled
 

@@ -1,4 +1,4 @@
--- The buffer of the flat index gets room, from what the steps of the calls leave.
+-- The buffer of the flat index gets room, from how the steps of the calls change the bytes.
 use Rattle.std.proofs.Common.{◌≡◌, ℕ, ◌+◌, ◌-◌, ◌*◌, ◌^◌, ◌<◌, ◌≤◌, max, min, List, [], ◌∷◌, length, Option, Some, None, MatchOption, option_map, refl, sym, ap, ◌∙◌, subst, arith}
 use Rattle.std.specs.Prelude.{Contains}
 use Rattle.seg_spec.specs.Pointer.{target}
@@ -53,7 +53,7 @@ module _ (allocator : ℕ) (old : List ℕ) (table : Table) (s : FindsNames allo
       go (Some p) e = omega (arith, name_room allocator old table s p e (count_at old index_cell * 8) (name_block allocator old table s p e).room, s.heap.small)
 
   module _ (limit : ℕ) where
-    -- there is room already
+    -- if the buffer has enough room already, nothing is asked for
     pub index_has_room : (room : ℕ) → room ≡ 16 * units_named old index_cell - 16 → limit * 8 ≤ room → ReservesIndex allocator old old table (buffer_asks old index_cell 8 limit) (limit * 8)
     index_has_room room e l = record {
       left = live old;
@@ -97,7 +97,7 @@ module _ (allocator : ℕ) (old : List ℕ) (table : Table) (s : FindsNames allo
       abbrev pub asked : Ask
       asked = ask allocator old index_cell 8 limit
 
-      -- by what the request returned
+      -- the buffer after the request, by the request's result
       abbrev pub Enlarged : List ℕ → Option Grant → Type 0
       Enlarged = by_request.Enlarged allocator old index_cell 8 limit (λ mid. ReservesIndex allocator old mid table (ask allocator old index_cell 8 limit ∷ []) (limit * 8))
 
@@ -125,7 +125,7 @@ module _ (allocator : ℕ) (old : List ℕ) (table : Table) (s : FindsNames allo
           → (old_block ≡ None → IsHeap allocator old → GrantsNew allocator old mid wanted least r) → Enlarged mid r
       index_enlarged = by_request.enlarged allocator old index_cell 8 limit s.heap in_buffer _ grew
 
-      -- more than any segment has room for
+      -- a request for more bytes than any segment has
       pub index_enlarged_large : (mid : List ℕ) (r : Option Grant) (old_block : Option ℕ) (wanted least : ℕ) → old_block ≡ option_map block_of (target old index_cell)
           → 2 ^ 32 ≤ limit * 8 → wanted ≡ need (2 ^ 32 - 1) → least ≡ need (2 ^ 32 - 1)
           → ((at x : ℕ) → old_block ≡ Some at → IsHeap allocator old → IsLiveBlock old at x → Grants allocator old mid at x wanted least r)
@@ -159,6 +159,6 @@ module _ (allocator : ℕ) (old : List ℕ) (table : Table) (s : FindsNames allo
             room = less_room new index_cell (16 * n.units - 16) (limit * 8) (omega arith) m.room;
           }
 
-  -- one entry more is still counted
+  -- the count has room for one entry more
   pub one_name_more : (kept len : ℕ) → kept ≡ count_at old index_cell → len ≡ min (kept + 1) 4294967295 → len ≡ kept + 1
   one_name_more kept len kept_is len_is = let few = names_fit in omega arith

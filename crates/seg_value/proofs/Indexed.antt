@@ -1,4 +1,4 @@
--- The buffer of the flat index, when it grows in place, and when it moves.
+-- The buffer of the flat index, where it grows in place and where it moves.
 use Rattle.std.proofs.Common.{◌≡◌, ◌≢◌, ℕ, ◌+◌, ◌-◌, ◌*◌, ◌%◌, ◌^◌, ◌<◌, ◌≤◌, ◌⊎◌, inl, inr, List, [], ◌∷◌, length, Option, Some, None, unwrap_or, option_to_list, option_map, refl, sym, ap, ◌∙◌, subst, arith, add-zero}
 use Rattle.std.specs.Prelude.{Contains}
 use Rattle.std.proofs.lemmas.Bool.{cases_eq}
@@ -279,7 +279,7 @@ module _ (allocator : ℕ) (before taken : List ℕ) (table : Table) (s : FindsN
         number-set_other 4 4 moved index_cell (distance index_cell (Some (g + 16))) (index_cell + 4) (inr (omega arith))
         ∙ cell-count tagged_index moved index_cell (moved_low index_cell 8 (omega arith)) ∙ tagged_count
 
-    -- the bytes before the heap, except the cell
+    -- the bytes before the heap are kept, except the cell
     pub pointed_low : (q n : ℕ) → (q + n ≤ 24) ⊎ (28 ≤ q) → q + n ≤ heap_start → (q + n ≤ index_cell) ⊎ (index_cell + 4 ≤ q) → IsSame before pointed_index q n
     pointed_low q n (inl root) high beside = IsSame-trans before tagged_index pointed_index q n (IsSame-part before tagged_index 0 24 q n (omega arith) (omega arith) marked_front)
         (IsSame-trans tagged_index moved pointed_index q n (moved_low q n high) (points.others q n beside))
@@ -292,7 +292,7 @@ module _ (allocator : ℕ) (before taken : List ℕ) (table : Table) (s : FindsN
     pub pointed_length : length pointed_index ≡ length before
     pointed_length = points.length_kept ∙ changes.length_kept ∙ new_length allocator u g tag before taken tagged_index s.heap t (g + 16) 0 low high none
 
-    -- ---- and the old buffer is freed, if there is one
+    -- ---- the old buffer is freed, if there is one
 
     module _ (entries : (i : ℕ) → i < count_at before index_cell → IsSameEntry before moved (name_entry before i) (g + 16 + i * 8)) (enough : count_at before index_cell * 8 + 16 ≤ 16 * u) where
       entry_pointed : (i : ℕ) → i < count_at before index_cell → IsSameEntry before pointed_index (name_entry before i) (g + 16 + i * 8)
@@ -387,7 +387,7 @@ module _ (allocator : ℕ) (before taken : List ℕ) (table : Table) (s : FindsN
                 let then = same_entry pointed_index new (g + 16 + i * 8) (IsSame-part pointed_index new (g + 16) (payload_size pointed_index g) (g + 16 + i * 8) 8 (omega arith) (omega arith) k.payload) in
                 (then.0 ∙ e.0, then.1 ∙ e.1)
 
--- ---- from what the steps of the call leave
+-- ---- from the steps of the call
 
 pub moved_entry : (old moved : List ℕ) (from to k i : ℕ) → MovesPointers old moved 8 0 from to k → i < k → target old (from + i * 8) ≢ Some (to + i * 8 + 1) → IsSameEntry old moved (from + i * 8) (to + i * 8)
 moved_entry old moved from to k i shifts l apart =

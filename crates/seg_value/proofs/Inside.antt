@@ -1,5 +1,5 @@
--- A write inside an allocated block of which nothing else is known: the heap stays, and everything
--- else. And calls on a place, one after the other.
+-- A write inside an allocated block: the heap stays well-formed, and all other bytes are kept. Then
+-- two calls on a place, one after the other.
 use Rattle.std.proofs.Common.{◌≡◌, ◌≢◌, ℕ, ◌+◌, ◌-◌, ◌≤◌, ◌⊎◌, inl, inr, List, [], ◌∷◌, refl, sym, ◌∙◌, subst, length, arith, ap}
 use Rattle.std.specs.List.{AllByRecursion}
 use Rattle.seg_spec.specs.Bytes.{word, ChangesOnly}
@@ -40,7 +40,7 @@ module _ (allocator : ℕ) (old new : List ℕ) (table : Table) (g at m : ℕ) (
   pub wrote_other : (h : ℕ) → 1 ≤ times h (positions (live old)) → h ≢ g → KeepsBlock old new h
   wrote_other h some other = (but h some).kept other
 
-  -- the block itself is there, with its tag and room
+  -- the block itself is still allocated, with its tag and room
   pub wrote_block : (p tag n : ℕ) → p ≡ g + 16 → IsBlock old p tag n → IsBlock new p tag n
   wrote_block p tag n e b =
       let own : p - 16 ≡ g = omega arith in
@@ -76,7 +76,7 @@ module _ (allocator : ℕ) (old new : List ℕ) (table : Table) (g at m : ℕ) (
       not_it : (h : ℕ) → times h (g ∷ []) ≡ 0 → h ≢ g
       not_it h away e = let one : times g (g ∷ []) ≡ 0 = subst (λ x. times x (g ∷ []) ≡ 0) e away in omega (arith, times-same g [])
 
-  -- and all blocks except around the write
+  -- blocks are kept around the write
   pub frames_around : (p n : ℕ) → p ≤ at → at + m ≤ p + n → Frames old new p n []
   frames_around p n low high = record {
     length_kept = changes.length_kept;
@@ -90,7 +90,7 @@ module _ (allocator : ℕ) (old new : List ℕ) (table : Table) (g at m : ℕ) (
       out q k (inl l) = inl (omega arith)
       out q k (inr r) = inr (omega arith)
 
--- two calls on a place: the second gave up what the first left
+-- two calls on a place: the second frees blocks that the first call kept
 pub changes_twice : (allocator : ℕ) (a b c : List ℕ) (table : Table) (place : Place) (v w : Value) (xs ys gone : List ℕ) (spans more : List Span) → word b 16 ≡ word a 16 → IsHeap allocator b
     → ChangesPlace a b table place v xs spans gone xs → ChangesPlace b c table place w ys more xs ys → ChangesPlace a c table place w ys more gone ys
 changes_twice allocator a b c table place v w xs ys gone spans more same heap x y = record {

@@ -1,4 +1,4 @@
--- Blocks are added to those that wait.
+-- Blocks are added to the list of waiting ones.
 use Rattle.std.proofs.Common.{◌≡◌, ℕ, ◌+◌, ◌-◌, ◌*◌, ◌%◌, ◌^◌, ◌<◌, ◌≤◌, List, [], ◌∷◌, ◌++◌, length, drop, Option, Some, None, refl, sym, ap, ◌∙◌, subst, arith}
 use Rattle.std.specs.Prelude.{slice_get}
 use Rattle.seg_spec.specs.Types.{Form, Table, form_at, IsTable, size, fields_of, fields_by, fields_from}
@@ -18,7 +18,7 @@ use Rattle.seg_spec.proofs.PartsOwed.{Joined, joined_more, all_joined, field_nex
 use Rattle.seg_value.specs.Waiting.{AddsIn}
 use Rattle.seg_value.proofs.Nulls.{Nothing}
 
--- a block shows what is freed with it, and is put in front of those that wait
+-- a block is uncoupled, and added in front of the waiting ones
 pub uncoupled_adds : (old mid new : List ℕ) (table mid_table : Table) (first next : Option ℕ) (p : ℕ) (xs ns : List ℕ) → mid_table ≡ table →
     ((allocator : ℕ) → IsTable table → IsHeap allocator old → AreLive old xs → Uncouples allocator old mid table p xs ns) →
     ((zs ms : List ℕ) → GoesWith mid mid_table p zs ms → AddsIn mid new mid_table first next [] zs ms) → AddsIn old new table first next [] xs ns
@@ -37,7 +37,7 @@ uncoupled_adds old mid new table mid_table first next p xs ns same uncouples pus
       awaits = a.awaits;
     }
 
--- what owns nothing and points to nothing adds nothing
+-- a value that owns nothing and points to nothing adds no block
 pub nothing_added : (old : List ℕ) (table : Table) (first : Option ℕ) (beside xs ns : List ℕ) → Nothing xs ns → AddsIn old old table first first beside xs ns
 nothing_added old table first beside xs ns n allocator ys names kept theirs final valid w fits =
     same_adds allocator old table first xs ys ns names kept theirs final n.no_blocks n.no_names w (λ h. omega (arith, fits h, times-append h beside (xs ++ ys), times-append h xs ys))

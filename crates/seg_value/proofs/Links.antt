@@ -34,7 +34,7 @@ module _ (bytes : List ℕ) (table : Table) where
   pub no_further : (xs ns : List ℕ) → OwesLinks bytes table [] xs ns → Nothing xs ns
   no_further xs ns no_links = record { no_blocks = refl; no_names = refl }
 
-  -- the first word, and those after it
+  -- the blocks and targets, for the first word and for the other words
   record Split (at : ℕ) (ats xs ns : List ℕ) : Type 0 where
     mine : List ℕ
     rest : List ℕ
@@ -58,7 +58,7 @@ module _ (bytes : List ℕ) (table : Table) where
     ns_are = λ h. omega (arith, times-append h vs ws, times-append h (vs ++ []) ws, times-append h vs []);
   }
 
--- two words of a node
+-- the two pointer words of a node
 pub two_links : (old mid new : List ℕ) (table mid_table : Table) (f g k : Option ℕ) (p q home : ℕ) (xs ns : List ℕ) → mid_table ≡ table → q ≡ (p + 4) % 2 ^ 32 → IsInside old home p 8 →
     OwesLinks old table (p ∷ (p + 4) ∷ []) xs ns → ((ys ms : List ℕ) → OwesLinks old table (p ∷ []) ys ms → AddsIn old mid table f g [] ys ms) →
     ((ys ms : List ℕ) → OwesLinks mid mid_table (q ∷ []) ys ms → AddsIn mid new mid_table g k [] ys ms) → AddsIn old new table f k (home ∷ []) xs ns

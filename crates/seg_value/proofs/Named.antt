@@ -59,7 +59,7 @@ module _ (allocator : ℕ) (old : List ℕ) (table : Table) (s : FindsNames allo
   pub name_even : p % 16 ≡ 0
   name_even = let b = lies (block_of p) name_live in let o = own_block in omega (arith, b.aligned)
 
-  -- k entries that were moved, and c that the cell counts
+  -- k entries were moved, and the cell now counts c
   pub record Shifted (new : List ℕ) (k from to c : ℕ) : Type 0 where
     pub length_kept : length new ≡ length old
     pub front_kept : KeepsFront old new
@@ -132,7 +132,7 @@ module _ (allocator : ℕ) (old : List ℕ) (table : Table) (s : FindsNames allo
           (same.0 ∙ first, same.1 ∙ next);
     }
 
-  -- what changed, after all
+  -- only the index changed after all writes
   pub index_changes : (new : List ℕ) (n : ℕ) → length new ≡ length old → KeepsFront old new → IsSame old new 28 4 → IsSame old new 40 664
       → IsHeap allocator new → live new ≡ live old → AllByRecursion (λ b. IsOwnable new table b.at) (live new)
       → ((h : ℕ) → 1 ≤ times h (positions (live old)) → h ≢ block_of p → KeepsBlock old new h) → target new index_cell ≡ Some p
@@ -184,7 +184,7 @@ module _ (allocator : ℕ) (old : List ℕ) (table : Table) (s : FindsNames allo
           omega arith))
 
 module _ (allocator : ℕ) (old : List ℕ) (table : Table) (s : FindsNames allocator old table) where
-  -- a buffer exists if there are entries
+  -- an entry was removed, as the code computes its positions
   pub name_closed_by : (index each before at next last k step begin : ℕ) (moved new : List ℕ) → index < count_at old index_cell → each ≡ 8 → before ≡ 0 → begin ≡ start old index_cell → last ≡ count_at old index_cell - 1 → k ≡ last - index
       → step ≡ min (index + 1) 4294967295 → at ≡ (begin + index * each) % 2 ^ 32 → next ≡ (begin + step * each) % 2 ^ 32
       → (before + 4 ≤ each → IsWithin old next (k * each) → IsWithin old at (k * each) → MovesPointers old moved each before next at k) → new ≡ set_word moved (index_cell + 4) last → ClosesName old new table index
@@ -207,7 +207,7 @@ module _ (allocator : ℕ) (old : List ℕ) (table : Table) (s : FindsNames allo
           let last_by : last ≡ index + k = omega arith in
           name_closed allocator old table s p e index k counted moved new shifted (rw last_by at new_is)
 
-  -- ---- a buffer without entries is given up
+  -- ---- a buffer without entries is freed
 
   pub index_empty : target old index_cell ≡ None → count_at old index_cell ≡ 0 → EmptiesIndex old old table
   index_empty e none = record {
@@ -291,7 +291,7 @@ module _ (allocator : ℕ) (old : List ℕ) (table : Table) (s : FindsNames allo
             let one : times (block_of p) (block_of p ∷ []) ≡ 0 = subst (λ x. times x (block_of p ∷ []) ≡ 0) e away in
             omega (arith, times-same (block_of p) [])
 
--- ---- one call on the index after the other
+-- ---- two calls on the index, one after the other
 
 named_once : (bytes : List ℕ) (h : ℕ) → times h (named bytes index_cell) ≤ 1
 named_once bytes h = go (target bytes index_cell)
@@ -340,7 +340,7 @@ index_twice allocator a b c table left more s t x y = record {
   room = y.room;
 }
 
--- ---- one is inserted
+-- ---- an entry is inserted
 
 module _ (allocator : ℕ) (mid : List ℕ) (table : Table) (s : FindsNames allocator mid table) (p : ℕ) (named_is : target mid index_cell ≡ Some p) (index k : ℕ) (counted : count_at mid index_cell ≡ index + k)
     (room : (index + (1 + k)) * 8 ≤ payload_size mid (block_of p)) (moved new : List ℕ) (shifts : MovesPointers mid moved 8 0 (p + index * 8) (p + index * 8 + 8) k) (new_is : new ≡ set_word moved (index_cell + 4) (index + (1 + k))) where

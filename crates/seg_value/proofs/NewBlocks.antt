@@ -1,4 +1,4 @@
--- A new block with the default of its value, from what the steps leave.
+-- A new block with the default of its value, from how the steps change the bytes.
 use Rattle.std.proofs.Common.{◌≡◌, ℕ, ◌+◌, ◌-◌, ◌*◌, ◌%◌, ◌^◌, ◌<◌, ◌≤◌, List, [], ◌∷◌, length, Some, None, refl, ap, ◌∙◌, arith}
 use Rattle.seg_spec.specs.Bytes.{set_word, ChangesOnly}
 use Rattle.seg_spec.specs.Types.{Table, IsTable, size}
@@ -24,7 +24,7 @@ module _ (allocator u h tag : ℕ) (old taken new : List ℕ) (heap : IsHeap all
 need_room : (n : ℕ) → n + 16 ≤ 16 * need n
 need_room n = omega arith
 
--- the request was granted
+-- the requests of the call were granted
 pub asks_granted : (allocator : ℕ) (old new : List ℕ) (n h : ℕ) → after_take allocator (live old) (length old) (need n) ≡ Some (h, live new) → after_asks allocator (live old) (length old) (block_for n ∷ []) ≡ Some (live new)
 asks_granted allocator old new n h e = rw e refl
 
@@ -55,7 +55,7 @@ gives_block allocator h tag before U old taken new table heap t fits small chang
       kept = λ k some. let r = all_kept allocator (need (before + size table U)) h tag old taken new heap t (h + 16 + before) (size table U) low high changes k some in (r.whole.kept, r.link_kept);
     }
 
--- the same with the positions that the code computes
+-- the same, with the positions that the code computes
 pub gives_block_at : (allocator h tag before U need_is each payload at : ℕ) (old taken tagged_is new : List ℕ) (table : Table) → IsTable table → before ≤ 24 → U < length table → tag < 2 ^ 32 →
     IsHeap allocator old → Takes allocator old taken need_is (Some h)
     → each ≡ before + size table U → (1 * each < 2 ^ 32 → need_is ≡ need (1 * each)) → payload ≡ (h + 16) % 2 ^ 32 → at ≡ (payload + 0 * each + before) % 2 ^ 32 → tagged_is ≡ set_word taken (h + 8) tag
@@ -79,7 +79,7 @@ gives_block_at allocator h tag before U need_is each payload at old taken tagged
     let held' : Holds new table (record { at = h + 16 + before; type = U }) (default_of table U) [] = rw a_is at held in
     rw p_is (gives_block allocator h tag before U old taken new table heap t' (omega arith) small changed' held')
 
--- the same with the table and the type that the code has
+-- the same, with the table and the type that the code stores
 pub gives_block_for : (allocator h tag before U V b need_is each payload at : ℕ) (old taken tagged_is new : List ℕ) (table here : Table) → here ≡ table → V ≡ U → b ≡ before → IsTable table →
     before ≤ 24 → U < length table → tag < 2 ^ 32 → IsHeap allocator old → Takes allocator old taken need_is (Some h)
     → each ≡ before + size table U → (1 * each < 2 ^ 32 → need_is ≡ need (1 * each)) → payload ≡ (h + 16) % 2 ^ 32 → at ≡ (payload + 0 * each + b) % 2 ^ 32 → tagged_is ≡ set_word taken (h + 8) tag

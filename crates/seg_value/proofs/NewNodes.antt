@@ -1,4 +1,4 @@
--- A new node of the index's tree, from what the steps leave.
+-- A new node of the index's tree, from how the steps change the bytes.
 use Rattle.std.proofs.Common.{◌≡◌, ℕ, ◌+◌, ◌-◌, ◌*◌, ◌%◌, ◌^◌, ◌<◌, ◌≤◌, List, length, Some, refl, ap, ◌∙◌, arith}
 use Rattle.seg_spec.specs.Bytes.{set_word, ChangesOnly}
 use Rattle.seg_spec.specs.Heap.{IsHeap, Takes}
@@ -8,7 +8,7 @@ use Rattle.seg_spec.proofs.NewBlock.{block_fits, was_free, new_heap, all_kept, i
 use Rattle.seg_value.specs.Nodes.{GivesNode}
 use Rattle.seg_value.proofs.NewBlocks.{now_live, asks_granted}
 
--- nothing was written after the tag
+-- only the tag was written
 nothing_more : (bytes : List ℕ) (at : ℕ) → ChangesOnly bytes bytes at 0
 nothing_more bytes at = record { length_kept = refl; others = λ p m apart. refl }
 
@@ -34,7 +34,7 @@ gives_node allocator h old taken heap t fits =
       kept = λ k some. let r = all_kept allocator (need 24) h tag old taken new heap t (h + 16) 0 low high changes k some in (r.whole.kept, r.link_kept);
     }
 
--- the same with the numbers that the code computes
+-- the same, with the numbers that the code computes
 pub gives_node_at : (allocator h need_is each payload tag : ℕ) (old taken new : List ℕ) → IsHeap allocator old → Takes allocator old taken need_is (Some h)
     → each ≡ 24 → (1 * each < 2 ^ 32 → need_is ≡ need (1 * each)) → payload ≡ (h + 16) % 2 ^ 32 → tag ≡ tag_of Kind.index_node 0 → new ≡ set_word taken (h + 8) tag → GivesNode allocator old new payload
 gives_node_at allocator h need_is each payload tag old taken new heap t each_is need_by payload_is tag_is new_is =

@@ -1,4 +1,4 @@
--- Cells with null pointers own nothing, and what a cell's form implies for its targets.
+-- Cells with null pointers own nothing. A cell's form determines what its targets are.
 use Rattle.std.proofs.Common.{◌≡◌, ◌≢◌, ℕ, ◌+◌, ◌*◌, ◌≤◌, inl, inr, true, false, List, [], ◌∷◌, ◌++◌, length, map, Option, Some, None, option_to_list, option_map, refl, sym, ap, ◌∙◌, subst, arith}
 use Rattle.seg_spec.specs.Pointer.{target}
 use Rattle.seg_spec.specs.Types.{Form, Table, form_at, IsTable, size, fields_of, fields_by}
@@ -128,7 +128,7 @@ module _ (bytes : List ℕ) (table : Table) where
       let others = no_cells_parts U ps rest ws h more in
       record { no_blocks = ap (λ bs. bs ++ rest) one.no_blocks ∙ others.no_blocks; no_names = ap (λ bs. bs ++ ws) one.no_names ∙ others.no_names }
 
-  -- if all cells of a value are null, its first cell is
+  -- if all cells of a value are null, its first cell is null
   at_first : (place : Place) (form : Form) (valid : IsTable table) → form_at table place.type ≡ Some form → IsOne table valid form → EachCell table place.type (λ d k. NamesNothing bytes (place.at + d) k) → target bytes place.at ≡ None
   at_first place form valid f one a =
       let a' = rw (one_cell table valid place.type form f one) at a in
@@ -150,7 +150,7 @@ module _ (bytes : List ℕ) (table : Table) where
   unfolding named_in named_each
   named_shared U p vs = refl
 
-  -- a cell without content of its own that isn't null shares its target
+  -- the value owns nothing and shares the object at p
   pub record SharesIt (p : ℕ) (xs ns : List ℕ) : Type 0 where
     pub no_blocks : xs ≡ []
     pub name : ns ≡ p ∷ []
@@ -183,7 +183,7 @@ module _ (bytes : List ℕ) (table : Table) where
   shared_there place content p xs ns valid few some e none h part =
       shared_by place (form_at table place.type) p xs ns valid few some e refl (subst (λ k. ContentOf table place.type (form_at table place.type) k) none h) part
 
-  -- a cell of a type with content that names something contains a value
+  -- a cell with content that isn't null contains a value
   held_by : (place : Place) (o : Option Form) (content : Content) (p : ℕ) (valid : IsTable table) → form_at table place.type ≡ o → ContentOf table place.type o (Some content) → target bytes place.at ≡ Some p →
       EachCell table place.type (λ d k. NamesNothing bytes (place.at + d) k) → ⊥
   held_by place None content p valid f h e n = h

@@ -1,4 +1,4 @@
--- A block is taken from the waiting ones: what is freed with it is added to them.
+-- A block is taken from the waiting ones, and what is freed with it is added to them.
 use Rattle.std.proofs.Common.{◌≡◌, ℕ, ◌+◌, ◌-◌, ◌*◌, ◌/◌, ◌<◌, ◌≤◌, ◌⊎◌, inl, inr, ⊎_elim, List, [], ◌∷◌, ◌++◌, length, Option, Some, None, refl, sym, ap, ◌∙◌, subst, arith}
 use Rattle.std.proofs.lemmas.Bool.{cases_lt}
 use Rattle.std.proofs.Math.Nat.{div-mul-le_self}
@@ -67,7 +67,7 @@ same_frozen kind.Node t T e = absurd (omega arith)
 same_frozen kind.IndexBuffer t T e = absurd (omega arith)
 same_frozen kind.IndexNode t T e = absurd (omega arith)
 
--- ---- what a block shows, by its content
+-- ---- the values and links of a block, by its content
 
 module _ (bytes : List ℕ) (table : Table) (valid : IsTable table) (p : ℕ) where
   pub record HasEntries (content : Content) (us vs : List ℕ) : Type 0 where
@@ -234,7 +234,7 @@ module _ (bytes : List ℕ) (table : Table) (valid : IsTable table) (p : ℕ) wh
     shows_by block.Kind.index_node T o tag of = absurd o
     shows_by block.Kind.frozen T o tag of = frozen_shows T o tag of
 
-  -- what is freed with a block, by its content
+  -- the blocks that are freed with a block, by its content
   pub record Parted (content : Content) (xs ns : List ℕ) : Type 0 where
     pub us : List ℕ
     pub bs : List ℕ
@@ -258,7 +258,7 @@ module _ (bytes : List ℕ) (table : Table) (valid : IsTable table) (p : ℕ) wh
         shows = shows_by content k t values links us bs vs ws parts more kind_is T o tag of;
       }
 
-  -- a block that has no content doesn't wait
+  -- a block without content doesn't wait
   no_content_by : (k : Kind) (t : ℕ) (values : List Place) (links : List ℕ) (kind_is : block.Kind) (T : ℕ) (form : Option Form) → form_at table T ≡ form → OpensBlock bytes table p kind_is T form values links →
       tag_at bytes (block_of p) ≡ tag_of (kind_of k) t → OfBlock table k t None → ⊥
   no_content_by k t values links block.Kind.object T form f o tag of =
@@ -307,7 +307,7 @@ module _ (bytes : List ℕ) (table : Table) (valid : IsTable table) (p : ℕ) wh
       go : (owed named : List ℕ) → Owes bytes table p owed named → ⊥
       go owed named (owes kind_is T values links us bs vs ws o parts more is named_is) = no_content_by k t values links kind_is T (form_at table T) refl o tag of
 
-  -- a value whose type the table lacks
+  -- a value whose type the table lacks owns nothing
   lacking : (at T : ℕ) (zs ms : List ℕ) → IsPart bytes table (record { at = at; type = T }) zs ms → 256 ≤ T → Nothing zs ms
   lacking at T zs ms (inr n) large = record { no_blocks = n.1; no_names = n.2 }
   lacking at T zs ms (inl (v, holds form opened inside owned g q hs v_is is, names)) large = let l = below_length table T form g in let few = valid.few in absurd (omega arith)
@@ -317,8 +317,8 @@ module _ (bytes : List ℕ) (table : Table) (valid : IsTable table) (p : ℕ) wh
       let n = lacking at T mine names first large in
       record { no_blocks = ap (λ bs. bs ++ []) n.no_blocks; no_names = ap (λ bs. bs ++ []) n.no_names }
 
-  -- a tag that the program can't read belongs to an object whose type the table lacks, and which
-  -- owns nothing
+  -- A tag that the program can't read is the tag of an object whose type the table lacks. Such an
+  -- object owns nothing.
   unread_by : (values : List Place) (links us bs vs ws : List ℕ) (kind_is : block.Kind) (T : ℕ) (form : Option Form) → form_at table T ≡ form → OpensBlock bytes table p kind_is T form values links →
       AreParts bytes table values us vs → OwesLinks bytes table links bs ws → ((t : Tag) → t.type_id < 256 → tag_at bytes (block_of p) ≡ word_of t → ⊥) → Nothing us vs × Nothing bs ws
   unread_by values links us bs vs ws block.Kind.object T form f o parts more none =
@@ -397,7 +397,7 @@ module _ (allocator : ℕ) (old mid new : List ℕ) (table here : Table) (same :
   pub inside_links : IsInside old (block_of p) p 8
   inside_links = let l = lies.size in let low = s.low in record { low = omega arith; high = omega arith }
 
-  -- what its links point to is to be released first
+  -- the targets of its links are released first
   pub links_waiting : Awaits allocator old table f ys (ws ++ (vs ++ names)) kept_cells theirs final
   links_waiting = awaits_names allocator old table f ys (ns ++ names) (ws ++ (vs ++ names)) kept_cells theirs final
       (λ h. omega (arith, ns_are h, times-append h ns names, times-append h vs ws, times-append h ws (vs ++ names), times-append h vs names)) w

@@ -1,4 +1,4 @@
--- Shared cells: what they point to, and how an empty one is made to point to an object.
+-- Shared cells: their targets, and how an empty cell is made to point to an object.
 use Rattle.std.proofs.Common.{◌≡◌, ℕ, ◌+◌, ◌^◌, ◌<◌, ◌≤◌, List, [], ◌∷◌, ◌++◌, length, Option, Some, None, option_to_list, option_map, refl, sym, ap, ◌∙◌, subst, arith}
 use Rattle.seg_spec.specs.Bytes.{set_word, ChangesOnly}
 use Rattle.seg_spec.specs.Pointer.{target, distance, set_pointer}
@@ -24,9 +24,9 @@ use Rattle.seg_spec.proofs.CellOwed.{same_form}
 use Rattle.seg_spec.proofs.FrozenBlocks.{hold_kept, frozen_twice, frozen_kept}
 use Rattle.seg_spec.specs.Sharing.{cell_count}
 
--- ---- what such a cell points to
+-- ---- the target of a shared cell
 
--- what a cell points to, as a list of names
+-- the target of a cell, as a list of places
 abbrev pub names_by : ℕ → Option ℕ → List Place
 names_by T None = []
 names_by T (Some p) = record { at = p; type = T } ∷ []
@@ -73,7 +73,7 @@ module _ (bytes : List ℕ) (table : Table) (place : Place) (T : ℕ) (f : form_
         opened_is = ap (λ t. record { label = shared_label T t; blocks = []; parts = [] }) (sym e);
       }) holds_none refl refl
 
--- ---- an empty one is made to point to an object
+-- ---- an empty cell is made to point to an object
 
 module _ (allocator : ℕ) (old : List ℕ) (table : Table) (cell : Place) (T : ℕ) (f : form_at table cell.type ≡ Some (Form.shared T)) (v : Value) (blocks : List ℕ) (s : Stands allocator old table cell v blocks) (theirs : ℕ → List ℕ)
     (now final : List Frozen) (fits : AreLive old ((s.home ∷ blocks) ++ blocks_by theirs now)) (few : (h : ℕ) → times h (blocks_by theirs final) ≤ times h (blocks_by theirs now))

@@ -65,7 +65,7 @@ module _ (table : Table) (valid : IsTable table) (U : ℕ) where
     pub sized : IsSized old (record { at = block_of p; units = units_at old (block_of p) })
     sized = let l = lies in record { aligned = l.aligned; large = l.size; inside = l.high; size_is = refl }
 
-    -- the entries after the used ones
+    -- the entries after the used ones fit in the buffer
     pub rest_fits : (payload_size old (block_of p) / (before + size table U) - used) * (before + size table U) + used * (before + size table U) ≤ payload_size old (block_of p)
     rest_fits =
         let large = size_large table valid U in
@@ -97,7 +97,7 @@ module _ (table : Table) (valid : IsTable table) (U : ℕ) where
           nothing = rw n_is at cells;
         }
 
-  -- one more entry
+  -- the default value of one entry more was written
   pub next_default : (old now new : List ℕ) (here : Table) (before from n i at T s b : ℕ) → here ≡ table → i < n → IsWithin old from (n * (before + size table U)) →
       ChangesEach IsDefaulted old now table U from (i * (before + size table U)) (map (λ q. q + before) (spaced from (before + size table U) i)) →
       at ≡ (from + i * s + b) % 2 ^ 32 → T ≡ U → s ≡ before + size table U → b ≡ before → (IsWithin now at (size here T) → ChangesCells IsDefaulted now new here at T) →

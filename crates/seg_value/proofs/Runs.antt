@@ -68,7 +68,7 @@ ascending_after (k ∷ ks) more h = ascending_after ks more (ascending_rest k (k
 below : (a b c : ℤ) → a <ℤ b → b <ℤ c → a <ℤ c
 below a b c h k = grind arith
 
--- without the one between
+-- ascending keys are still ascending without one of them
 pub ascending_without : (ks more : List ℤ) (k : ℤ) → IsAscending (ks ++ (k ∷ more)) → IsAscending (ks ++ more)
 ascending_without [] more k h = ascending_rest k more h
 ascending_without (a ∷ []) [] k h = tt
@@ -119,7 +119,7 @@ module _ (bytes : List ℕ) (table : Table) (U : ℕ) where
     values = values_joined at n m q e a.values b.values;
   }
 
-  -- the first n of n + m entries, and those after them
+  -- the first n of n + m entries, and the other entries
   pub record Parts (at n m q : ℕ) (keys : List ℤ) (vs : Values) (owned : List ℕ) : Type 0 where
     pub first_keys : List ℤ
     pub next_keys : List ℤ
@@ -186,7 +186,7 @@ module _ (bytes : List ℕ) (table : Table) (U : ℕ) where
         next = record { keys_are = refl; values = p.next };
       }
 
-  -- one entry
+  -- one entry is a run
   pub alone : (at : ℕ) (w : Value) → Holds bytes table (record { at = at + 8; type = U }) w [] → Run bytes table U at 1 (signed_long bytes at ∷ []) (cons w nil) []
   alone at w h = record { keys_are = refl; values = holds_more h holds_none }
 
@@ -205,7 +205,7 @@ module _ (bytes : List ℕ) (table : Table) (U : ℕ) where
       record { value = o.0; keys_are = r.keys_are; values_are = o.1; holds_it = o.2 }
 
 module _ (old new : List ℕ) (table : Table) (valid : IsTable table) (U : ℕ) where
-  -- a run stays if its bytes and what its values own are kept
+  -- a run stays if its bytes and the blocks of its values are kept
   pub run_kept : (at n : ℕ) (keys : List ℤ) (vs : Values) (owned : List ℕ) → IsSame old new at (n * (8 + size table U)) → AllByRecursion (KeepsBlock old new) owned
       → Run old table U at n keys vs owned → Run new table U at n keys vs owned
   run_kept at n keys vs owned same kept r =
@@ -217,7 +217,7 @@ module _ (old new : List ℕ) (table : Table) (valid : IsTable table) (U : ℕ) 
         values = HoldsEach-kept old new table valid r.values (inner-same old new table valid U 8 (8 + size table U) entries (omega arith) all) kept;
       }
 
-  -- each path from a value of it still reaches the same place
+  -- each path from a value of the run still reaches the same place
   pub run_paths : (at n : ℕ) (keys : List ℤ) (vs : Values) (owned : List ℕ) → IsSame old new at (n * (8 + size table U)) → AllByRecursion (KeepsBlock old new) owned
       → Run old table U at n keys vs owned → (i : ℕ) → i < n → KeepsPathsInside old new table (record { at = at + i * (8 + size table U) + 8; type = U })
   run_paths at n keys vs owned same kept r i below path inner way =

@@ -1,4 +1,4 @@
--- An own gets an object, from what the steps leave.
+-- An own gets an object, from how the steps change the bytes.
 use Rattle.std.proofs.Common.{◌≡◌, ◌≢◌, ℕ, zero, suc, ◌+◌, ◌*◌, ◌^◌, ◌<◌, ◌≤◌, ◌⊎◌, inl, inr, ⊎_elim, List, [], ◌∷◌, ◌++◌, length, Option, Some, None, option_to_list, option_map, refl, sym, ap, ◌∙◌, subst, arith, append-nil}
 use Rattle.std.specs.List.{AllByRecursion}
 use Rattle.seg_spec.specs.Bytes.{set_word, ChangesOnly}
@@ -76,7 +76,7 @@ module _ (bytes : List ℕ) (table : Table) where
       let o' : Opens bytes table place (Form.own U) opened = subst (λ h. Opens bytes table place h opened) same o in
       empty_by place U opened inside owned blocks e o' hs is
 
-  -- an own that points to an object
+  -- an own that points to an object contains its value
   pub full_holds : (place : Place) (U object : ℕ) (w : Value) (inside : List ℕ) → form_at table place.type ≡ Some (Form.own U) → target bytes place.at ≡ Some object → count_at bytes place.at ≡ 1 →
       IsBlock bytes object (tag_of Kind.object U) (size table U) → Holds bytes table (record { at = object; type = U }) w inside → Holds bytes table place (Full w) (block_of object ∷ inside)
   full_holds place U object w inside f names one block h =
@@ -84,7 +84,7 @@ module _ (bytes : List ℕ) (table : Table) where
       holds {place = place} (Form.own U) (record { label = Label.opt; blocks = block_of object ∷ []; parts = record { at = object; type = U } ∷ [] }) (cons w nil) (inside ++ []) f
       (record { named_room = rw names room; counted = rw (names, one) refl; opened_is = rw (names, one) refl }) (holds_more h holds_none) refl (ap (λ bs. block_of object ∷ bs) (sym (append-nil inside)))
 
--- ---- the own once it is empty
+-- ---- the own after it is emptied
 
 named_empty : named_in Empty ≡ []
 unfolding named_in named_each
@@ -120,7 +120,7 @@ module _ (allocator : ℕ) (old : List ℕ) (table : Table) (own : Place) (U : �
   home_apart : (times s.home blocks ≡ 0) × (times s.home shares ≡ 0)
   home_apart = let c = counts s.home in let t = times-same s.home [] in let o = once s.home in (omega arith, omega arith)
 
-  -- the frozen objects that stay own no other blocks
+  -- the blocks of the remaining frozen objects are among the blocks of all of them
   few : (h : ℕ) → times h those ≤ times h shares
   few h = subst (λ fs. times h (blocks_by theirs fs) ≤ times h shares) b.releasing.leaves (left_fewer theirs b.releasing.pending now h)
 
@@ -131,7 +131,7 @@ module _ (allocator : ℕ) (old : List ℕ) (table : Table) (own : Place) (U : �
       let o = once h in
       (omega arith, (λ same. let z : times h (s.home ∷ []) ≡ 1 + times h [] = subst (λ x. times x (s.home ∷ []) ≡ 1 + times x []) (sym same) (times-same s.home []) in absurd (omega arith)), omega arith)
 
-  -- and is kept whole, if it is kept around the own
+  -- such a block is kept whole if it is kept around the own
   whole_beside : (after : List ℕ) (h : ℕ) → 1 ≤ times h (positions (live old)) → h ≢ s.home → KeepsBlockAround old after own.at (size table own.type) h → KeepsBlock old after h
   whole_beside after h some ne k =
       let mine = there (λ t. AllByRecursion (OneOrApart old t) (positions (live old))) s.home (positions (live old)) (live-apart old allocator s.heap) home_live in
@@ -189,7 +189,7 @@ module _ (allocator : ℕ) (old : List ℕ) (table : Table) (own : Place) (U : �
     shares_mid : (h : ℕ) → 1 ≤ times h shares → KeepsBlock old mid h
     shares_mid h some = let o = other h (omega arith) in whole_beside mid h o.0 o.1 (t.changes.kept h o.0 o.2)
 
-    -- what the destruction of the object finds
+    -- the state in which the object's destruction begins
     pub beside_mid : SharedBeside mid table (block_of t.object ∷ t.inside) (named_in u) theirs cells now final
     beside_mid = record {
       holds = hold_kept old mid table s.is_table theirs now shares_mid b.holds;
@@ -249,13 +249,13 @@ module _ (allocator : ℕ) (old : List ℕ) (table : Table) (own : Place) (U : �
           none_or_some zero = inl refl
           none_or_some (suc n) = inr (omega arith)
 
-  -- what the destruction of the object at a position promises
+  -- what the destruction of the object at a position ensures
   abbrev pub IsDestroyed : List ℕ → List ℕ → Table → ℕ → Type 0
   IsDestroyed mid after here held =
       (U : ℕ) (v : Value) (inside : List ℕ) → IsTable here → IsHeap allocator mid → IsLoose mid here (record { at = held; type = U }) v inside →
       BesideShared mid here (block_of held ∷ inside) (named_in v) (λ theirs now. Destroys allocator mid after here ((block_of held ∷ inside) ++ blocks_by theirs now) theirs)
 
-  -- the object that it contained was taken out, and destroyed
+  -- the object in the own was taken out and destroyed
   pub taken_emptied : (mid after : List ℕ) (here : Table) → here ≡ table → (u : Value) → v ≡ Full u → (result : Option ℕ) (held : ℕ) → result ≡ Some held → TakesOwn old mid table own U u blocks result →
       IsDestroyed mid after here held → IsEmptied after
   taken_emptied mid after here same u v_is result held result_is t destroys =
@@ -265,7 +265,7 @@ module _ (allocator : ℕ) (old : List ℕ) (table : Table) (own : Place) (U : �
       let d = destroys' U u t.inside s.is_table (heap_mid mid u v_is result t) t.loose theirs cells now final (beside_mid mid u v_is result t) in
       emptied_now mid u v_is result t after (subst (λ bs. Destroys allocator mid after table (bs ++ shares) theirs final) (sym t.blocks_are) d)
 
-  -- ---- and then points to the object
+  -- ---- the own points to the new object
 
   module _ (after : List ℕ) (e : IsEmptied after) (w : Value) (loose : IsLoose old table (record { at = object; type = U }) w inside) where
     live_after : (h : ℕ) → times h (positions (live after)) + times h blocks + times h shares ≡ times h (positions (live old)) + times h those

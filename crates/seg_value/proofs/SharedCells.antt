@@ -1,4 +1,4 @@
--- A cell is made to share the object of another cell, from what the steps leave.
+-- A cell is made to share the object of another cell, from how the steps change the bytes.
 use Rattle.std.proofs.Common.{◌≡◌, ℕ, suc, ◌+◌, ◌^◌, ◌<◌, ◌≤◌, List, [], ◌∷◌, ◌++◌, length, Option, Some, None, refl, sym, ap, ◌∙◌, subst, arith}
 use Rattle.std.specs.List.{AllByRecursion}
 use Rattle.seg_spec.specs.Bytes.{word, set_word, ChangesOnly}
@@ -32,14 +32,14 @@ use Rattle.seg_spec.proofs.Standing.{Frames, live_at, beside_stands, beside_home
 use Rattle.seg_spec.specs.Sharing.{FrozenBeside, cell_count}
 use Rattle.seg_value.proofs.Pointed.{names_by, names_of_cell, SharedCell, shared_cell, pointed}
 
--- the promise of a call that clears a cell
+-- what a call that clears a cell ensures
 abbrev pub ClearsCell : ℕ → List ℕ → List ℕ → Table → Place → Type 0
 ClearsCell allocator old new table cell = (v : Value) (blocks : List ℕ) (s : Stands allocator old table cell v blocks) →
     BesideShared old table (s.home ∷ blocks) (named_in v) (ClearsPlace old new table cell (default_of table cell.type) blocks [])
 
 module _ (allocator : ℕ) (old : List ℕ) (table : Table) (cell : Place) (T next : ℕ) (f : form_at table cell.type ≡ Some (Form.shared T)) (v : Value) (blocks : List ℕ) (s : Stands allocator old table cell v blocks)
     (theirs : ℕ → List ℕ) (kept : List Place) (now : List Frozen) (b : FrozenBeside old table (s.home ∷ blocks) (names_in v ++ kept) next theirs now) where
-  -- the frozen objects, if the cell is released
+  -- the frozen objects after the cell is released
   beside_cell : SharedBeside old table (s.home ∷ blocks) (named_in v) theirs kept now (left (names_in v) now)
   beside_cell = record {
     holds = b.holds;
@@ -48,7 +48,7 @@ module _ (allocator : ℕ) (old : List ℕ) (table : Table) (cell : Place) (T ne
     releasing = record { pending = names_in v; pending_are = λ h. ap (times h) (named_positions v); next = next; counted = b.counted; falling = b.falling; leaves = refl };
   }
 
-  -- the cell is cleared, and points to an object then
+  -- the cell is cleared, and then points to an object
   pub cell_changed : (mid : List ℕ) (object : Option ℕ) → ((p : ℕ) → object ≡ Some p → IsPayload p × (p < 2 ^ 32)) → ClearsCell allocator old mid table cell
       → ClearsPlace old (set_word (set_pointer mid cell.at object) (cell.at + 4) (cell_count object)) table cell (node (shared_label T object) nil) blocks [] theirs now (left (names_in v) now)
   cell_changed mid object payload clears =
@@ -56,7 +56,7 @@ module _ (allocator : ℕ) (old : List ℕ) (table : Table) (cell : Place) (T ne
       let c = subst (λ u. ClearsPlace old mid table cell u blocks [] theirs now (left (names_in v) now)) empty (clears v blocks s theirs kept now (left (names_in v) now) beside_cell) in
       pointed allocator old table cell T f v blocks s theirs now (left (names_in v) now) b.owned (λ h. left_fewer theirs (names_in v) now h) mid c object payload
 
--- ---- one cell more points to an object, and then the cell is changed
+-- ---- the object's count is raised, and then the cell is changed
 
 module _ (allocator : ℕ) (old : List ℕ) (table : Table) (cell : Place) (T next : ℕ) (f : form_at table cell.type ≡ Some (Form.shared T)) (v : Value) (blocks : List ℕ) (s : Stands allocator old table cell v blocks)
     (theirs : ℕ → List ℕ) (kept : List Place) (now : List Frozen) (b : FrozenBeside old table (s.home ∷ blocks) (names_in v ++ kept) next theirs now) (q : Place) (below : IsBelow next now q)
@@ -64,7 +64,7 @@ module _ (allocator : ℕ) (old : List ℕ) (table : Table) (cell : Place) (T ne
   shares_owned : AreLive old (blocks_by theirs now)
   shares_owned h = omega (arith, b.owned h, times-append h (s.home ∷ blocks) (blocks_by theirs now))
 
-  -- its count has room for one more
+  -- the object's count has room for one more
   pub one_fits : suc (word old q.at) < 2 ^ 32
   one_fits =
       let it = k allocator old table s.is_table s.heap next q (names_in v ++ kept) theirs now b.counted below b.holds shares_owned in
@@ -157,7 +157,7 @@ module _ (allocator : ℕ) (old : List ℕ) (table : Table) (cell : Place) (T ne
       holds = c.holds;
     }
 
--- ---- all of it
+-- ---- the whole call
 
 module _ (allocator : ℕ) (old last : List ℕ) (table : Table) (to from : Place) (T next : ℕ) (f : form_at table to.type ≡ Some (Form.shared T)) (g : form_at table from.type ≡ Some (Form.shared T)) (v w : Value) (blocks others : List ℕ)
     (s : Stands allocator old table to v blocks) (h : Holds old table from w others) (theirs : ℕ → List ℕ) (kept : List Place) (now : List Frozen) (b : FrozenBeside old table (s.home ∷ blocks) (names_in v ++ kept) next theirs now)
@@ -168,7 +168,7 @@ module _ (allocator : ℕ) (old last : List ℕ) (table : Table) (to from : Plac
   abbrev pub IsShared : List ℕ → Value → List Place → Type 0
   IsShared new u names = ClearsPlace old new table to u blocks [] theirs now (left (names_in v) (raised_by names now))
 
-  -- the target of a cell stays while its count is raised and the other cell cleared
+  -- the other cell keeps its target while the count is raised and this cell is cleared
   by_object : (more : List ℕ) (object : Option ℕ) → object ≡ target old from.at → AllByRecursion (IsBelow next now) (names_by T object) → (object ≡ None → more ≡ old) →
       ((p : ℕ) → object ≡ Some p → suc (word old p) < 2 ^ 32 → more ≡ set_word old p (suc (word old p))) → ClearsCell allocator more last table to →
       IsShared (set_word (set_pointer last to.at object) (to.at + 4) (cell_count object)) (node (shared_label T object) nil) (names_by T object)

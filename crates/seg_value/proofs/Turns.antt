@@ -23,7 +23,7 @@ use Rattle.seg_spec.proofs.Standing.{ownable_linked}
 use Rattle.seg_spec.proofs.SharedBeside.{awaits_shared}
 use Rattle.seg_value.specs.Waiting.{AddsIn, IsOpened}
 
--- a block in a list of allocated ones
+-- a position in the list of allocated blocks is an allocated block's
 pub is_live : (bytes : List ℕ) (at : ℕ) → 1 ≤ times at (positions (live bytes)) → IsLive bytes at
 is_live bytes at some =
     let f = found at (live bytes) some in
@@ -54,7 +54,7 @@ turned allocator old now opened new table here same valid first next after p blo
     let g = gives o.adds.awaits.beside.pends.heap (is_live opened (block_of p) (omega arith)) in
     freed_more allocator old now table valid first blocks kept theirs final turns owned f p next pop opened new after o.rest o.xs_are o.adds g
 
--- an object without an owner, with what is freed with it
+-- a loose object and what is freed with it
 pub loose_goes : (bytes : List ℕ) (table : Table) (object U : ℕ) (v : Value) (inside : List ℕ) → IsLoose bytes table (record { at = object; type = U }) v inside →
     GoesWith bytes table object (block_of object ∷ inside) (named_in v)
 loose_goes bytes table object U v inside l = record {
@@ -65,7 +65,7 @@ loose_goes bytes table object U v inside l = record {
   named_are = λ h. let a = times-append h (named_in v) [] in let b = times-append h (named_in v ++ []) [] in omega arith;
 }
 
--- what was added to the waiting blocks is destroyed
+-- blocks that were added to the waiting ones are destroyed
 pub added_destroys : (allocator : ℕ) (old mid new : List ℕ) (table : Table) (first : Option ℕ) (xs ys names blocks : List ℕ) (kept : List Place) (theirs : ℕ → List ℕ) (final : List Frozen) →
     Adds allocator old mid table first xs ys names kept theirs final →
     SameBlocks (xs ++ ys) blocks → Destroys allocator mid new table blocks theirs final → Destroys allocator old new table blocks theirs final

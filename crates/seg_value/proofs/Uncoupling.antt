@@ -1,4 +1,4 @@
--- What a cell points to shows what is freed with it, by the form of its type.
+-- The target of a cell and what is freed with it, by the form of the cell's type.
 use Rattle.std.proofs.Common.{◌≡◌, ℕ, ◌+◌, ◌*◌, ◌≤◌, ◌⊎◌, inl, inr, List, Option, Some, None, refl, sym, subst, arith}
 use Rattle.seg_spec.specs.Pointer.{target, set_pointer}
 use Rattle.seg_spec.specs.Types.{Form, Table, form_at, IsTable, size}
@@ -24,7 +24,7 @@ module _ (allocator : ℕ) (old : List ℕ) (table : Table) (valid : IsTable tab
   unchanged : GoesWith old table p xs (named_in v) → Uncouples allocator old old table p xs (named_in v)
   unchanged goes = record { heap = heap; keeps = others_none old xs; goes = goes }
 
-  -- one block, or the first node of a tree
+  -- a single block, or the root of a tree
   single_by : (o : Option Form) → form_at table place.type ≡ o → ContentOf table place.type o (Some content) → (content.shape ≡ shape.Tree) ⊎ (content.shape ≡ shape.Object) → Uncouples allocator old old table p xs (named_in v)
   single_by None f k s = absurd k
   single_by (Some Form.i64) f k s = absurd k
@@ -44,7 +44,7 @@ module _ (allocator : ℕ) (old : List ℕ) (table : Table) (valid : IsTable tab
   pub single : ContentOf table place.type (form_at table place.type) (Some content) → (content.shape ≡ shape.Tree) ⊎ (content.shape ≡ shape.Object) → Uncouples allocator old old table p xs (named_in v)
   single k s = single_by (form_at table place.type) refl k s
 
-  -- a ring, which is opened
+  -- a ring, which is opened first
   ring_by : (new : List ℕ) (o : Option Form) → form_at table place.type ≡ o → ContentOf table place.type o (Some content) → content.shape ≡ shape.Ring →
       ((last : ℕ) → target old (p + 4) ≡ Some last → new ≡ set_pointer old last None) → Uncouples allocator old new table p xs (named_in v)
   ring_by new None f k s opened = absurd k

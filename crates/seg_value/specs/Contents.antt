@@ -50,7 +50,7 @@ pub record IsDescribed (table : Table) (contents : List (Option Content)) (each 
   pub cells_are : AreCells table each
   pub numbers_are : AreNumbers table numbers
 
--- A new block with this tag, and in it the default of a value after `before` bytes. All other
+-- A new block has this tag, and contains the default of a value after `before` bytes. All other
 -- allocated blocks are kept.
 pub record GivesBlock (allocator : ℕ) (old new : List ℕ) (table : Table) (tag before U : ℕ)
     (payload : ℕ) : Type 0 where

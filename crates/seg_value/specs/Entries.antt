@@ -59,7 +59,7 @@ pub record OpensEntry (allocator : ℕ) (old new : List ℕ) (table : Table) (pl
       (flat_asks old table place.at U) [] blocks others
 
 -- The entry at an index was removed, with its key and its value, which owned nothing. The buffer
--- didn't move, and paths from the values before that index still reach the same places.
+-- didn't move. Paths from the values before that index still reach the same places.
 pub record ClosesEntry (old new : List ℕ) (table : Table) (place : Place) (U : ℕ) (keys : List ℤ)
     (vs : Values) (blocks : List ℕ) (index : ℕ) : Type 0 where
   pub changes : ChangesPlace old new table place (without_entry (keys, vs) index) blocks

@@ -1,7 +1,7 @@
 -- The buffer of the flat index before and after calls.
 --     index_cell                          the position of the index's cell
 --     name_entry bytes i                  the position of an entry
---     FindsNames allocator bytes table    a well-formed heap, and the cell points to a buffer of entries
+--     FindsNames allocator bytes table    the heap is well-formed, and the cell points to a buffer of entries
 --     FindsIndex allocator bytes table content cell    the call is on the index, with its layout
 --     ChangesIndex old new table spans    only the cell and its buffer changed
 --     IsSameEntry old new from to         an entry was copied
@@ -10,7 +10,7 @@
 --     MakesIndexRoom ..                   the buffer got room, or the request was refused
 --     MovesIndex ..                       the buffer moved to a block that was allocated before
 --     OpensName ..                        there is room for an entry at an index
---     AddsName ..                         an entry was written there
+--     AddsName ..                         an entry was written at an index
 --     ClosesName old new table index      the entry at an index was removed
 --     EmptiesIndex old new table          the buffer was freed
 use Rattle.std.specs.Prelude.{◌≡◌, ℕ, ◌+◌, ◌*◌, ◌%◌, ◌<◌, ◌≤◌, ◌-◌, List, [], length, Some, None, Result, MatchResult}
@@ -36,9 +36,9 @@ use Rattle.seg_cells.specs.declared.content.Content.{Content}
 abbrev pub name_entry : List ℕ → ℕ → ℕ
 name_entry bytes i = start bytes index_cell + i * 8
 
--- What calls on the index find. The heap is well-formed. The index's cell has a null pointer and
--- counts 0, or points to an allocated block with room for its entries. Each entry points to a
--- multiple of 8, or has a null pointer.
+-- The state in which calls on the index begin. The heap is well-formed. The index's cell has a null
+-- pointer and counts 0, or points to an allocated block with room for its entries. Each entry
+-- points to a multiple of 8, or has a null pointer.
 pub record FindsNames (allocator : ℕ) (bytes : List ℕ) (table : Table) : Type 0 where
   pub heap : IsHeap allocator bytes
   pub allocator_is : word bytes 16 ≡ allocator
@@ -49,7 +49,7 @@ pub record FindsNames (allocator : ℕ) (bytes : List ℕ) (table : Table) : Typ
   pub aligned : (i t : ℕ) → i < count_at bytes index_cell →
       target bytes (name_entry bytes i) ≡ Some t → t % 8 ≡ 0
 
--- a call on the index, with its cell and the layout of its buffer
+-- the call is on the index, with its cell and the layout of its buffer
 abbrev pub FindsIndex : ℕ → List ℕ → Table → Content → ℕ → Type 0
 FindsIndex allocator bytes table content cell =
     IsIndexBuffer content × (cell ≡ index_cell) × FindsNames allocator bytes table
@@ -71,7 +71,7 @@ pub record ChangesIndex (old new : List ℕ) (table : Table) (spans : List Span)
       KeepsBlock old new h
   pub room : NamesRoom new index_cell (tag_of block.Kind.index_buffer 0) 8
 
--- an entry points to what the other one pointed to, with the same bytes after its pointer
+-- the two entries have the same target, and the same bytes after their pointers
 abbrev pub IsSameEntry : List ℕ → List ℕ → ℕ → ℕ → Type 0
 IsSameEntry old new from to =
     (target new to ≡ target old from) × (slice new (to + 4) 4 ≡ slice old (from + 4) 4)
@@ -103,7 +103,7 @@ pub record MovesIndex (old taken new : List ℕ) (table : Table) (u : ℕ) : Typ
   pub names : KeepsNames old new
   pub room : HasRoomFor new index_cell (16 * u - 16)
 
--- an entry was written at a position, the one of an index, before the entries that were there
+-- an entry was written at the position of an index, before the entries that were there
 pub record AddsName (old new : List ℕ) (table : Table) (left : List Span) (index at : ℕ)
     : Type 0 where
   pub changes : ChangesIndex old new table left
@@ -114,7 +114,7 @@ pub record AddsName (old new : List ℕ) (table : Table) (left : List Span) (ind
   pub after : (i : ℕ) → index ≤ i → i < count_at old index_cell →
       IsSameEntry old new (name_entry old i) (name_entry new (i + 1))
 
--- the requests were granted, and there is room for an entry at an index, for any bytes
+-- the requests were granted, and there is room for any entry at an index
 pub record OpensName (allocator : ℕ) (old new : List ℕ) (table : Table) (index at : ℕ)
     : Type 0 where
   pub left : List Span

@@ -9,7 +9,7 @@ use Rattle.seg_spec.specs.Demand.{after_asks, block_for}
 use Rattle.seg_spec.specs.Block as block
 use Rattle.seg_spec.specs.Block.{block_of, tag_of, IsBlock, KeepsBlock}
 
--- a new block with the tag of such a node and room for it; all other allocated blocks are kept
+-- a new block has the tag of such a node, and room for it; all other allocated blocks are kept
 pub record GivesNode (allocator : ℕ) (old new : List ℕ) (payload : ℕ) : Type 0 where
   pub length_kept : length new ≡ length old
   pub front_kept : KeepsFront old new

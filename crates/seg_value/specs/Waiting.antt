@@ -5,7 +5,7 @@
 --                                         point to ns were released, or are with them
 --     AddsWaiting old new first next beside xs ns     the same, for a heap
 --     OpensPending old new first next p xs ns
---                                         the block p with xs and ns was opened: the others of them wait now
+--                                         the block p was opened, with which xs are freed: the others of xs wait now
 --     links_of shape p                    the pointer words of a node to further ones
 use Rattle.std.specs.Prelude.{ℕ, ◌+◌, List, [], ◌∷◌, ◌++◌, Option}
 use Rattle.seg_spec.specs.Types.{Table, IsTable}
@@ -18,8 +18,9 @@ use Rattle.seg_value.specs.Stored.{Stored}
 use Rattle.seg_cells.specs.declared.content.Shape.{Shape}
 use Rattle.seg_cells.specs.declared.content.Shape.TheVariants as shape
 
--- If all these blocks are allocated and differ: xs are freed with the waiting blocks, besides those
--- before, and the cells that point to ns need no longer be released apart from them.
+-- If all these blocks are allocated and differ: xs are freed with the waiting blocks, in addition
+-- to the blocks that waited before. The cells that point to ns need no longer be released
+-- separately.
 abbrev pub AddsIn :
     List ℕ → List ℕ → Table → Option ℕ → Option ℕ → List ℕ → List ℕ → List ℕ → Type 0
 AddsIn old new table first next beside xs ns =
@@ -34,8 +35,8 @@ abbrev pub AddsWaiting :
 AddsWaiting old new first next beside xs ns =
     AddsIn old.window.bytes new.window.bytes old.types first next beside xs ns
 
--- A block that no longer waits was opened: the others that are freed with it are now freed with the
--- waiting ones.
+-- A block that no longer waits was opened. The other blocks that are freed with it are now freed
+-- with the waiting ones.
 pub record IsOpened (allocator : ℕ) (old new : List ℕ) (table : Table) (next : Option ℕ) (p : ℕ)
     (xs ys names : List ℕ) (kept : List Place) (theirs : ℕ → List ℕ) (final : List Frozen) :
     Type 0 where

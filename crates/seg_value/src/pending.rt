@@ -225,7 +225,7 @@ impl Pending {
             Destroys F.allocator heap.old.window.bytes heap.new.window.bytes heap.old.types
             blocks theirs final }
     {
-        // a bound on the number of blocks
+        // a segment has at most this many blocks
         for _turn in 0..heap.window().len() / UNIT {
             let Some(payload) = self.pop(heap) else {
                 break;

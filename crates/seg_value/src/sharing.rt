@@ -64,8 +64,8 @@ pub fn share<F: Fit, A: Allocator>(heap: &mut Heap<F, A>, to: Place, from: Place
 
 /// Freezes an object, given by the position of its value. The object must not have an owner, and must not reach the
 /// cell. The cell then points to the frozen object, and the object that it pointed to before is released; the cell must
-/// be outside frozen objects. `NumbersUsedUp` if there is no number for one more, `BadAlloc` if no free block is large
-/// enough; then nothing changes.
+/// be outside frozen objects. `NumbersUsedUp` if there isn't a number for one more, `BadAlloc` if no free block is
+/// large enough; then nothing changes.
 pub fn freeze<F: Fit, A: Allocator>(
     heap: &mut Heap<F, A>,
     cell: Place,
@@ -174,7 +174,7 @@ fn raise<F: Fit, A: Allocator>(heap: &mut Heap<F, A>, object: Option<u32>)
     w.put32(payload as usize, count);
 }
 
-/// Makes a cell point to a frozen object, or to none.
+/// Makes a cell point to a frozen object, or makes its pointer null.
 fn name<F: Fit, A: Allocator>(heap: &mut Heap<F, A>, cell: u32, object: Option<u32>)
     ensures window { heap.new.window ≡ with_bytes heap.old.window (set_word
         (set_pointer heap.old.window.bytes cell object) (cell + 4) (cell_count object)) }

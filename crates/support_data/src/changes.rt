@@ -1,15 +1,15 @@
 //! Changes of an image, written as text with spaces between them:
 //!
-//!     724=33          a word of 32 bits; `0x21`, `33,0` (its halves) and `'!'` or `'!a'` (its bytes) are words too
+//!     724=33          a word of 32 bits; a word is also `0x21`, `33,0` (its halves), or `'!'` or `'!a'` (its bytes)
 //!     768:-9          a number of 64 bits
-//!     720->752        the pointer at 720 names 752
-//!     720->null       it names nothing
+//!     720->752        the pointer at 720 points to 752
+//!     720->null       it is null
 
 use crate::images::{counter, write, write_words};
 use std::alloc::Global;
 use std::test::Fail;
 
-/// Makes the changes of a text. None where it isn't understood.
+/// Makes the changes of a text. Returns `None` if a change isn't understood.
 pub fn change(bytes: &mut [u8], changes: &str) -> Option<()> {
     for change in changes.split_whitespace() {
         change_one(bytes, change)?;

@@ -49,8 +49,8 @@ pub fn counter_saved(alloc: Global, number: u32) -> Result<Vec<u8>, AllocError> 
     Ok(image)
 }
 
-/// An image of 1024 bytes with a frozen number, 7, to which the cell named b points. A cell named a, which also pointed
-/// to it, was destroyed, and so was the object that was frozen.
+/// An image of 1024 bytes with a frozen number, 7, which the cell named b shares. Another cell that shared it, named a, was
+/// destroyed, and the number was moved when it was frozen.
 pub fn sharing(alloc: Global) -> Result<Vec<u8>, AllocError> {
     let mut image = Vec::from_elem(alloc, 0u8, 1024)?;
     let bytes = image.as_mut_slice();

@@ -1,5 +1,5 @@
-//! What the tests of several crates use: pseudo-random numbers, images and clients written by hand from their formats,
-//! and an output with a limit.
+//! Data and helpers for several test crates: pseudo-random numbers, images and clients written by hand from their formats, and an
+//! output with a limit.
 #![tactic(auto)]
 
 mod changes;

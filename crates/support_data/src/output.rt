@@ -1,7 +1,7 @@
 use std::alloc::Global;
 use std::io::{self, Write};
 
-/// An output in memory that takes a few bytes at a time, and none once it has as many as its limit.
+/// An output in memory that takes a few bytes at a time, and nothing after its limit.
 #[derive(Drop)]
 pub struct Limited {
     pub bytes: Vec<u8>,

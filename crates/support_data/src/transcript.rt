@@ -1,7 +1,7 @@
 use std::alloc::Global;
 use std::test::Fail;
 
-/// A statement and the lines below it: what it is given, or what it must print.
+/// A statement, and the lines below it: the statement's text, or the output that it must have.
 #[derive(Clone, Copy)]
 pub struct Statement<'a> {
     pub words: &'a str,

@@ -1,5 +1,5 @@
-//! What the test crates that run clients use: segments of each kind, runs on them, and images in windows. No call here
-//! has a contract on its result, so that a test that makes many of them has a short proof.
+//! Helpers for the test crates that run clients: segments of each kind, runs on them, and images in windows. No function here has
+//! a contract about its result, so a test with many calls has a short proof.
 #![tactic(auto)]
 
 mod runs;

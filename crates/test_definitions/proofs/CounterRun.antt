@@ -58,7 +58,7 @@ with_one = with_registers (Register.Reference x ∷ Register.Int (pos 41) ∷ Re
 abbrev added : State
 added = with_registers (Register.Reference x ∷ Register.Int (pos 42) ∷ Register.Int (pos 1) ∷ replicate 13 Register.Undefined)
 
--- x is 42, and this was written
+-- the state in which x is 42, with this output
 abbrev more : List ℕ → State
 more output = record added { names = with_name counted.names (codes "x") (Some (record { type = 0; values = cons (Int (pos 42)) nil })); output = output }
 
@@ -98,7 +98,7 @@ same_live = live_evaluated image counter_tiles (refl, lit≤ tt, (refl, lit≤ t
 plain_pictured : (rs : List Register) → AreOwned rs [] → Pictures [] (with_registers rs) start
 plain_pictured rs a = record { picture = counter_picture; held = start_held; counted = start_counted; types = refl; names = same_x; uniques = λ T. refl; owned = []; are_owned = a; loose = refl }
 
--- a state whose one object is a number, and whose registers own nothing, is of trees
+-- the object x, whose value is a number, has no shared cells
 number_trees : (k : ℤ) (name : List ℕ) (o : Object) → (if same_name name (codes "x") then Some (record { type = 0; values = cons (Int k) nil }) else None) ≡ Some o → names_each o.values ≡ []
 unfolding names_in
 number_trees k name o = choose (same_name name (codes "x"))
@@ -151,7 +151,7 @@ pictured_then output = own_trees (trees_then output) (plain_pictured_then output
 
 -- ---- the places in the run
 
--- the host with an image at 0, written so many times more
+-- the host after an image is written at base 0
 abbrev again : List ℕ → List ℕ → List ℕ
 again host bytes = put host 0 bytes
 
@@ -271,7 +271,7 @@ given = given_first start (replicate 2048 0) [] 0 []
 abbrev pub left : Left
 left = record { steps = 6; read = 0; ending = finished; output = codes "42\n"; image = image; host = again (h6 first_host) image; base = 0 }
 
--- the trees of x, before and after
+-- x is the same in the unfolded state
 trees_x : (name : List ℕ) → counted.names name ≡ option_map (unfolded_object (meaning_in (word start next_word) counter_picture)) (names_of_picture counter_picture name)
 unfolding replaced
 trees_x name = choose (same_name name (codes "x"))

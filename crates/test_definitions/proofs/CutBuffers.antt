@@ -63,7 +63,7 @@ cut_heap : IsHeap (word roomy 16) cut
 unfolding cut_tiles cut roomy slice put set_number number number_of target
 cut_heap = heap_evaluated cut cut_tiles cut_fill cut_headers 0 ((λ e. refl), ((λ e. refl), ((λ e. refl), ((λ e. cc), tt)))) (refl, refl) (lit≤ tt)
 
--- ---- what the vec holds then
+-- ---- the value of the vec afterwards
 
 holds_number : (at : ℕ) (k : _) → signed (number 8 cut at) ≡ k → Holds cut vec_table (record { at = at; type = 0 }) (Int k) []
 holds_number at k e = holds Form.i64 _ nil [] refl refl holds_none (ap Int (sym e)) refl
@@ -129,7 +129,7 @@ no_item : (i : ℕ) (places : List Place) (part : Place) → places ≡ [] → s
 no_item i [] part e f = cc
 no_item i (p ∷ places) part e f = cc
 
--- from a number no path leads on
+-- no path continues from a number, so each path from one is kept
 number_path : (old new : List ℕ) {part inner : Place} {path : List Selector} → part.type ≡ 0 → Leads old vec_table part path inner → Leads new vec_table part path inner
 number_path old new t here = here
 number_path old new {part = part} t (into form opened i inside f o index is rest) =

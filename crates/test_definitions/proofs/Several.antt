@@ -15,7 +15,7 @@ use Rattle.client_spec.specs.Clients.{IsVerified, AreAccepted, given_next, GoesO
 use Rattle.test_definitions.proofs.Simulated.{run_of_states, client_within_bound}
 use Rattle.test_definitions.proofs.Stopped.{run_writes}
 
--- the table after one client
+-- after one client the table is the longer one of the table and the client's types
 table_left : (client : Client) (given : Given) (left : Left) (table : Table) (picture : Picture) → IsHeld given.image picture → picture.table ≡ table → (runs : RunsClient client given left)
     → runs.is_left.picture.table ≡ longer table client.types
 table_left client given left table picture held is runs =

@@ -240,7 +240,7 @@ same_names name = choose (same_name name (codes "p"))
 abbrev pub pictured : Pictures [] state image
 pictured = record { picture = picture; held = held; counted = counted; types = refl; names = same_names; uniques = λ T. refl; owned = nine ∷ []; are_owned = (refl, refl, tt); loose = refl }
 
--- ---- where registers lead
+-- ---- the places that registers refer to
 
 abbrev freeze : ℕ → Instruction
 freeze b = at Operation.Freeze 0 b 3 (pos 0)
@@ -272,7 +272,7 @@ stands j path to e l =
     let m : LeadsInImage pictured (cell j) to = subst (λ q. LeadsInImage pictured q to) (sym same) l in
     is_here (item_of sharing_table m.root m.item) to m.leads ∙ sym (ap (λ (r : Root × ℕ). item_of sharing_table r.0 r.1) (root_is (cells, j) (m.root, m.item) m.begins))
 
--- ---- what goes
+-- ---- what is freed
 
 not_none : (x : ℕ) (xs : List ℕ) → x ∷ xs ≡ [] → ⊥
 not_none x xs e = cc
@@ -280,7 +280,7 @@ not_none x xs e = cc
 one_more : (x y z : ℕ) (xs : List ℕ) → x ∷ [] ≡ y ∷ z ∷ xs → ⊥
 one_more x y z xs e = cc
 
--- the number stands in the block at 800
+-- the number owns the block at 800
 number_in : (theirs : ℕ → List ℕ) → HoldFrozen image sharing_table theirs (the_number ∷ []) → (inside : List ℕ) × (theirs 816 ≡ 800 ∷ inside)
 number_in theirs h = let it = frozen_there image sharing_table the_number (theirs 816) h.0 in (it.inside, it.blocks_are)
 
@@ -298,7 +298,7 @@ none_gone : FrozenGone image picture (names_in Empty) []
 unfolding names_in names_each
 none_gone = record { theirs = theirs_are; holds = all_hold; blocks_are = refl }
 
--- where the first cell goes the number goes, and else it stays
+-- if the first cell is destroyed, the number's block is freed
 number_goes : (shared : List ℕ) → FrozenGone image picture (names_in sharing_cell) shared → (inside : List ℕ) × (shared ≡ 800 ∷ inside)
 unfolding names_in names_each
 number_goes shared g =
@@ -390,7 +390,7 @@ other_is j v other path e f g =
     let h : Some v ≡ Some other = sym f ∙ ap led_through same ∙ g in
     cc
 
--- what goes where the first cell becomes as the other one, and where the other one becomes as it
+-- what SHARE frees: if the first cell becomes like the second, and the other way round
 first_by : (gives own : List ℕ) (v w : Value) (theirs : ℕ → List ℕ) → v ≡ sharing_cell → own ≡ [] → w ≡ Empty → gives ≡ own ++ blocks_by theirs (freed (names_in v) (raised_by (names_in w) (the_number ∷ []))) → gives ≡ theirs 816 ++ []
 unfolding names_in names_each
 first_by gives own v w theirs full none empty e = rw (full, none, empty) at e

@@ -45,7 +45,7 @@ sharing_table-valid = record { few = lit≤ tt; forms = forms; sizes = sizes }
 pub all_types : (table : Table) → AreOfVersion sharing_version table
 all_types table = record { each = λ T form e. any_type form }
 
--- ---- what the roots hold
+-- ---- the values of the roots
 
 some_number : (a b : ℕ) → Some a ≡ Some b → a ≡ b
 some_number a b e = cc
@@ -165,7 +165,7 @@ sharing_held = record {
   owners = λ h. subst (λ bs. times h (positions bs) ≡ times h (752 ∷ 704 ∷ 800 ∷ [])) (sym (live_evaluated sharing sharing_tiles sharing_fill sharing_headers)) (omega arith);
 }
 
--- both cells are counted
+-- the number counts both cells
 pub sharing_counted : AreCounted 1 sharing_picture
 unfolding names_in names_each
 sharing_counted = record {

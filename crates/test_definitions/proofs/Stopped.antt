@@ -15,11 +15,11 @@ use Rattle.client_spec.proofs.OperationLaws.{rows}
 use Rattle.client_spec.proofs.Keeping.{never_wrong}
 use Rattle.client_spec.proofs.Total.{Total, nothing_total, then_total, step_total, turns_total, one_total}
 
--- each run of the way leaves the types, and writes at the output's end
+-- each run of the way keeps the types, and only appends to the output
 record Grows (way : Way State) : Type 0 where
   each : (s t : State) (n : ℕ) (end : Ending) → way s t n end → Writes s t
 
--- a run that is stopped may go on instead, and then writes more
+-- instead of stopping, the run could have continued, with more output
 record Further (way : Way State) (s t : State) : Type 0 where
   last : State
   steps : ℕ
@@ -33,7 +33,7 @@ record Further (way : Way State) (s t : State) : Type 0 where
 record GoesOn (way : Way State) : Type 0 where
   each : (s t : State) (n : ℕ) → way s t n stopped → Further way s t
 
--- a way of which all three hold
+-- the way has all three properties
 record Way_is (way : Way State) : Type 0 where
   total : Total way
   grows : Grows way
@@ -50,7 +50,7 @@ longer_rest : (xs ys zs : List ℕ) (out last whole : List ℕ) → 0 < length y
 longer_rest xs ys zs out last whole some e f = (f ∙ ap (λ ws. ws ++ zs) e ∙ append_assoc out ys zs, (let n = length-append ys zs in omega arith))
 
 module _ (first second : Way State) (f : Way_is first) (g : Way_is second) where
-  -- the second way from where the first came to
+  -- the second way continues from the end of the first
   then_on : (s t : State) → Further first s t → Further (Then State first second) s t
   then_on s t h = go h.ending h.runs h.goes_on
     where
@@ -155,7 +155,7 @@ module _ (constants : List Constant) where
     one_is (opener i on_success on_code) = performs_is i _ _ (run_is on_success) (run_is on_code) (one_total constants (opener i on_success on_code))
     one_is (loop i body) = then_is _ _ step_is (turns_is i.b (nat_abs i.number) _ (run_is body))
 
--- the types of a state stay through each run, and what was written stands at the front of the output
+-- a run keeps the types, and only appends to the output
 pub run_writes : (constants : List Constant) (code : Statements) (s t : State) (n : ℕ) (end : Ending) → Run State (plain_machine constants) code s t n end → Writes s t
 run_writes constants code = (run_is constants code).grows.each
 

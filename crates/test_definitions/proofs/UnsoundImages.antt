@@ -102,7 +102,7 @@ red_root-unsound s =
 
 -- ---- the index
 
--- the entries of a flat index
+-- a flat index has these entries
 flat_entries : (bytes : List ℕ) (names : List Root) (blocks : List ℕ) → word bytes 20 ≡ 0 → ListsNames bytes names blocks → AreEntries bytes (spaced (start bytes 32) 8 (count_at bytes 32)) names
 flat_entries bytes names blocks flat l =
     let opens = subst (λ k. OpensIndex bytes k l.index) flat l.opens in
@@ -123,7 +123,7 @@ no_items-unsound s = some_items no_items 752 s.picture.names (flat_entries no_it
 
 -- ---- unique objects
 
--- a word that leads to a unique object names a block of the kind
+-- the pointer to a unique object points to a block of that kind
 unique_tag : (bytes : List ℕ) (table : Table) (roots : List Root) (blocks : List ℕ) (T p : ℕ) → HoldsRoots bytes table roots blocks → AllByRecursion IsPlain roots → Some p ≡ position_of roots T → tag_at bytes (block_of p) % 256 ≡ 2
 unique_tag bytes table [] blocks T p h plain e = cc
 unique_tag bytes table (root ∷ roots) blocks T p (holds_more_roots {blocks = xs} {rest = rest} h hs) plain e =
@@ -156,7 +156,7 @@ kind_named : (name : List ℕ) → 1 ≤ length name → kind_with [] name ≡ K
 kind_named [] some = absurd (omega arith)
 kind_named (b ∷ name) some = refl
 
--- what the one named object of these images holds
+-- the one named object of these images has a value
 the_item : (bytes : List ℕ) (table : Table) (names rest : List Root) (blocks : List ℕ) → AreEntries bytes (752 ∷ []) names → target bytes 752 ≡ Some 720 → half bytes 756 ≡ 1 → tag_at bytes 704 ≡ 1
     → HoldsRoots bytes table (names ++ rest) blocks → (v : Value) × (xs : List ℕ) × Holds bytes table (record { at = 720; type = 0 }) v xs
 the_item bytes table [] rest blocks a points counted tag h = absurd a
@@ -172,7 +172,7 @@ the_item bytes table (root ∷ names) rest blocks a points counted tag (holds_mo
     let it = first_place bytes table (record { at = root.at; type = root.type }) [] root.values h.inside each in
     (it.0, it.1, subst (λ (q : Place). Holds bytes table q it.0 it.1) (λ i. record { at = sym at i; type = type i }) it.2)
 
--- a text's cell names nothing, or a buffer
+-- the cell of a text is null or points to a buffer
 text_opens : (bytes : List ℕ) (v : Value) (xs : List ℕ) → Holds bytes (Form.str ∷ []) (record { at = 720; type = 0 }) v xs → (opened : Opened) × Opens bytes (Form.str ∷ []) (record { at = 720; type = 0 }) Form.str opened
 text_opens bytes v xs (holds form opened inside owned f o hs v_is xs_is) = let same : form ≡ Form.str = cc in (opened, subst (λ g. Opens bytes (Form.str ∷ []) (record { at = 720; type = 0 }) g opened) same o)
 
@@ -200,7 +200,7 @@ own_buffer-unsound s =
 
 -- ---- owners
 
--- two entries for one object make it stand twice
+-- an object with two entries is owned twice
 twice : (bytes : List ℕ) (table : Table) (names rest : List Root) (blocks : List ℕ) → AreEntries bytes (752 ∷ 760 ∷ []) names → target bytes 752 ≡ Some 720 → target bytes 760 ≡ Some 720
     → HoldsRoots bytes table (names ++ rest) blocks → 2 ≤ times 704 blocks
 twice bytes table [] rest blocks a p q h = absurd a
@@ -225,7 +225,7 @@ two_owners-unsound s =
     let once = live-once two_owners 0 l.heap 704 in
     absurd (omega (arith, s.held.owners 704, times-append 704 s.held.index_blocks s.held.root_blocks))
 
--- an image of numbers with no unique word has no unique object
+-- an image of numbers whose pointer to a unique object is null has no unique object
 no_unique : (bytes : List ℕ) (uniques : List Root) (blocks : List ℕ) → HoldsRoots bytes (Form.i64 ∷ []) uniques blocks → AllByRecursion IsPlain uniques → None ≡ position_of uniques 0 → uniques ≡ []
 no_unique bytes [] blocks h plain none = refl
 no_unique bytes (root ∷ roots) blocks (holds_more_roots h hs) plain none = absurd (go root.type refl (known it.2))

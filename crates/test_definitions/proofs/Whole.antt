@@ -32,7 +32,7 @@ module _ (image : List ℕ) (texts : List (List ℕ)) (input : List ℕ) (room b
       let last = held_after can.clients (given_first (upgraded image) o.host input base moves) lefts picture held (upgraded_counted image picture can.sound.counted) can.sound.none_loose o.runs in
       record { picture = last.0; held = last.1; counted = last.2; none_loose = last.3 }
 
--- the client of a text, and that it is verified after those before it
+-- the client of a text is verified after the clients before it
 its_client : (table : Table) (texts : List (List ℕ)) (clients before : List Client) (k : ℕ) (text : List ℕ) → AreAccepted table texts clients → AreAccepted table (take k texts) before → slice_get texts k ≡ Some text
     → (client : Client) × SpellsClient text client × IsVerified (table_after table before) client
 its_client table [] clients before k text a b e = cc
@@ -50,7 +50,7 @@ at_turn image texts room base moves o k text turn =
     let same : o.sound.picture.table ≡ turn.sound.picture.table = (Held-one image o.sound.picture turn.sound.picture o.sound.held turn.sound.held).table in
     its_client turn.sound.picture.table texts o.clients turn.clients k text (subst (λ t. AreAccepted t texts o.clients) same o.accepted) turn.accepted turn.text_is
 
--- moves that all fit fit up to each one
+-- if moves are allowed, so are the first n of them
 fit_to : (room len last : ℕ) (moves : List Move) (n : ℕ) → AreMoves room len last moves → AreMoves room len last (take n moves)
 fit_to room len last moves zero a = tt
 fit_to room len last [] (suc n) a = tt

@@ -28,7 +28,7 @@ fits : (n : ℕ) → n < 2 → FitsSigned w32 (pos n)
 fits n h = search (arith, ints)
 
 module _ (types : Table) (constants : List Constant) where
-  -- an instruction whose operands are registers, by what each of them has to be
+  -- an instruction is valid if each operand is of the kind that its row requires
   simple : (o : Operation) (role : Role) (a b c n : ℕ) → (row_of o).role ≡ role → (row_of o).version ≤ file_version types → IsOperand (row_of o).a a → IsOperand (row_of o).b b → IsOperand (row_of o).c c
       → IsNumber types constants b (row_of o).number (pos n) → n < 2 → IsInstruction types constants role (at o a b c (pos n))
   simple o role a b c n p v x y z w l = record { role = p; version = v; a = x; b = y; c = z; number = w; range = fits n l }

@@ -11,7 +11,7 @@ ghost use Rattle.client_spec.specs.Typed.{Reason, RegisterType, reason_number, t
 ghost use Rattle.client_spec.specs.Fixtures.{increment, chain, cycle, dangling, lost, retyped, three_turns, counting_down, idle, echo, kill_twice, as_a_text, nested, types, constants, beginning, counted, no_names, RunsTo, left_with, two_runs, given_at_0, move_to};
 ghost use Rattle.seg_spec.specs.Types.{Form};
 
-/// The client that adds one to x: its 103 bytes, its text, the most steps that it takes, and what is known after it.
+/// The client that adds one to x: its 103 bytes, its text, its bound of steps, and what is known after it.
 #[tactic(auto, unfolding(client_spec::specs::Grammar::client_bytes, client_spec::specs::Grammar::listing, client_spec::specs::Typed::types_by, client_spec::specs::Typed::rule, client_spec::specs::Typed::sharing_rule))]
 pub fn the_increment()
     ensures bytes { client_bytes increment ≡
@@ -30,7 +30,7 @@ pub fn the_increment()
         (replicate 16 RegisterType.Undefined) ≡ Ok (replicate 16 RegisterType.Undefined) }
 {}
 
-/// A client of version 2, since a type of it shares: its 52 bytes and its text.
+/// A client with a type of shared cells is of version 2: its 52 bytes and its text. Clients without such types are of version 1.
 #[tactic(auto, unfolding(client_spec::specs::Grammar::client_bytes, client_spec::specs::Grammar::listing))]
 pub fn the_sharing()
     ensures bytes { client_bytes
@@ -62,8 +62,8 @@ pub fn the_chain()
         RegisterType.Int ∷ replicate 8 RegisterType.Undefined) }
 {}
 
-/// Clients that are refused: an object put into itself, a reference into a family of which an object may have been destroyed,
-/// an object that is never dropped, and a register that a loop changes.
+/// Clients that are refused: one puts an object into itself, one uses a reference into a family after an object of the family may
+/// have been destroyed, one never drops its object, and one changes a register's type in a loop.
 #[tactic(auto, unfolding(client_spec::specs::Typed::types_by, client_spec::specs::Typed::rule, client_spec::specs::Typed::sharing_rule))]
 pub fn refused()
     ensures cycle { types_after cycle.types cycle.constants cycle.code
@@ -76,16 +76,16 @@ pub fn refused()
         Err Reason.ChangedInLoop }
 {}
 
-/// A loop's steps count as often as it may turn: three turns of one instruction after two instructions, five turns of one
-/// after one, and seven loops of 1000 turns in one another.
+/// The bound counts the body of a loop once for each possible iteration: three iterations of one instruction after two
+/// instructions, five of one after one, and seven nested loops of 1000 each.
 pub fn steps_of_loops()
     ensures three { bound (three_turns (pos 1)) ≡ 9 }
     ensures idle { bound idle ≡ 12 }
     ensures nested { 10 ^ 9 < bound (nested 7) }
 {}
 
-/// Runs: three turns, a loop that its register ends, one that makes no turn, the increment of 41, input bytes that are printed, an object destroyed twice,
-/// and one of another type.
+/// Runs: three iterations, a loop that its register ends, a loop without iterations, the increment of 41, input bytes that are
+/// printed, an object that is destroyed twice, and one that is found with another type.
 pub fn runs()
     ensures three { RunsTo [] (three_turns (pos 1)) (beginning [] no_names []) 9
         (codes "7\n7\n7\n") }
@@ -98,8 +98,8 @@ pub fn runs()
         (record counted { types = Form.i64 ∷ Form.str ∷ [] }) 2 (codes "4\n") }
 {}
 
-/// Two runs, of which the second was cut short: what both wrote, the image after them and how they ended. The increment takes
-/// 6 steps and no more, and never gets stuck.
+/// Two runs, the second of which was cut short: their output, the image after them, and how they ended. Runs of the increment
+/// have at most 6 steps, and never get stuck.
 #[tactic(auto, unfolding(client_spec::specs::Grammar::listing))]
 pub fn several_runs()
     ensures outputs { outputs two_runs ≡ codes "424" }
@@ -115,8 +115,8 @@ pub fn several_runs()
     ensures too_many { StayWithin [] (left_with 6 finished [] [] ∷ []) → ⊥ }
 {}
 
-/// In a room of 2048 bytes a segment of 1024 may go to 1024 and back. A base of 8 and one too far may not be, nor may steps
-/// that don't ascend.
+/// In a region of 2048 bytes a segment of 1024 bytes may move to 1024 and back. It may not move to base 8 or too far, nor at step
+/// 0 or at steps that don't ascend.
 pub fn bad_moves()
     ensures all_fit { AreMoves 2048 1024 0 (move_to 1 1024 ∷ move_to 3 0 ∷ []) }
     ensures odd_base { IsFirstBadMove 2048 1024 (move_to 1 1024 ∷ move_to 3 8 ∷ []) 1 }
@@ -127,8 +127,8 @@ pub fn bad_moves()
     ensures none { (k : ℕ) → IsFirstBadMove 2048 1024 [] k → ⊥ }
 {}
 
-/// An image of two bytes that fills its host is left in place with two others, and not with three. The increment's output is
-/// cut short where it wrote "4" of "42". What was written stays at the front of the output.
+/// An image of two bytes that fills its host is left in place if two other bytes are left, but not if three are. The increment's
+/// output may be cut short after "4" of "42". A run only appends to the output.
 pub fn what_is_left()
     ensures placed { IsLeftInPlace (given_at_0 (codes "ab"))
         (left_with 1 finished [] (codes "cd")) }

@@ -68,7 +68,7 @@ pub fn numbers()
         ≡ Some (is_zero, Register.Int (pos 0)) }
 {}
 
-/// What is written joins the output, and an input byte is taken.
+/// Output is appended, and an input byte is taken.
 #[tactic(auto, unfolding(client_spec::specs::Effect::effect, seg_spec::specs::Value::default_of))]
 pub fn output_and_input()
     ensures number { output_after (row Operation.OutInt 0 2 0 (pos 0) true
@@ -92,7 +92,8 @@ pub fn output_and_input()
         ≡ Some (null_or_none, Register.Int (pos 6)) }
 {}
 
-/// A name is spelled by a constant, or by the front of a family and a register's number. The number of an instruction is `256 * type + constant`.
+/// A constant spells a name alone, or as a family's prefix with the number in a register. The number of an instruction is `256 *
+/// type + constant`.
 #[tactic(auto, unfolding(client_spec::specs::Effect::effect, seg_spec::specs::Value::default_of))]
 pub fn named_objects()
     ensures make { register_after 0 (row Operation.Make 0 16 16 (pos 1) true
@@ -492,8 +493,8 @@ pub fn maps()
         (pos 7))) ≡ Some (null_or_none, Register.Int (pos 6)) }
 {}
 
-/// Frozen objects, of which shared cells own copies here: x and y are such cells, which registers 1 and 2 lead to, and register 3
-/// owns the number 9.
+/// Frozen objects. In these states a shared cell has a copy of its object: x and y are such cells, to which registers 1 and 2
+/// refer, and register 3 owns the number 9.
 #[tactic(auto, unfolding(client_spec::specs::Effect::effect, seg_spec::specs::Value::default_of))]
 pub fn frozen_objects()
     ensures freeze { value_after x (row Operation.Freeze 0 1 3 (pos 0) true

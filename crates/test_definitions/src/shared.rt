@@ -9,7 +9,7 @@ ghost use Rattle.seg_spec.specs.Frozen.{Frozen};
 ghost use Rattle.seg_spec.specs.Shared.{names_in, names_of, times_named, IsBelow, IsCounted, IsFalling, meaning, unfolded, raised, left, freed};
 ghost use Rattle.seg_spec.specs.Releasing.{Releases};
 
-/// An object that becomes frozen, with the next number, is named by the one cell that takes it.
+/// If an object becomes frozen, with the next number, and one cell shares it, the objects are still counted.
 pub fn freezing()
     ensures { (next at type : ℕ) (v : Value) (frozen : List Frozen) (kept : List Place) →
         AllByRecursion (λ f. f.at ≢ at) frozen → IsCounted next frozen (names_in v ++ kept) →
@@ -18,15 +18,15 @@ pub fn freezing()
         (record { at = at; type = type } ∷ kept) }
 {}
 
-/// One cell more names an object, and its count is higher by one.
+/// If one more cell shares an object, the object's count rises by one.
 pub fn sharing()
     ensures { (next : ℕ) (frozen : List Frozen) (cells : List Place) (cell : Place) →
         IsCounted next frozen cells → IsBelow next frozen cell →
         IsCounted next (raised cell.at frozen) (cell ∷ cells) }
 {}
 
-/// Where cells are gone, each object that is left counts the cells that are left, and no such cell names what goes with them.
-/// Each object is left or goes.
+/// After cells are destroyed, each remaining object counts the remaining cells, and no remaining cell shares a freed object. Each
+/// object either remains or is freed.
 pub fn releasing()
     ensures left { (next : ℕ) (gone kept : List Place) (frozen : List Frozen) →
         IsFalling frozen → IsCounted next frozen (gone ++ kept) →
@@ -41,9 +41,9 @@ pub fn releasing()
         ≡ times at (map (λ f. f.at) frozen) }
 {}
 
-/// Names are released one after another, in whichever order. After each turn the objects count the names that are still to be
-/// released and the cells that are kept, and in the end the same is left. Each turn takes one name, of those that were gone or
-/// stood in an object that went: there are as many turns as names that go, and from wherever it is a release comes to its end.
+/// Cells are released one by one, in any order. After each turn the objects count the cells that are kept or still to be
+/// released, and in the end the same objects remain. Each turn releases one cell, which was destroyed or is in a freed object. So
+/// the number of turns is known, and each release can be completed.
 pub fn releasing_in_turns()
     ensures counted { (next turns : ℕ) (gone kept pending : List Place)
         (frozen now : List Frozen) →
@@ -60,8 +60,8 @@ pub fn releasing_in_turns()
         (turns : ℕ) × (result : List Frozen) × Releases gone frozen turns [] result }
 {}
 
-/// Numbers fall along cells, so that none leads round in a circle: what a cell means is the same tree, however far one may go
-/// down. What cells mean that are left is the same where others are gone.
+/// Along shared cells the numbers of objects fall, so there are no cycles, and a deeper reading gives a cell the same copy.
+/// Destroying other cells doesn't change the copies of the cells that remain.
 pub fn reading()
     ensures deep { (next n m : ℕ) (frozen : List Frozen) (cells : List Place) (cell : Place) →
         IsCounted next frozen cells → IsBelow n frozen cell → n ≤ m →

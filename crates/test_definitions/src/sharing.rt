@@ -12,8 +12,8 @@ ghost use Rattle.client_spec.specs.Pictures.{Pictures, value_through};
 ghost use Rattle.client_spec.specs.Asks.{Asks, Returns};
 ghost use Rattle.client_spec.specs.Fixtures.{at};
 
-/// Through a cell that shares selectors lead to the value of the object that it names, which is the number 41, and no further.
-/// Where no object stands at that position, or only what the cell itself has inside counts, they lead nowhere.
+/// A path through a shared cell refers to the value of the cell's object, which is the number 41, and doesn't continue from
+/// there. It refers to nothing if there is no object at the position, or if only the cell's own parts count.
 pub fn through_a_shared_cell()
     ensures itself { value_through sharing_picture.frozen sharing_cell [] ≡ Some sharing_cell }
     ensures content { value_through sharing_picture.frozen sharing_cell
@@ -25,10 +25,10 @@ pub fn through_a_shared_cell()
     ensures inside { value_at sharing_cell (Selector.content ∷ []) ≡ None }
 {}
 
-/// The first of two cells names the number 41, which is frozen, and the other one nothing. Registers 1 and 2 lead to them, and
-/// register 3 owns the number 9. FREEZE of 9 asks for one block of 2 units. It gives back the block at 832, in which 9 stood,
-/// and where 9 goes into the first cell the block at 800 too, since nothing names 41 then. SHARE gives back that block where
-/// the first cell is to be as the other one, and nothing where the other one is to be as the first.
+/// The first of two cells shares the frozen number 41, and the second is empty. Registers 1 and 2 refer to the cells, and
+/// register 3 owns the number 9. FREEZE of the 9 requests one block of 2 units. It frees the block of the 9 at 832; into the
+/// first cell it also frees the block at 800, since then no cell shares the 41. SHARE frees that block if the first cell becomes
+/// like the second, and nothing the other way round.
 pub fn rows_of_shared_cells()
     ensures { (image : List ℕ) × (s : State) × (pictured : Pictures [] s image) ×
         (pictured.picture ≡ record {

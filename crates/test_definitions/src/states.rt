@@ -12,8 +12,8 @@ ghost use Rattle.client_spec.specs.Effect.{outcome};
 ghost use Rattle.client_spec.specs.Shape.{HasShape};
 ghost use Rattle.client_spec.specs.Trees.{Unfolds, AreTrees};
 
-/// An instruction that has a row from a state with positions has the same row from its trees, whatever the positions mean; and a
-/// row from trees leads to trees.
+/// An instruction with a row from a state with positions has the same row from the state's trees, whatever the positions mean. A
+/// row from trees gives trees.
 pub fn rows_of_trees()
     ensures same { (meaning : ℕ → Value) (constants : List Constant) (i : Instruction)
         (room : Bool) (plain s plain' : State) (answer : Answer) →
@@ -25,8 +25,8 @@ pub fn rows_of_trees()
         AreTrees s → outcome constants i room s ≡ Some (answer, s') → AreTrees s' }
 {}
 
-/// A value with the shape of a type has it as a tree too, where each position that it names means nothing, or an object of the
-/// type that is named.
+/// A value with the shape of a type still has it after each position in it is replaced by nothing, or by an object of the type of
+/// that position.
 pub fn shapes_of_trees()
     ensures { (meaning : ℕ → Value) (types : Table) (T : ℕ) (v : Value) →
         HasShape types T v → AllByRecursion (λ q. (meaning q.at ≡ Empty) ⊎

@@ -11,13 +11,13 @@ ghost use Rattle.seg_spec.specs.Reads.{Place, Holds, Leads, LeadsToValue};
 ghost use Rattle.seg_spec.specs.Fresh.{IsFresh};
 ghost use Rattle.seg_spec.specs.Apart.{ComesApart};
 
-/// A place holds at most one value, and owns one list of blocks.
+/// A place contains at most one value, and owns one list of blocks.
 pub fn one_value()
     ensures { (bytes : List ℕ) (table : Table) (place : Place) (v w : Value) (xs ys : List ℕ) →
         Holds bytes table place v xs → Holds bytes table place w ys → (v ≡ w) × (xs ≡ ys) }
 {}
 
-/// Where a place and the blocks that it owns are kept, it holds the same value.
+/// If a place and its blocks are kept, it contains the same value.
 pub fn same_value()
     ensures { (old new : List ℕ) (table : Table) (place : Place) (v : Value) (blocks : List ℕ) →
         IsTable table → IsSame old new place.at (size table place.type) →
@@ -25,8 +25,8 @@ pub fn same_value()
         Holds old table place v blocks → Holds new table place v blocks }
 {}
 
-/// A value is what stands at a path and what is around it. Where what is around is kept, and the place there comes to
-/// hold another value, the whole changes by that value alone.
+/// If a place inside a value gets another value, and everything around the place is kept, the whole value changes by that one
+/// alone.
 pub fn changing()
     ensures { (bytes : List ℕ) (table : Table) (place inner : Place) (path : List Selector)
         (v : Value) (blocks : List ℕ) →
@@ -34,8 +34,8 @@ pub fn changing()
         ComesApart bytes table place path inner v blocks }
 {}
 
-/// A path that leads to a value inside a value leads to a place that holds it. Where one path leads on from where another
-/// one leads to, so do both together.
+/// If a value has a part at a path, the path refers to a place that contains the part. Two paths, the second of which continues
+/// from the end of the first, can be joined.
 pub fn paths()
     ensures found { (bytes : List ℕ) (table : Table) (place : Place) (path : List Selector)
         (v inner : Value) (blocks : List ℕ) →
@@ -47,7 +47,7 @@ pub fn paths()
         Leads bytes table place (path ++ more) inner }
 {}
 
-/// Where a place and the blocks that it owns are kept, each path from it leads where it led.
+/// If a place and its blocks are kept, each path from it refers to the same place as before.
 pub fn same_paths()
     ensures { (old new : List ℕ) (table : Table) (place inner : Place) (path : List Selector)
         (v : Value) (blocks : List ℕ) →
@@ -57,27 +57,26 @@ pub fn same_paths()
         Leads new table place path inner }
 {}
 
-/// A place whose cells are 0 or name nothing holds the default of its type.
+/// A place whose cells are 0 or null contains the default value of its type.
 pub fn defaulting()
     ensures { (bytes : List ℕ) (table : Table) (place : Place) →
         IsTable table → place.type < length table → IsFresh bytes table place →
         Holds bytes table place (default_of table place.type) [] }
 {}
 
-/// What a place of a type holds fits the type.
+/// The value in a place fits the place's type.
 pub fn fitting()
     ensures { (bytes : List ℕ) (table : Table) (place : Place) (v : Value) (blocks : List ℕ) →
         All (λ b. b < 256) bytes → Holds bytes table place v blocks → Has table place.type v }
 {}
 
-/// A value stays the same where types are added.
+/// A value stays the same if types are added to the table.
 pub fn more_types()
     ensures { (bytes : List ℕ) (old more : Table) (place : Place) (v : Value) (blocks : List ℕ) →
         IsTable old → Holds bytes old place v blocks → Holds bytes (old ++ more) place v blocks }
 {}
 
-/// A value whose cells move, and name there what they named, is the same value at its new place, where the blocks that it
-/// owns are kept.
+/// If the cells of a value move and still point to the same blocks, which are kept, the value is the same at its new place.
 pub fn moving()
     ensures { (old new : List ℕ) (table : Table) (place : Place) (to : ℕ) (v : Value)
         (blocks : List ℕ) →

@@ -1,4 +1,4 @@
-//! Tests of what the heap and the values are built on: regions, windows, type tables and trees.
+//! Tests of the crates below the heap and the values: regions, windows, type tables and trees.
 #![tactic(auto)]
 
 #[cfg(test)]

@@ -20,11 +20,11 @@ const NONE: i64 = 6;
 
 const NO_NUMBER: i64 = 7;
 
-/// What an opener gives, or its code.
+/// The result of an opener, or its code.
 type Answer = Result<Register, i64>;
 
 impl AbstractRun<'_> {
-    /// Performs an opener: whether it succeeded.
+    /// Performs an opener, and returns whether it succeeded.
     pub(crate) fn open(&mut self, objects: &mut Objects, i: Instruction) -> Result<bool, Fail> {
         if i.operation == Operation::If {
             return Ok(self.number(i.b) != 0);
@@ -66,7 +66,7 @@ impl AbstractRun<'_> {
         Ok(Register::Number(i64::from(*first)))
     }
 
-    /// A new value where the real run found room for it.
+    /// Makes a new value, if the real run found room for it.
     fn with_room(&self, objects: &mut Objects, t: usize) -> Result<Answer, Fail> {
         if self.found_room() {
             Ok(Ok(Register::Value(objects.make(t)?)))
@@ -75,7 +75,7 @@ impl AbstractRun<'_> {
         }
     }
 
-    /// Makes the object of a name where the real run found room for it.
+    /// Makes the object of a name, if the real run found room for it.
     fn make_named(
         &self,
         objects: &mut Objects,
@@ -129,7 +129,7 @@ impl AbstractRun<'_> {
         self.item(objects, i, item)
     }
 
-    /// A value of a name's object.
+    /// A value of the object with the instruction's name.
     fn item(&self, objects: &Objects, i: Instruction, item: i64) -> Result<Answer, Fail> {
         Ok(match self.named(objects, i)? {
             Err(code) => Err(code),
@@ -208,7 +208,7 @@ impl AbstractRun<'_> {
         Ok(answer)
     }
 
-    /// Register b's cell gets the object of register c, where a number is left and the real run found room.
+    /// Freezes register c's object into register b's cell, if a number is left and the real run found room.
     fn freeze(&mut self, objects: &mut Objects, i: Instruction) -> Result<Answer, Fail> {
         if objects.next_number == u32::MAX {
             self.sharing.had_no_number = true;
@@ -228,7 +228,7 @@ impl AbstractRun<'_> {
         Ok(Ok(Register::Number(1)))
     }
 
-    /// What an own or a shared cell holds.
+    /// The object of an own or a shared cell.
     fn content(&mut self, objects: &mut Objects, i: Instruction) -> Result<Answer, Fail> {
         let cell = self.value(i.b);
         let is_shared = matches!(objects.shape(cell), Shape::Shared(_));
@@ -239,7 +239,7 @@ impl AbstractRun<'_> {
         Ok(held.map(Register::Value).ok_or(NONE))
     }
 
-    /// An opener on what the value of register b holds.
+    /// Performs an opener on the contents of register b's value.
     fn on_content(&self, objects: &mut Objects, i: Instruction) -> Result<Answer, Fail> {
         match objects.content(self.value(i.b)) {
             Some(Content::Text(text)) => self.on_text(text, i),

@@ -6,7 +6,7 @@ use client_code::{Instruction, Operation};
 use std::test::Fail;
 
 impl AbstractRun<'_> {
-    /// Performs an instruction that stands by itself.
+    /// Performs an instruction without parts.
     pub(crate) fn act(&mut self, objects: &mut Objects, i: Instruction) -> Result<(), Fail> {
         let (b, c) = (self.number(i.b), self.number(i.c));
         match i.operation {
@@ -56,7 +56,7 @@ impl AbstractRun<'_> {
         Ok(())
     }
 
-    /// Register b's cell gets a copy of what register c's holds.
+    /// Gives register b's cell a copy of the object of register c's cell.
     fn share(&mut self, objects: &mut Objects, i: Instruction) -> Result<(), Fail> {
         let Some(Content::Held(named)) = objects.content(self.value(i.c)) else {
             return Err(Fail::from("no cell"));
@@ -73,7 +73,7 @@ impl AbstractRun<'_> {
         Ok(())
     }
 
-    /// An instruction on the value of register b.
+    /// Performs an instruction on the value of register b.
     fn act_on_value(&mut self, objects: &mut Objects, i: Instruction) -> Result<(), Fail> {
         let value = self.value(i.b);
         let c = self.register(i.c);

@@ -7,16 +7,16 @@ use itoa::Buffer;
 use std::alloc::Global;
 use std::test::Fail;
 
-/// What an opener prints first where it succeeds.
+/// The bytes that an opener prints first if it succeeds.
 const MARK: &[u8] = b"+\n";
 
-/// What a register holds.
+/// The contents of a register.
 #[derive(Debug, Clone, Copy, PartialEq, Eq, Default)]
 pub(crate) enum Register {
     #[default]
     Undefined,
     Number(i64),
-    /// A value, referred to or owned.
+    /// A value to which the register refers, or which it owns.
     Value(usize),
 }
 
@@ -24,16 +24,16 @@ pub(crate) enum Register {
 #[derive(Debug, Clone, Copy, PartialEq, Eq, Default)]
 pub(crate) struct Sharing {
     pub(crate) froze: bool,
-    /// An object wasn't frozen for want of room.
+    /// Whether an object couldn't be frozen because there was no room.
     pub(crate) had_no_room: bool,
-    /// Or for want of a number.
+    /// Whether an object couldn't be frozen because no number was left.
     pub(crate) had_no_number: bool,
-    /// A cell got what another one names.
+    /// Whether a cell got the object of another cell.
     pub(crate) shared: bool,
     pub(crate) read: bool,
 }
 
-/// A part that the run is in.
+/// An open part of the code.
 #[derive(Debug, Clone, Copy)]
 enum Part {
     Opener,
@@ -51,7 +51,7 @@ pub(crate) struct AbstractRun<'a> {
     pub(crate) steps: u64,
     pub(crate) sharing: Sharing,
     pub(crate) input: &'a [u8],
-    /// What the real run printed from here on.
+    /// The rest of the real run's output.
     pub(crate) printed: &'a [u8],
 }
 
@@ -86,7 +86,7 @@ impl<'a> AbstractRun<'a> {
         }
     }
 
-    /// The value that a register leads to. An accepted client asks for none that isn't there.
+    /// The value of a register. An accepted client uses no register without a value.
     pub(crate) fn value(&self, r: u8) -> usize {
         match self.register(r) {
             Register::Value(value) => value,
@@ -100,12 +100,12 @@ impl<'a> AbstractRun<'a> {
         }
     }
 
-    /// Whether the real run found room for what the instruction at hand asks for.
+    /// Whether the real run found room for the current instruction.
     pub(crate) fn found_room(&self) -> bool {
         self.printed.starts_with(MARK)
     }
 
-    /// The real run printed these bytes next.
+    /// Tests that the real run printed these bytes next.
     pub(crate) fn print(&mut self, bytes: &[u8]) -> Result<(), Fail> {
         match self.printed.strip_prefix(bytes) {
             Some(rest) => {
@@ -129,7 +129,7 @@ impl<'a> AbstractRun<'a> {
             .map_or(&[], |constant| constant.bytes)
     }
 
-    /// The name that an instruction gives.
+    /// The name that an instruction refers to.
     pub(crate) fn name(&self, i: Instruction) -> Result<Vec<u8>, Fail> {
         let constants = self.client.constants();
         let Some(constant) = constants.get(i.constant() as usize) else {
@@ -204,7 +204,7 @@ impl<'a> AbstractRun<'a> {
         self.at = at.wrapping_add(1);
     }
 
-    /// The end of a part: a loop makes another turn while its number isn't 0.
+    /// Ends a part. A loop has another iteration if its number isn't 0.
     fn end(&mut self) -> Result<(), Fail> {
         if let Some(Part::Loop { start, turns }) = self.parts.pop() {
             let test = self
@@ -225,7 +225,7 @@ impl<'a> AbstractRun<'a> {
         Ok(())
     }
 
-    /// The `ELSE` or the `END` that belongs to the instruction at hand.
+    /// The index of the `ELSE` or `END` of the current instruction.
     fn mark(&self, wanted: Role) -> u32 {
         let mut depth = 0u32;
         let end = self.client.instruction_count();
@@ -247,7 +247,7 @@ impl<'a> AbstractRun<'a> {
     }
 }
 
-/// The name of a family for a number.
+/// The name of a family's object with this number.
 fn family_name(alloc: Global, front: &[u8], number: i64) -> Result<Vec<u8>, Fail> {
     let mut name = Vec::from_slice(alloc, front)?;
     name.push(b'#')?;

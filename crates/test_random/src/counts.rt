@@ -1,7 +1,7 @@
 use crate::abstract_run::Sharing;
 use crate::random_clients::ROUND;
 
-/// How many clients were accepted, and how many of them did what with frozen objects.
+/// How many clients were accepted, and how many of them did each thing with frozen objects.
 #[derive(Debug, Clone, Copy, PartialEq, Eq, Default)]
 pub(crate) struct Counts {
     accepted: u32,
@@ -23,7 +23,7 @@ impl Counts {
         count(&mut self.read, sharing.read);
     }
 
-    /// Whether enough of the clients did each thing, so that the run tests it. Less than a round is too few to tell.
+    /// Whether enough of the clients did each thing, so that the run tests it. Fewer clients than a round are too few to tell.
     pub(crate) fn are_varied(&self, clients: u32) -> bool {
         let rounds = clients / ROUND;
         rounds == 0
@@ -40,7 +40,7 @@ fn count(clients: &mut u32, is_one: bool) {
     *clients = clients.wrapping_add(u32::from(is_one));
 }
 
-/// Whether more than `least` clients a round were counted.
+/// Whether more than `least` clients were counted in each round.
 fn is_over(counted: u32, least: u32, rounds: u32) -> bool {
     u64::from(counted) > u64::from(least).wrapping_mul(u64::from(rounds))
 }

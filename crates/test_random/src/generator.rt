@@ -24,10 +24,10 @@ type struct t0 t6 t1
 type list t7
 ";
 
-/// How many they are.
+/// The number of these types.
 const TYPE_COUNT: u32 = 9;
 
-/// The further types of clients of version 2.
+/// The additional types of clients of version 2.
 const SHARED_TYPES: &str = "type shared t10
 type struct t0 t9 t5 t1
 type shared t8
@@ -35,26 +35,26 @@ type shared t1
 type vec t9
 ";
 
-/// How many they are.
+/// The number of these types.
 const SHARED_TYPE_COUNT: u32 = 5;
 
-/// The type of the shared cell that has a name of its own.
+/// The type of the named shared cell.
 const CELL_TYPE: usize = 9;
 
-/// This name.
+/// The name constant of that cell.
 const CELL: u32 = 7;
 
-/// The shared type of lists.
+/// The type of shared cells with lists.
 const LIST_CELL_TYPE: usize = 11;
 
-/// The shared type of texts.
+/// The type of shared cells with texts.
 const TEXT_CELL_TYPE: usize = 12;
 
 /// The types that are vectors, and not lists.
 const VECTORS: [usize; 2] = [2, 13];
 
-/// The names and texts of the random clients, and their first numbers. Register 15 is the code or the number of an
-/// instruction that succeeds or is refused; values stand in registers from 5 on.
+/// The names and texts of the random clients, and their first numbers. Register 15 gets codes, and numbers that are printed at
+/// once. Registers from 5 on get values.
 const START: &str = "name a
 name b
 family f
@@ -70,17 +70,17 @@ CONST r3 3
 CONST r4 300
 ";
 
-/// The deepest part that a client opens, below the most that the language has.
+/// With this many open parts, the next statement ends a part. The language allows 8 open parts.
 const DEPTH: usize = 7;
 
 /// How an open part ends.
 #[derive(Debug, Clone, Copy, PartialEq, Eq)]
 enum Close {
-    /// No mark: a field of a value.
+    /// Without a mark, for the field of a value.
     Nothing,
-    /// The success part of an opener, whose code is in a register.
+    /// With `ELSE` and `END`, for an opener whose code is in this register.
     Opener(usize),
-    /// The same, where a register owns an object of a type.
+    /// The same, for a register that owns an object of this type.
     Owner { register: usize, t: usize },
     If,
     Loop,
@@ -90,11 +90,11 @@ enum Close {
 #[derive(Debug, Clone, Copy, PartialEq, Eq)]
 enum Access {
     Change,
-    /// It lies in a frozen object.
+    /// Only read it: it is in a frozen object.
     Read,
 }
 
-/// An open part, and the value that it works on: its register and type, and the object that it is a part of.
+/// An open part, the register and type of the value that it works on, and the class of references to that value.
 #[derive(Debug, Clone, Copy)]
 struct Part {
     close: Close,
@@ -125,7 +125,7 @@ impl Generator {
         }
     }
 
-    /// The text of a client of so many statements and those that end its parts.
+    /// The text of a client with this many statements, and with those that end its parts.
     pub(crate) fn client(mut self, statements: u32) -> Result<String, AllocError> {
         self.text.push_str(TYPES)?;
         match self.version {
@@ -142,12 +142,12 @@ impl Generator {
         Ok(self.text)
     }
 
-    /// A register of a small number.
+    /// A register with a small number.
     fn number(&mut self) -> u32 {
         self.random.below(5)
     }
 
-    /// A type of the client. Half of them have frozen objects, where the client may have those.
+    /// A type of the client. If the client is of version 2, half of these types have frozen objects.
     fn some_type(&mut self) -> usize {
         let has_frozen = self.version == Version::Two && self.random.below(2) == 0;
         let t = if has_frozen {
@@ -179,7 +179,7 @@ impl Generator {
         }
     }
 
-    /// A statement that isn't about the value of a part.
+    /// Writes a statement that doesn't work on the value of a part.
     fn outside(&mut self) -> Result<(), AllocError> {
         match self.random.below(4) {
             0 => self.plain(),
@@ -188,7 +188,7 @@ impl Generator {
         }
     }
 
-    /// Ends the innermost part. The else part prints the code.
+    /// Ends the innermost part. Its else part prints the code.
     fn close(&mut self) -> Result<(), AllocError> {
         match self.parts.pop().map(|part| part.close) {
             None | Some(Close::Nothing) => Ok(()),
@@ -205,7 +205,7 @@ impl Generator {
         }
     }
 
-    /// Freezes the object that a register owns into a cell that is at hand, or else drops it.
+    /// Freezes the object that a register owns into an open cell of its type, or drops it if there is no such cell.
     fn give_away(&mut self, register: usize, t: usize) -> Result<(), AllocError> {
         let Some(cell) = self.cell_for(t) else {
             return write!(self.text, "DROP r{register}\n");
@@ -219,7 +219,7 @@ impl Generator {
         write!(self.text, "ELSE\nOUTI r15\nDROP r{register}\nEND\n")
     }
 
-    /// The innermost shared cell for objects of a type that may be changed.
+    /// The innermost open shared cell for objects of a type, if it can be changed.
     fn cell_for(&self, t: usize) -> Option<Part> {
         let mut cell = None;
         for part in &self.parts {
@@ -242,7 +242,7 @@ impl Generator {
         })
     }
 
-    /// The same for an opener that makes or finds something in the value of a part.
+    /// Opens the success part of an opener that makes or finds something inside the value of a part.
     fn open_inside(&mut self, part: Part, t: usize) -> Result<(), AllocError> {
         let register = self.next_register();
         self.enter(Part {
@@ -253,14 +253,14 @@ impl Generator {
         })
     }
 
-    /// Enters a success part. It prints a mark first.
+    /// Enters a success part, which first prints a mark.
     fn enter(&mut self, part: Part) -> Result<(), AllocError> {
         self.text.push_str("OUTC k3\n")?;
         self.parts.push(part)?;
         Ok(())
     }
 
-    /// The references of a class end, but for the one in a register.
+    /// Ends the references of a class, except the one in a register.
     fn end_others(&mut self, class: u32, register: usize) {
         for part in &mut self.parts {
             if part.class == class && part.register != register {
@@ -269,13 +269,13 @@ impl Generator {
         }
     }
 
-    /// The parts of an opener that gives register 15 a number.
+    /// Writes the parts of an opener that gives register 15 a number.
     fn print_given(&mut self) -> Result<(), AllocError> {
         self.text
             .push_str("OUTC k3\nOUTI r15\nELSE\nOUTI r15\nEND\n")
     }
 
-    /// Numbers, input, and parts without a value.
+    /// Writes a statement on numbers, input, or parts without a value.
     fn plain(&mut self) -> Result<(), AllocError> {
         let (a, b, c) = (self.number(), self.number(), self.number());
         match self.random.below(9) {
@@ -315,7 +315,7 @@ impl Generator {
         Ok(())
     }
 
-    /// A name in the text: its operands, and its class.
+    /// A name of the client: its constant and its operand b.
     fn some_name(&mut self) -> (u32, &'static str) {
         match self.random.below(4) {
             0 => (0, "-"),
@@ -325,7 +325,7 @@ impl Generator {
         }
     }
 
-    /// Named, unique and anonymous objects.
+    /// Writes a statement on a named, unique or anonymous object.
     fn object(&mut self) -> Result<(), AllocError> {
         let a = self.next_register();
         let t = self.some_type();
@@ -344,7 +344,7 @@ impl Generator {
         self.open(Close::Opener(a), Some(t), k)
     }
 
-    /// A shared cell: one that is unique, or the one with a name of its own.
+    /// Writes a statement on a shared cell, which is unique or named.
     fn cell(&mut self) -> Result<(), AllocError> {
         match self.random.below(8) {
             0 => self.kill(CELL_TYPE, CELL, "-"),
@@ -392,7 +392,7 @@ impl Generator {
         self.open(Close::Opener(a), Some(t), unique_class(t))
     }
 
-    /// An object that a register owns, and a reference to it in the part inside.
+    /// Makes an object that a register owns, and opens a part with a reference to it.
     fn new_object(&mut self, t: usize) -> Result<(), AllocError> {
         let a = self.next_register();
         write!(self.text, "NEW r{a} t{t}\n")?;
@@ -400,7 +400,7 @@ impl Generator {
         self.fill(t)
     }
 
-    /// Gives the innermost part's value, which is new, a text or a number, so that values differ.
+    /// Gives the new value of the innermost part a text or a number, so that values differ.
     fn fill(&mut self, t: usize) -> Result<(), AllocError> {
         let (b, n) = (self.next_register().saturating_sub(1), self.number());
         match shape_of(t) {
@@ -431,7 +431,7 @@ impl Generator {
         }
     }
 
-    /// The part of an opener that lets register a own an object.
+    /// Opens the success part of an opener that makes register a own an object.
     fn own(&mut self, a: usize, t: usize) -> Result<(), AllocError> {
         self.classes = self.classes.wrapping_add(1);
         let class = self.classes;
@@ -448,7 +448,7 @@ impl Generator {
         Ok(())
     }
 
-    /// A call on the value of a part.
+    /// Writes a statement on the value of a part.
     fn on_value(&mut self, part: Part, t: usize) -> Result<(), AllocError> {
         let b = part.register;
         if self.random.below(24) == 0 {
@@ -466,7 +466,7 @@ impl Generator {
         }
     }
 
-    /// A call on the value of a part that changes nothing there.
+    /// Writes a statement that only reads the value of a part.
     fn read(&mut self, part: Part, t: usize) -> Result<(), AllocError> {
         match shape_of(t) {
             Shape::Number => self.load(part.register),
@@ -541,7 +541,7 @@ impl Generator {
         self.print_first(b, item)
     }
 
-    /// Prints the first item of a sequence, which tells at which end an item was added.
+    /// Prints the first item of a sequence, which shows at which end an item was added.
     fn print_first(&mut self, b: usize, item: usize) -> Result<(), AllocError> {
         let printed = match shape_of(item) {
             Shape::Number => "LOAD r15 r15\nOUTI r15\n",
@@ -631,7 +631,7 @@ impl Generator {
         }
     }
 
-    /// The object that an own or a shared cell holds, and what may be done with it.
+    /// Opens a part with the object of an own or a shared cell, which may be changed or only read.
     fn content(&mut self, part: Part, held: usize, access: Access) -> Result<(), AllocError> {
         let (a, b) = (self.next_register(), part.register);
         write!(self.text, "CONTENT r{a} r{b}\n")?;
@@ -639,7 +639,7 @@ impl Generator {
         self.print_value(held)
     }
 
-    /// A new object is frozen into the cell where its part ends.
+    /// Writes a statement on a shared cell. A new object is frozen into the cell at the end of its part.
     fn on_shared(&mut self, part: Part, t: usize, held: usize) -> Result<(), AllocError> {
         match self.random.below(8) {
             0 | 1 => self.content(part, held, Access::Read),
@@ -648,7 +648,8 @@ impl Generator {
         }
     }
 
-    /// Shares what one of two cells names: that of the part, and one around it of its type, or else a cell that is found.
+    /// Shares the object of one of two cells with the other: the cell of the part, and another cell of its type, which is open or
+    /// is found first.
     fn share(&mut self, part: Part, t: usize) -> Result<(), AllocError> {
         let other = match self.cell_around(t) {
             Some(other) => other,
@@ -664,7 +665,7 @@ impl Generator {
         write!(self.text, "SHARE r{} r{}\n", to.register, from.register)
     }
 
-    /// Opens the part of another cell of a type: of the named one, where the cell at hand is the unique one.
+    /// Opens a part with another cell of a type: the named one, if the cell of the part is the unique one.
     fn other_cell(&mut self, part: Part, t: usize) -> Result<Part, AllocError> {
         if part.class == unique_class(CELL_TYPE) {
             self.named_cell()?;
@@ -674,7 +675,7 @@ impl Generator {
         Ok(self.parts.last().copied().unwrap_or(part))
     }
 
-    /// The value of a type in the closest part around the innermost one.
+    /// The closest part around the innermost one with a value of this type.
     fn cell_around(&self, t: usize) -> Option<Part> {
         let mut cell = None;
         let (_innermost, around) = self.parts.as_slice().split_last()?;

@@ -5,7 +5,7 @@ use std::alloc::{AllocError, Global};
 use std::collections::BTreeMap;
 use std::mem;
 
-/// What a type is, with what it is of.
+/// The kind of a type, with the types of its parts.
 #[derive(Debug, Clone, Copy, PartialEq, Eq)]
 pub(crate) enum Shape {
     Number,
@@ -19,7 +19,7 @@ pub(crate) enum Shape {
     Struct(&'static [usize]),
 }
 
-/// The types of the random clients, in order. The generator spells them.
+/// The types of the random clients, in order. They are the same as in the generator's text.
 pub(crate) const SHAPES: [Shape; 14] = [
     Shape::Number,
     Shape::Text,
@@ -42,19 +42,19 @@ pub(crate) fn shape_of(t: usize) -> Shape {
     SHAPES.get(t).copied().unwrap_or(Shape::Number)
 }
 
-/// What a value holds.
+/// The contents of a value.
 #[derive(Debug, Clone, Drop)]
 pub(crate) enum Content {
     Number(i64),
     Text(Vec<u8>),
     Items(Vec<usize>),
     Keyed(BTreeMap<i64, usize>),
-    /// What an own holds, or a copy of the frozen object that a shared cell names.
+    /// The object of an own, or a copy of the frozen object of a shared cell.
     Held(Option<usize>),
     Fields(Vec<usize>),
 }
 
-/// A value: its type, and what it holds.
+/// A value: its type and its contents.
 #[derive(Debug, Clone, Drop)]
 pub(crate) struct Value {
     pub(crate) t: usize,
@@ -106,7 +106,7 @@ impl Objects {
         shape_of(self.type_of(value))
     }
 
-    /// A new value, the default of a type. Fields of structs are no structs here.
+    /// Makes a new value: the default of a type. No struct here has a field that is a struct.
     pub(crate) fn make(&mut self, t: usize) -> Result<usize, AllocError> {
         let content = self.default_of(t)?;
         let value = self.values.len();
@@ -114,7 +114,7 @@ impl Objects {
         Ok(value)
     }
 
-    /// Lets a value be the default of its type.
+    /// Resets a value to the default of its type.
     pub(crate) fn clear(&mut self, value: usize) -> Result<(), AllocError> {
         let content = self.default_of(self.type_of(value))?;
         if let Some(slot) = self.values.get_mut(value) {
@@ -138,10 +138,10 @@ impl Objects {
         }
     }
 
-    /// A copy of a value, with copies of all that it leads to.
+    /// Copies a value, with everything that it refers to.
     pub(crate) fn copy(&mut self, value: usize) -> Result<usize, AllocError> {
         let first = self.copy_alone(value)?;
-        // the copy of a part stands behind that of the whole, so the loop comes to each
+        // the copy of a part comes after the copy of the whole, so the loop reaches each copy
         for copy in first..usize::MAX {
             let Some(slot) = self.content(copy) else {
                 break;
@@ -155,7 +155,7 @@ impl Objects {
         Ok(first)
     }
 
-    /// A copy of a value that leads to the same parts.
+    /// Copies a value, which then refers to the same parts.
     fn copy_alone(&mut self, value: usize) -> Result<usize, AllocError> {
         let copy = self.values.len();
         if let Some(original) = self.values.get(value) {
@@ -165,7 +165,7 @@ impl Objects {
         Ok(copy)
     }
 
-    /// Lets a content lead to copies of its parts.
+    /// Makes contents refer to copies of their parts.
     fn copy_parts(&mut self, content: &mut Content) -> Result<(), AllocError> {
         match content {
             Content::Number(_) | Content::Text(_) | Content::Held(None) => Ok(()),
@@ -192,7 +192,7 @@ impl Objects {
         Ok(())
     }
 
-    /// An object of so many new values.
+    /// An object with this many new values.
     pub(crate) fn make_object(&mut self, t: usize, count: i64) -> Result<Object, AllocError> {
         let mut values = Vec::new(self.alloc);
         for _ in 0..count {
@@ -202,7 +202,7 @@ impl Objects {
     }
 }
 
-/// The default of a type that is no struct.
+/// The default of a type that isn't a struct.
 fn simple_default(alloc: Global, t: usize) -> Content {
     match shape_of(t) {
         Shape::Number | Shape::Struct(_) => Content::Number(0),

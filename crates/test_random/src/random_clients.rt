@@ -13,7 +13,7 @@ use support_runs::{
 
 const INPUT: &[u8] = b"the input of a client";
 
-/// What a client took, and what it did with frozen objects.
+/// The steps and the input that a client took, and what it did with frozen objects.
 #[derive(Debug, Clone, Copy, PartialEq, Eq)]
 struct Retraced {
     steps: u64,
@@ -21,16 +21,16 @@ struct Retraced {
     sharing: Sharing,
 }
 
-/// Clients that run one after the other on one segment.
+/// How many clients run one after the other on one segment.
 const TURN: u32 = 10;
 
-/// Clients of a seed: a turn on a segment of each kind and size.
+/// How many clients run for a seed: a turn on a segment of each kind and size.
 pub(crate) const ROUND: u32 = 320;
 
-/// Where an image has the number of the next object that is frozen.
+/// The position of the next frozen object's number in an image.
 const NEXT_NUMBER: usize = 28;
 
-/// The sizes of the segments, and the numbers of their next frozen objects, which are used up in some.
+/// The sizes of the segments, and the numbers of their next frozen objects. Some segments run out of numbers.
 const SEGMENTS: [(u32, u32); 8] = [
     (800, 0),
     (880, 0),
@@ -42,7 +42,7 @@ const SEGMENTS: [(u32, u32); 8] = [
     (4096, 0),
 ];
 
-/// Runs a client on the objects, where a run on bytes printed this.
+/// Runs a client on the model, and compares it with the output of the real run.
 fn retrace(
     alloc: Global,
     objects: &mut Objects,
@@ -77,7 +77,7 @@ fn same(what: &str, run: u64, model: u64) -> Result<(), Fail> {
     }
 }
 
-/// Runs a client on an image and on the objects beside it, if it is accepted.
+/// Runs a client on an image and on the model, if it is accepted.
 fn follow(
     alloc: Global,
     objects: &mut Objects,
@@ -111,7 +111,7 @@ fn follow(
     }))
 }
 
-/// As many names, unique objects and numbers of frozen ones are in the image as in the model.
+/// Tests that the image and the model have equally many names, unique objects and numbers for frozen objects.
 fn agree(alloc: Global, objects: &Objects, image: &[u8]) -> Result<(), Fail> {
     let left = statistics_of(alloc, image)?;
     same("names", u64::from(left.named), objects.named.len() as u64)?;
@@ -152,7 +152,7 @@ impl Case {
     }
 }
 
-/// A segment and the objects of the model beside it.
+/// A segment, and the same objects in the model.
 #[derive(Drop)]
 struct Pair {
     image: Vec<u8>,
@@ -160,7 +160,7 @@ struct Pair {
 }
 
 impl Pair {
-    /// Both are empty. The next object that is frozen gets this number.
+    /// An empty segment and an empty model. The next frozen object gets this number.
     fn new(alloc: Global, kind: Kind, size: u32, next_number: u32) -> Result<Pair, Fail> {
         let mut image = empty(alloc, size, kind)?;
         write_words(image.as_mut_slice(), NEXT_NUMBER, &[next_number]);
@@ -187,7 +187,7 @@ impl Pair {
     }
 }
 
-/// Clients one after the other on one new segment. A failure is printed with what repeats it.
+/// Runs clients one after the other on one new segment. If one fails, prints the case, which repeats the failure.
 fn follow_turn(
     rt: &(impl Eprint + AllocGlobal),
     counts: &mut Counts,
@@ -199,7 +199,7 @@ fn follow_turn(
     for client in 0..clients {
         let case = Case { client, ..first };
         if let Err(fail) = pair.step(rt.alloc(), counts, case) {
-            // the failure counts more than an output that can't take this line
+            // if this line can't be printed, the failure still matters more
             let _ = eprintln!(rt; "{case:?}");
             return Err(fail);
         }
@@ -207,8 +207,8 @@ fn follow_turn(
     Ok(())
 }
 
-/// Random clients of all operations: output, steps and codes are those of objects without bytes. Each round has a seed, one
-/// more than the round before.
+/// Runs random clients with all operations. Their output, steps and codes must be as in the model. Each round has a seed that
+/// is one higher than in the round before.
 pub(crate) fn follow_rounds(
     rt: &(impl Eprint + AllocGlobal),
     seed: u32,

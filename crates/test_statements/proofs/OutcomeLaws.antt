@@ -29,9 +29,9 @@ use Rattle.client_output.specs.declared.report.Ended.TheVariants as ended
 use Rattle.client_vm.specs.Jobs.{Job, Effect, job_at, effect_at}
 use Rattle.client_vm.specs.Outcomes.{AreReports, AreLeftByRuns, HasOutcome, IsFault, IsRefusedFor}
 
--- ---- every fault stands for a refusal
+-- ---- a refusal for each fault
 
--- one of the reasons why no client runs, which is want of memory only where that is the fault
+-- a reason why no client runs; it is out of memory only if that is the fault
 pub record Stands (image : List ℕ) (texts : List (List ℕ)) (room base : ℕ) (moves : List Move) (f : Fault) : Type 0 where
   pub refusal : Refusal
   pub holds : IsRefusalOf image texts room base moves refusal
@@ -79,7 +79,7 @@ module _ (image : List ℕ) (texts : List (List ℕ)) (room base : ℕ) (moves :
   stands (Some k) (fault.BadLine line) h = absurd h
   stands (Some k) (fault.BadMove i) h = absurd h
 
-  -- a refusal that isn't want of memory excludes an outcome
+  -- only the refusal for memory is possible if the clients can run
   memory_alone : (refusal : Refusal) → IsRefusalOf image texts room base moves refusal → CanRun image texts room base moves → refusal ≡ Refusal.no_memory
   memory_alone Refusal.no_memory r o = refl
   memory_alone Refusal.bad_size r o = absurd (whole.not_both image texts room base moves Refusal.bad_size (λ e. cc) r o)

@@ -39,20 +39,20 @@ use Rattle.client_spec.specs.Asks.{WithFrozen, Returns, Renames, GrantsAsks, Cha
 
 -- ---- counted pictures
 
--- no object is there that no cell names
+-- if no cell shares an object at a position, there is no frozen object at it
 pub each_named : (next : ℕ) (picture : Picture) → AreCounted next picture → (at : ℕ) → times_named at (cells_in (owners_in picture) ++ names_of picture.frozen) ≡ 0 → AllByRecursion (λ (f : Frozen). f.at ≢ at) picture.frozen
 each_named next picture c at none =
     let cells = cells_in (owners_in picture) ++ names_of picture.frozen in
     each_both (λ (f : Frozen). 1 ≤ f.count) (λ (f : Frozen). f.count ≡ times_named f.at cells) (λ (f : Frozen). f.at ≢ at)
     (λ f some count e. let here : times_named f.at cells ≡ 0 = subst (λ p. times_named p cells ≡ 0) (sym e) none in absurd (omega arith)) picture.frozen c.counted.some c.counted.counts
 
--- a cell means a tree
+-- each shared cell has a tree
 means : (n : ℕ) (fs : List Frozen) (q : Place) → AreDistinct fs → AllByRecursion (λ (f : Frozen). AllByRecursion (IsBelow f.number fs) (names_in f.value)) fs → IsBelow n fs q → (tree : Value) × (meaning n fs q.at ≡ Full tree)
 unfolding meaning
 means zero fs q d a b = let f = found zero fs q d a b in absurd (let less = f.less in omega arith)
 means (suc n) fs q d a b = let f = found (suc n) fs q d a b in (replaced (meaning n fs) f.object.value, ap (owner_by (λ v. replaced (meaning n fs) v)) f.value_is)
 
--- objects that are named by themselves alone are none
+-- if only frozen objects share frozen objects, there are no frozen objects
 pub none_left : (fs : List Frozen) → AreDistinct fs → IsFalling fs → AllByRecursion (λ (f : Frozen). AllByRecursion (IsBelow f.number fs) (names_in f.value)) fs → AllByRecursion (λ (f : Frozen). 1 ≤ f.count) fs
     → AllByRecursion (λ (f : Frozen). f.count ≡ times_named f.at (names_of fs)) fs → fs ≡ []
 none_left [] d l a some counts = refl
@@ -71,7 +71,7 @@ module _ (bytes : List ℕ) (s : IsSound bytes) where
   pub numbers : AllByRecursion (λ (f : Frozen). (f.number < next_number) × AllByRecursion (IsBelow f.number objects) (names_in f.value)) objects
   numbers = each_both _ _ _ (λ f less below. (less, below)) objects s.counted.counted.numbered s.counted.counted.falling
 
-  -- what objects name has numbers below the next one too
+  -- the objects that frozen objects share have numbers below the next one
   below_all : (gs : List Frozen) → AllByRecursion (λ (f : Frozen). (f.number < next_number) × AllByRecursion (IsBelow f.number objects) (names_in f.value)) gs → AllByRecursion (IsBelow next_number objects) (names_of gs)
   below_all [] a = tt
   below_all (g ∷ gs) a =
@@ -110,7 +110,7 @@ pub none_before : (bytes : List ℕ) (picture : Picture) → IsHeld bytes pictur
 none_before bytes picture held c first =
     none_numbered picture (subst (λ n. AreCounted n picture) (unnumbered (word bytes version_word) (word bytes next_word) held.laid_out.header.version (λ e. absurd (omega (arith, e, first)))) c)
 
--- ---- blocks that are given back
+-- ---- blocks that are freed
 
 fewer : (h x : ℕ) (bs : List Span) → times h (positions (without x bs)) ≤ times h (positions bs)
 fewer h x [] = omega arith
@@ -129,7 +129,7 @@ none_without h bs once = go (cases_eq (times h (positions bs)) 0)
     go (inl none) = let less = fewer h h bs in omega arith
     go (inr some) = let all = times-without h h bs (omega arith) in let first = times-same h (positions (without h bs)) in omega arith
 
--- of blocks that each stand there once, one that is given back isn't left
+-- a block that occurs once isn't left after it is freed
 not_left : (h : ℕ) (bs : List Span) (gives : List ℕ) → times h (positions bs) ≤ 1 → 1 ≤ times h gives → times h (positions (after_gives bs gives)) ≡ 0
 not_left h bs [] once some = absurd (omega arith)
 not_left h bs (x ∷ gives) once some = go (cases_eq x h) (λ few more. not_left h (without x bs) gives few more)
@@ -141,9 +141,9 @@ not_left h bs (x ∷ gives) once some = go (cases_eq x h) (λ few more. not_left
         omega arith
     go (inr other) rest = let less = fewer h x bs in rest (omega arith) (omega (arith, times-other h x gives other))
 
--- ---- a block that is taken
+-- ---- a block that is allocated
 
--- tiles are live or free, and no two begin at one position
+-- tiles are allocated or free, and no two begin at one position
 record Parted (h from : ℕ) (lives frees : List ℕ) : Type 0 where
   once : times h lives + times h frees ≤ 1
   above : 1 ≤ times h lives + times h frees → from ≤ h
@@ -175,7 +175,7 @@ among : (g : Span) (before after : List Span) → 1 ≤ times g.at (positions (b
 among g [] after = let first = times-same g.at (positions after) in omega arith
 among g (b ∷ before) after = let rest = among g before after in omega arith
 
--- the gap that is picked is one of the gaps
+-- the free block that is picked is one of the free blocks
 picked : (allocator : ℕ) (gs : List Span) (u : ℕ) (g : Span) → pick allocator gs u ≡ Some g → 1 ≤ times g.at (positions gs)
 picked zero gs u g e = let l = first_fit-lowest gs u g e in subst (λ hs. 1 ≤ times g.at (positions hs)) (sym l.gaps_are) (among g l.before l.after)
 picked (suc n) gs u g e = let l = best_fit-smallest gs u g e in subst (λ hs. 1 ≤ times g.at (positions hs)) (sym l.gaps_are) (among g l.before l.after)
@@ -186,7 +186,7 @@ module _ (bytes : List ℕ) (allocator : ℕ) (heap : IsHeap allocator bytes) wh
   apart h = subst (λ gs. times h (positions (live_of (tiles bytes))) + times h (positions gs) ≤ 1)
       (sym (gaps-free bytes allocator heap)) (parted h (tiles bytes) heap_start (length bytes) heap.filled).once
 
-  -- after one request no two blocks begin at one position
+  -- after a request no two allocated blocks begin at one position
   once_more : (u : ℕ) (blocks : List Span) → after_asks allocator (live bytes) (length bytes) (record { old = None; preferred = u; limit = u } ∷ []) ≡ Some blocks → (h : ℕ) → times h (positions blocks) ≤ 1
   once_more u blocks e h = go (pick allocator (gaps bytes) u) refl
     where
@@ -227,7 +227,7 @@ module _ (constants : List Constant) {others : List Root} {s : State} {bytes : L
       let old = replaced_buffers allocator (live bytes) (length bytes) asks in
       ap (λ bs. times h (positions bs)) left ∙ not_left h blocks (old ++ gives) (once h) (omega (arith, times-append h old gives))
 
-  -- a row that asks for nothing, and one that asks for one block
+  -- what a row frees isn't allocated afterwards: for rows without a request, and with one
   plain_gives : (operation : Operation) (g : GrantsAsks constants (performing operation) p new) → g.asks ≡ [] → Gone g.gives
   plain_gives operation g none =
       let same : Some (live bytes) ≡ Some g.blocks = ap (λ asks. after_asks allocator (live bytes) (length bytes) asks) (sym none) ∙ g.granted in
@@ -238,7 +238,7 @@ module _ (constants : List Constant) {others : List Root} {s : State} {bytes : L
   asking_gives operation g n one =
       given g.asks g.gives g.blocks (once_more bytes allocator p.held.laid_out.heap (need n) g.blocks (ap (λ asks. after_asks allocator (live bytes) (length bytes) asks) (sym one) ∙ g.granted)) g.left
 
-  -- what a row returns is no live block after it, and most return nothing
+  -- what a row frees isn't allocated afterwards, for each operation
   pub row_gives : (operation : Operation) → ChangesOnSuccess constants (performing operation) p operation new → (gives : List ℕ) × Returns constants (performing operation) p gives × Gone gives
   row_gives Operation.Kill g = (g.gives, g.returned, plain_gives Operation.Kill g g.asked)
   row_gives Operation.KillUnique g = (g.gives, g.returned, plain_gives Operation.KillUnique g g.asked)
@@ -252,9 +252,9 @@ module _ (constants : List Constant) {others : List Root} {s : State} {bytes : L
   row_gives Operation.Share g = (g.gives, g.returned, plain_gives Operation.Share g g.asked)
   row_gives operation g = ([], refl, nothing_given)
 
--- ---- frozen objects that go
+-- ---- frozen objects that are freed
 
--- each of these objects owns the block in which it stands
+-- each of these objects owns the block that it is in
 abbrev StandsIn : (ℕ → List ℕ) → List Frozen → Type 0
 StandsIn theirs fs = AllByRecursion (λ (f : Frozen). 1 ≤ times (block_of f.at) (theirs f.at)) fs
 
@@ -282,7 +282,7 @@ freed_stand theirs gone (f ∷ fs) a = go (f.count - times_named f.at gone) (fre
     go zero without with_it = (a.0, without)
     go (suc n) without with_it = with_it
 
--- so it is among the blocks of them all
+-- so the block of each object is among the blocks of all objects
 among_all : (theirs : ℕ → List ℕ) (gs : List Frozen) → StandsIn theirs gs → AllByRecursion (λ (f : Frozen). 1 ≤ times (block_of f.at) (blocks_by theirs gs)) gs
 among_all theirs [] a = tt
 among_all theirs (g ∷ gs) a = (
@@ -291,7 +291,7 @@ among_all theirs (g ∷ gs) a = (
       (λ f there. omega (arith, there, times-append (block_of f.at) (theirs g.at) (blocks_by theirs gs))) gs (among_all theirs gs a.1),
 )
 
--- an object goes whose cells all go
+-- an object is freed if all its cells are destroyed
 last_goes : (theirs : ℕ → List ℕ) (gone : List Place) (fs : List Frozen) → StandsIn theirs fs → AllByRecursion (λ (f : Frozen). f.count ≤ times_named f.at gone → 1 ≤ times (block_of f.at) (blocks_by theirs (freed gone fs))) fs
 last_goes theirs gone [] a = tt
 last_goes theirs gone (f ∷ fs) a =
@@ -323,7 +323,7 @@ module _ (bytes : List ℕ) (picture : Picture) (names : List Place) (blocks : L
       subst (λ bs. AllByRecursion (λ (f : Frozen). 1 ≤ times (block_of f.at) bs) (freed names picture.frozen)) (sym g.blocks_are)
       (among_all g.theirs (freed names picture.frozen) (freed_stand g.theirs names picture.frozen stand))
 
--- with the cells that go in a row the block of each object goes whose cells are all among them
+-- a row that destroys all cells of a frozen object frees the object's block
 pub row_frees : (constants : List Constant) {others : List Root} {s : State} {bytes : List ℕ} (p : Pictures others s bytes) (new : List ℕ) (i : Instruction) → ChangesOnSuccess constants i p i.operation new
     → (gives : List ℕ) × Returns constants i p gives
     × ((names : List Place) (own : List ℕ) → WithFrozen constants i p names own gives → AllByRecursion (λ (f : Frozen). f.count ≤ times_named f.at names → times (block_of f.at) (positions (live new)) ≡ 0) p.picture.frozen)

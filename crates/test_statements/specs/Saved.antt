@@ -1,8 +1,8 @@
 -- What is claimed of each image that clients leave.
---     OfSaved claim      it holds of every saved image, which is sound, whatever the image, the
---                        clients, their input, the place and the moves are, and what the output
---                        takes
---     all_cells picture  what the cells of a picture name, those in frozen objects among them
+--     OfSaved claim      the claim is true of every saved image, which is sound, whatever the image,
+--                        the clients, their input, the place and the moves are, and whatever the
+--                        output takes
+--     all_cells picture  the shared cells of a picture, with those in frozen objects
 use Rattle.std.specs.Prelude.{ℕ, List, ◌++◌}
 use Rattle.seg_spec.specs.Reads.{Place}
 use Rattle.seg_spec.specs.Shared.{names_of}

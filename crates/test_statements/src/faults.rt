@@ -8,7 +8,7 @@ ghost use Rattle.seg_check.specs.Faults.{IsImageOf, IsFaultOf, IsFaultOfOpening}
 
 use seg_raw::Fault;
 
-/// A sound image has one table of types and gets no fault, but where memory is refused.
+/// A sound image has one type table, and only one possible fault: that the host is out of memory.
 pub fn sound_images()
     ensures sound { (bytes : List ℕ) (table : Table) → IsImageOf bytes table → IsSound bytes }
     ensures table { (bytes : List ℕ) (table other : Table) →
@@ -17,7 +17,7 @@ pub fn sound_images()
         IsSound bytes → IsFaultOf bytes fault → fault ≡ Fault.Memory }
 {}
 
-/// Images with one fault each, and one with none.
+/// Images with one fault each, and one without a fault.
 pub fn small_images()
     ensures magic { IsFaultOf other_magic Fault.BadHeader }
     ensures no_type { IsFaultOf other_magic (Fault.BadType 0) → ⊥ }

@@ -12,8 +12,8 @@ ghost use Rattle.client_vm.specs.Outcomes.{HasOutcome, IsRefusedFor};
 use client_vm::{Ended, Refused, Report};
 use seg_raw::Fault;
 
-/// A fault that is told stands for one of the reasons why no client runs. But for memory, none of them holds where clients ran,
-/// whatever they did.
+/// The fault of a refused call gives a reason why no client runs. If clients ran, the only possible fault is that the host is out
+/// of memory.
 pub fn faults_and_outcomes()
     ensures reason { (job : Job) (refused : Refused) → IsRefusedFor job refused →
         (refusal : Refusal) ×
@@ -22,7 +22,8 @@ pub fn faults_and_outcomes()
         HasOutcome job effect → IsRefusedFor job refused → refused.fault ≡ Fault.Memory }
 {}
 
-/// With no client the number 41 named x is saved as it was opened. Nothing is written, there is no report, and the end is reached.
+/// Without clients, the number 41 named x is saved as it was opened. Nothing is written, there is no report, and the run isn't
+/// stopped.
 pub fn no_clients()
     ensures whole { HasOutcome (job_at counter [] [] 2048 0 []) (effect_at
         (Some (codes "=")) (Some (codes "=")) (upgraded counter) [] Ended.Done) }
@@ -38,8 +39,8 @@ pub fn no_clients()
         (effect_at None None (upgraded counter) [] Ended.Done) → ⊥ }
 {}
 
-/// Three bytes are no image, a base of 8 is no place, and no move comes at step 0. An image that has lost its gap, and a client of
-/// no bytes; the client that adds one to a number, where the only type is a text's.
+/// Refusals: three bytes, which are no image; a base of 8; a move at step 0; an image whose free list lacks its free block; an
+/// empty file, which is no client; and the client that adds one to a number, on an image whose only type is a text.
 pub fn refused()
     ensures no_image { IsRefusedFor (job_at (codes "abc") [] [] 2048 0 [])
         (record { client = None; fault = Fault.BadHeader }) }

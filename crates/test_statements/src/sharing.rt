@@ -24,11 +24,10 @@ ghost use Rattle.client_spec.specs.Asks.{WithFrozen, Returns, Renames};
 ghost use Rattle.client_spec.specs.OnImages.{Move, Situation, RowOn, Given, Left, RunsClient};
 ghost use Rattle.test_statements.specs.Saved.{OfSaved, all_cells};
 
-/// Whatever the image, the clients, their input, the place and the moves: the saved image is sound, and in its picture each
-/// frozen object counts the cells that name it, and there is one. Its number is below the image's next one, and above those of
-/// the objects that its value names, so that no cells lead round in a circle: each means one tree, however far one goes down.
-/// No object is there that no cell names, each live block is the index's, an owner's or a frozen object's, and where no object
-/// is named or unique no block is live.
+/// The saved image is sound, whatever the image, the clients, their input, the place and the moves are. Each frozen object in it
+/// counts the cells that share it, at least one. The object's number is below the image's next number, and above the numbers of
+/// the objects that it shares. So cells form no cycles, and each cell has one tree. Each frozen object has a cell. Each allocated
+/// block belongs to the index, an owner or a frozen object. Without named and unique objects no block is allocated.
 pub fn shared_objects()
     ensures counts { OfSaved (λ saved sound. AllByRecursion (λ f.
         (1 ≤ f.count) × (f.count ≡ times_named f.at (all_cells sound.picture)))
@@ -56,8 +55,8 @@ pub fn shared_objects()
         (gaps saved ≡ span heap_start ((length saved - heap_start) / 16) ∷ [])) }
 {}
 
-/// A client begins on the trees of the image's objects, in which no value names a position, and leaves those of the image that
-/// is left.
+/// A client begins on the trees of the image's objects, and ends on the trees of the image that it leaves. These trees contain no
+/// positions.
 pub fn runs_of_trees()
     ensures objects { (client : Client) (given : Given) (left : Left) →
         (runs : RunsClient client given left) →
@@ -68,9 +67,9 @@ pub fn runs_of_trees()
         AreTrees runs.first.state × AreTrees runs.last.state }
 {}
 
-/// What a row returns is no live block after it. So it is with the block of each frozen object all of whose cells go in the row:
-/// it is returned, and so are those of the objects that go with such a one; where SHARE overwrites a cell, once the object counts
-/// which both cells name. No picture has an object that no cell names.
+/// The blocks that a row frees aren't allocated after it. If a row destroys all cells of a frozen object, it frees the object's
+/// block, and the blocks of the objects that only this object shared. SHARE first counts the new cell, so an object that both
+/// cells share isn't freed. No picture has a frozen object without a cell.
 pub fn rows_with_shared_objects()
     ensures returned { (constants : List Constant) (others : List Root) (moves : List Move)
         (i : Instruction) (x y : Situation) →
@@ -106,8 +105,8 @@ pub fn rows_with_shared_objects()
         AllByRecursion (λ f. f.at ≢ at) pictured.picture.frozen }
 {}
 
-/// An image as it is opened is of version 2, and has the same picture, with the same names and unique objects, and the same
-/// live blocks. One of version 1 has no frozen object.
+/// An opened image is of version 2, and has the same picture and the same allocated blocks. An image of version 1 has no frozen
+/// objects.
 pub fn upgraded_images()
     ensures picture { (image : List ℕ) (picture : Picture) → IsHeld image picture →
         IsHeld (upgraded image) picture }

@@ -14,8 +14,8 @@ use client_code::{Client, TypedClient};
 use seg_layout::TypeTable;
 use seg_raw::Fault;
 
-/// Accepts a client whose types agree with a table, whose instructions find in the registers what they need, and whose bound
-/// is within the limit. The faults, in this order: `TypeMismatch`, `Rejected`, `TooLong`.
+/// Verifies a client: its types must agree with the table, each instruction must find in the registers what it needs, and the
+/// bound must be within the limit. Fails with the first of `TypeMismatch`, `Rejected` and `TooLong`.
 pub fn verify<'a>(client: Client<'a>, table: &TypeTable) -> Result<Verified<'a>, Fault>
     ensures client { IfOk result (λ verified. client_of verified ≡ client.entry) }
     ensures accepted { IfOk result (λ verified. OfTree client.entry (IsVerified table.now)) }
@@ -25,7 +25,7 @@ pub fn verify<'a>(client: Client<'a>, table: &TypeTable) -> Result<Verified<'a>,
     verify_typed(TypedClient::of(client), table)
 }
 
-/// The same of a client whose types were read with it.
+/// Like `verify`, for a client whose types are already read.
 pub fn verify_typed<'a>(typed: TypedClient<'a>, table: &TypeTable) -> Result<Verified<'a>, Fault>
     ensures client { IfOk result (λ verified. client_of verified ≡ typed.entry.client) }
     ensures accepted { IfOk result (λ verified. OfTree typed.entry.client (IsVerified table.now)) }

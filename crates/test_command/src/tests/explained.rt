@@ -52,7 +52,7 @@ no object of the image has the name `y`; `segtool list` prints those that it has
     )
 }
 
-/// A sum with a register of which nothing is known.
+/// The client adds a register of which nothing is known.
 #[test]
 fn a_refused_client_is_told_in_words(rt: HostRuntime) -> Result<(), Fail> {
     let mut files = counter_files(rt.alloc())?;

@@ -7,8 +7,8 @@ use support_data::{Limited, counter_saved, front};
 
 const RUN: [&str; 5] = ["segtool", "run", "image", "saved", "client"];
 
-/// An output that takes so many bytes: what came before was taken, and the image is saved, with what the client did up to
-/// there.
+/// The output fails after this many bytes. Tests that it took the bytes before, and that the image is saved with the client's
+/// changes up to there.
 fn stops_after(rt: &(impl Abort + AllocGlobal), limit: usize) -> Result<(), Fail> {
     let mut files = counter_files(rt.alloc())?;
     let out = Limited::new(rt.alloc(), usize::MAX, limit);
@@ -30,7 +30,7 @@ fn stops_at_a_failed_output(rt: HostRuntime) -> Result<(), Fail> {
     Ok(())
 }
 
-/// What a command says in words where its output takes nothing.
+/// Tests the explanation of a command whose output takes no byte.
 fn tells_of_a_failed_output(
     rt: &(impl Abort + AllocGlobal),
     words: &[&str],
@@ -76,7 +76,7 @@ fn writes_a_byte_at_a_time(rt: HostRuntime) -> Result<(), Fail> {
     Ok(())
 }
 
-/// A read that fails: the file is named, and nothing is written after it.
+/// Tests a failed read: its file is printed, and nothing is written.
 fn tells_of_a_failed_read(
     rt: &(impl Abort + AllocGlobal),
     read: usize,

@@ -3,7 +3,8 @@ use std::alloc::Global;
 use std::test::Fail;
 use support_data::{INCREMENT_FILE, counter, counter_where, front};
 
-/// The counter's image, the increment client, that client without its last byte, and a text that is no client.
+/// The counter's image, the increment client, the same client without its last byte, and another client that doesn't fit the
+/// image.
 fn files(alloc: Global) -> Result<Stored, Fail> {
     let mut files = counter_files(alloc)?;
     files.add("cut", front(&INCREMENT_FILE, 102))?;
@@ -11,7 +12,7 @@ fn files(alloc: Global) -> Result<Stored, Fail> {
     Ok(files)
 }
 
-/// Refused runs write nothing.
+/// Tests that refused runs write nothing.
 fn refuses_runs(alloc: Global, text: &str) -> Result<(), Fail> {
     let mut files = files(alloc)?;
     follow(alloc, &mut files, text)?;
@@ -33,7 +34,7 @@ client 0 fault 4 0",
     )
 }
 
-/// The last room ends before the segment, at a base above 0.
+/// In the last case the region ends before the segment, whose base is above 0.
 #[test]
 fn refuses_places_and_images(rt: HostRuntime) -> Result<(), Fail> {
     refuses_runs(
@@ -75,7 +76,7 @@ $2 segtool upgrade image saved",
     Ok(())
 }
 
-/// `check` refuses an image for this fault.
+/// Tests that `check` refuses an image with this fault.
 fn check_says(alloc: Global, image: &[u8], fault: &str) -> Result<(), Fail> {
     let mut files = Stored::new(alloc);
     files.add("image", image)?;
@@ -83,7 +84,7 @@ fn check_says(alloc: Global, image: &[u8], fault: &str) -> Result<(), Fail> {
     follow(alloc, &mut files, text.as_str())
 }
 
-/// What `check` says of the counter's image with other words at some positions; a `;` begins a comment.
+/// Tests the faults that `check` prints for the counter's image after some changes. `;` begins a comment.
 fn finds(alloc: Global, cases: &str) -> Result<(), Fail> {
     for line in cases.lines() {
         let case = line.split_once(';').map_or(line, |parts| parts.0);

@@ -1,4 +1,4 @@
-//! The programs on files in memory, and what they print.
+//! Runs commands on files in memory, and compares their output.
 
 use cli_commands::command;
 use cli_files::{FileFault, FileProblem, Files};
@@ -9,12 +9,12 @@ use std::str;
 use std::test::Fail;
 use support_data::{INCREMENT, Limited, counter, front, statements};
 
-/// Files in memory. The read and the write with these numbers, counted from 1, fail. The file `saved` can be made, and those
-/// that are there be written.
+/// Files in memory. The read and the write with these numbers, counted from 1, fail. A command can write existing files and make
+/// a file `saved`.
 #[derive(Drop)]
 pub(crate) struct Stored {
     files: Vec<(&'static str, Vec<u8>)>,
-    /// Other names of files.
+    /// Other names of files, each with the file's own name.
     links: Vec<(&'static str, &'static str)>,
     /// Files that can't be read or written, and why.
     problems: Vec<(&'static str, FileProblem)>,
@@ -43,7 +43,7 @@ impl Stored {
         Ok(())
     }
 
-    /// Another name of a file.
+    /// Adds another name of a file.
     pub(crate) fn link(
         &mut self,
         name: &'static str,
@@ -53,7 +53,7 @@ impl Stored {
         Ok(())
     }
 
-    /// A file that can't be read or written.
+    /// Makes a file one that can't be read or written.
     pub(crate) fn fail(
         &mut self,
         name: &'static str,
@@ -63,13 +63,13 @@ impl Stored {
         Ok(())
     }
 
-    /// The file of the client that a text spells.
+    /// Adds the file of a client, given as a text.
     pub(crate) fn add_client(&mut self, name: &'static str, text: &str) -> Result<(), Fail> {
         let client = assemble(*self.files.allocator(), text.as_bytes())?;
         Ok(self.add(name, client.as_slice())?)
     }
 
-    /// The bytes that were written last to a file, none where there is no such file.
+    /// The bytes that were last written to a file. Empty if there is no such file.
     pub(crate) fn get(&self, name: &str) -> &[u8] {
         for (other, bytes) in self.files.iter().rev() {
             if *other == name {
@@ -83,7 +83,7 @@ impl Stored {
         self.files.iter().any(|file| file.0 == name)
     }
 
-    /// The file that has this name, under its own.
+    /// The own name of the file with this name.
     fn file_of<'a>(&self, name: &'a str) -> &'a str {
         for (link, file) in self.links.iter() {
             if *link == name {
@@ -93,7 +93,7 @@ impl Stored {
         name
     }
 
-    /// The name of a file that can be written, as the files have it.
+    /// The own name of a file that can be written, if there is such a file.
     fn writable(&self, name: &str) -> Option<&'static str> {
         for (other, _) in self.files.iter() {
             if *other == name {
@@ -103,7 +103,7 @@ impl Stored {
         if name == "saved" { Some("saved") } else { None }
     }
 
-    /// Why a file can't be read or written, if it is one of those.
+    /// Fails if the file can't be read or written.
     fn test(&self, name: &str) -> Result<(), FileFault> {
         for (other, problem) in self.problems.iter() {
             if *other == name {
@@ -158,7 +158,7 @@ impl Files for Stored {
     }
 }
 
-/// What a command printed.
+/// The output of a command, and its status.
 #[derive(Drop)]
 pub(crate) struct Printed {
     pub(crate) status: u8,
@@ -177,19 +177,19 @@ impl Printed {
     }
 }
 
-/// This is what a command printed, and its status.
+/// Tests the output of a command, and its status.
 pub(crate) fn is(rt: &impl Abort, printed: &Printed, status: u8, out: &str, err: &str) {
     assert_eq!(rt; printed.out.as_slice(), out.as_bytes());
     assert_eq!(rt; printed.err.as_slice(), err.as_bytes());
     assert_eq!(rt; printed.status, status);
 }
 
-/// Runs the program on these words.
+/// Runs a command line.
 pub(crate) fn run(alloc: Global, words: &[&str], files: &mut Stored) -> Printed {
     run_into(alloc, words, files, Limited::unlimited(alloc))
 }
 
-/// Runs the program on these words with this output.
+/// Runs a command line with this output.
 pub(crate) fn run_into(alloc: Global, words: &[&str], files: &mut Stored, out: Limited) -> Printed {
     let mut out = Through::new(out);
     let mut err = Through::new(Limited::unlimited(alloc));
@@ -201,9 +201,9 @@ pub(crate) fn run_into(alloc: Global, words: &[&str], files: &mut Stored, out: L
     }
 }
 
-/// Runs commands, each after a `$`, as `$ segtool check image`. The lines after it are what it
-/// prints. With a status, as in `$1 segtool check image`, it prints nothing, and these lines are its error; with the status
-/// 2 the error's words are of no matter.
+/// Runs commands, each after a `$`, for example `$ segtool check image`. A command must print the lines after it. If a status is
+/// given, for example in `$1 segtool check image`, the lines are the error output, and the standard output is empty. With the
+/// status 2 the error output may have any text.
 pub(crate) fn follow(alloc: Global, files: &mut Stored, text: &str) -> Result<(), Fail> {
     for it in statements(alloc, text)? {
         let (status, command) = it.words.split_once(' ').ok_or("no command")?;
@@ -217,7 +217,7 @@ pub(crate) fn follow(alloc: Global, files: &mut Stored, text: &str) -> Result<()
     Ok(())
 }
 
-/// Whether this is what a command printed, and its status.
+/// Whether a command has this output and this status.
 fn is_printed(printed: &Printed, status: &str, lines: &str) -> bool {
     let (out, err) = (printed.out.as_slice(), printed.err.as_slice());
     match status {
@@ -227,7 +227,7 @@ fn is_printed(printed: &Printed, status: &str, lines: &str) -> bool {
     }
 }
 
-/// Whether a text is these lines. Their last one lacks its end.
+/// Whether a text consists of these lines, the last of which is given without its line end.
 fn is_lines(text: &[u8], lines: &str) -> bool {
     match text.strip_suffix(b"\n") {
         Some(text) => text == lines.as_bytes(),
@@ -249,7 +249,7 @@ pub(crate) fn counter_files(alloc: Global) -> Result<Stored, Fail> {
     Ok(files)
 }
 
-/// Words that make the counter's image one of a unique cell and the frozen pair that it names: the number 5, and a cell that
-/// names nothing.
+/// Changes that turn the counter's image into one with a unique cell and a frozen pair, which the cell shares: the number 5, and
+/// an empty cell.
 pub(crate) const FROZEN_PAIR: &str = "8=2 28=1 32=1 36=0 80=0x20109 96=0x1000208 580=140 712=258 \
     720=32 724=1 728=0 744=519 752=1 756=0 760=5 764=0 768=1 772=0";

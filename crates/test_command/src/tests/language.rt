@@ -13,7 +13,7 @@ fn assembles_and_prints(rt: HostRuntime) -> Result<(), Fail> {
     follow(rt.alloc(), &mut files, text.trim_end())
 }
 
-/// The error output is one line, the fault with the number of the wrong line.
+/// Tests that the error output is one line: the fault, and the number of the wrong line.
 fn refuses_text(alloc: Global, text: &str, line: &str) -> Result<(), Fail> {
     let mut files = Stored::new(alloc);
     files.add("text", text.as_bytes())?;
@@ -50,7 +50,7 @@ END
 END
 ";
 
-/// What `verify` says of the client with this text: its status, and the line.
+/// Tests the result of `verify` for a client: its status, and the line that it prints.
 fn verify_says(alloc: Global, text: &str, said: &str) -> Result<(), Fail> {
     let (status, line) = said.split_once(' ').ok_or("no status")?;
     let mut files = counter_file(alloc, "image")?;

@@ -5,8 +5,8 @@ use std::alloc::Global;
 use std::test::Fail;
 use support_data::{INCREMENT, INCREMENT_FILE, counter, counter_saved, counter_where};
 
-/// The counter's image and another of its kind, the increment client and its text, a text that is no client, a picture, notes
-/// and an empty file. The files `alias` and `mirror` are the client and the image under other names.
+/// The counter's image and a damaged one, an image `saved`, the increment client and its text, a wrong text, a picture, notes and
+/// an empty file. The files `alias` and `mirror` are the client and the image under other names.
 fn files(alloc: Global) -> Result<Stored, Fail> {
     let mut files = counter_files(alloc)?;
     files.add("saved", counter(alloc)?.as_slice())?;
@@ -21,7 +21,7 @@ fn files(alloc: Global) -> Result<Stored, Fail> {
     Ok(files)
 }
 
-/// Commands that write nothing.
+/// Tests that commands write nothing.
 fn refuses(alloc: Global, text: &str) -> Result<(), Fail> {
     let mut files = files(alloc)?;
     follow(alloc, &mut files, text)?;
@@ -62,7 +62,7 @@ file alias",
     )
 }
 
-/// A client that would be forgotten as the file to write, too.
+/// The last two cases have a client in the place of `OUT`, as when `OUT` was forgotten.
 #[test]
 fn a_run_spares_what_is_no_image(rt: HostRuntime) -> Result<(), Fail> {
     refuses(
@@ -78,7 +78,7 @@ file alias",
     )
 }
 
-/// The file to write is looked at between the image and the clients, and the image itself with the call.
+/// The file to write is tested after the image is read and before the clients are. The image is checked last.
 #[test]
 fn a_run_looks_at_files_in_order(rt: HostRuntime) -> Result<(), Fail> {
     refuses(
@@ -178,7 +178,7 @@ fault 10",
     )
 }
 
-/// A command that writes the increment client's run on the counter to this file.
+/// Tests that a command saves the result of the increment client in this file.
 fn saves(alloc: Global, text: &str, file: &str) -> Result<(), Fail> {
     let mut files = files(alloc)?;
     follow(alloc, &mut files, text)?;
@@ -188,7 +188,7 @@ fn saves(alloc: Global, text: &str, file: &str) -> Result<(), Fail> {
     Ok(())
 }
 
-/// The image itself, under another name too, another image, an empty file, and with `--force` any file.
+/// The image itself, also under another name, another image, an empty file, and with `--force` any file.
 #[test]
 fn a_run_writes_over_images(rt: HostRuntime) -> Result<(), Fail> {
     let alloc = rt.alloc();
@@ -203,7 +203,7 @@ fn a_run_writes_over_images(rt: HostRuntime) -> Result<(), Fail> {
     )
 }
 
-/// A command that writes an image of so many bytes to this file.
+/// Tests that a command writes an image of 1024 bytes to this file.
 fn makes(alloc: Global, text: &str, file: &str) -> Result<(), Fail> {
     let mut files = files(alloc)?;
     follow(alloc, &mut files, text)?;
@@ -225,7 +225,7 @@ fn a_new_image_is_written_over_images(rt: HostRuntime) -> Result<(), Fail> {
     )
 }
 
-/// A command that writes the increment client to this file.
+/// Tests that a command writes the increment client to this file.
 fn assembles(alloc: Global, text: &str, file: &str) -> Result<(), Fail> {
     let mut files = files(alloc)?;
     follow(alloc, &mut files, text)?;
@@ -243,7 +243,7 @@ fn an_assembly_writes_over_clients(rt: HostRuntime) -> Result<(), Fail> {
     assembles(alloc, "\n$ segtool asm text notes --force", "notes")
 }
 
-/// A command that writes a picture to this file.
+/// Tests that a command writes a picture to this file.
 fn draws(alloc: Global, text: &str, file: &str) -> Result<(), Fail> {
     let mut files = files(alloc)?;
     follow(alloc, &mut files, text)?;

@@ -5,7 +5,7 @@ use cli_files::FileProblem;
 use std::alloc::Global;
 use std::test::Fail;
 
-/// A command on a file with this problem, and what it writes on the error output.
+/// Tests what commands print if the image's file has this problem.
 fn tells(alloc: Global, problem: FileProblem, text: &str) -> Result<(), Fail> {
     let mut files = counter_files(alloc)?;
     files.fail("image", problem)?;
@@ -98,7 +98,7 @@ file image
     )
 }
 
-/// A client with one byte more than the limit, and one that has as many.
+/// A client with one byte more than the limit, and one with exactly as many.
 #[test]
 fn a_file_that_is_too_long(rt: HostRuntime) -> Result<(), Fail> {
     let alloc = rt.alloc();

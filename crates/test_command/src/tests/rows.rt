@@ -3,7 +3,7 @@ use std::process::Abort;
 use std::test::Fail;
 use support_data::counter_saved;
 
-/// The increment client on the counter's image, at a base of a room.
+/// Tests a command that runs the increment client on the counter's image, at a base of a region.
 fn increments(rt: &(impl Abort + AllocGlobal), text: &str) -> Result<(), Fail> {
     let mut files = counter_files(rt.alloc())?;
     follow(rt.alloc(), &mut files, text)?;

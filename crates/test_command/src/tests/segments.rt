@@ -2,7 +2,7 @@ use crate::tests::files::{Stored, counter_file, follow, is, run, run_into};
 use std::test::Fail;
 use support_data::{Limited, counter_saved, counter_where};
 
-/// A new image on each allocator and index is all free.
+/// A new image on each allocator and index consists of free memory.
 #[test]
 fn makes_empty_images(rt: HostRuntime) -> Result<(), Fail> {
     for kind in ["seq flat", "seq tree", "best flat", "best tree"] {
@@ -48,7 +48,7 @@ $2 segtool new saved -16 seq flat",
     Ok(())
 }
 
-/// Makes objects of two types, in no order.
+/// Makes objects of two types, not in order.
 const OBJECTS: &str = "type i64
     type flat_map t0
     name m
@@ -71,7 +71,7 @@ const OBJECTS: &str = "type i64
     ELSE
     END";
 
-/// Names in order with types and counts, then the types of unique objects.
+/// The names in order with types and counts, and then the types of unique objects.
 #[test]
 fn lists_objects(rt: HostRuntime) -> Result<(), Fail> {
     for index in ["flat", "tree"] {
@@ -120,7 +120,7 @@ unique 0",
     Ok(())
 }
 
-/// The counter's image comes to be of version 2, and stays as it is then.
+/// The counter's image becomes version 2, and another upgrade doesn't change it.
 #[test]
 fn upgrades(rt: HostRuntime) -> Result<(), Fail> {
     let mut files = counter_file(rt.alloc(), "saved")?;
@@ -138,7 +138,7 @@ fn upgrades(rt: HostRuntime) -> Result<(), Fail> {
     Ok(())
 }
 
-/// A faulty image stays as it is.
+/// A faulty image isn't changed.
 #[test]
 fn upgrades_no_faulty_image(rt: HostRuntime) -> Result<(), Fail> {
     let image = counter_where(rt.alloc(), "8=3")?;
@@ -153,7 +153,7 @@ fn upgrades_no_faulty_image(rt: HostRuntime) -> Result<(), Fail> {
     Ok(())
 }
 
-/// The last block takes a single unit.
+/// A single unit goes to the last block.
 #[test]
 fn grows_by_a_unit(rt: HostRuntime) -> Result<(), Fail> {
     let mut files = counter_file(rt.alloc(), "saved")?;
@@ -176,7 +176,7 @@ fault 5",
     Ok(())
 }
 
-/// The file is written though the output fails, and the output's failure is the one that is told.
+/// If the output fails, the file is still written, and the failure of the output is reported.
 #[test]
 fn rewrites_where_the_output_fails(rt: HostRuntime) -> Result<(), Fail> {
     let mut files = counter_file(rt.alloc(), "saved")?;

@@ -73,7 +73,7 @@ text a \"b\"\\0a
     ELSE
     END";
 
-/// An image on which a client ran.
+/// An image after a client ran on it.
 fn after(alloc: Global, kind: &str, text: &str) -> Result<Stored, Fail> {
     let mut files = Stored::new(alloc);
     files.add_client("client", text)?;
@@ -159,7 +159,7 @@ text x
     ELSE
     END";
 
-/// What is long is cut, and `--all` leaves nothing out.
+/// Long values are cut, but `--all` shows everything.
 #[test]
 fn cuts_what_is_long(rt: HostRuntime) -> Result<(), Fail> {
     let mut files = after(rt.alloc(), "best flat", LONG)?;
@@ -209,7 +209,7 @@ const CHAIN: &str = "type i64
     ELSE
     END";
 
-/// A line at a level: indented up to level 20, with its number after that.
+/// Adds a line at a level. It is indented up to level 20, and begins with its level after that.
 fn line(lines: &mut String, level: usize, text: &str) -> Result<(), Fail> {
     for _ in 0..level.min(20) {
         lines.push_str("  ")?;
@@ -221,7 +221,7 @@ fn line(lines: &mut String, level: usize, text: &str) -> Result<(), Fail> {
     Ok(lines.push('\n')?)
 }
 
-/// The lines of the first so many objects of the chain.
+/// The lines of the first objects of the chain.
 fn chain_lines(alloc: Global, objects: usize) -> Result<String, Fail> {
     let mut lines = String::new(alloc);
     line(&mut lines, 0, "chain: an object")?;
@@ -239,7 +239,7 @@ fn chain_lines(alloc: Global, objects: usize) -> Result<String, Fail> {
     Ok(lines)
 }
 
-/// Values inside others are shown down to level 10, and all with `--all`.
+/// Values inside other values are shown down to level 10, and with `--all` all of them.
 #[test]
 fn cuts_what_is_deep(rt: HostRuntime) -> Result<(), Fail> {
     let mut files = after(rt.alloc(), "seq tree", CHAIN)?;
@@ -252,7 +252,7 @@ fn cuts_what_is_deep(rt: HostRuntime) -> Result<(), Fail> {
     follow(rt.alloc(), &mut files, text.trim_end())
 }
 
-/// A client that makes 100 values, each of 30 structs in one another around a number.
+/// A client that makes 100 values, each of which is a number inside 30 nested structs.
 fn nested(alloc: Global) -> Result<String, Fail> {
     let mut text = String::new(alloc);
     text.push_str("type i64\n")?;
@@ -263,7 +263,7 @@ fn nested(alloc: Global) -> Result<String, Fail> {
     Ok(text)
 }
 
-/// Structs in structs take no bytes of their own, and all are shown.
+/// Nested structs take no bytes of their own, and all are shown.
 #[test]
 fn shows_structs_in_structs(rt: HostRuntime) -> Result<(), Fail> {
     let mut value = String::new(rt.alloc());
@@ -280,7 +280,7 @@ fn shows_structs_in_structs(rt: HostRuntime) -> Result<(), Fail> {
     follow(rt.alloc(), &mut files, text.trim_end())
 }
 
-/// A cell named b names a frozen number.
+/// A cell named b shares a frozen number.
 #[test]
 fn shows_what_is_shared(rt: HostRuntime) -> Result<(), Fail> {
     let mut files = Stored::new(rt.alloc());
@@ -315,8 +315,8 @@ $ segtool map image
     )
 }
 
-/// The frozen pair that a unique cell names, and a second one after it with a number above its own: that one is named by the
-/// cell instead, and names the first.
+/// The frozen pair that a unique cell shared, and a second pair with a higher number after it. The cell shares the second pair,
+/// and that shares the first.
 fn two_pairs(alloc: Global) -> Result<Vec<u8>, Fail> {
     let changes = format!(in alloc; "{FROZEN_PAIR} 12=52 28=2 720=80")?;
     let mut image = counter_where(alloc, changes.as_str())?;
@@ -326,7 +326,7 @@ fn two_pairs(alloc: Global) -> Result<Vec<u8>, Fail> {
     Ok(image)
 }
 
-/// Frozen objects are shown by falling numbers, each before those that it names.
+/// Frozen objects are shown in descending order of their numbers, each before those that it shares.
 #[test]
 fn shows_frozen_objects_in_order(rt: HostRuntime) -> Result<(), Fail> {
     let mut files = Stored::new(rt.alloc());
@@ -350,11 +350,11 @@ $ segtool map image
     )
 }
 
-/// With an object those frozen ones are shown that are reached from it.
+/// An object is shown with the frozen objects that can be reached from it.
 #[test]
 fn shows_what_an_object_reaches(rt: HostRuntime) -> Result<(), Fail> {
     let mut files = Stored::new(rt.alloc());
-    // the frozen number has the number 1, and a unique cell names another one with the number 0, in the last gap
+    // the frozen number has the number 1, and a unique cell shares another one with the number 0, in the last free block
     let mut image = sharing(rt.alloc())?;
     let bytes = image.as_mut_slice();
     write_words(bytes, 28, &[2]);
@@ -384,7 +384,7 @@ absent none",
     )
 }
 
-/// A faulty image is not shown, and its fault is told.
+/// The fault of a faulty image is printed, and nothing is shown.
 #[test]
 fn shows_no_faulty_image(rt: HostRuntime) -> Result<(), Fail> {
     let mut files = Stored::new(rt.alloc());
@@ -406,7 +406,7 @@ fault 10",
     Ok(())
 }
 
-/// The blocks of the counter: the number with its name, and the entries of the flat index. Then those of an empty segment.
+/// The blocks of the counter: the number with its name, and the flat index. Then the blocks of an empty segment.
 #[test]
 fn maps_blocks(rt: HostRuntime) -> Result<(), Fail> {
     follow(

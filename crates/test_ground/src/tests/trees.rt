@@ -17,7 +17,7 @@ use std::test::Fail;
 /// Nodes of 32 bytes with a number after the tree words.
 const NODE: u32 = 32;
 
-/// By that number.
+/// The order of nodes by that number.
 struct ByNumber;
 
 fn number(view: View, node: u32) -> u32
@@ -72,7 +72,7 @@ fn window(alloc: Global, nodes: u32) -> Result<Window<Global>, Fail> {
     }
 }
 
-/// Where the node of a number is.
+/// The position of a number's node.
 fn node_of(n: u32) -> u32 {
     NODE.saturating_mul(n.saturating_add(1))
 }
@@ -139,7 +139,7 @@ fn finds_nodes_by_number(rt: HostRuntime) -> Result<(), Fail> {
     Ok(())
 }
 
-/// One is removed by its node, and one at the end of a path.
+/// One node is removed directly, and one at the end of a path.
 #[test]
 fn removes_nodes(rt: HostRuntime) -> Result<(), Fail> {
     let mut w = five_nodes(rt.alloc())?;

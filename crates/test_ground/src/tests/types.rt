@@ -4,7 +4,7 @@ use std::alloc::{AllocError, Global};
 use std::process::Abort;
 use std::test::Fail;
 
-/// A kind, the number of parts, and the parts; zeros follow.
+/// A type: a kind, the number of parts, the parts, and zeros.
 type Spelled = [u8; 10];
 
 const UNUSED: Spelled = [0; 10];
@@ -26,7 +26,7 @@ fn check_read(rt: &impl Abort, bytes: &[u8], types: Result<usize, Fault>) {
     assert_eq!(rt; TypeTable::read(bytes).map(|table| table.len()), types);
 }
 
-/// How many types a file has, or its first wrong entry.
+/// Tests how many types a file has, or its first wrong entry.
 fn check_file<R: Abort + AllocGlobal>(
     rt: &R,
     entries: &[Spelled],
@@ -79,7 +79,8 @@ fn shared_types_are_of_version_2(rt: HostRuntime) -> Result<(), Fail> {
     Ok(())
 }
 
-/// i64; str; struct of i64, str, i64; vector of those; struct of such a struct, the vector, the struct again, i64.
+/// i64; str; a struct of i64, str, i64; a vector of such structs; and a struct of that struct, the vector, the struct again, and
+/// i64.
 const NESTED: [Spelled; 5] = [
     I64,
     STR,

@@ -1,7 +1,7 @@
 use crate::tests::support::{Accepted, Rejected, check_accepted, check_rejected};
 use client_verify::{Class, Reason, RegisterType, Registers};
 
-// References that an instruction ends, and a use of one after it.
+// References that an instruction ends, and a use of each after that.
 static ENDED: [Rejected; 27] = [
     (2, "MOV r5 r0; PUSH r1 r0; LEN r6 r5; ELSE; END", 3, 1),
     (2, "MOV r5 r0; PUSH r1 r0; ELSE; LEN r6 r5; END", 4, 1),
@@ -82,7 +82,7 @@ static ENDED: [Rejected; 27] = [
     ),
     (2, "NEW r1 t2; DROP r1; REF r2 r1; ELSE; END", 3, 1),
     (0, "FORGET r0; LOAD r1 r0", 2, 1),
-    // what is known in one part only, or is different in the two
+    // what is known in one part only, or differs between the parts
     (0, "GETB r1; CONST r2 1; ELSE; END; OUTI r2", 5, 1),
     (
         0,
@@ -93,7 +93,7 @@ static ENDED: [Rejected; 27] = [
     (0, "CONST r1 1; WHILE r1 3; CONST r2 1; END; OUTI r2", 5, 1),
 ];
 
-// References that an instruction leaves.
+// References that an instruction doesn't end.
 static KEPT: [Accepted; 16] = [
     (
         2,
@@ -149,7 +149,7 @@ static KEPT: [Accepted; 16] = [
     ),
 ];
 
-// Owners that one way loses, and registers that a loop's body changes.
+// Owners that are lost on one of two paths, and registers that a loop's body changes.
 static JOINS: [Rejected; 8] = [
     (0, "NEW r1 t0; ELSE; END", 3, 2),
     (6, "TAKE r1 r0; ELSE; END", 3, 2),
@@ -202,7 +202,7 @@ fn parts_that_end_apart(rt: HostRuntime) {
     }
 }
 
-// An owner that a part makes is dropped within that part, so no code comes to these.
+// A part must drop an owner that it makes before it ends, so no client reaches these cases.
 #[test]
 fn owners_at_the_end_of_a_part(rt: HostRuntime) {
     let undefined = Registers::new();

@@ -6,7 +6,7 @@ use std::process::Abort;
 use std::test::Fail;
 use support_data::{INCREMENT, INCREMENT_FILE};
 
-/// Where the field of the increment client begins that a file of this length cuts.
+/// The start of the field of the increment client that a file of this length cuts off.
 fn cut_field(len: u32) -> u32 {
     match len {
         0..20 => len / 4 * 4,
@@ -57,7 +57,7 @@ fn the_increment_in_bytes_and_text(rt: HostRuntime) -> Result<(), Fail> {
     Ok(())
 }
 
-/// Where a file is wrong. The text of a client spells the same file.
+/// The position of the fault in a file, if it has one. The text of a valid client must assemble to the same file.
 fn place_of_fault(rt: &(impl Abort + AllocGlobal), file: &[u8]) -> Result<Option<u32>, Fault> {
     match parse(file) {
         Err(Fault::BadCode(at)) => Ok(Some(at)),
@@ -71,7 +71,7 @@ fn place_of_fault(rt: &(impl Abort + AllocGlobal), file: &[u8]) -> Result<Option
     }
 }
 
-/// The number of files that are clients, and the sum of the positions at which the others are wrong.
+/// How many files are clients, and the sum of the positions of the faults in the others.
 #[derive(Debug, Clone, Copy, PartialEq, Eq)]
 struct Count {
     clients: u32,
@@ -93,7 +93,7 @@ fn with_file(rt: &(impl Abort + AllocGlobal), file: &[u8], so_far: Count) -> Res
     }
 }
 
-/// Counts the files in which one byte is combined by `^` with each of these.
+/// Tests the files in which one byte is combined by `^` with each of these changes.
 fn count_changes(
     rt: &(impl Abort + AllocGlobal),
     file: &mut [u8],
@@ -114,7 +114,7 @@ fn count_changes(
     Ok(so_far)
 }
 
-// The counts are those of a model of the format, written by itself from its rules.
+// The expected counts come from a model of the format that was written independently, from the rules of the format.
 #[test]
 fn each_byte_changed_to_each_value(rt: HostRuntime) -> Result<(), Fail> {
     let mut changes = [0; 256];
@@ -156,14 +156,14 @@ static OTHER_FILES: [(&[u8], u32); 13] = [
     (b"SEGC\x03\0\0\0", 4),
     (b"SEGC\x01\0\0\x01", 4),
     (b"SEGC\x02\0\0\0", 8),
-    // version 2 without types
+    // version 2 without types of shared cells
     (b"SEGC\x02\0\0\0\0\0\0\0\0\0\0\0\0\0\0\0", 4),
     (b"SEGC\x01\0\0\0\x21\0\0\0\0\0\0\0\0\0\0\0", 8),
     (b"SEGC\x01\0\0\0\0\0\0\0\x01\x01\0\0\0\0\0\0", 12),
     (b"SEGC\x01\0\0\0\0\0\0\0\0\0\0\0\x01\x10\0\0", 16),
     // one byte too many
     (b"SEGC\x01\0\0\0\0\0\0\0\0\0\0\0\0\0\0\0\0", 20),
-    // no END, and one byte too many after
+    // no END, and one byte too many after the code
     (
         b"SEGC\x01\0\0\0\0\0\0\0\0\0\0\0\x01\0\0\0\x08\0\0\0\0\0\0\0\0",
         28,
@@ -177,7 +177,7 @@ fn other_wrong_files(rt: HostRuntime) {
     }
 }
 
-/// A file of two type entries, of which the second is cut after so many bytes.
+/// A file with two type entries, the second of which may be cut off.
 fn two_types(alloc: Global, first: &[u8], second: &[u8]) -> Result<Vec<u8>, AllocError> {
     let mut file = Vec::from_slice(alloc, b"SEGC\x01\0\0\0\x02\0\0\0\0\0\0\0\0\0\0\0")?;
     for byte in 0..16usize {
@@ -231,7 +231,7 @@ fn types_that_name_a_cut_or_an_unused_one(rt: HostRuntime) -> Result<(), Fail> {
     Ok(())
 }
 
-/// A file of a version: the type `i64` and another one, and this behind them, as so many constants.
+/// A file of a version with the type `i64`, another type, and the bytes of its constants.
 fn file_of(
     alloc: Global,
     version: u8,
@@ -252,7 +252,7 @@ const SHARED: [u8; 3] = [9, 1, 0];
 
 const VEC: [u8; 3] = [3, 1, 0];
 
-// The version, the type after `i64`, the constants and what spells them, and where the file is wrong.
+// The version, the type after `i64`, the number of constants, their bytes, and the position of the fault.
 static VERSIONS: [(u8, [u8; 3], u8, &[u8], Option<u32>); 12] = [
     (1, VEC, 0, b"", None),
     (2, SHARED, 0, b"", None),
@@ -260,13 +260,13 @@ static VERSIONS: [(u8, [u8; 3], u8, &[u8], Option<u32>); 12] = [
     (1, SHARED, 0, b"", Some(4)),
     (3, SHARED, 0, b"", Some(4)),
     (0, VEC, 0, b"", Some(4)),
-    // a wrong type comes before a version that doesn't fit the types
+    // a wrong type is reported before a version that doesn't fit the types
     (1, [9, 1, 2], 0, b"", Some(36)),
     (2, [3, 1, 2], 0, b"", Some(36)),
     (1, [9, 0, 0], 0, b"", Some(36)),
-    // but after one that there isn't
+    // but after an unknown version
     (3, [9, 1, 2], 0, b"", Some(4)),
-    // a wrong constant comes after it
+    // a wrong constant is reported after such a version
     (1, SHARED, 1, b"\x04\0", Some(4)),
     (2, SHARED, 1, b"\x04\0", Some(52)),
 ];
@@ -319,12 +319,12 @@ fn freezing_and_sharing_in_bytes_and_text(rt: HostRuntime) -> Result<(), Fail> {
     Ok(())
 }
 
-/// Where the code begins in a file of two types and no constants.
+/// The position of the code in a file with two types and no constants.
 const CODE_AT: usize = 52;
 
-// The type after `i64`, the code, a place in its bytes, the byte that is put there, and where the file is wrong then.
+// The type after `i64`, the code, the index of a byte in the code, the byte that replaces it, and the position of the fault.
 static CODES: [(&str, &str, usize, u8, Option<u32>); 16] = [
-    // an operation of version 2 may stand in a file of version 2 alone
+    // an operation of version 2 is allowed only in a file of version 2
     ("own", "PUT r1 r0", 0, 52, Some(52)),
     ("shared", "PUT r1 r0", 0, 52, None),
     (
@@ -335,9 +335,9 @@ static CODES: [(&str, &str, usize, u8, Option<u32>); 16] = [
         Some(60),
     ),
     ("shared", "SHRINK r0\nADDB r5 r0 r2\nELSE\nEND", 8, 51, None),
-    // no operation comes after the two
+    // the two operations are the last ones
     ("shared", "PUT r1 r0", 0, 53, Some(52)),
-    // its registers are 0 to 15, and what it doesn't use is 0
+    // registers are 0 to 15, and unused operands are 0
     ("shared", "SHARE r1 r0", 1, 1, Some(52)),
     ("shared", "SHARE r1 r0", 2, 16, Some(52)),
     ("shared", "SHARE r1 r0", 3, 15, None),
@@ -347,7 +347,7 @@ static CODES: [(&str, &str, usize, u8, Option<u32>); 16] = [
     ("shared", "FREEZE r5 r0 r2\nELSE\nEND", 2, 16, Some(52)),
     ("shared", "FREEZE r5 r0 r2\nELSE\nEND", 3, 16, Some(52)),
     ("shared", "FREEZE r5 r0 r2\nELSE\nEND", 7, 128, Some(52)),
-    // the one is an opener, and the other is plain
+    // FREEZE is an opener, and SHARE is plain
     ("shared", "SHARE r1 r0\nSHARE r1 r0", 8, 51, Some(68)),
     ("shared", "FREEZE r0 r1 r2\nELSE\nEND", 0, 52, Some(60)),
 ];

@@ -1,6 +1,6 @@
 use crate::tests::support::{Accepted, Rejected, check_accepted, check_rejected};
 
-// Each operation where its registers hold what it needs. A part that isn't the larger one adds nothing to the bound.
+// Each operation with registers that contain what it needs. The shorter part of an opener adds nothing to the bound.
 static ACCEPTED: [Accepted; 71] = [
     (0, "CONST r1 5", 2),
     (0, "CONST r1 5; MOV r2 r1; MOV r3 r0", 4),
@@ -86,7 +86,7 @@ fn operations_with_what_they_need(rt: HostRuntime) {
     }
 }
 
-// Each operation where register b, then register c, doesn't hold what it needs.
+// Each operation with a wrong register b, and then with a wrong register c.
 static WRONG_OPERAND: [Rejected; 77] = [
     (0, "MOV r2 r1", 1, 1),
     (0, "NEW r1 t0; MOV r2 r1; DROP r1; ELSE; END", 2, 1),
@@ -174,7 +174,7 @@ fn operations_without_what_they_need(rt: HostRuntime) {
     }
 }
 
-// Each operation that sets a register, where the register owns an object.
+// Each operation that sets a register, with a register that owns an object.
 static OWNER_LOST: [Rejected; 38] = [
     (0, "NEW r9 t0; CONST r9 5; ELSE; END", 2, 2),
     (0, "NEW r9 t0; MOV r9 r0; ELSE; END", 2, 2),

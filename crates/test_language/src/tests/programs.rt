@@ -83,7 +83,7 @@ fn a_family_dies_together(rt: HostRuntime) {
     );
 }
 
-/// A table of one type, of this kind.
+/// A table with one type of this kind.
 fn table_of(kind: u8) -> TypeTable {
     let mut entry = [0; 16];
     entry[0] = kind;

@@ -26,7 +26,7 @@ const FIRST_NAME: u32 = 2;
 
 const FIRST_FAMILY: u32 = 4;
 
-/// The texts of random code: nothing but what the instruction table asks of operands, and parts at most 8 deep.
+/// Writes random code that is valid by the instruction table, with parts at most 8 deep.
 #[derive(Drop)]
 struct Writer<'a> {
     random: &'a mut Random,
@@ -39,7 +39,7 @@ impl Writer<'_> {
         write!(self.text, " r{n}")
     }
 
-    /// An operand. Register b is none exactly where the constant is an exact name.
+    /// Writes an operand. Register b is none exactly if the constant is an exact name.
     fn operand(&mut self, operand: Operand, is_none: bool) -> Result<(), AllocError> {
         match operand {
             Operand::Unused => Ok(()),
@@ -71,7 +71,7 @@ impl Writer<'_> {
         }
     }
 
-    /// A line, and what stands between parts.
+    /// Writes the line of an instruction.
     fn line(&mut self, operation: Operation) -> Result<(), AllocError> {
         let row = operation.row();
         let is_exact = self.random.below(2) == 0;
@@ -84,7 +84,7 @@ impl Writer<'_> {
         self.text.push_str("\n")
     }
 
-    /// The statements of a part that may have parts so deep.
+    /// Writes the statements of a part, which may have parts nested up to this depth.
     fn part(&mut self, depth: u32) -> Result<(), AllocError> {
         for _ in 0..self.random.below(4) {
             let number = (self.random.below(OPERATIONS as u32) as u8).wrapping_add(1);
@@ -112,7 +112,7 @@ impl Writer<'_> {
     }
 }
 
-/// A canonical text is that of its file, and its file that of the text.
+/// Tests that a canonical text assembles to a file, and that the file prints as that text.
 fn goes_round(rt: &(impl Abort + AllocGlobal), text: &str) -> Result<(), Fail> {
     let alloc = rt.alloc();
     let file = assemble(alloc, text.as_bytes())?;

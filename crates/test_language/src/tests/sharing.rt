@@ -1,7 +1,7 @@
 use crate::tests::support::{Accepted, Rejected, check_accepted, check_rejected, verdict};
 use client_code::Fault;
 
-// Frozen objects that are made, named and read.
+// Clients that freeze, share and read objects.
 static ACCEPTED: [Accepted; 20] = [
     (
         8,
@@ -65,7 +65,7 @@ static ACCEPTED: [Accepted; 20] = [
         "CONTENT r1 r0; FINDOR r2 - t8 k3; SHARE r2 r1; ELSE; END; ELSE; END",
         4,
     ),
-    // another class stays
+    // references of another class stay valid
     (
         8,
         "FINDOR r5 - t8 k3; CONTENT r1 r5; SHARE r0 r5; LOAD r2 r1; ELSE; END; ELSE; END",
@@ -85,7 +85,7 @@ fn what_may_be_frozen_and_shared(rt: HostRuntime) {
     }
 }
 
-// Register b, or then register c, doesn't hold what the operation needs.
+// A wrong register b, or a wrong register c.
 static WRONG_OPERAND: [Rejected; 14] = [
     (0, "NEW r2 t0; FREEZE r1 r0 r2; ELSE; END; ELSE; END", 2, 1),
     (6, "NEW r2 t0; FREEZE r1 r0 r2; ELSE; END; ELSE; END", 2, 1),
@@ -103,7 +103,7 @@ static WRONG_OPERAND: [Rejected; 14] = [
     (8, "FINDOR r1 - t9 k3; SHARE r0 r1; ELSE; END", 2, 1),
 ];
 
-// What is only read isn't changed, with all that it leads to.
+// Read-only values can't be changed, nor the values that they refer to.
 static READ_ONLY: [Rejected; 15] = [
     (8, "CONTENT r1 r0; CONST r2 1; STORE r1 r2; ELSE; END", 3, 1),
     (
@@ -172,7 +172,7 @@ static READ_ONLY: [Rejected; 15] = [
     ),
 ];
 
-// References that end, into frozen objects too, and a use of one after it.
+// References that end, also into frozen objects, and a use of each after that.
 static ENDED: [Rejected; 9] = [
     (8, "MOV r5 r0; SHARE r0 r0; CONTENT r6 r5; ELSE; END", 3, 1),
     (8, "CONTENT r1 r0; SHARE r0 r0; LOAD r2 r1; ELSE; END", 3, 1),
@@ -207,7 +207,7 @@ static ENDED: [Rejected; 9] = [
         3,
         1,
     ),
-    // in one part it is only read, in the other it may be changed
+    // the reference is read-only after one part, and not after the other
     (
         9,
         "FINDOR r1 - t0 k1; CONTENT r2 r0; FIELD r1 r2 0; ELSE; END; LOAD r3 r1; ELSE; END",
@@ -216,7 +216,7 @@ static ENDED: [Rejected; 9] = [
     ),
 ];
 
-// Owners that are lost where an object isn't frozen, or before it is.
+// Owners that are lost if an object isn't frozen, or before it is.
 static OWNER_LOST: [Rejected; 3] = [
     (8, "NEW r2 t0; FREEZE r1 r0 r2; ELSE; END; ELSE; END", 4, 2),
     (8, "NEW r2 t0; FREEZE r2 r0 r2; ELSE; END; ELSE; END", 2, 2),

@@ -4,7 +4,7 @@ use client_verify::verify;
 use std::alloc::Global;
 use std::process::Abort;
 
-/// Types and constants of every kind: the tables' programs stand after them.
+/// Types and constants of every kind, for the programs in the tables of tests.
 const FRONT: &[u8] = b"type i64
 type str
 type vec t0
@@ -24,14 +24,14 @@ family f
 name m
 ";
 
-/// What the verifier says of a text: the bound, or the fault.
+/// The result of the verifier for a text: the bound, or the fault.
 pub fn verdict(alloc: Global, text: &[u8]) -> Result<u64, Fault> {
     let file = assemble(alloc, text)?;
     let client = parse(file.as_slice())?;
     Ok(verify(client, &TypeTable::new())?.bound())
 }
 
-/// The same for a program after the front. `;` ends its lines too.
+/// The same for a program after `FRONT`. `;` ends its lines too.
 pub fn verdict_after_front(alloc: Global, program: &[u8]) -> Result<u64, Fault> {
     let mut text = Vec::from_slice(alloc, FRONT)?;
     for byte in program {
@@ -41,16 +41,16 @@ pub fn verdict_after_front(alloc: Global, program: &[u8]) -> Result<u64, Fault> 
     verdict(alloc, text.as_slice())
 }
 
-/// The same for a program inside `FINDOR r0 - t k1`, whose instruction is number 0: r0 leads to a value of the type.
+/// The same for a program inside `FINDOR r0 - t k1`, which is instruction 0: r0 refers to a value of the type.
 pub fn verdict_with(alloc: Global, type_id: u8, program: &str) -> Result<u64, Fault> {
     let text = format!(in alloc; "FINDOR r0 - t{type_id} k1;{program};ELSE;END")?;
     verdict_after_front(alloc, text.as_bytes())
 }
 
-/// A program that is accepted with this bound, inside the opener.
+/// The type of r0, a program that is accepted inside the opener, and the bound.
 pub type Accepted = (u8, &'static str, u64);
 
-/// A program that is rejected at this instruction for this reason, inside the opener.
+/// The type of r0, a program that is rejected inside the opener, the rejected instruction, and the reason.
 pub type Rejected = (u8, &'static str, u32, u8);
 
 pub fn check_accepted(rt: &(impl Abort + AllocGlobal), row: &Accepted) {

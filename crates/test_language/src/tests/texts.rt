@@ -4,13 +4,13 @@ use std::alloc::{AllocError, Global};
 use std::process::Abort;
 use std::test::Fail;
 
-/// The canonical text of what a text spells.
+/// Assembles a text, and prints the client as its canonical text.
 fn canonical(alloc: Global, text: &[u8]) -> Result<Vec<u8>, Fault> {
     let file = assemble(alloc, text)?;
     print(alloc, &parse(file.as_slice())?)
 }
 
-/// The same after a front of one type and three constants.
+/// The same after one type and three constants.
 fn canonical_after_front(alloc: Global, text: &str) -> Result<Vec<u8>, Fault> {
     let text = format!(in alloc; "type i64\ntext hi\nname n\nfamily f\n{text}")?;
     canonical(alloc, text.as_bytes())
@@ -172,7 +172,7 @@ static WRONG: [(&[u8], u32); 92] = [
     (b"type shared t1", 1),
     (b"type i64\ntype shared t0 t0", 2),
     (b"type i64\ntype shared t2\nname x", 2),
-    // the version is that of the types, so the wrong line is another
+    // the types determine the version, so another line is wrong
     (b"type i64\ntype shared t0\nname a#b", 3),
     (b"type struct", 1),
     (b"type struct t0", 1),
@@ -225,7 +225,7 @@ fn wrong_texts(rt: HostRuntime) {
     }
 }
 
-// Lines after `type i64`, `text hi`, `name n`, `family f`; the fifth line is the first of these.
+// Lines after `type i64`, `text hi`, `name n`, `family f`. The first of them is line 5.
 static WRONG_AFTER_FRONT: [(&str, u32); 20] = [
     ("FIND r0 - - t0 k2\nELSE\nEND", 5),
     ("FIND r0 r1 - t0 k1\nELSE\nEND", 5),
@@ -257,7 +257,7 @@ fn wrong_operands(rt: HostRuntime) {
     }
 }
 
-// Lines after `type i64`, `type shared t0`; the third line is the first of these.
+// Lines after `type i64`, `type shared t0`. The first of them is line 3.
 static WRONG_TO_SHARE: [(&str, u32); 14] = [
     ("FREEZE r5 r0\nELSE\nEND", 3),
     ("FREEZE r5 r0 -\nELSE\nEND", 3),
@@ -284,7 +284,7 @@ fn wrong_lines_that_share(rt: HostRuntime) -> Result<(), Fail> {
     Ok(())
 }
 
-/// A text of so many lines: each is the front, its number from 0, and the back.
+/// A text of `count` lines. Each line has a number from 0 on between two strings.
 fn lines(alloc: Global, count: u32, front: &str, back: &str) -> Result<String, AllocError> {
     let mut text = String::new(alloc);
     for i in 0..count {
@@ -293,7 +293,7 @@ fn lines(alloc: Global, count: u32, front: &str, back: &str) -> Result<String, A
     Ok(text)
 }
 
-/// The most lines of a kind are right, and one more is wrong at its own line.
+/// Tests that the most lines of a kind are valid, and that one more is reported as wrong.
 fn check_limit(
     rt: &(impl Abort + AllocGlobal),
     most: u32,

@@ -6,7 +6,7 @@ use std::test::Fail;
 use support_data::{COUNT, INCREMENT_FILE, counter, sharing};
 use support_runs::run_on;
 
-/// Two runs of one client on an image that stays open: 41 + 1 + 1. Each takes six steps, as `ELSE` and `END` are none.
+/// Two runs of one client on an image that stays open: 41 + 1 + 1. Each run takes six steps, since `ELSE` and `END` aren't steps.
 #[test]
 fn clients_run_in_turn(rt: HostRuntime) -> Result<(), Fail> {
     let mut image = Host::opened(rt.alloc(), counter(rt.alloc())?)?;
@@ -28,7 +28,8 @@ fn clients_run_in_turn(rt: HostRuntime) -> Result<(), Fail> {
     Ok(())
 }
 
-/// A client makes its number in the lowest gap, beside a frozen one: the cell that names this and its block stay as they are.
+/// A client makes its number in the lowest free block, beside a frozen number. The block of the cell that shares this and the
+/// frozen number's own block are unchanged.
 #[test]
 fn clients_run_beside_a_frozen_object(rt: HostRuntime) -> Result<(), Fail> {
     let image = sharing(rt.alloc())?;

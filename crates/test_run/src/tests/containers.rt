@@ -64,7 +64,7 @@ pub(crate) const PRINT_TEXTS: &str = "type str
     ELSE
     END";
 
-/// The fifth push finds no room for 8 items and takes its limit; the last text takes the old buffer.
+/// The fifth push has no room for 8 items, and gets room for fewer. The last text gets the block of the old buffer.
 #[test]
 fn fifth_push_takes_its_limit(rt: HostRuntime) -> Result<(), Fail> {
     let text = format!(in rt.alloc();
@@ -126,7 +126,8 @@ const EMPTY_TEXT: &str = "type str
     ELSE
     END";
 
-/// A text of 5 bytes has a buffer of 2 units, of 25 bytes one of 3 at its place. Shrinking gives back what it can.
+/// A text of 5 bytes has a buffer of 2 units, and one of 25 bytes a buffer of 3 in the same place. Shrinking frees the units that
+/// aren't needed.
 #[test]
 fn texts_grow_and_shrink_in_place(rt: HostRuntime) -> Result<(), Fail> {
     let text = format!(in rt.alloc();
@@ -148,7 +149,7 @@ fn texts_grow_and_shrink_in_place(rt: HostRuntime) -> Result<(), Fail> {
     plays(rt.alloc(), &[SEQ_FLAT], text.as_str())
 }
 
-/// Bytes of a text, one by one.
+/// The bytes of a text, one by one.
 #[test]
 fn texts_of_bytes(rt: HostRuntime) -> Result<(), Fail> {
     plays(
@@ -226,7 +227,7 @@ const PUSH_NUMBERS: &str = "type i64
     ELSE
     END";
 
-/// Pops the last number of the list, and prints how many are left and the second one.
+/// Pops the last number of the list, and prints how many remain and the second one.
 const POP_NUMBER: &str = "type i64
     type list t0
     name l
@@ -244,7 +245,7 @@ const POP_NUMBER: &str = "type i64
     ELSE
     END";
 
-/// Clears the list, and prints the code of a further pop.
+/// Clears the list, and prints the code of another pop.
 const CLEAR_LIST: &str = "type i64
     type list t0
     name l

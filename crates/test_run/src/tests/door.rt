@@ -1,4 +1,4 @@
-//! The calls on an image without their contracts, so that the proof of a test with many calls is short.
+//! The calls on an image, without contracts, so that the proof of a test with many calls is short.
 
 use lezgauri::{
     AllocatorKind, Code, Fault, Image, IndexKind, Named, Numbers, Place, Ready, Report, Through,
@@ -8,7 +8,7 @@ use std::alloc::Global;
 use std::test::Fail;
 use support_data::Limited;
 
-/// An image in memory of the host.
+/// An image in the host's memory.
 #[derive(Drop)]
 pub(crate) struct Host {
     image: Image<Global>,
@@ -26,7 +26,7 @@ impl Host {
         Ok(Host { image })
     }
 
-    /// The image of these bytes, or the fault, with the bytes that came back.
+    /// Opens the image in these bytes. If there is a fault, returns the fault and the bytes.
     pub(crate) fn open(alloc: Global, bytes: Vec<u8>) -> Result<Host, (Fault, Vec<u8>)> {
         match Image::open(alloc, bytes) {
             Ok(image) => Ok(Host { image }),
@@ -34,7 +34,7 @@ impl Host {
         }
     }
 
-    /// The image of these bytes, which must be sound.
+    /// Opens the image in these bytes, which must be sound.
     pub(crate) fn opened(alloc: Global, bytes: Vec<u8>) -> Result<Host, Fail> {
         match Host::open(alloc, bytes) {
             Ok(host) => Ok(host),
@@ -66,7 +66,7 @@ impl Host {
         verify(&self.image, client)
     }
 
-    /// A client that is verified and made ready.
+    /// Verifies and prepares a client.
     pub(crate) fn prepare<'c>(
         &self,
         alloc: Global,
@@ -75,7 +75,7 @@ impl Host {
         Ok(prepare(alloc, self.verify(client)?)?)
     }
 
-    /// Runs a client without input. What it told, and what it wrote.
+    /// Runs a client without input, and returns its report and its output.
     pub(crate) fn run(
         &mut self,
         alloc: Global,
@@ -271,7 +271,7 @@ impl Host {
     }
 }
 
-/// How many types a sound image has, or its fault.
+/// The number of types in a sound image, or the image's fault.
 pub(crate) fn types_in(alloc: Global, bytes: &[u8]) -> Result<usize, Fault> {
     Ok(check(alloc, bytes)?.len())
 }

@@ -21,7 +21,7 @@ fn ends_within_its_bound(
     Ok(true)
 }
 
-/// Each byte of the increment client, changed to each other value.
+/// The increment client, with each byte changed to each other value.
 #[test]
 fn changed_clients_end_within_their_bounds(rt: HostRuntime) -> Result<(), Fail> {
     let image = counter(rt.alloc())?;

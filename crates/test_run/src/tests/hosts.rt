@@ -25,27 +25,27 @@ fn empty(rt: &impl AllocGlobal, allocator: AllocatorKind, index: IndexKind) -> R
     Ok(image)
 }
 
-/// A call on a place is refused for this.
+/// Tests that a call on a place is refused with this code.
 fn refused(rt: &impl Abort, found: Result<Place, Code>, code: Code) {
     assert_eq!(rt; found, Err(code));
 }
 
-/// A call gives this place.
+/// Tests that a call returns this place.
 fn gives(rt: &impl Abort, found: Result<Place, Code>, place: Place) {
     assert_eq!(rt; found, Ok(place));
 }
 
-/// A place has this number, or has none for this reason.
+/// Tests that a place has this number, or that reading a number there fails with this code.
 fn holds(rt: &impl Abort, image: &Host, place: Place, number: Result<i64, Code>) {
     assert_eq!(rt; image.load(place), number);
 }
 
-/// A container or a text has so many items or bytes.
+/// Tests the length of a container or a text.
 fn has_length(rt: &impl Abort, image: &Host, place: Place, len: u32) {
     assert_eq!(rt; image.len(place), Ok(len));
 }
 
-/// An array `b` of three numbers, and what other objects are refused for.
+/// Makes an array `b` of three numbers, and tests the codes of refused calls.
 fn makes_names(rt: &impl Abort, image: &mut Host) -> Result<(), Fail> {
     let b = image.construct(b"b", 0, 3)?;
     refused(rt, image.construct(b"b", 0, 1), Code::AlreadyExists);
@@ -57,7 +57,7 @@ fn makes_names(rt: &impl Abort, image: &mut Host) -> Result<(), Fail> {
     Ok(())
 }
 
-/// The items of `b`.
+/// Tests the items of `b`.
 fn finds_items(rt: &impl Abort, image: &Host) -> Result<(), Fail> {
     let first = image.find(b"b", 0)?;
     let last = image.find_item(b"b", 0, 2)?;
@@ -68,7 +68,7 @@ fn finds_items(rt: &impl Abort, image: &Host) -> Result<(), Fail> {
     Ok(())
 }
 
-/// The names `a` and `b`, in order.
+/// Makes a text `a`, and tests that the names are `a` and `b`, in order.
 fn lists_names(rt: &impl Abort, image: &mut Host) -> Result<(), Fail> {
     image.find_or_construct(b"a", 1)?;
     assert_eq!(rt; image.num_named(), 2);
@@ -80,7 +80,7 @@ fn lists_names(rt: &impl Abort, image: &mut Host) -> Result<(), Fail> {
     Ok(())
 }
 
-/// The unique number.
+/// Tests the calls on unique objects.
 fn has_uniques(rt: &impl Abort, image: &mut Host) -> Result<(), Fail> {
     let unique = image.construct_unique(0)?;
     gives(rt, image.find_or_construct_unique(0), unique);
@@ -91,7 +91,7 @@ fn has_uniques(rt: &impl Abort, image: &mut Host) -> Result<(), Fail> {
     Ok(())
 }
 
-/// The fields of a struct.
+/// Tests the fields of a struct.
 fn has_fields(rt: &impl Abort, image: &mut Host) -> Result<(), Fail> {
     let pair = image.construct(b"pair", 7, 1)?;
     let number = image.field(pair, 0)?;
@@ -104,7 +104,7 @@ fn has_fields(rt: &impl Abort, image: &mut Host) -> Result<(), Fail> {
     Ok(())
 }
 
-/// The text of a field.
+/// Tests the calls on the text in a struct.
 fn has_texts(rt: &impl Abort, image: &mut Host) -> Result<(), Fail> {
     let pair = image.find(b"pair", 7)?;
     let text = image.field(pair, 1)?;
@@ -117,7 +117,7 @@ fn has_texts(rt: &impl Abort, image: &mut Host) -> Result<(), Fail> {
     Ok(())
 }
 
-/// What an own holds, and what takes its place.
+/// Tests the object of an own, and that another object replaces it.
 fn has_content(rt: &impl Abort, image: &mut Host) -> Result<(), Fail> {
     let own = image.construct(b"own", 6, 1)?;
     refused(rt, image.content(own), Code::Null);
@@ -129,7 +129,7 @@ fn has_content(rt: &impl Abort, image: &mut Host) -> Result<(), Fail> {
     Ok(())
 }
 
-/// The numbers 1 and 2 in a vector or a list, after a 3 went.
+/// Pushes 1, 2 and 3 onto a vector or a list, pops the 3, and tests the others.
 fn has_items(rt: &impl Abort, image: &mut Host, name: &[u8], t: TypeId) -> Result<(), Fail> {
     let items = image.construct(name, t, 1)?;
     assert_eq!(rt; image.pop_back(items), Err(Code::Null));
@@ -144,7 +144,7 @@ fn has_items(rt: &impl Abort, image: &mut Host, name: &[u8], t: TypeId) -> Resul
     Ok(())
 }
 
-/// The numbers 5 to 20 in a vector that grows for them, which no list takes.
+/// Pushes the numbers 5 to 20 onto a vector, which grows for them. A list has no such call.
 fn has_numbers(rt: &impl Abort, image: &mut Host) -> Result<(), Fail> {
     let vector = image.construct(b"n", 2, 1)?;
     let numbers = image.numbers(vector)?;
@@ -159,7 +159,7 @@ fn has_numbers(rt: &impl Abort, image: &mut Host) -> Result<(), Fail> {
     Ok(())
 }
 
-/// A new number at the front of the list, and the 1 after it.
+/// Tests the calls on the front of the list, whose first number is 1.
 fn has_a_front(rt: &impl Abort, image: &mut Host) -> Result<(), Fail> {
     let list = image.find(b"l", 3)?;
     image.push_front(list)?;
@@ -169,7 +169,7 @@ fn has_a_front(rt: &impl Abort, image: &mut Host) -> Result<(), Fail> {
     Ok(())
 }
 
-/// The keys -10 and 30 of a map, each its own value.
+/// Puts the keys -10 and 30 into a map, with the same values, and tests the calls on keys.
 fn has_keys(rt: &impl Abort, image: &mut Host, name: &[u8], t: TypeId) -> Result<(), Fail> {
     let map = image.construct(name, t, 1)?;
     assert_eq!(rt; image.first_key(map), Err(Code::Null));
@@ -183,7 +183,7 @@ fn has_keys(rt: &impl Abort, image: &mut Host, name: &[u8], t: TypeId) -> Result
     loses_a_key(rt, image, map)
 }
 
-/// The key 30 goes.
+/// Removes the key 30.
 fn loses_a_key(rt: &impl Abort, image: &mut Host, map: Place) -> Result<(), Fail> {
     holds(rt, image, image.get(map, 30)?, Ok(30));
     assert!(rt; image.remove(map, 30) && !image.remove(map, 30));
@@ -227,7 +227,7 @@ fn hosts_work_on_containers(rt: HostRuntime) -> Result<(), Fail> {
     Ok(())
 }
 
-/// A part that no entry has, and a 33rd type. A vector may be of the vectors of its own type.
+/// A type may not have a part that isn't in the table, and a table no 33rd type. A vector may be of vectors of its own type.
 #[test]
 fn tables_of_types(rt: HostRuntime) {
     assert_eq!(rt;

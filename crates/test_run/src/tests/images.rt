@@ -4,7 +4,7 @@ use std::process::Abort;
 use std::test::Fail;
 use support_data::{counter, counter_where, front};
 
-/// An image with a number that is 7, of 1024 bytes: the heap begins at 704 and has 320, all free before the object comes.
+/// An image of 1024 bytes with a number, 7. The heap has 320 bytes, all of which are free before the number is made.
 fn made(rt: &(impl Abort + AllocGlobal), allocator: AllocatorKind) -> Result<Host, Fail> {
     let mut image = Host::create(rt.alloc(), 1024, allocator, IndexKind::Flat)?;
     assert_eq!(rt; image.free_memory(), 320);
@@ -15,7 +15,7 @@ fn made(rt: &(impl Abort + AllocGlobal), allocator: AllocatorKind) -> Result<Hos
     Ok(image)
 }
 
-/// An image keeps its objects where it grows, and is cut to what they take.
+/// Tests that an image keeps its objects when it grows, and can be cut to their size.
 fn changes_size(rt: &(impl Abort + AllocGlobal), allocator: AllocatorKind) -> Result<(), Fail> {
     let mut image = made(rt, allocator)?;
     let free = image.free_memory();
@@ -29,7 +29,7 @@ fn changes_size(rt: &(impl Abort + AllocGlobal), allocator: AllocatorKind) -> Re
     opens_again(rt, image)
 }
 
-/// An image without a gap, as it is opened anew: its number is 7, and it grows.
+/// Tests that an image without free memory has its number after it is opened again, and can grow.
 fn opens_again(rt: &(impl Abort + AllocGlobal), image: Host) -> Result<(), Fail> {
     assert_eq!(rt; image.largest_gap(), 0);
     assert_eq!(rt; types_in(rt.alloc(), image.bytes()), Ok(1));
@@ -46,7 +46,7 @@ fn an_image_changes_its_size(rt: HostRuntime) -> Result<(), Fail> {
     changes_size(&rt, AllocatorKind::Best)
 }
 
-/// Bytes that are no image are refused, and come back.
+/// Tests that bytes that aren't an image are refused, and returned unchanged.
 fn is_no_image(rt: &(impl Abort + AllocGlobal), faulty: &[u8]) -> Result<(), Fail> {
     assert_eq!(rt; types_in(rt.alloc(), faulty), Err(Fault::BadHeader));
     match Host::open(rt.alloc(), Vec::from_slice(rt.alloc(), faulty)?) {
@@ -59,7 +59,7 @@ fn is_no_image(rt: &(impl Abort + AllocGlobal), faulty: &[u8]) -> Result<(), Fai
     }
 }
 
-/// A version that isn't known, a cut image, and none.
+/// An image of an unknown version, an image that is cut off, and no bytes.
 #[test]
 fn faulty_images_are_refused(rt: HostRuntime) -> Result<(), Fail> {
     let image = counter(rt.alloc())?;

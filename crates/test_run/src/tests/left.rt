@@ -3,7 +3,7 @@ use std::process::Abort;
 use std::test::Fail;
 use support_runs::{Ran, statistics_of};
 
-/// The clients print this, and leave so many bytes free and so many names.
+/// Tests what the clients print, and how many bytes are free and how many names there are afterwards.
 pub(crate) fn leaves(
     rt: &(impl Abort + AllocGlobal),
     ran: &Ran,

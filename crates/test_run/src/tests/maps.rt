@@ -2,7 +2,8 @@ use crate::tests::plays::plays;
 use std::test::Fail;
 use support_runs::{KINDS, SEQ_FLAT};
 
-/// The least and the greatest number are keys, of both kinds of maps. Prints the first, the next, and the code after the last.
+/// The smallest and the largest number are keys of both kinds of maps. Prints the first key, the next key, and the code after the
+/// last one.
 #[test]
 fn keys_in_order(rt: HostRuntime) -> Result<(), Fail> {
     for kind in ["flat_map", "map"] {
@@ -75,7 +76,7 @@ const PUT_FOUR: &str = "type i64
     ELSE
     END";
 
-/// Puts a fifth key, and prints what the calls give before and after; then deletes a key twice.
+/// Puts a fifth key, and prints the results of calls before and after it. Then deletes a key twice.
 const PUT_FIFTH: &str = "type i64
     type flat_map t0
     name m
@@ -105,7 +106,7 @@ const PUT_FIFTH: &str = "type i64
     ELSE
     END";
 
-/// A flat map of 4 numbers has a buffer of 5 units, of 5 one of 9 at its place.
+/// A flat map of 4 numbers has a buffer of 5 units, and one of 5 numbers a buffer of 9 units in the same place.
 #[test]
 fn flat_maps_grow(rt: HostRuntime) -> Result<(), Fail> {
     let text = format!(in rt.alloc();

@@ -1,4 +1,4 @@
-//! Calls while the host is out of memory: each reports it, and then has written nothing.
+//! Calls while the host is out of memory. Each reports that, and has written nothing.
 
 use client_vm::{Refused, Schedule, Through, run_bytes};
 use lezgauri::{
@@ -13,8 +13,8 @@ use std::test::Fail;
 use support_data::{INCREMENT, INCREMENT_FILE, Limited, counter, counter_saved};
 use support_runs::{opened, window};
 
-/// What a run within this many bytes of host memory gives: nothing but a refusal for memory before anything is
-/// written, or all.
+/// Runs a client with this many bytes of host memory. Either it is refused for lack of memory before anything is written, or it
+/// runs completely. Returns whether it ran.
 fn runs_within(rt: &(impl Abort + AllocGlobal), size: usize) -> Result<bool, Fail> {
     let heap = LocalHeap::new(rt.alloc(), size)?;
     let image = counter(rt.alloc())?;
@@ -48,7 +48,7 @@ fn runs_within(rt: &(impl Abort + AllocGlobal), size: usize) -> Result<bool, Fai
     }
 }
 
-/// Host memory from too little for the first request to enough for all, so that each is refused in turn.
+/// The host's memory increases, from too little for the first request to enough for all, so each request is refused once.
 #[test]
 fn answers_memory_only_before_it_writes(rt: HostRuntime) -> Result<(), Fail> {
     let mut refusals = 0usize;
@@ -62,7 +62,7 @@ fn answers_memory_only_before_it_writes(rt: HostRuntime) -> Result<(), Fail> {
     Err(Fail::from("never ran"))
 }
 
-/// A call that takes host memory: on a segment in a window, on the text or the file of a client, or on an image.
+/// A call that allocates host memory: on a segment in a window, on the text or the file of a client, or on an image.
 #[derive(Debug, Clone, Copy)]
 enum Call {
     Region,
@@ -83,7 +83,7 @@ fn counter_window(alloc: Global) -> Result<Window<Global>, Fail> {
     Ok(window(alloc, counter(alloc)?.as_slice())?)
 }
 
-/// Opening leaves the window as it was where memory is refused.
+/// Tests that opening leaves the window unchanged if it is out of memory.
 fn opens(rt: &(impl Abort + AllocGlobal), heap: &LocalHeap) -> Result<Option<Fault>, Fail> {
     let mut window = counter_window(rt.alloc())?;
     let (left, fault) = match open::<SeqFit, Global, &LocalHeap>(heap, &mut window) {
@@ -94,7 +94,7 @@ fn opens(rt: &(impl Abort + AllocGlobal), heap: &LocalHeap) -> Result<Option<Fau
     Ok(fault)
 }
 
-/// Saving gives the image, or nothing.
+/// Tests that saving returns the whole image, or fails.
 fn saves(rt: &(impl Abort + AllocGlobal), heap: &LocalHeap) -> Result<Option<Fault>, Fail> {
     let image = counter_saved(rt.alloc(), 41)?;
     let segment = opened::<SeqFit>(rt.alloc(), counter_window(rt.alloc())?)?;
@@ -107,7 +107,7 @@ fn saves(rt: &(impl Abort + AllocGlobal), heap: &LocalHeap) -> Result<Option<Fau
     }
 }
 
-/// Assembling gives the client's file, or nothing.
+/// Tests that assembling returns the client's file, or fails.
 fn assembles(rt: &impl Abort, heap: &LocalHeap) -> Option<Fault> {
     match assemble(heap, INCREMENT.as_bytes()) {
         Ok(file) => {
@@ -118,7 +118,7 @@ fn assembles(rt: &impl Abort, heap: &LocalHeap) -> Option<Fault> {
     }
 }
 
-/// Printing gives the client's text, or nothing.
+/// Tests that printing returns the client's text, or fails.
 fn prints(rt: &impl Abort, heap: &LocalHeap) -> Result<Option<Fault>, Fail> {
     match print(heap, &parse(&INCREMENT_FILE)?) {
         Ok(text) => {
@@ -129,7 +129,7 @@ fn prints(rt: &impl Abort, heap: &LocalHeap) -> Result<Option<Fault>, Fail> {
     }
 }
 
-/// The counter's image in memory of this heap, or the fault that refused it, with the bytes as they were.
+/// Opens the counter's image in memory of this heap. Tests that a refusal returns the bytes unchanged.
 fn opened_image<'h>(
     rt: &(impl Abort + AllocGlobal),
     heap: &'h LocalHeap,
@@ -147,7 +147,7 @@ fn opened_image<'h>(
     }
 }
 
-/// The fault of a call on the counter's image, which is opened first. Where there is one, the image is as it was.
+/// The fault of a call on the counter's image after it is opened. Tests that the image is unchanged if there is a fault.
 fn fault_on_image(
     rt: &(impl Abort + AllocGlobal),
     heap: &LocalHeap,
@@ -168,7 +168,7 @@ fn fault_on_image(
     Ok(fault)
 }
 
-/// Makes a call on this host memory. The fault, if it is refused.
+/// Makes a call with this host memory. Returns its fault, if it is refused.
 fn fault_of(
     rt: &(impl Abort + AllocGlobal),
     heap: &LocalHeap,
@@ -189,7 +189,7 @@ fn fault_of(
     })
 }
 
-/// How often a call is refused for memory until there is enough. It does what it says then.
+/// How often a call is out of memory until there is enough memory for it. Then it must succeed.
 fn refusals_of(rt: &(impl Abort + AllocGlobal), call: Call) -> Result<usize, Fail> {
     for size in 1..512usize {
         let heap = LocalHeap::new(rt.alloc(), size * 16)?;
@@ -216,7 +216,7 @@ fn calls_answer_memory_until_there_is_enough(rt: HostRuntime) -> Result<(), Fail
     Ok(())
 }
 
-/// The image of 784 bytes takes 49 units of 16, and each call has to have what it works on and what it makes.
+/// The image of 784 bytes takes 49 units of 16 bytes. Each call needs memory for what it works on and for what it makes.
 #[test]
 fn images_answer_memory_until_there_is_enough(rt: HostRuntime) -> Result<(), Fail> {
     for (call, least) in [

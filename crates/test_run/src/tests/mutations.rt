@@ -30,7 +30,7 @@ fn destroy_named<F: Fit>(rt: &impl Abort, segment: &mut Segment<F, Global>) -> R
     Ok(())
 }
 
-/// What is saved of an image that was opened is the same in version 2.
+/// Tests that an opened image is saved as the same bytes in version 2.
 fn saves_as_opened<F: Fit>(
     rt: &(impl Abort + AllocGlobal),
     segment: &Segment<F, Global>,
@@ -43,7 +43,8 @@ fn saves_as_opened<F: Fit>(
     Ok(())
 }
 
-/// Opens an image, if it is accepted, saves it, and destroys all that is in it. The heap is one gap then.
+/// If an image is accepted, opens and saves it, and destroys all its objects, after which the heap is one free block. Returns
+/// whether it was accepted.
 fn use_up<F: Fit>(rt: &(impl Abort + AllocGlobal), image: &[u8]) -> Result<bool, Fail> {
     let Ok(mut segment) = opened::<F>(rt.alloc(), window(rt.alloc(), image)?) else {
         return Ok(false);
@@ -57,7 +58,7 @@ fn use_up<F: Fit>(rt: &(impl Abort + AllocGlobal), image: &[u8]) -> Result<bool,
     Ok(true)
 }
 
-/// Uses an image up by the allocator that it names.
+/// Does that with the allocator in the image's header.
 fn use_image(rt: &(impl Abort + AllocGlobal), image: &[u8]) -> Result<bool, Fail> {
     if window(rt.alloc(), image)?.get32(header::ALLOCATOR) == BestFit::word() {
         use_up::<BestFit>(rt, image)
@@ -66,7 +67,7 @@ fn use_image(rt: &(impl Abort + AllocGlobal), image: &[u8]) -> Result<bool, Fail
     }
 }
 
-/// Tries an image with each byte changed in several ways. How many are accepted.
+/// Does that for an image with each byte changed in several ways. Returns how many of these images are accepted.
 fn try_changes(rt: &(impl Abort + AllocGlobal), image: &mut Vec<u8>) -> Result<usize, Fail> {
     let mut accepted = 0usize;
     for at in 0..image.len() {
@@ -81,13 +82,13 @@ fn try_changes(rt: &(impl Abort + AllocGlobal), image: &mut Vec<u8>) -> Result<u
     Ok(accepted)
 }
 
-/// Whether an image that is cut is refused.
+/// Whether an image that is cut off is refused with both allocators.
 fn is_refused(rt: &(impl Abort + AllocGlobal), cut: &[u8]) -> Result<bool, Fail> {
     Ok(!use_up::<SeqFit>(rt, cut)? && !use_up::<BestFit>(rt, cut)?)
 }
 
-/// An image that holds every kind, with each byte changed in several ways, and cut at each length: it is refused, or all
-/// that is in it can be found and destroyed.
+/// Changes each byte of an image with values of every kind, in several ways, and cuts the image at each length. Each result is
+/// refused, or all its objects can be found and destroyed.
 fn changed_images(rt: &(impl Abort + AllocGlobal), kind: Kind) -> Result<(), Fail> {
     let mut image = run_anew(rt.alloc(), 2048, kind, &[MAKE_EACH_KIND])?.image;
     assert!(rt; use_image(rt, image.as_slice())?);
@@ -106,7 +107,7 @@ fn changed_images_are_refused_or_usable(rt: HostRuntime) -> Result<(), Fail> {
     Ok(())
 }
 
-/// The same of an image with a frozen object.
+/// The same for an image with a frozen object.
 #[test]
 fn changed_images_that_share_are_refused_or_usable(rt: HostRuntime) -> Result<(), Fail> {
     let mut image = sharing(rt.alloc())?;

@@ -2,7 +2,7 @@ use crate::tests::plays::plays;
 use std::test::Fail;
 use support_runs::{KINDS, SEQ_FLAT};
 
-/// Makes x, stores 42 and prints it, or prints why not.
+/// Makes x, stores 42 and prints it, or prints the code.
 const MAKE: &str = "type i64
     name x
     MAKE r0 - - t0 k0
@@ -13,7 +13,7 @@ const MAKE: &str = "type i64
       OUTI r0
     END";
 
-/// The object has 2 units; a flat index asks for 3 and takes 2 at its limit, a node of the tree has 3.
+/// The object has 2 units. A flat index prefers 3 units and accepts 2, and a node of the tree has 3.
 #[test]
 fn makes_an_object_where_there_is_room(rt: HostRuntime) -> Result<(), Fail> {
     let text = format!(in rt.alloc();
@@ -55,7 +55,7 @@ fn destroys_an_object_once(rt: HostRuntime) -> Result<(), Fail> {
     plays(rt.alloc(), &KINDS, text.as_str())
 }
 
-/// A cell that shares nothing has the room of a number. Clients whose types don't share run on the same image.
+/// An empty shared cell is as large as a number. Clients without types of shared cells run on the same image.
 #[test]
 fn objects_of_cells_that_share(rt: HostRuntime) -> Result<(), Fail> {
     plays(
@@ -110,7 +110,7 @@ fn objects_of_cells_that_share(rt: HostRuntime) -> Result<(), Fail> {
     )
 }
 
-/// Two names of numbers: two objects of 2 units, and an index of 3 or two nodes of 3. There is no second x.
+/// Two named numbers: two objects of 2 units, and an index of 3 units or two nodes of 3. A second x can't be made.
 #[test]
 fn makes_two_objects(rt: HostRuntime) -> Result<(), Fail> {
     plays(
@@ -144,8 +144,8 @@ fn makes_two_objects(rt: HostRuntime) -> Result<(), Fail> {
     )
 }
 
-/// A row of three numbers, what it has, and the refusals: a bad count, a name that is there, another type, an item that
-/// isn't there.
+/// An array of three numbers: its items, and calls that are refused for a wrong count, an existing name, another type, or a
+/// missing item.
 #[test]
 fn objects_of_many_values(rt: HostRuntime) -> Result<(), Fail> {
     plays(
@@ -216,7 +216,8 @@ fn objects_of_many_values(rt: HostRuntime) -> Result<(), Fail> {
     )
 }
 
-/// The unique pair is made once, is found in both ways, one of another type isn't, and it is destroyed once.
+/// The unique pair is made once, and found by both instructions. An object of another type isn't found. The pair is destroyed
+/// once.
 #[test]
 fn unique_objects(rt: HostRuntime) -> Result<(), Fail> {
     plays(
@@ -275,7 +276,8 @@ fn unique_objects(rt: HostRuntime) -> Result<(), Fail> {
     )
 }
 
-/// A client reads two bytes of the input, or why there is none; each client reads what the ones before it left.
+/// A client reads two bytes of the input, or prints the code at its end. Each client reads the input that the clients before it
+/// left.
 #[test]
 fn reads_the_input(rt: HostRuntime) -> Result<(), Fail> {
     plays(

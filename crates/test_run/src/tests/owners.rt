@@ -17,7 +17,7 @@ fn a_chain_of_owners(rt: HostRuntime) -> Result<(), Fail> {
     plays(rt.alloc(), &KINDS, text.as_str())
 }
 
-/// What an own holds is destroyed when it is replaced, cleared or dropped with its owner.
+/// The object of an own is destroyed when it is replaced, cleared, or dropped with its owner.
 #[test]
 fn owners_destroy_what_they_hold(rt: HostRuntime) -> Result<(), Fail> {
     plays(
@@ -77,7 +77,7 @@ const PRINT_WHILE_OWNING: &str = "type i64
     ELSE
     END";
 
-/// The second client doesn't run: the first one's output failed at its third step, after it took 2 bytes.
+/// Whether the first client's output failed at the third step, after 2 bytes. Then the second client doesn't run.
 fn has_failed(ran: &Ran) -> bool {
     let report = ran.reports.first().copied().unwrap_or_default();
     ran.ended == Ended::OutputFailed
@@ -86,7 +86,7 @@ fn has_failed(ran: &Ran) -> bool {
         && ran.out.as_slice() == b"42".as_slice()
 }
 
-/// The bytes that are free after a failed output, at which the object that a register owns is destroyed.
+/// How many bytes are free after a failed output, if a register owned an object, which is destroyed then.
 fn free_at_failure(alloc: Global, kind: Kind) -> Result<Option<u32>, Fail> {
     let image = empty(alloc, 1024, kind)?;
     let setting = Setting { limit: 2, ..PLAIN };

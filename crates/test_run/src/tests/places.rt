@@ -14,7 +14,7 @@ use support_runs::{
     run_in,
 };
 
-/// The bytes of the host, all of them 0xa5 but for the segment.
+/// The size of the host. All its bytes outside the segment are 0xa5.
 const ROOM: u32 = 8192;
 
 /// The counter's segment at a base of a host.
@@ -25,7 +25,7 @@ fn counter_at(alloc: Global, base: u32) -> Result<Segment<SeqFit, Global>, Fail>
     Ok(opened::<SeqFit>(alloc, placed(region, base, image.as_slice())?)?)
 }
 
-/// Whether all bytes are those that the host had.
+/// Whether all bytes are as they were in the host.
 fn is_untouched(bytes: &[u8]) -> bool {
     bytes.iter().all(|byte| *byte == 0xa5)
 }
@@ -59,14 +59,14 @@ fn increments(
     Ok(segment.into_region())
 }
 
-/// Whether the bytes of a region in a range are those that the host had.
+/// Whether the bytes of a range of the region are as they were in the host.
 fn keeps(region: &Region<Global>, from: u32, to: u32) -> bool {
     from <= to
         && to <= region.len()
         && is_untouched(region.slice(from as usize, (to - from) as usize))
 }
 
-/// Where a segment doesn't lie, its host's bytes stay.
+/// The host's bytes outside the segment don't change.
 #[test]
 fn host_bytes_stay(rt: HostRuntime) -> Result<(), Fail> {
     for base in [0u32, 16, 4096, 7408] {
@@ -80,7 +80,7 @@ fn before(step: u64, base: u32) -> Move {
     Move { step, base }
 }
 
-/// Moves right before each of so many steps, to two bases in turn.
+/// Moves right before each of the first `steps` steps, to two bases in turn.
 fn moves_between(alloc: Global, steps: u64, odd: u32, even: u32) -> Result<Vec<Move>, Fail> {
     let mut moves = Vec::new(alloc);
     for step in 1..=steps {
@@ -90,7 +90,7 @@ fn moves_between(alloc: Global, steps: u64, odd: u32, even: u32) -> Result<Vec<M
     Ok(moves)
 }
 
-/// Moved before each step between two places, it leaves all bytes outside these.
+/// A segment that moves between two places before each step changes no byte outside these places.
 #[test]
 fn host_bytes_stay_where_it_moves(rt: HostRuntime) -> Result<(), Fail> {
     let moves = moves_between(rt.alloc(), 6, 4096, 0)?;
@@ -99,7 +99,7 @@ fn host_bytes_stay_where_it_moves(rt: HostRuntime) -> Result<(), Fail> {
     Ok(())
 }
 
-/// Where it was before its only move, it leaves the image as it was then.
+/// After its only move, the image's bytes at the old place are as they were before the move.
 #[test]
 fn an_image_stays_where_it_was(rt: HostRuntime) -> Result<(), Fail> {
     let region = increments(&rt, 0, &[before(5, 4096)])?;
@@ -111,7 +111,7 @@ fn an_image_stays_where_it_was(rt: HostRuntime) -> Result<(), Fail> {
     Ok(())
 }
 
-/// The first move that doesn't fit: its step isn't above the one before, or its base isn't one.
+/// The first move that doesn't fit: its step isn't above the step before, or its base isn't valid.
 #[test]
 fn moves_that_do_not_fit(rt: HostRuntime) -> Result<(), Fail> {
     let segment = counter_at(rt.alloc(), 0)?;
@@ -124,7 +124,7 @@ fn moves_that_do_not_fit(rt: HostRuntime) -> Result<(), Fail> {
     Ok(())
 }
 
-/// A run with these moves is refused for the one with this index.
+/// Tests that a run with these moves is refused because of the move with this index.
 fn refuses_move(rt: &(impl Abort + AllocGlobal), moves: &[Move], bad: u32) -> Result<(), Fail> {
     let image = counter(rt.alloc())?;
     let setting = Setting {
@@ -150,7 +150,7 @@ fn refuses_moves(rt: HostRuntime) -> Result<(), Fail> {
     refuses_move(&rt, &[before(1, 8), before(2, 0)], 0)
 }
 
-/// A move before each step of each client, to 4096 and to 0 in turn.
+/// A move before each step of each client, to 4096 and 0 in turn.
 #[test]
 fn runs_alike_where_it_moves(rt: HostRuntime) -> Result<(), Fail> {
     let image = counter(rt.alloc())?;
@@ -168,7 +168,7 @@ fn runs_alike_where_it_moves(rt: HostRuntime) -> Result<(), Fail> {
     Ok(())
 }
 
-/// A run with a setting, which prints, saves and reports what one without it does.
+/// Tests that a run with a setting prints, saves and reports the same as a run without it.
 fn runs_alike(
     rt: &(impl Abort + AllocGlobal),
     image: &[u8],
@@ -183,7 +183,7 @@ fn runs_alike(
     Ok(ran)
 }
 
-/// Another base, and moves right before each step, change nothing of what is printed and saved.
+/// Another base, and a move right before each step, change nothing in the output and the saved image.
 #[test]
 fn runs_alike_wherever_it_lies(rt: HostRuntime) -> Result<(), Fail> {
     let moves = moves_between(rt.alloc(), 200, 272, 0)?;
@@ -193,7 +193,7 @@ fn runs_alike_wherever_it_lies(rt: HostRuntime) -> Result<(), Fail> {
         let texts = [FIVE_TEXTS, PRINT_TEXTS];
         for base in [16, 65_536] {
             let _ = runs_alike(&rt, image.as_slice(), &texts, Setting { base, ..PLAIN })?;
-            // only an image that moves is put at its base
+            // an image that doesn't move isn't put at its base
             let moves = &[before(1, base)];
             let there = Setting {
                 base,
@@ -207,7 +207,7 @@ fn runs_alike_wherever_it_lies(rt: HostRuntime) -> Result<(), Fail> {
     Ok(())
 }
 
-/// The chain is made and destroyed while it moves before each step.
+/// The chain is made and destroyed while the segment moves before each step.
 #[test]
 fn a_chain_that_moves(rt: HostRuntime) -> Result<(), Fail> {
     let text = chain(rt.alloc(), 2_000)?;

@@ -1,13 +1,14 @@
-//! Clients, what they print, and what they leave, written as text: statements, each after a `$`, with lines below them.
+//! Clients, their output and their effects, written as text. Each statement begins with `$`, and lines belong to the statement
+//! above them:
 //!
-//!     $ client add                      the text of a client, which is called `add`, each line without the spaces in front
+//!     $ client add                      the text of a client with the name `add`; leading spaces are ignored
 //!     ...
-//!     $ on 1024 add add; free 240       clients run on a new segment of 1024 bytes, and leave this
-//!     1                                 what they print, likewise; `\` at the end of a line stands for no new line
+//!     $ on 1024 add add; free 240       runs clients on a new segment of 1024 bytes; 240 bytes are free afterwards
+//!     1                                 the lines that they must print; with `\` at its end a line has no line end
 //!     2
-//!     $ then add; named 1 largest 240   a client runs on the saved image
+//!     $ then add; named 1 largest 240   runs a client on the saved image
 //!     3
-//!     $ flat on 768 add reads AB        only with a flat index, or `tree`, `seq`, `best`; the input is AB
+//!     $ flat on 768 add reads AB        only for a flat index, or `tree`, `seq`, `best`; the input is AB
 //!
 //! Each run must finish, and its saved image must be sound.
 
@@ -19,7 +20,7 @@ use std::test::Fail;
 use support_data::statements;
 use support_runs::{Kind, PLAIN, Ran, Setting, client, empty, run_files, statistics_of};
 
-/// Runs what a text says on each kind of segments.
+/// Performs the statements of a text on each of these kinds of segments.
 pub(crate) fn plays(alloc: Global, kinds: &[Kind], text: &str) -> Result<(), Fail> {
     for kind in kinds {
         let mut play = Play {
@@ -33,7 +34,7 @@ pub(crate) fn plays(alloc: Global, kinds: &[Kind], text: &str) -> Result<(), Fai
     Ok(())
 }
 
-/// A text that is followed on one kind of segments.
+/// The state of a text's statements on one kind of segment.
 #[derive(Drop)]
 struct Play<'a> {
     alloc: Global,
@@ -71,7 +72,7 @@ impl<'a> Play<'a> {
         }
     }
 
-    /// Whether the segment is of a kind, where the word names one.
+    /// Whether the segment is of the kind that a word states. `None` if the word states no kind.
     fn is_of(&self, word: &str) -> Option<bool> {
         match word {
             "seq" => Some(!self.kind.is_best_fit),
@@ -82,7 +83,7 @@ impl<'a> Play<'a> {
         }
     }
 
-    /// Adds a client. Its lines lose the spaces in front.
+    /// Adds a client. Leading spaces of its lines are removed.
     fn add(&mut self, name: &'a str, lines: &str) -> Result<(), Fail> {
         let mut text = String::new(self.alloc);
         for line in lines.trim_end().lines() {
@@ -100,7 +101,7 @@ impl<'a> Play<'a> {
         self.run(words, lines)
     }
 
-    /// Runs clients, which must print these lines.
+    /// Runs clients. They must print these lines.
     fn run(&mut self, words: &str, lines: &str) -> Result<(), Fail> {
         let (run, left) = words.split_once(';').unwrap_or((words, ""));
         let (names, input) = run.split_once(" reads ").unwrap_or((run, ""));
@@ -128,7 +129,7 @@ impl<'a> Play<'a> {
         Some(client.1.as_slice())
     }
 
-    /// These numbers, each after what it is of, are those of the run and its image.
+    /// Tests these numbers of the run and its image. Each number comes after a word for what it counts.
     fn leaves(&self, ran: &Ran, facts: &str) -> Result<(), Fail> {
         let words: Vec<&str> = facts.split_whitespace().collect(self.alloc)?;
         for fact in words.as_slice().chunks(2) {
@@ -156,7 +157,7 @@ impl<'a> Play<'a> {
     }
 }
 
-/// Whether these lines, and no more, were printed.
+/// Whether exactly these lines were printed.
 fn is_printed(printed: &[u8], lines: &str) -> bool {
     let mut rest = printed;
     for line in lines.trim_end().lines() {

@@ -10,14 +10,14 @@ use support_runs::{PLAIN, Setting, outcome_in};
 /// A region of the counter's length.
 const WHOLE: Setting<'static> = Setting { room: 784, ..PLAIN };
 
-/// A region in which it moves.
+/// A region in which the image moves.
 const MOVING: Setting<'static> = Setting {
     room: 800,
     moves: &[Move { step: 1, base: 16 }],
     ..PLAIN
 };
 
-/// The counter, but for these words, comes back with this refusal.
+/// Tests that the counter with these changes is refused like this, and returned unchanged.
 fn comes_back(
     rt: &(impl Abort + AllocGlobal),
     changes: &str,
@@ -37,7 +37,7 @@ fn comes_back(
     }
 }
 
-/// A version that isn't known.
+/// An image of an unknown version.
 #[test]
 fn a_faulty_image_comes_back(rt: HostRuntime) -> Result<(), Fail> {
     for setting in [WHOLE, PLAIN, MOVING] {
@@ -69,7 +69,7 @@ fn an_image_comes_back_where_it_has_no_place(rt: HostRuntime) -> Result<(), Fail
     Ok(())
 }
 
-/// Where it runs, its bytes are those that are saved.
+/// Tests that a run in the image's own bytes leaves the bytes that are saved otherwise.
 fn runs(rt: &(impl Abort + AllocGlobal), setting: Setting) -> Result<(), Fail> {
     let clients = [INCREMENT_FILE.as_slice()];
     match outcome_in(rt.alloc(), counter(rt.alloc())?, &clients, setting) {

@@ -15,7 +15,7 @@ use support_runs::{
     run_on, verified, window,
 };
 
-/// Freezes a number into a cell, shares it in another, and reads it there after the first cell went.
+/// Freezes a number into a cell, shares it with another cell, destroys the first cell, and reads the number through the second.
 const SHARE: &str = "type i64
     type shared t0
     name a
@@ -44,7 +44,7 @@ const SHARE: &str = "type i64
     ELSE
     END";
 
-/// Freezes a number into the cell `a`, or prints why not.
+/// Freezes a number into the cell `a`, or prints the code.
 const FREEZE: &str = "type i64
     type shared t0
     name a
@@ -63,7 +63,7 @@ const FREEZE: &str = "type i64
     ELSE
     END";
 
-/// The image that [`SHARE`] leaves. The cell `b` is at 800, and what it names at 864.
+/// The image that [`SHARE`] leaves. The cell `b` is at 800, and its object at 864.
 fn shared_image(alloc: Global) -> Result<Vec<u8>, Fail> {
     Ok(run_anew(alloc, 1024, SEQ_FLAT, &[SHARE])?.image)
 }
@@ -87,7 +87,7 @@ fn a_frozen_number_is_shared_and_read(rt: HostRuntime) -> Result<(), Fail> {
     plays(rt.alloc(), &KINDS, text.as_str())
 }
 
-/// Each of its instructions but those of the else parts is a step.
+/// Each instruction outside the else parts is a step.
 #[test]
 fn the_steps_of_sharing_are_the_bound(rt: HostRuntime) -> Result<(), Fail> {
     let file = client(rt.alloc(), SHARE)?;
@@ -96,7 +96,7 @@ fn the_steps_of_sharing_are_the_bound(rt: HostRuntime) -> Result<(), Fail> {
     Ok(())
 }
 
-/// The bytes of words, as an image has them.
+/// The bytes of words in an image.
 fn words(alloc: Global, words: &[u32]) -> Result<Vec<u8>, Fail> {
     let mut bytes = Vec::new(alloc);
     for word in words {
@@ -105,7 +105,7 @@ fn words(alloc: Global, words: &[u32]) -> Result<Vec<u8>, Fail> {
     Ok(bytes)
 }
 
-/// The cell names what begins 64 bytes after it, which one cell names, is the first frozen object, and holds 7.
+/// The cell points 64 bytes ahead. One cell shares the object there, which is the first frozen object, with the value 7.
 #[test]
 fn the_bytes_of_what_is_shared(rt: HostRuntime) -> Result<(), Fail> {
     let image = shared_image(rt.alloc())?;
@@ -116,7 +116,7 @@ fn the_bytes_of_what_is_shared(rt: HostRuntime) -> Result<(), Fail> {
     Ok(())
 }
 
-/// The image that [`SHARE`] leaves, with another word.
+/// The image that [`SHARE`] leaves, with another word at a position.
 fn changed(alloc: Global, at: usize, word: u32) -> Result<Vec<u8>, Fail> {
     let mut image = shared_image(alloc)?;
     write_words(image.as_mut_slice(), at, &[word]);
@@ -128,7 +128,7 @@ fn checked(alloc: Global, image: &[u8]) -> Result<(), Fault> {
     Ok(())
 }
 
-/// A count that isn't that of the cells, and a number that isn't below the next one.
+/// A count that isn't the number of cells, and a number that isn't below the next one, are faults.
 #[test]
 fn wrong_counts_and_numbers_are_refused(rt: HostRuntime) -> Result<(), Fail> {
     for (at, word) in [(864, 2), (868, 1)] {
@@ -141,17 +141,17 @@ fn wrong_counts_and_numbers_are_refused(rt: HostRuntime) -> Result<(), Fail> {
     Ok(())
 }
 
-/// No number is left: nothing is frozen, and the object is still there to be dropped.
+/// If no number is left, nothing is frozen, and the object can still be dropped.
 #[test]
 fn numbers_are_used_up(rt: HostRuntime) -> Result<(), Fail> {
     let image = changed(rt.alloc(), 28, u32::MAX)?;
     assert_eq!(rt; checked(rt.alloc(), image.as_slice()), Ok(()));
     let ran = run_on(rt.alloc(), image.as_slice(), &[FREEZE])?;
-    // the cell `a` comes where it was before
+    // the cell `a` is made in the same place as before
     leaves(&rt, &ran, "7\n", 176, 2)
 }
 
-/// What is frozen is only read.
+/// Frozen objects are read-only.
 #[test]
 fn what_is_frozen_is_not_changed(rt: HostRuntime) -> Result<(), Fail> {
     let image = shared_image(rt.alloc())?;
@@ -184,7 +184,7 @@ fn what_is_frozen_is_not_changed(rt: HostRuntime) -> Result<(), Fail> {
     }
 }
 
-/// Freezes a struct into `h`, and then another one that shares the first; at last `h` names the first again.
+/// Freezes a struct into `h`, then another one that shares the first. At the end `h` shares the first again.
 const REPLACE: &str = "type i64
     type shared t2
     type struct t0 t1
@@ -225,8 +225,8 @@ fn a_cell_names_what_its_content_shares(rt: HostRuntime) -> Result<(), Fail> {
     plays(rt.alloc(), &KINDS, text.as_str())
 }
 
-/// The name's object is at 704, its index at 736. The first struct, at 784, is moved to the 48 bytes at 816; the second one, at
-/// 784 too, to those at 864, which are free again in the end. The cell of `h` at 720 names what begins at 832.
+/// The named object is at 704 and its index at 736. The first struct, at 784, moves to the 48 bytes at 816. The second one, also
+/// at 784, moves to the 48 bytes at 864, which are free again at the end. The cell of `h` at 720 points to 832.
 #[test]
 fn the_first_of_two_frozen_structs_is_left(rt: HostRuntime) -> Result<(), Fail> {
     let image = run_anew(rt.alloc(), 1024, SEQ_FLAT, &[REPLACE])?.image;
@@ -239,8 +239,8 @@ fn the_first_of_two_frozen_structs_is_left(rt: HostRuntime) -> Result<(), Fail> 
     Ok(())
 }
 
-/// The unique cell names a frozen 7, and an object that is 8 takes the last gap: it isn't frozen, and both stay. A gap of 48
-/// bytes is used up by a block of 32, since 16 are no block.
+/// The unique cell shares a frozen 7, and an object with the value 8 takes the last free block. It can't be frozen, and both
+/// objects stay. A block of 32 bytes uses up a free block of 48, since 16 bytes can't be a block.
 #[test]
 fn no_gap_for_a_frozen_object(rt: HostRuntime) -> Result<(), Fail> {
     plays(
@@ -294,7 +294,7 @@ fn no_gap_for_a_frozen_object(rt: HostRuntime) -> Result<(), Fail> {
     )
 }
 
-/// A cell shares nothing where the other one doesn't, and itself as before.
+/// Sharing from an empty cell empties the other cell. Sharing from the cell itself changes nothing.
 #[test]
 fn cells_share_nothing_and_themselves(rt: HostRuntime) -> Result<(), Fail> {
     let text = format!(in rt.alloc();
@@ -342,7 +342,7 @@ fn cells_share_nothing_and_themselves(rt: HostRuntime) -> Result<(), Fail> {
     plays(rt.alloc(), &KINDS, text.as_str())
 }
 
-/// Freezes a struct of a value of each kind into `h`.
+/// Freezes a struct with a value of each kind into `h`.
 const FREEZE_EACH_KIND: &str = "type i64
     type str
     type vec t0
@@ -424,7 +424,7 @@ text abc
     ELSE
     END";
 
-/// Reads each of its values, in each way.
+/// Reads each of these values, by each instruction that reads it.
 const READ_EACH_KIND: &str = "type i64
     type str
     type vec t0
@@ -577,7 +577,7 @@ fn what_is_frozen_is_read_in_each_way(rt: HostRuntime) -> Result<(), Fail> {
     plays(rt.alloc(), &KINDS, text.as_str())
 }
 
-/// Nothing changes where a client reads.
+/// Tests that a client that only reads changes nothing.
 fn reading_changes_nothing(rt: &(impl Abort + AllocGlobal), kind: Kind) -> Result<(), Fail> {
     let frozen = run_anew(rt.alloc(), 4096, kind, &[FREEZE_EACH_KIND])?;
     let read = run_on(rt.alloc(), frozen.image.as_slice(), &[READ_EACH_KIND])?;
@@ -593,7 +593,7 @@ fn readers_change_nothing(rt: HostRuntime) -> Result<(), Fail> {
     Ok(())
 }
 
-/// A notice is published and printed, and again. There is none before.
+/// A notice is published and printed, twice. Before that there is no notice to print.
 #[test]
 fn a_notice_is_published(rt: HostRuntime) -> Result<(), Fail> {
     let text = format!(in rt.alloc();
@@ -612,7 +612,7 @@ fn a_notice_is_published(rt: HostRuntime) -> Result<(), Fail> {
     plays(rt.alloc(), &KINDS, text.as_str())
 }
 
-/// An output that fails after what was frozen and shared: it stays as it would otherwise.
+/// An output fails after an object was frozen and shared. Tests that the objects are as they are without a failure.
 fn output_fails_after(rt: &(impl Abort + AllocGlobal), limit: usize) -> Result<Ran, Fail> {
     let image = empty(rt.alloc(), 1024, SEQ_FLAT)?;
     let setting = Setting { limit, ..PLAIN };

@@ -4,7 +4,7 @@ use std::process::Abort;
 use std::test::Fail;
 use support_runs::{KINDS, Kind, SEQ_FLAT, run_anew, statistics_of};
 
-/// Makes an object of each kind, asks for room in each way, and prints each code.
+/// Makes an object of each kind, requests memory by each instruction, and prints each code.
 pub(crate) const MAKE_EACH_KIND: &str = "type i64
     type str
     type vec t1
@@ -115,7 +115,7 @@ text a text of forty bytes, which is 3 units.
     END
 ";
 
-/// Destroys what [`MAKE_EACH_KIND`] made.
+/// Destroys the objects that [`MAKE_EACH_KIND`] made.
 const KILL_EACH_KIND: &str = "KILL r0 - t0 k0
     KILL r0 - t1 k1
     KILL r0 - t2 k2
@@ -125,7 +125,7 @@ const KILL_EACH_KIND: &str = "KILL r0 - t0 k0
     UKILL r0 t6
     UKILL r0 t7";
 
-/// The types of [`MAKE_EACH_KIND`], and one of cells that share.
+/// The types of [`MAKE_EACH_KIND`], and a type of shared cells.
 const TYPES_THAT_SHARE: &str = "type i64
     type str
     type vec t1
@@ -152,7 +152,7 @@ const FREEZE: &str = "UMAKE r0 t8
       OUTI r0
     END";
 
-/// Whether each line of an output is the code for want of room. How many there are.
+/// Tests that each line of an output is the code for out of memory. Returns the number of lines.
 fn codes(rt: &impl Abort, out: &[u8]) -> usize {
     for line in out.chunks(2) {
         assert_eq!(rt; line, b"2\n".as_slice());
@@ -160,8 +160,8 @@ fn codes(rt: &impl Abort, out: &[u8]) -> usize {
     out.len() / 2
 }
 
-/// Clients make and destroy an object of each kind in a segment of so many units, after which nothing is left. How many requests
-/// found no room.
+/// Makes and destroys an object of each kind in a segment of this many units, after which all memory must be free. Returns how
+/// many requests had no room.
 fn leaves_nothing(
     rt: &(impl Abort + AllocGlobal),
     texts: &[&str],
@@ -177,8 +177,8 @@ fn leaves_nothing(
     Ok(codes(rt, ran.out.as_slice()))
 }
 
-/// On each size there is either room or a code, and nothing is left, beside a frozen number too, where there is room for it. The
-/// smallest segment has room for one object by itself, the largest for all.
+/// In a segment of any size each request has room or fails with a code, and all memory is freed at the end; also with a frozen
+/// number, if there is room for it. The smallest segment has room for one of the objects at a time, the largest for all.
 #[test]
 fn leaves_nothing_on_each_size(rt: HostRuntime) -> Result<(), Fail> {
     let freeze = format!(in rt.alloc(); "{TYPES_THAT_SHARE}{FREEZE}")?;
@@ -196,8 +196,8 @@ fn leaves_nothing_on_each_size(rt: HostRuntime) -> Result<(), Fail> {
     Ok(())
 }
 
-/// A vector of numbers tells its length after a push, or why it has none. The object has 2 units, or 3; the index 2 or 3; the
-/// vector's buffer 3 for four numbers, or 2 for one.
+/// Prints the length of a vector after a push, or the code. The object has 2 units, or 3; the index 2 or 3; and the vector's
+/// buffer 3 for four numbers, or 2 for one.
 #[test]
 fn first_push_by_size(rt: HostRuntime) -> Result<(), Fail> {
     plays(

@@ -10,7 +10,8 @@ use std::test::Fail;
 use support_data::Limited;
 use support_runs::{client, created, ready};
 
-/// A vector gets a struct, whose field gets the numbers 2 and 1 in a loop; it has no item 1. Then an object comes and goes.
+/// A vector gets a struct, and the field of the struct the numbers 2 and 1 in a loop. The vector has no item 1. Then an object is
+/// made and destroyed.
 const STORES: &str = r"type i64
 type vec t2
 type struct t0 t0
@@ -43,7 +44,7 @@ ELSE
 END
 ";
 
-/// Its steps: the loop begins, makes two turns of three steps, and ends by an `END` that is no step.
+/// The steps of the loop: it begins, has two iterations of three steps, and ends at an `END` that isn't a step.
 const STORES_TRACE: &str = r#"     1    0  FINDOR r0 - t1 k0  ; r0 -> vector
      2    1  PUSH r1 r0         ; r0 -> vector, r1 -> vector[0]
      3    2  FIELD r2 r1 1      ; r0 -> vector, r1 -> vector[0], r2 -> vector[0].field 1
@@ -69,7 +70,7 @@ out "no item\n"
     20   22  DROP r7
 "#;
 
-/// A unique map gets an own, which gets an object; a family's list gets items at both ends, and is found.
+/// A unique map gets an own, and the own an object. A list of a family gets items at both ends, and is found.
 const REFERS: &str = "type i64
 type map t2
 type own t0
@@ -105,7 +106,7 @@ ELSE
 END
 ";
 
-/// What is known in one part of an opener alone isn't known after it.
+/// What is known in only one part of an opener isn't known after it.
 const REFERS_TRACE: &str = r"     1    0  CONST r0 0           ; r0 = 0
      2    1  CONST r1 -3          ; r0 = 0, r1 = -3
      3    2  UMAKE r2 t1          ; r0 = 0, r1 = -3, r2 -> unique t1
@@ -143,14 +144,14 @@ ELSE
 END
 ";
 
-/// Three steps stand in front of five turns of five; the path to the last own has ten parts.
+/// Three steps come before five iterations of five steps. The path to the last own has ten parts.
 const CHAIN_END: &str = r#"
      -   11  END                ; r0 -> chain.(2 parts).content.field 1.content.field 1.content.field 1.content.field 1, r1 = 1
     29   12  OUTC k1
 out "012345678901234567890123456789012345678901234567890123456789".. of 61
 "#;
 
-/// A number is frozen, shared, and read in the second cell.
+/// A number is frozen, shared, and read through the second cell.
 const SHARES: &str = "type i64
 type shared t0
 name a
@@ -180,7 +181,7 @@ ELSE
 END
 ";
 
-/// What was owned is nobody's after `FREEZE`, and what is frozen is read.
+/// After `FREEZE` the register no longer owns the object, and the object is read-only.
 const SHARES_TRACE: &str = r#"     1    0  CONST r4 7         ; r4 = 7
      2    1  MAKE r0 - - t1 k0  ; r0 -> a, r4 = 7
      3    2  MAKE r1 - - t1 k1  ; r0 -> a, r1 -> b, r4 = 7
@@ -196,7 +197,7 @@ const SHARES_TRACE: &str = r#"     1    0  CONST r4 7         ; r4 = 7
 out "7\n"
 "#;
 
-/// The trace of the client that a text spells on an empty segment, of which the output takes so many bytes, and how it ended.
+/// The trace of a client on an empty segment, with an output that takes this many bytes, and how the trace ended.
 fn traced(
     alloc: Global,
     text: &str,
@@ -239,7 +240,7 @@ fn cuts_long_paths_and_output(rt: HostRuntime) -> Result<(), Fail> {
     Ok(())
 }
 
-/// The output takes a front of the trace, and ends it.
+/// The output takes a prefix of the trace, and then ends it.
 #[test]
 fn ends_at_an_output_that_fails(rt: HostRuntime) -> Result<(), Fail> {
     let (out, ended) = traced(rt.alloc(), STORES, 100)?;

@@ -7,7 +7,7 @@ use std::test::Fail;
 use support_data::{CACHE, CONFIGURE, COUNT, Limited, SETTINGS};
 use support_runs::{KINDS, client};
 
-/// Clients share a counter, from one run of the program to the next.
+/// Clients share a counter over several runs of the program.
 #[test]
 fn clients_share_a_counter(rt: HostRuntime) -> Result<(), Fail> {
     let text = format!(in rt.alloc();
@@ -49,7 +49,7 @@ fn clients_share_settings(rt: HostRuntime) -> Result<(), Fail> {
     plays(rt.alloc(), &KINDS, text.as_str())
 }
 
-/// The entry that came first goes when a fourth one comes.
+/// When a fourth entry is added, the oldest one is removed.
 #[test]
 fn a_cache_forgets_the_oldest(rt: HostRuntime) -> Result<(), Fail> {
     let text = format!(in rt.alloc();
@@ -70,7 +70,7 @@ fn a_cache_forgets_the_oldest(rt: HostRuntime) -> Result<(), Fail> {
     plays(rt.alloc(), &KINDS, text.as_str())
 }
 
-/// What the client that a text spells prints in so many runs on an image, and the image then.
+/// The output of a client in this many runs on an image, and the image afterwards.
 fn counted(
     rt: &impl AllocGlobal,
     image: Vec<u8>,
@@ -100,7 +100,7 @@ fn no_image_is_counted(rt: HostRuntime) {
     assert_eq!(rt; none.err(), Some(Fault::BadHeader));
 }
 
-/// What a host wrote is what it reads, and what a client prints.
+/// A host reads what a host wrote, and a client prints it.
 #[test]
 fn settings_are_shared(rt: HostRuntime) -> Result<(), Fail> {
     let settings = Settings {
@@ -120,7 +120,7 @@ fn settings_are_shared(rt: HostRuntime) -> Result<(), Fail> {
     Ok(())
 }
 
-/// A cache of two keys forgets the first one for the third, and has the others when it is opened again.
+/// A cache of two keys drops the first key for the third, and has the other two after it is opened again.
 #[test]
 fn a_cache_forgets_what_came_first(rt: HostRuntime) -> Result<(), Fail> {
     let mut cache = Cache::new(rt.alloc(), 2)?;

@@ -8,7 +8,7 @@ use std::test::Fail;
 use support_data::front;
 use support_runs::{PLAIN, SEQ_FLAT, Setting, empty, run_in, run_on};
 
-/// An output that takes so many bytes and no more: what was made before stays, and the saved image is accepted.
+/// An output fails after this many bytes. Tests that what was made before stays, and that the saved image is accepted.
 fn output_fails_after(rt: &(impl Abort + AllocGlobal), limit: usize) -> Result<(), Fail> {
     let image = empty(rt.alloc(), 1024, SEQ_FLAT)?;
     let setting = Setting { limit, ..PLAIN };

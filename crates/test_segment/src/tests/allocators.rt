@@ -8,7 +8,7 @@ use std::alloc::Global;
 use std::process::Abort;
 use std::test::Fail;
 
-/// 960 bytes with blocks of 4, 4 and 2 units, the second of which is freed.
+/// A heap that ends at 960, with blocks of 4, 4 and 2 units, the second of which is freed.
 fn with_a_gap<F: Fit>(rt: &(impl Abort + AllocGlobal)) -> Result<Window<Global>, Fail> {
     let mut w = one_gap::<F>(rt.alloc(), 1024, 960)?;
     for (need, at) in [(4, 704), (4, 768), (2, 832)] {
@@ -18,7 +18,7 @@ fn with_a_gap<F: Fit>(rt: &(impl Abort + AllocGlobal)) -> Result<Window<Global>,
     Ok(w)
 }
 
-/// The first block grows into the gap, and shrinks again. At the end of the heap two units come and go.
+/// The first block grows into the free block after it, and shrinks again. At its end the heap grows and shrinks by two units.
 fn changes_blocks<F: Fit>(rt: &(impl Abort + AllocGlobal)) -> Result<(), Fail> {
     let mut w = with_a_gap::<F>(rt)?;
     assert!(rt; F::expand(&mut w, 704, 5));
@@ -32,8 +32,8 @@ fn changes_blocks<F: Fit>(rt: &(impl Abort + AllocGlobal)) -> Result<(), Fail> {
     live_are(rt, &w, &[(704, 4), (832, 2), (864, 6)])
 }
 
-/// Requests that are met in place, by a new block at the limit, and by a block elsewhere, which takes a rest of one unit with
-/// it.
+/// Requests that are granted: in place; by a new block of the least size; and by a new block elsewhere, which has a unit more
+/// because one unit can't be a block.
 fn meets_requests<F: Fit>(rt: &(impl Abort + AllocGlobal)) -> Result<(), Fail> {
     let mut w = with_a_gap::<F>(rt)?;
     let grown = request::<F, Global>(&mut w, Some(704), 8, 5);
@@ -58,7 +58,7 @@ fn requests_are_met(rt: HostRuntime) -> Result<(), Fail> {
     meets_requests::<BestFit>(&rt)
 }
 
-/// The gap that best fit would take, and how many gaps it looks at.
+/// The free block that best fit takes, and how many free blocks it looks at.
 #[test]
 fn best_fit_locates_a_gap(rt: HostRuntime) -> Result<(), Fail> {
     let w = with_a_gap::<BestFit>(&rt)?;

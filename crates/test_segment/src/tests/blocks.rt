@@ -4,7 +4,7 @@ use crate::tests::image::{Image, checks};
 use std::alloc::Global;
 use std::test::Fail;
 
-/// Three unique numbers, with gaps of 2, 3 and 2 units after them, whose links are at 748, 812 and 892.
+/// Three unique numbers, with free blocks of 2, 3 and 2 units between and after them, whose links are at 748, 812 and 892.
 const COMB: &str = "
     type i64
     type i64
@@ -16,15 +16,15 @@ const COMB: &str = "
     864 unique t2 2
     896 gap 2";
 
-/// The comb with the list of sequential fit.
+/// `COMB` with the free list of sequential fit.
 fn listed(alloc: Global) -> Result<Image, Fail> {
     let mut image = Image::of(alloc, COMB)?;
     image.follow(alloc, "24->752 748->816 812->896 892->null")?;
     Ok(image)
 }
 
-/// The comb with the tree of best fit: the gap at 880, below it the other one of its size, which is lower, and the larger
-/// one.
+/// `COMB` with the free tree of best fit. Its root is the free block at 880; below are the lower one of the same size, and the
+/// larger one.
 fn grown(alloc: Global) -> Result<Image, Fail> {
     let mut image = Image::of(alloc, COMB)?;
     image.follow(
@@ -55,7 +55,7 @@ fn finds_faults_in_headers_of_blocks(rt: HostRuntime) -> Result<(), Fail> {
     )
 }
 
-/// A buffer is for a string, a vector or a flat map, a node for a list or a map.
+/// A buffer is for a string, a vector or a flat map. A node is for a list or a map.
 #[test]
 fn finds_tags_that_the_types_do_not_allow(rt: HostRuntime) -> Result<(), Fail> {
     checks(
@@ -112,7 +112,7 @@ fn finds_free_trees_of_other_blocks(rt: HostRuntime) -> Result<(), Fail> {
         24->752 760=0 752->896 756->816 896->null 900->null 904=1 => free 24
         16=0 => free 24 ; the tree is no list of sequential fit",
     )?;
-    // nor is the list a tree
+    // the list isn't a tree either
     listed(rt.alloc())?.follow(rt.alloc(), "16=1 => free 24")
 }
 

@@ -27,7 +27,7 @@ const GREETING: &str = "
     752->720 756=1,1
     800='hi'";
 
-/// How many changes of one byte had each answer.
+/// How many changes of one byte had each result.
 #[derive(Debug, Clone, Copy, PartialEq, Eq, Default)]
 struct Answers {
     accepted: u32,
@@ -56,7 +56,7 @@ impl Answers {
     }
 }
 
-/// Changes each of these bytes to each other value, and tests that those changes are accepted of which a rule says so.
+/// Changes each of these bytes to each other value, and tests that exactly the harmless changes are accepted.
 fn change_each<F: Fn(usize, u8) -> bool>(
     rt: &(impl Abort + AllocGlobal),
     image: &mut Image,
@@ -81,9 +81,8 @@ fn change_each<F: Fn(usize, u8) -> bool>(
     answers
 }
 
-/// Whether an image with one name of one letter means the same kind of thing with this byte: the other version; another
-/// allocator, for there is no free block; a further type without parts; another letter that can be printed; what the object
-/// and the index don't use.
+/// Whether an image with one name of one letter stays sound with this byte: the other version; the other allocator, as there is
+/// no free block; another type without parts; another printable letter; or a byte that the object and the index don't use.
 fn is_harmless_beside_one_name(at: usize, byte: u8) -> bool {
     match at {
         8 => byte == 1 || byte == 2,
@@ -95,12 +94,12 @@ fn is_harmless_beside_one_name(at: usize, byte: u8) -> bool {
     }
 }
 
-/// The number, and what goes for each name.
+/// The same for the counter, whose number may be any.
 fn is_harmless_in_the_counter(at: usize, byte: u8) -> bool {
     (720..728).contains(&at) || is_harmless_beside_one_name(at, byte)
 }
 
-/// A length that the buffer has room for, any text, and what goes for each name.
+/// The same for the greeting, whose text may be any, with any length that fits in the buffer.
 fn is_harmless_in_the_greeting(at: usize, byte: u8) -> bool {
     match at {
         724 => byte <= 16,
@@ -128,8 +127,8 @@ fn finds_each_changed_byte_of_the_counter(rt: HostRuntime) -> Result<(), Fail> {
     Ok(())
 }
 
-/// In version 2 the four bytes of the next number may be any, since nothing has one. All else is as in version 1. The types
-/// and the unique objects, between the front and the heap, are left out.
+/// In version 2 the four bytes of the next number may be any, since no object is frozen. Everything else is as in version 1. The
+/// types and the unique objects, between the first 64 bytes and the heap, are left out.
 #[test]
 fn finds_changed_bytes_of_the_counter_in_version_2(rt: HostRuntime) -> Result<(), Fail> {
     let mut image = Image::of(rt.alloc(), COUNTER)?;
@@ -139,7 +138,7 @@ fn finds_changed_bytes_of_the_counter_in_version_2(rt: HostRuntime) -> Result<()
     // version, allocator, and the next number
     assert_eq!(rt; front.accepted, 1 + 1 + 4 * 255);
     let heap = change_each(&rt, &mut image, 704..784, is_harmless);
-    // letters, and bytes of no matter
+    // letters, and bytes that aren't used
     assert_eq!(rt; heap.accepted, 93 + (8 + 7 + 24) * 255);
     Ok(())
 }
@@ -149,7 +148,7 @@ fn finds_each_changed_byte_of_the_greeting(rt: HostRuntime) -> Result<(), Fail> 
     let mut image = Image::of(rt.alloc(), GREETING)?;
     assert_eq!(rt; image.w.len(), 816);
     let answers = change_each(&rt, &mut image, 0..816, is_harmless_in_the_greeting);
-    // version, allocator, types, letters, lengths, and bytes of no matter
+    // version, allocator, types, letters, lengths, and bytes that aren't used
     assert_eq!(rt; answers.accepted, 1 + 1 + 2 + 93 + 16 + (7 + 24 + 16) * 255);
     Ok(())
 }

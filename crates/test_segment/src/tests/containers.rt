@@ -1,4 +1,4 @@
-//! Each call on a text, a list, a map and an own once, over both allocators.
+//! Each call on a text, a list, a map and an own, made once over both allocators.
 
 use crate::tests::rooted::{Rooted, with_root};
 use crate::tests::support::{I64, STR, Spelled, flat_map_of, list_of, map_of, own_of};
@@ -16,7 +16,7 @@ use std::alloc::Global;
 use std::process::Abort;
 use std::test::Fail;
 
-/// The types: numbers, and the root's.
+/// A heap with numbers as type 0, and with a root of the given type.
 fn root_of<F: Fit>(alloc: Global, root: Spelled) -> Result<Rooted<F>, Fail> {
     with_root::<F>(alloc, 1024, &[I64, root], 1)
 }
@@ -52,7 +52,7 @@ fn item<F: Fit>(s: &Rooted<F>, index: u32) -> Result<i64, Code> {
     Ok(s.heap.load(at(&s.heap, s.root, index)?))
 }
 
-/// A list of 1, 2 and 3.
+/// A list of the numbers 1, 2 and 3.
 fn three_numbers<F: Fit>(rt: &(impl Abort + AllocGlobal)) -> Result<Rooted<F>, Fail> {
     let mut s = root_of::<F>(rt.alloc(), list_of(0))?;
     push_number(&mut s, 2)?;
@@ -84,7 +84,7 @@ fn each_call_on_a_list(rt: HostRuntime) -> Result<(), Fail> {
     calls_on_lists::<BestFit>(&rt)
 }
 
-/// Adds a key to the number that it has, which is 0 before.
+/// Adds a key to the number at this key. A new number is 0.
 fn add<F: Fit>(s: &mut Rooted<F>, key: i64) -> Result<(), Code> {
     let value = put(&mut s.heap, s.root, key)?;
     s.heap.store(value, s.heap.load(value).wrapping_add(key));
@@ -95,7 +95,7 @@ fn value<F: Fit>(s: &Rooted<F>, key: i64) -> Result<i64, Code> {
     Ok(s.heap.load(get(&s.heap, s.root, key)?))
 }
 
-/// A map with the keys -5, 3 and 4. The number of 3 is 6, since it was added twice.
+/// A map with the keys -5, 3 and 4. The number at 3 is 6, since 3 was added twice.
 fn three_keys<F: Fit>(alloc: Global, map: Spelled) -> Result<Rooted<F>, Fail> {
     let mut s = root_of::<F>(alloc, map)?;
     for key in [3, -5, 4, 3] {

@@ -1,4 +1,4 @@
-//! Each call on a whole segment once, over both allocators and indexes, and images that are opened and saved.
+//! Each call on a whole segment, made once over both allocators and indexes; and images that are opened and saved.
 
 use crate::tests::support::{
     I64, INDEXES, NUMBER, construct_number, first_fault, map_of, place_of, segment, segment_in,
@@ -40,7 +40,7 @@ fn with_names<F: Fit>(
     Ok(s)
 }
 
-/// Why a call on a name is refused.
+/// Calls on names are refused for each reason.
 fn refuses_names<F: Fit>(rt: &impl Abort, s: &mut Segment<F, Global>) {
     assert_eq!(rt; s.find(b"x", MAP).err(), Some(Code::OtherType));
     assert_eq!(rt; s.construct(b"x", MAP, 1), Err(Code::AlreadyExists));
@@ -79,7 +79,7 @@ fn calls_on_unique_objects<F: Fit>(
     Ok(())
 }
 
-/// An object that nothing owns is a fault in an image.
+/// An object without an owner is a fault in an image.
 fn calls_on_anonymous_objects<F: Fit>(
     rt: &(impl Abort + AllocGlobal),
     index: IndexKind,
@@ -147,7 +147,7 @@ fn are(bytes: &[u8], byte: u8) -> bool {
     bytes.iter().all(|it| *it == byte)
 }
 
-/// What the library makes anew has none of the bytes that the host had there.
+/// A new segment has none of the bytes that the host had there.
 #[test]
 fn new_segments_are_zeroed(rt: HostRuntime) -> Result<(), Fail> {
     let s = segment::<SeqFit>(rt.alloc(), 1024, IndexKind::Flat, &[I64])?;
@@ -156,7 +156,7 @@ fn new_segments_are_zeroed(rt: HostRuntime) -> Result<(), Fail> {
     Ok(())
 }
 
-/// A segment isn't made. The region comes back as it was.
+/// If a segment can't be made, the region is returned unchanged.
 #[test]
 fn refused_regions_come_back(rt: HostRuntime) -> Result<(), Fail> {
     let region = used_region(rt.alloc(), 1024)?;
@@ -182,7 +182,7 @@ fn opened(alloc: Global, mut window: Window<Global>) -> Result<Segment<SeqFit, G
     Ok(Segment::new(window, types))
 }
 
-/// The counter's image opened: x at 720, one value; saved, it is the same bytes in version 2.
+/// The counter's image is opened, and x is one value at 720. The saved image has the same bytes, in version 2.
 #[test]
 fn opens_and_saves_the_counter(rt: HostRuntime) -> Result<(), Fail> {
     let segment = opened(rt.alloc(), counter_window(rt.alloc())?)?;
@@ -198,7 +198,7 @@ fn opens_and_saves_the_counter(rt: HostRuntime) -> Result<(), Fail> {
 /// Cells that share a number.
 const SHARED: TypeId = 1;
 
-/// The cells a and b come to share a number, and a is destroyed.
+/// Makes the cells a and b share a number, and destroys a.
 fn share_a_number(segment: &mut Segment<SeqFit, Global>) -> Result<(), Code> {
     let a = place_of(SHARED, segment.construct(b"a", SHARED, 1)?);
     let b = place_of(SHARED, segment.construct(b"b", SHARED, 1)?);
@@ -210,7 +210,8 @@ fn share_a_number(segment: &mut Segment<SeqFit, Global>) -> Result<(), Code> {
     Ok(())
 }
 
-/// The image that two cells and a frozen number leave. What was in gaps, and in the index after its only entry, is zeroed.
+/// The image after two cells shared a frozen number and one was destroyed. Free memory, and the index after its only entry, are
+/// zeroed first.
 #[test]
 fn shares_a_number(rt: HostRuntime) -> Result<(), Fail> {
     let types = [I64, shared_of(NUMBER)];
@@ -227,7 +228,7 @@ fn shares_a_number(rt: HostRuntime) -> Result<(), Fail> {
     Ok(())
 }
 
-/// An image of version 2 is saved as it was. The frozen number goes with the last cell that names it.
+/// An image of version 2 is saved unchanged. Destroying the last cell frees the frozen number.
 #[test]
 fn opens_and_saves_what_is_shared(rt: HostRuntime) -> Result<(), Fail> {
     let image = sharing(rt.alloc())?;
@@ -244,7 +245,7 @@ fn opens_and_saves_what_is_shared(rt: HostRuntime) -> Result<(), Fail> {
     Ok(())
 }
 
-/// The counter's image isn't one of best fit. It stays as it was.
+/// The counter's image can't be opened with best fit, and isn't changed by that.
 #[test]
 fn opens_no_image_of_another_allocator(rt: HostRuntime) -> Result<(), Fail> {
     let mut window = counter_window(rt.alloc())?;

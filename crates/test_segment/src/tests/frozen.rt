@@ -3,7 +3,7 @@
 use crate::tests::image::{Image, checks};
 use std::test::Fail;
 
-/// A unique cell, and the frozen number 7 that it names: a count, a number, and the value.
+/// A unique cell, and the frozen number 7 that it shares: a count, a number, and the value.
 const ONE: &str = "
     8=2 28=1
     type i64
@@ -44,7 +44,7 @@ fn finds_faults_of_a_cell_that_shares(rt: HostRuntime) -> Result<(), Fail> {
     )
 }
 
-/// A frozen value of 16 bytes has 24 with its count and its number.
+/// A frozen value of 16 bytes needs 24 bytes with its count and its number.
 #[test]
 fn finds_frozen_objects_that_are_too_small(rt: HostRuntime) -> Result<(), Fail> {
     checks(
@@ -73,7 +73,7 @@ fn finds_frozen_objects_that_are_too_small(rt: HostRuntime) -> Result<(), Fail> 
     )
 }
 
-/// Three cells of a vector, two of which name the same frozen number: a second cell counts, and is no second owner.
+/// A vector of three cells, two of which share the same frozen number. The second cell is counted, and isn't a second owner.
 #[test]
 fn counts_each_cell(rt: HostRuntime) -> Result<(), Fail> {
     checks(
@@ -107,7 +107,7 @@ fn counts_each_cell(rt: HostRuntime) -> Result<(), Fail> {
     )
 }
 
-/// A frozen pair names another one, which has a lower number. Their cells are at 768 and 816.
+/// A frozen pair shares another one, which has a lower number. Their cells are at 768 and 816.
 const PAIRS: &str = "
     8=2 28=2
     type i64
@@ -139,7 +139,7 @@ fn finds_frozen_objects_that_name_later_ones(rt: HostRuntime) -> Result<(), Fail
     )
 }
 
-/// The same numbers are of no matter to cells that don't stand in frozen objects.
+/// Cells outside frozen objects may share objects with any number.
 #[test]
 fn cells_may_name_objects_of_any_number(rt: HostRuntime) -> Result<(), Fail> {
     Image::of(rt.alloc(), PAIRS)?.follow(
@@ -149,7 +149,7 @@ fn cells_may_name_objects_of_any_number(rt: HostRuntime) -> Result<(), Fail> {
     )
 }
 
-/// A frozen struct of an own and a vector. The object that it owns is a cell, its vector has two: all three name one number.
+/// A frozen struct of an own and a vector. The own has a cell, and the vector has two: all three cells share one number.
 #[test]
 fn numbers_fall_through_owns_and_vectors(rt: HostRuntime) -> Result<(), Fail> {
     checks(
@@ -183,7 +183,7 @@ fn numbers_fall_through_owns_and_vectors(rt: HostRuntime) -> Result<(), Fail> {
     )
 }
 
-/// The same through a list and a map: a node's value is at 8 bytes of one, and at 24 of the other.
+/// The same through a list and a map. The value in a list node is at offset 8, and in a map node at offset 24.
 #[test]
 fn numbers_fall_through_lists_and_maps(rt: HostRuntime) -> Result<(), Fail> {
     checks(
@@ -212,7 +212,7 @@ fn numbers_fall_through_lists_and_maps(rt: HostRuntime) -> Result<(), Fail> {
     )
 }
 
-/// Only version 2 has cells that share, frozen objects, and a number for the next one.
+/// Only version 2 has shared cells, frozen objects, and a number for the next frozen object.
 #[test]
 fn only_version_2_has_frozen_objects(rt: HostRuntime) -> Result<(), Fail> {
     Image::of(rt.alloc(), ONE)?.follow(
@@ -233,7 +233,7 @@ fn only_version_2_has_frozen_objects(rt: HostRuntime) -> Result<(), Fail> {
     )
 }
 
-/// A type of cells that share has one part, which may be itself.
+/// A type of shared cells has one part, which may be the type itself.
 #[test]
 fn finds_faults_of_the_types_of_cells_that_share(rt: HostRuntime) -> Result<(), Fail> {
     Image::of(rt.alloc(), ONE)?.follow(

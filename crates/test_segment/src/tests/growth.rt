@@ -1,4 +1,4 @@
-//! Growth in place, values that move, and one that is deep.
+//! Growth in place, values that move, and a deep value.
 
 use crate::tests::rooted::{ROOT, Rooted, with_root};
 use crate::tests::support::{I64, STR, own_of, pair, place_of, vec_of};
@@ -8,7 +8,7 @@ use seg_seqfit::SeqFit;
 use seg_value::{Content, set_own, take_own};
 use std::test::Fail;
 
-/// A vector of numbers has room for 4, then for 8 where it stands. Without the rest it has 5 of them.
+/// A vector of numbers has room for 4, and then, in place, for 8. After the fifth push it is cut to 5.
 #[test]
 fn a_vector_doubles_in_place(rt: HostRuntime) -> Result<(), Fail> {
     let mut s = with_root::<SeqFit>(rt.alloc(), 1024, &[I64, vec_of(0)], 1)?;
@@ -20,7 +20,7 @@ fn a_vector_doubles_in_place(rt: HostRuntime) -> Result<(), Fail> {
     live_are(&rt, s.heap.window(), &[(704, 4)])
 }
 
-/// Puts an object that owns what the root owned before into the root.
+/// Puts a new object into the root. The object owns what the root owned before.
 fn push_owned(s: &mut Rooted<SeqFit>, number: i64) -> Result<(), Fail> {
     let object = Content::object(s.heap.types(), 2);
     let node = s.heap.new_block(&object)?;
@@ -32,7 +32,7 @@ fn push_owned(s: &mut Rooted<SeqFit>, number: i64) -> Result<(), Fail> {
     Ok(())
 }
 
-/// 20,000 objects, each of which owns the next, go at once.
+/// A value of 20,000 objects, each of which owns the next, is destroyed at once.
 #[test]
 fn a_deep_value_is_destroyed(rt: HostRuntime) -> Result<(), Fail> {
     let mut s = with_root::<SeqFit>(rt.alloc(), 1 << 20, &[I64, own_of(2), pair(0, 1)], 1)?;
@@ -44,7 +44,7 @@ fn a_deep_value_is_destroyed(rt: HostRuntime) -> Result<(), Fail> {
     is_one_gap(&rt, s.heap.window())
 }
 
-/// Values that move over part of their own place still name their blocks.
+/// Values that move to an overlapping place still refer to their blocks.
 #[test]
 fn shifted_values_read_the_same(rt: HostRuntime) -> Result<(), Fail> {
     let mut s = with_root::<SeqFit>(rt.alloc(), 1024, &[STR, pair(0, 0)], 1)?;

@@ -20,7 +20,7 @@ use std::alloc::Global;
 use std::test::Fail;
 use support_data::{change, number};
 
-/// The kinds of live blocks, as a tag has them.
+/// The kinds of allocated blocks, as in a tag.
 const NAMED: u32 = 1;
 
 const OBJECT: u32 = 2;
@@ -35,39 +35,39 @@ const INDEX_NODE: u32 = 6;
 
 const FROZEN: u32 = 7;
 
-/// The bit of a header's first word that says that the block is live.
+/// The bit of a header's first word that is set if the block is allocated.
 const LIVE: u32 = 1 << 31;
 
-/// Where the heap begins.
+/// The position of the heap.
 const HEAP: u32 = 704;
 
 /// The most bytes of an image here.
 const ROOM: u32 = 4096;
 
-/// An image that grows by a block at a time.
+/// An image that is built block by block.
 #[derive(Drop)]
 pub(crate) struct Image {
     pub(crate) w: Window<Global>,
     types: usize,
-    /// The units of the last block, 0 while there is none.
+    /// The units of the last block. 0 if there is no block yet.
     before: u32,
 }
 
-/// The image that a text describes has the faults that it says.
+/// Tests that the image of a text has the faults that the text states.
 pub(crate) fn checks(alloc: Global, text: &str) -> Result<(), Fail> {
     let _ = Image::of(alloc, text)?;
     Ok(())
 }
 
 impl Image {
-    /// The image that a text describes. It has the faults that the text says.
+    /// The image of a text, after a test of the faults that the text states.
     pub(crate) fn of(alloc: Global, text: &str) -> Result<Image, Fail> {
         let mut image = Image::empty(alloc)?;
         image.follow(alloc, text)?;
         Ok(image)
     }
 
-    /// The header, no type, no name and no unique object. It has no block yet.
+    /// An image with a header but without types, names, unique objects and blocks.
     fn empty(alloc: Global) -> Result<Image, Fail> {
         let mut w = window(alloc, ROOM, HEAP)?;
         w.copy_in(0, b"SEGIMAGE");
@@ -84,7 +84,7 @@ impl Image {
         })
     }
 
-    /// Does what each line says.
+    /// Does what each line requires.
     pub(crate) fn follow(&mut self, alloc: Global, text: &str) -> Result<(), Fail> {
         for line in text.lines() {
             let line = line.split_once(';').map_or(line, |parts| parts.0);
@@ -96,7 +96,7 @@ impl Image {
         Ok(())
     }
 
-    /// This is the first fault with each of the changes, which are undone.
+    /// Tests that the image with each of the changes, which are then undone, has this first fault.
     fn finds_each(&mut self, alloc: Global, changes: &str, fault: &str) -> Result<(), Fail> {
         for change in changes.split('|') {
             self.finds(alloc, change, fault)?;
@@ -120,7 +120,7 @@ impl Image {
         Ok(found)
     }
 
-    /// The image's first fault, if it has one.
+    /// The image's first fault, or `None` if it is sound.
     pub(crate) fn fault(&self, alloc: Global) -> Option<Fault> {
         first_fault(alloc, &self.w)
     }
@@ -218,7 +218,7 @@ fn kind_of(word: &str) -> Option<u8> {
     })
 }
 
-/// The tag of a live block.
+/// The tag of an allocated block.
 fn tag_of(kind: &str, t: &str) -> Option<u32> {
     let kind = match kind {
         "named" => NAMED,
@@ -237,14 +237,14 @@ fn type_id(word: &str) -> Option<u32> {
     number(word.strip_prefix('t')?)
 }
 
-/// Whether a fault is the one that these words tell.
+/// Whether a fault is the one that these words describe.
 fn is_told(fault: Option<Fault>, words: &str) -> bool {
     let mut words = words.split_whitespace();
     let (kind, at) = in_words(fault);
     words.next() == Some(kind) && words.next().and_then(|at| number(at)) == at
 }
 
-/// What is wrong, and where.
+/// What is wrong, and where, in words.
 fn in_words(fault: Option<Fault>) -> (&'static str, Option<u32>) {
     match fault {
         None => ("sound", None),

@@ -9,7 +9,7 @@ use seg_seqfit::SeqFit;
 use std::process::Abort;
 use std::test::Fail;
 
-/// A heap of numbers without names, which is one gap.
+/// A heap of numbers without names, which is one free block.
 fn nameless(rt: &impl AllocGlobal, kind: IndexKind) -> Result<Rooted<SeqFit>, Fail> {
     let mut s = with_root::<SeqFit>(rt.alloc(), 2048, &[I64], 0)?;
     let w = s.heap.window_mut();
@@ -18,7 +18,7 @@ fn nameless(rt: &impl AllocGlobal, kind: IndexKind) -> Result<Rooted<SeqFit>, Fa
     Ok(s)
 }
 
-/// A block with a number, and a name of one byte after it. No index has it yet.
+/// A block with a number, and after it a name of one byte. The name isn't in the index yet.
 fn new_object<F: Fit>(s: &mut Rooted<F>, name: u8) -> Result<u32, Code> {
     let tag = Tag {
         kind: Kind::Named,
@@ -33,7 +33,7 @@ fn new_object<F: Fit>(s: &mut Rooted<F>, name: u8) -> Result<u32, Code> {
     Ok(object)
 }
 
-/// An object that has a name, and is in the index.
+/// Makes a number with a name, and adds it to the index.
 fn add_named<F: Fit>(s: &mut Rooted<F>, name: u8) -> Result<(), Code> {
     let object = new_object(s, name)?;
     match look_up(&s.heap, &[name]) {
@@ -42,7 +42,7 @@ fn add_named<F: Fit>(s: &mut Rooted<F>, name: u8) -> Result<(), Code> {
     }
 }
 
-/// Takes out the entry of a name, if there is one.
+/// Removes the entry of a name from the index. Returns whether there was one.
 fn remove<F: Fit>(s: &mut Rooted<F>, name: &[u8]) -> bool {
     let Ok(occupied) = look_up(&s.heap, name) else {
         return false;
@@ -55,7 +55,7 @@ fn is_entry_of<F: Fit>(s: &Rooted<F>, entry: Option<NameEntry>, name: &[u8]) -> 
     entry.is_some_and(|entry| entry.name(s.heap.window(), s.heap.types()) == name)
 }
 
-/// These names follow one another, are found, and are all.
+/// Tests that exactly these names are found, in this order.
 fn holds(rt: &impl Abort, s: &Rooted<SeqFit>, names: &[&[u8]]) {
     let mut entry = first_name(&s.heap);
     for name in names {

@@ -4,7 +4,7 @@ use seg_manager::{Code, IndexKind};
 use seg_map::{put, remove};
 use std::test::Fail;
 
-/// A key is removed between two steps over the keys.
+/// A key is removed while a test goes through the keys.
 #[test]
 fn keys_follow_one_another(rt: HostRuntime) -> Result<(), Fail> {
     let types = [I64, map_of(NUMBER)];

@@ -45,7 +45,7 @@ fn finds_what_is_no_ring(rt: HostRuntime) -> Result<(), Fail> {
     )
 }
 
-/// In a list of one node next holds 0 and the pointer to the one before -4.
+/// In a list of one node, `next` has the distance 0, and the pointer to the node before has -4.
 #[test]
 fn accepts_a_list_of_one_node(rt: HostRuntime) -> Result<(), Fail> {
     checks(
@@ -61,7 +61,7 @@ fn accepts_a_list_of_one_node(rt: HostRuntime) -> Result<(), Fail> {
     )
 }
 
-/// A node of two units has 16 bytes: two pointers, and 8 more. A value of 16 bytes doesn't fit.
+/// A node of two units has 16 bytes: two pointers and 8 bytes more. A value of 16 bytes doesn't fit.
 #[test]
 fn finds_nodes_that_are_too_small(rt: HostRuntime) -> Result<(), Fail> {
     checks(

@@ -31,7 +31,7 @@ const LINK: TypeId = 7;
 
 const ALL: TypeId = 8;
 
-/// A number, a text, and the owner of a further link.
+/// A link of a chain: a number, a text, and an own for the next link.
 const LINK_TYPE: Spelled = [8, 3, 0, TEXT, OWN, 0, 0, 0, 0, 0];
 
 /// A cell of each kind.
@@ -59,7 +59,7 @@ fn some_text(random: &mut Random) -> &'static [u8] {
     text.get(..len).unwrap_or(b"")
 }
 
-/// Adds a text to a vector or a list: at its end or, of a list, also at its front.
+/// Adds a text to a vector or a list, at its end or, in a list, perhaps at its front.
 fn add_text<F: Fit>(
     heap: &mut Heap<F, Global>,
     texts: Place,
@@ -73,7 +73,7 @@ fn add_text<F: Fit>(
     assign(heap, place_of(TEXT, text), some_text(random))
 }
 
-/// Adds a text to the vector or the list that a map has with a key.
+/// Adds a text to the vector or the list at a key of a map.
 fn put_text<F: Fit>(
     heap: &mut Heap<F, Global>,
     map: Place,
@@ -88,7 +88,7 @@ fn some_key(random: &mut Random) -> i64 {
     i64::from(random.below(12)).wrapping_sub(6)
 }
 
-/// Puts a link before the chain that an own holds, and returns where it is.
+/// Puts a new link at the front of the chain in an own, and returns the link's position.
 fn push_link<F: Fit>(heap: &mut Heap<F, Global>, own: Place) -> Result<u32, Code> {
     let content = Content::object(heap.types(), LINK);
     let link = heap.new_block(&content)?;
@@ -99,7 +99,7 @@ fn push_link<F: Fit>(heap: &mut Heap<F, Global>, own: Place) -> Result<u32, Code
     Ok(link)
 }
 
-/// Puts a link with a text before a chain.
+/// Puts a link with a text at the front of a chain.
 fn add_link<F: Fit>(
     heap: &mut Heap<F, Global>,
     own: Place,
@@ -113,21 +113,21 @@ fn add_link<F: Fit>(
     )
 }
 
-/// Destroys the chain that an own holds.
+/// Destroys the chain in an own.
 fn drop_links<F: Fit>(heap: &mut Heap<F, Global>, own: Place) {
     if let Some(link) = take_own(heap, own) {
         heap.destroy(link);
     }
 }
 
-/// A cell of an object of all kinds, by its type.
+/// The cell of this type in an object with a cell of each kind.
 fn cell_of(object: u32, type_id: TypeId) -> Place {
     let fields = ALL_TYPE.iter().skip(2);
     let before = fields.take_while(|field| **field != type_id).count() as u32;
     place_of(type_id, object.wrapping_add(before.wrapping_mul(8)))
 }
 
-/// A random call that adds to one of the cells of an object of all kinds. There may be no room.
+/// A random call that adds to one of the object's cells. It may fail for lack of room.
 fn add<F: Fit>(heap: &mut Heap<F, Global>, object: u32, random: &mut Random) -> Result<(), Code> {
     match random.below(6) {
         0 => assign(heap, cell_of(object, TEXT), some_text(random)),
@@ -139,7 +139,7 @@ fn add<F: Fit>(heap: &mut Heap<F, Global>, object: u32, random: &mut Random) -> 
     }
 }
 
-/// A random call that takes from one of the cells. There may be nothing.
+/// A random call that removes from one of the object's cells. There may be nothing to remove.
 fn take<F: Fit>(heap: &mut Heap<F, Global>, object: u32, random: &mut Random) -> Result<(), Code> {
     match random.below(8) {
         0 => return pop_back(heap, cell_of(object, TEXTS)),
@@ -190,7 +190,7 @@ fn accepts_what_the_library_makes(rt: HostRuntime) -> Result<(), Fail> {
     Ok(())
 }
 
-/// Each object owns the next one, and the last one is wrong or isn't: 20,000 objects in a segment of a megabyte.
+/// 20,000 objects in a segment of a megabyte, each of which owns the next. The last one is valid or invalid.
 #[test]
 fn reads_values_of_any_depth(rt: HostRuntime) -> Result<(), Fail> {
     let mut segment = segment::<SeqFit>(rt.alloc(), 1 << 20, IndexKind::Flat, &types())?;

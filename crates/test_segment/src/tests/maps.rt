@@ -3,7 +3,7 @@
 use crate::tests::image::{Image, checks};
 use std::test::Fail;
 
-/// A unique map with the keys -9, 0 and 9: its cell is at 720, the root at 800. Keys are 16 bytes after a node begins.
+/// A unique map with the keys -9, 0 and 9: its cell is at 720, the root at 800. A node has its key at offset 16.
 const MAP: &str = "
     type map t1
     type i64
@@ -59,7 +59,7 @@ fn finds_keys_of_a_map_out_of_order(rt: HostRuntime) -> Result<(), Fail> {
     )
 }
 
-/// Nodes each to the left of the one before. The 61st node on a way is told before it is claimed, the 60th after.
+/// A chain of nodes, each to the left of the one before. The 61st node is reported before it is claimed, and the 60th after.
 #[test]
 fn refuses_a_map_that_is_too_deep_at_once(rt: HostRuntime) -> Result<(), Fail> {
     checks(
@@ -98,7 +98,7 @@ fn finds_faults_of_a_flat_map(rt: HostRuntime) -> Result<(), Fail> {
     )
 }
 
-/// The keys after those that are counted are of no matter.
+/// The bytes after the counted keys may have any values.
 #[test]
 fn reads_only_the_keys_that_count(rt: HostRuntime) -> Result<(), Fail> {
     Image::of(rt.alloc(), FLAT_MAP)?.follow(

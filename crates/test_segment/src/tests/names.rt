@@ -4,7 +4,7 @@ use crate::tests::image::{Image, checks};
 use std::alloc::Global;
 use std::test::Fail;
 
-/// The numbers a, ab and one whose name has 63 letters. An entry has the number of values beside the length of the name.
+/// The numbers a, ab and one whose name has 63 letters. An entry has the number of values and the length of the name.
 const FLAT: &str = "
     type i64
     720 named t0 2
@@ -67,7 +67,7 @@ fn finds_faults_of_names(rt: HostRuntime) -> Result<(), Fail> {
     )
 }
 
-/// The numbers a, b and c, with a tree of nodes at 816, 864, the root, and 912. Their entries are 16 bytes after.
+/// The numbers a, b and c, in a tree of nodes at 816, 864 (the root) and 912. A node has its entry at offset 16.
 const TREE: &str = "
     type i64
     20=1
@@ -128,7 +128,7 @@ fn reads_the_entries_of_a_tree_in_order(rt: HostRuntime) -> Result<(), Fail> {
     )
 }
 
-/// Nodes each to the left of the one before. The 61st node on a way is told before it is claimed, the 60th after.
+/// A chain of nodes, each to the left of the one before. The 61st node is reported before it is claimed, and the 60th after.
 #[test]
 fn refuses_a_tree_that_is_too_deep_at_once(rt: HostRuntime) -> Result<(), Fail> {
     checks(

@@ -44,7 +44,7 @@ fn answers_the_earliest_fault(rt: HostRuntime) -> Result<(), Fail> {
     )
 }
 
-/// What frozen objects count comes after all values and before blocks that nothing owns. The lowest object nobody names.
+/// The counts of frozen objects are checked after all values and before blocks without owners. The lowest object has no owner.
 #[test]
 fn answers_counts_after_values(rt: HostRuntime) -> Result<(), Fail> {
     checks(
@@ -70,7 +70,7 @@ fn answers_counts_after_values(rt: HostRuntime) -> Result<(), Fail> {
     )
 }
 
-/// Blocks have their turn in the order of their claims: the second cell of an object comes before what the first one owns.
+/// Blocks are checked in the order in which they were claimed: the second cell of an object comes before what the first one owns.
 #[test]
 fn takes_blocks_first_in_first_out(rt: HostRuntime) -> Result<(), Fail> {
     checks(
@@ -95,7 +95,7 @@ fn takes_blocks_first_in_first_out(rt: HostRuntime) -> Result<(), Fail> {
     )
 }
 
-/// Unique objects are claimed after all names and before any value.
+/// Unique objects are claimed after all names, and before any value is checked.
 #[test]
 fn claims_unique_objects_before_values(rt: HostRuntime) -> Result<(), Fail> {
     checks(

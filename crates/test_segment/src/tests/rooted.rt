@@ -5,17 +5,18 @@ use seg_value::{Heap, Place};
 use std::alloc::Global;
 use std::test::Fail;
 
-/// Where the root value stands, before the heap: the heap's live blocks are those that it owns.
+/// The position of the root value, before the heap. The heap's allocated blocks are those that the root owns.
 pub(crate) const ROOT: u32 = 64;
 
-/// A heap with a root value, which an allocator keeps.
+/// A heap on an allocator, and a root value.
 #[derive(Drop)]
 pub(crate) struct Rooted<F: Fit> {
     pub(crate) heap: Heap<F, Global>,
     pub(crate) root: Place,
 }
 
-/// A heap of these types in a segment of `len` bytes, which is one gap, with the default of the type `root`.
+/// A heap of these types in a segment of `len` bytes, which is one free block, and a root with the default value of the type
+/// `root`.
 pub(crate) fn with_root<F: Fit>(
     alloc: Global,
     len: u32,

@@ -1,5 +1,5 @@
-//! Each call on objects that cells share, over both allocators, and a deep one. The root is such a cell; what it names is a
-//! pair of a number and another cell.
+//! Each call on objects that cells share, over both allocators, and a deep object. The root is such a cell, which shares pairs of
+//! a number and another cell.
 
 use crate::tests::rooted::{ROOT, Rooted, with_root};
 use crate::tests::support::{I64, pair, place_of, shared_of};
@@ -23,7 +23,7 @@ fn heap_of<F: Fit>(alloc: Global, len: u32) -> Result<Rooted<F>, Fail> {
     with_root::<F>(alloc, len, &[I64, shared_of(PAIR), pair(0, SHARED)], SHARED)
 }
 
-/// A new pair names what the root names, and the root names the pair.
+/// Freezes a new pair into the root. The pair's cell shares what the root shared before.
 fn freeze_on_top<F: Fit>(s: &mut Rooted<F>) -> Result<(), Code> {
     let object = s.heap.new_block(&Content::object(s.heap.types(), PAIR))?;
     let field = place_of(SHARED, object.wrapping_add(8));
@@ -31,7 +31,7 @@ fn freeze_on_top<F: Fit>(s: &mut Rooted<F>) -> Result<(), Code> {
     freeze(&mut s.heap, s.root, object)
 }
 
-/// A frozen pair has 3 units: before its value are its count and its number. The first pair goes with its last cell.
+/// A frozen pair has 3 units, with its count and its number before its value. The first pair is freed with its last cell.
 fn calls_on_shared<F: Fit>(rt: &(impl Abort + AllocGlobal)) -> Result<(), Fail> {
     let mut s = heap_of::<F>(rt.alloc(), 1024)?;
     freeze_on_top(&mut s)?;
@@ -55,7 +55,7 @@ fn each_call_on_shared_objects(rt: HostRuntime) -> Result<(), Fail> {
     calls_on_shared::<BestFit>(&rt)
 }
 
-/// 20,000 frozen objects, each of which names the one before, go with the cell that names the last.
+/// 20,000 frozen objects, each of which shares the one before, are freed with the cell that shares the last.
 #[test]
 fn a_chain_goes_with_its_cell(rt: HostRuntime) -> Result<(), Fail> {
     let mut s = heap_of::<SeqFit>(rt.alloc(), 1 << 20)?;

@@ -9,10 +9,10 @@ use std::test::Fail;
 /// Numbers, the type that the tests use most.
 pub(crate) const NUMBER: TypeId = 0;
 
-/// The kinds of an index.
+/// Both kinds of index.
 pub(crate) const INDEXES: [IndexKind; 2] = [IndexKind::Flat, IndexKind::Tree];
 
-/// A kind, the number of parts, and the parts; zeros follow.
+/// A type: a kind, the number of parts, the parts, and zeros.
 pub(crate) type Spelled = [u8; 10];
 
 pub(crate) const I64: Spelled = [1, 0, 0, 0, 0, 0, 0, 0, 0, 0];
@@ -58,7 +58,7 @@ fn spelled(alloc: Global, types: &[Spelled]) -> Result<Vec<u8>, AllocError> {
     Ok(bytes)
 }
 
-/// The table of these types, of either version.
+/// The table of these types, which may have shared cells.
 pub(crate) fn table(alloc: Global, types: &[Spelled]) -> Result<TypeTable, Fail> {
     Ok(TypeTable::read_shared(&spelled(alloc, types)?)?)
 }
@@ -76,14 +76,14 @@ pub(crate) fn window(alloc: Global, room: u32, len: u32) -> Result<Window<Global
     }
 }
 
-/// A segment of `len` bytes in a region of `room`, whose heap is one gap.
+/// A segment of `len` bytes in a region of `room` bytes. Its heap is one free block.
 pub(crate) fn one_gap<F: Fit>(alloc: Global, room: u32, len: u32) -> Result<Window<Global>, Fail> {
     let mut w = window(alloc, room, len)?;
     F::init(&mut w);
     Ok(w)
 }
 
-/// A region of so many bytes, all of them 0xa5.
+/// A region of `len` bytes, each of which is 0xa5.
 pub(crate) fn used_region(alloc: Global, len: u32) -> Result<Region<Global>, Fail> {
     let len = len.min(1 << 20);
     let mut region = Region::new(alloc, len)?;

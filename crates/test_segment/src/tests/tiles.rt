@@ -7,7 +7,7 @@ use std::alloc::{AllocError, Global};
 use std::process::Abort;
 use std::test::Fail;
 
-/// A block of the heap. The tag is 0 where it is free.
+/// A block of the heap. The tag is 0 if the block is free.
 #[derive(Debug, Clone, Copy, PartialEq, Eq)]
 pub(crate) struct Tile {
     pub(crate) at: u32,
@@ -35,7 +35,7 @@ pub(crate) fn tiles(alloc: Global, w: &Window<Global>) -> Result<Vec<Tile>, Allo
     Ok(tiles)
 }
 
-/// These are the live blocks: where they are, and their units.
+/// Tests that these are the allocated blocks, with their positions and units.
 pub(crate) fn live_are(
     rt: &(impl Abort + AllocGlobal),
     w: &Window<Global>,
@@ -51,7 +51,7 @@ pub(crate) fn live_are(
     Ok(())
 }
 
-/// Whether the heap is one gap, with which the free structure starts. Its link is null.
+/// Whether the heap is one free block, to which the free structure points, with a null link.
 fn is_gap(alloc: Global, w: &Window<Global>) -> Result<bool, Fail> {
     let whole = Tile {
         at: HEAP_START,
@@ -65,7 +65,7 @@ fn is_gap(alloc: Global, w: &Window<Global>) -> Result<bool, Fail> {
     Ok(tiles.as_slice() == [whole].as_slice() && starts && ends)
 }
 
-/// The heap is one gap, with which the free structure starts. Its link is null.
+/// Tests that the heap is one free block, to which the free structure points, with a null link.
 pub(crate) fn is_one_gap(rt: &(impl Abort + AllocGlobal), w: &Window<Global>) -> Result<(), Fail> {
     assert!(rt; is_gap(rt.alloc(), w)?);
     Ok(())

@@ -62,7 +62,7 @@ fn finds_faults_of_an_own(rt: HostRuntime) -> Result<(), Fail> {
     )
 }
 
-/// An own of a type that is an own of the same type: objects in objects.
+/// An own of a type that is an own of that type: objects inside objects.
 #[test]
 fn finds_an_own_in_itself(rt: HostRuntime) -> Result<(), Fail> {
     checks(
@@ -105,7 +105,7 @@ fn finds_faults_in_a_struct(rt: HostRuntime) -> Result<(), Fail> {
     )
 }
 
-/// The values of a named object: two strings, and after them its name.
+/// A named object has two strings as its values, and its name after them.
 #[test]
 fn finds_faults_in_each_value_of_an_object(rt: HostRuntime) -> Result<(), Fail> {
     checks(

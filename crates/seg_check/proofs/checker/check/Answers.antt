@@ -7,7 +7,7 @@ use Rattle.seg_spec.specs.Sound.{HasHeader}
 use Rattle.seg_spec.proofs.BytesLaws.{length-slice}
 use Rattle.seg_check.proofs.checker.check.Goals as goal
 
--- the bytes after the header, and their types
+-- the table that was read from the bytes after the header is the image's table
 has_table : (bytes read : List ℕ) (table : Table) → HasHeader bytes → read ≡ slice bytes 64 512 → Spells read table → HasTable bytes 64 table
 has_table bytes read table header is spells =
     let enough : 64 + 512 ≤ length bytes = let large = header.not_small in omega (arith, large) in

@@ -13,7 +13,7 @@ returns-in_err-at-in-Some-clause-vector g c = λ U vs blocks h.
     let result : c.from_residual.result ≡ None = search rules in
     rw result (c.in_err-at-in-Some.ensures.vector T U vs blocks h (number_items c.args.heap.now.types T U c.in-Some.type_id (sym c.in-Some.ensures) h.form_is))
 
--- the number 0 is the default
+-- the number 0 is the default value
 pub returns-in_ok-at-in-Some-clause-vector : goal.returns-in_ok-at-in-Some-clause-vector
 returns-in_ok-at-in-Some-clause-vector g c = λ U vs blocks h.
     let old = c.args.heap.now in

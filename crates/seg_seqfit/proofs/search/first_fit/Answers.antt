@@ -9,13 +9,13 @@ use Rattle.seg_block.specs.Headers.{header_at, no_header}
 use Rattle.seg_seqfit.proofs.Walks.{ahead, ahead_of, fewer, follows, reads, reads_none, searched_none, searched_more, searched_found, searched_always, searched_end}
 use Rattle.seg_seqfit.proofs.search.first_fit.Goals as goal
 
--- the units that a header states which was read once
+-- the units in a header that was read
 header_units : (bytes view : List ℕ) (at : ℕ) (h : Header) → view ≡ bytes → (at + 16 ≤ length view → h ≡ header_at view at) → (s : Span) → at ≡ s.at → IsSized bytes s → h.units ≡ s.units
 header_units bytes view at h same inside s is sized =
     ap (λ (h : Header). h.units) (inside (omega (arith, is, sized.large, sized.inside, ap length same)))
     ∙ ap (λ b. units_at b at) same ∙ ap (units_at bytes) is ∙ sized.size_is
 
--- the link that a header states
+-- the link in a header that was read
 header_link : (bytes view : List ℕ) (at : ℕ) (h : Header) → view ≡ bytes → (at + 16 ≤ length view → h ≡ header_at view at) → (length view < at + 16 → h ≡ no_header view at) → h.link ≡ link_at bytes at
 header_link bytes view at h same inside past =
     ⊎_elim (λ out. ap (λ (h : Header). h.link) (past out)) (λ fits. ap (λ (h : Header). h.link) (inside fits)) (cases_lt (length view) (at + 16))

@@ -9,7 +9,7 @@ use Rattle.seg_value.proofs.contents.number_types.Goals as goal
 all_none : (T : ℕ) → get_or (replicate {A = Option ℕ} 256 None) T None ≡ None
 all_none T = ⊎_elim (λ l. get_or-replicate 256 T None None l) (λ m. get_or_past (replicate 256 None) T None m) (cases_lt T 256)
 
--- a type that the table lacks
+-- a type that the table lacks isn't a vector of numbers
 lacking : (table : Table) (T : ℕ) → length table ≤ T → numbers_in table T ≡ None
 lacking table T l = ap (numbers_by table) (slice_get_past table T l)
 

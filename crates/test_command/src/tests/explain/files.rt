@@ -5,7 +5,7 @@ use std::alloc::Global;
 use std::test::Fail;
 use support_data::{INCREMENT_FILE, front, write};
 
-/// What is wrong with the increment client, cut to so many bytes and with another byte at a position.
+/// Explains the fault of the increment client after it is cut to this length and one byte is replaced.
 fn explained(alloc: Global, len: usize, at: usize, byte: u8) -> Result<Vec<u8>, Fail> {
     let mut file = INCREMENT_FILE;
     write(&mut file, at, &[byte]);
@@ -19,7 +19,7 @@ fn explained(alloc: Global, len: usize, at: usize, byte: u8) -> Result<Vec<u8>, 
     }
 }
 
-/// The bytes that are left of the file, a position, and the byte there, each with what is wrong then.
+/// The length of the file, a position and the byte there, each with the explanation.
 const CASES: &str = "
 === 103 0 115
 byte 0 of the client file begins the first 4 bytes, in the header

@@ -6,7 +6,7 @@ use std::alloc::Global;
 use std::test::Fail;
 use support_data::counter_where;
 
-/// What is wrong with the counter's image where some words are others.
+/// Explains the fault of the counter's image after these changes.
 fn explained(alloc: Global, changes: &str) -> Result<Vec<u8>, Fail> {
     let image = counter_where(alloc, changes)?;
     match check(alloc, image.as_slice()) {
@@ -18,7 +18,7 @@ fn explained(alloc: Global, changes: &str) -> Result<Vec<u8>, Fail> {
     }
 }
 
-/// Words of the counter's image, each with what is wrong then.
+/// Changes of the counter's image, each with the explanation.
 const CASES: &str = "
 === 0=0
 the file isn't an image: its first 8 bytes should be `SEGIMAGE`
@@ -75,7 +75,7 @@ fn explains(alloc: Global, case: &str) -> Result<(), Fail> {
     is(&explained(alloc, changes)?, wanted)
 }
 
-/// Words of the image of a frozen pair, each with what is wrong then.
+/// Changes of the image with a frozen pair, each with the explanation.
 const FROZEN_CASES: &str = "
 === 752=2 ; the count
 byte 752 is in the block at 736, a frozen object of type 2, at byte 0 of its payload

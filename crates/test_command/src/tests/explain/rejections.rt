@@ -6,7 +6,7 @@ use std::alloc::Global;
 use std::test::Fail;
 use support_data::counter;
 
-/// Why a client that a text spells is refused on a segment without types.
+/// Explains why a client is refused on a segment without types.
 fn explained(alloc: Global, text: &str) -> Result<Vec<u8>, Fail> {
     let file = assemble(alloc, text.as_bytes())?;
     match verify(parse(file.as_slice())?, &TypeTable::new()) {
@@ -18,7 +18,7 @@ fn explained(alloc: Global, text: &str) -> Result<Vec<u8>, Fail> {
     }
 }
 
-/// Clients, each with why it is refused.
+/// Clients, each with the explanation of why it is refused.
 const CASES: &str = "
 ===
 CONST r1 1

@@ -29,12 +29,12 @@ pub(crate) fn run_of<'a>(image: &'a [u8], clients: &'a [&'a [u8]]) -> Sources<'a
     }
 }
 
-/// The two texts of a case, which a line `---` parts.
+/// The two texts of a case, before and after a line `---`.
 pub(crate) fn parts(case: &str) -> Result<(&str, &str), Fail> {
     Ok(case.split_once("---\n").ok_or("no parts")?)
 }
 
-/// These are the words that were found.
+/// Tests that this text was found.
 pub(crate) fn is(found: &Vec<u8>, wanted: &str) -> Result<(), Fail> {
     if found.as_slice() == wanted.as_bytes() {
         return Ok(());

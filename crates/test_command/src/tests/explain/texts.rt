@@ -4,7 +4,7 @@ use lezgauri::assemble;
 use std::alloc::Global;
 use std::test::Fail;
 
-/// What is wrong with a text of a client.
+/// Explains the fault of a client's text.
 fn explained(alloc: Global, text: &str) -> Result<Vec<u8>, Fail> {
     match assemble(alloc, text.as_bytes()) {
         Ok(_) => Ok(Vec::new(alloc)),
@@ -19,7 +19,7 @@ fn explained(alloc: Global, text: &str) -> Result<Vec<u8>, Fail> {
     }
 }
 
-/// Texts, each with what is wrong with it.
+/// Texts, each with the explanation.
 const CASES: &str = "
 ===
 type i64

@@ -29,7 +29,7 @@ returns-in_err-read_instruction-clause-none c =
     (other_word c.in_ok-word.word.now _ _ c.eq-else-eq-2.result c.eq-else-eq-2.ensures c.as_slice-else-eq-2.ensures c.if-eq-3.false)
     c.in_ok-from_word.ensures.found (λ i same valid e. c.in_err-read_instruction.ensures.none i [] same valid (e ∙ sym (append-nil (instruction_words i)))))
 
--- a word too many
+-- if a word is left, the words aren't all read
 some_word : (words : List (List ℕ)) (word : List ℕ) (rest : List (List ℕ)) → words ≡ word ∷ rest → words ≡ [] → ⊥
 some_word words word rest e none = let l = ap length (sym e ∙ none) in absurd (omega arith)
 

@@ -12,7 +12,7 @@ use Rattle.client_vm.specs.Worlds.{Opens, held_in}
 use Rattle.client_vm.proofs.ItemLaws.{TellsPush, place_at, push_back_opens}
 use Rattle.client_vm.proofs.machine.Machine.push_back.Goals as goal
 
--- a push onto a vector that has room
+-- a push that needs no larger buffer keeps the contract of a push
 in_place : (allocator : ℕ) (before after : Stored) (place : Place) (p U : ℕ) → form_at before.types place.type ≡ Some (Form.vec U)
     → ((V : ℕ) (vs : Values) (blocks : List ℕ) → HasItems allocator before place V vs blocks → PushesBack allocator before after place V vs blocks p) → TellsPush allocator before after place (Ok p)
 in_place allocator before after place p U vector pushed = record {

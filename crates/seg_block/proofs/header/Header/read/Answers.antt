@@ -4,11 +4,11 @@ use Rattle.seg_spec.proofs.BytesLaws.{number-slice, number_past}
 use Rattle.seg_spec.proofs.SliceLaws.{slice-slice}
 use Rattle.seg_block.proofs.header.Header.read.Goals as goal
 
--- a word of a part of the bytes
+-- a word of a slice is a word of the bytes
 word_in : (bytes part : List ℕ) (at k : ℕ) → part ≡ slice bytes at 16 → k + 4 ≤ 16 → word part k ≡ word bytes (at + k)
 word_in bytes part at k is inside = ap (λ xs. word xs k) is ∙ number-slice 4 bytes (slice bytes at 16) k (at + k) (slice-slice bytes at 16 k 4 inside)
 
--- no word of no bytes
+-- a word of no bytes is 0
 word_none : (part : List ℕ) (k : ℕ) → part ≡ [] → word part k ≡ 0
 word_none part k is = number_past 4 part k (let e = ap length is in omega arith)
 

@@ -9,7 +9,7 @@ use Rattle.seg_cells.specs.declared.cells.Cells.{Cells}
 use Rattle.seg_cells.specs.declared.cells.Cells.TheVariants as cells
 use Rattle.seg_cells.proofs.cells.Cells.of_each.Goals as goal
 
--- a type that the table lacks
+-- a type that the table lacks has no cells
 lacking : (table : Table) (T : ℕ) → length table ≤ T → cells_of (form_at table T) ≡ cells.Number
 lacking table T l = ap cells_of (slice_get_past table T l)
 

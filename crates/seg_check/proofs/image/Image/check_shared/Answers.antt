@@ -50,7 +50,7 @@ returns-then-is_none-clause-steps g c = λ T f ready.
     let none = blocks_none at (count_at bytes at) (target bytes at) (sym c.counted_blocks.ensures ∙ c.in_ok-counted_blocks.was ∙ ap Ok (is_empty c.in_ok-counted_blocks.field-0 c.if-is_none.ensures)) in
     shared_nothing bytes c.args.self.now.types.now at T c.args.held f c.args.claims.now none.0 none.1
 
--- what is known if the cell's pointer isn't null
+-- the cell's pointer isn't null
 module _ (bytes view : List ℕ) (table : Table) (same : view ≡ bytes) (at T U : ℕ) (f : form_at table T ≡ Some (Form.shared U)) (old new : Known) (ready : IsReady bytes table old) (tag room : ℕ) (tag_is : tag ≡ tag_of Kind.frozen U)
     (size_is : room ≡ frozen_words + size table U) where
   can_name_as : CanName bytes old at (tag_of Kind.frozen U) (frozen_words + size table U) → CanName view old at tag room

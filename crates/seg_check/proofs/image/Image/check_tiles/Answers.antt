@@ -30,7 +30,7 @@ loop-at-init g c = λ front.
     let w = walked_none bytes c.args.self.now.types.now _ c.new-free_list.result refl refl (c.new-free_list.ensures bytes) (omega arith) in
     (w.0, λ slots new. subst (λ ts. KnowsPassed c.args.claims.now ((length bytes - heap_start) / 16) slots ts) (sym w.1) (knows_none c.args.claims.now ((length bytes - heap_start) / 16) slots new))
 
--- the header that is read
+-- a header at an aligned position before the end lies in the bytes
 whole : (n at : ℕ) → at < n → n % 16 ≡ 0 → at % 16 ≡ 0 → at + 16 ≤ n
 whole n at inside n_whole at_whole = omega arith
 

@@ -21,7 +21,7 @@ use Rattle.seg_check.proofs.OpenLaws.{ready_live}
 use Rattle.seg_check.proofs.StepLaws.{refuses_map}
 use Rattle.seg_check.proofs.image.Image.claim_named.Goals as goal
 
--- the type of an entry whose object can be claimed
+-- if an entry's object can be claimed, its type is in the table
 type_claimed : (bytes : List ℕ) (table : Table) (known : Known) (at n len : ℕ) (object : Option ℕ) → IsReady bytes table known → object ≡ target bytes at → (can : CanClaimNamed bytes table known at n len)
     → type_of bytes object ≡ Some can.type
 type_claimed bytes table known at n len object ready is can =
@@ -29,7 +29,7 @@ type_claimed bytes table known at n len object ready is can =
     let less = can.type_known in
     ap (type_of bytes) (is ∙ can.can.names) ∙ in_block bytes can.can.start can.can.is_block.after_header ∙ is_named _ can.type (can.can.is_block.has_tag ∙ omega arith) (omega arith)
 
--- a claimed block whose turns wait now
+-- the block was claimed, and then its values were put in the queue
 claims_waiting : (bytes : List ℕ) (old mid : Known) (at tag room start : ℕ) (turns : List Turn) → ClaimsBlock bytes old mid at tag room [] start
     → ClaimsBlock bytes old (record mid { turns = mid.turns ++ awaiting mid.naming.below turns }) at tag room turns start
 claims_waiting bytes old mid at tag room start turns c =

@@ -16,7 +16,7 @@ returns-in-Some-clause-makes g c = λ picture is below.
     let read = rw c.window.ensures at c.unique.ensures in
     inl (sym names ∙ sym read ∙ c.in-Some.is, refl)
 
--- if there is none, `AlreadyExists` can't be the reason
+-- the reason isn't `AlreadyExists` if the type has no unique object
 no_room : (allocator : ℕ) (old new : Stored) (picture : Picture) (T : ℕ) (e : Code) → unique_at picture T ≡ None → RefusesUnique allocator old new picture T e → (e ≡ code.BadAlloc) × RefusesUnique allocator old new picture T e
 no_room allocator old new picture T code.AlreadyExists none r = absurd (let some : IsSome {T = ℕ} None = rw none at r.0 in false≢true some)
 no_room allocator old new picture T code.BadAlloc none r = (refl, r)

@@ -5,7 +5,7 @@ use Rattle.seg_rbtree.proofs.Firsts.{IsLedToFirst, led_to_first}
 use Rattle.seg_rbtree.proofs.path.Path.lead_to_first.Given as given
 use Rattle.seg_rbtree.proofs.path.Path.lead_to_first.Goals as goal
 
--- the end of the path down and back up
+-- the end of the path, which goes down and then up again
 led : (g : given.Over) (c : goal.After-climb g) → g.O.NodeOrder.exact → (shape : Tree) → IsSearchTree c.args.w.now.bytes c.args.tree.root shape → Ascend (g.O.NodeOrder.compare c.args.order.now c.args.w.now.bytes) (nodes_of shape)
     → IsLedToFirst (λ (x : ℕ). g.O.NodeOrder.compare_key c.args.order.now c.args.w.now.bytes x c.args.key) (g.O.NodeOrder.compare c.args.order.now c.args.w.now.bytes) c.args.w.now.bytes shape c.climb.new.self c.climb.result
 led g c exact shape t a =

@@ -8,7 +8,7 @@ use Rattle.seg_spec.proofs.Releases.{written_changes, written_is, stays, goes}
 use Rattle.seg_value.specs.Waiting.{AddsIn}
 use Rattle.seg_value.proofs.pending.Pending.release.Goals as goal
 
--- a count that is written, and is some still
+-- the count is lowered, and isn't 0: no block is added
 lowered : (old new : List ℕ) (table : Table) (p count : ℕ) (first : Option ℕ) → new ≡ set_word old p count → count ≡ word old p - 1 → count < 2 ^ 32 → 1 ≤ count → AddsIn old new table first first [] [] (p ∷ [])
 lowered old new table p count first written is small some allocator ys names kept theirs final valid w fits =
     let v = set_word old p count in
@@ -18,7 +18,7 @@ lowered old new table p count first written is small some allocator ys names kep
     subst (λ b. Adds allocator old b table first [] ys names kept theirs final) (sym written)
     (stays allocator old table valid p first ys names kept theirs final w fits (set_word old p count) changes (now ∙ is) (count - 1) more)
 
--- a count that is written, and is 0: the object is put in front of those that wait
+-- the count is lowered to 0: the object is added in front of the waiting ones
 let_go : (old new last : List ℕ) (table here : Table) (p count : ℕ) (first next : Option ℕ) → here ≡ table → new ≡ set_word old p count → count ≡ word old p - 1 → count ≡ 0 →
     ((xs ns : List ℕ) → GoesWith new here p xs ns → AddsIn new last here first next [] xs ns) → AddsIn old last table first next [] [] (p ∷ [])
 let_go old new last table here p count first next same written is none push allocator ys names kept theirs final valid w fits =
