@@ -60,6 +60,11 @@ at_number view rows same o n d e =
     let range = number_range o in
     entry_at view rows same (n - 1) d (omega arith) ∙ ap (λ m. slice_index_or entries (m - 1) no_entry) e
 
+pub at_index : {A : Type 0} (view : A → Entry) (rows : List A) → map view rows ≡ entries → (o : Operation) (k : ℕ) (d : A) → k + 1 ≡ opcode o → view (slice_index_or rows k d) ≡ entry_of o
+at_index view rows same o k d e =
+    let here : k ≡ opcode o - 1 = omega arith in
+    ap (λ j. view (slice_index_or rows j d)) here ∙ at_number view rows same o (opcode o) d refl
+
 -- n ascending numbers
 counted : ℕ → ℕ → List ℕ
 counted n zero = []

@@ -1,6 +1,6 @@
 //! The instruction table: the operations and their properties. The program and the definitions both read it.
 
-ghost use Rattle.std.specs.Prelude.{◌≡◌, ◌≢◌, ◌≤◌, map, IfSome, IfNone};
+ghost use Rattle.std.specs.Prelude.{◌≡◌, ◌≢◌, ◌≤◌, ◌+◌, map, IfSome, IfNone};
 ghost use Rattle.client_spec.specs.Operations.{opcode, entries, mnemonic, row_of};
 ghost use Rattle.client_spec.specs.declared.table.TheConstants.{OPERATIONS};
 
@@ -305,11 +305,18 @@ impl Operation {
         self as u8
     }
 
+    /// The index of the operation's row in the table.
+    fn index(self) -> usize
+        ensures { result + 1 ≡ opcode self }
+    {
+        self as usize - 1
+    }
+
     /// The operation's mnemonic in the assembler text.
     pub fn word(self) -> &'static str
         ensures { result.now ≡ mnemonic self }
     {
-        rows()[self as usize - 1].0
+        rows()[self.index()].0
     }
 
     /// The operation's row of the table.
@@ -317,7 +324,7 @@ impl Operation {
         ensures row { result ≡ row_of self }
         ensures own { result.operation ≡ self }
     {
-        rows()[self as usize - 1].1
+        rows()[self.index()].1
     }
 
     /// The operation with a number, or `None` if no operation has it.

@@ -1,4 +1,5 @@
 pub mod Places
+pub mod Parts
 pub mod Owners
 pub mod Forms
 pub mod Needs

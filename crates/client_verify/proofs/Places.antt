@@ -5,11 +5,11 @@
 --     joined_stays, joined_lost            one more element, if nothing is known of it at the second
 --                                          end
 --     KeptTo, kept_more, kept_all          the same for what a body kept
-use Rattle.std.proofs.Common.{◌≡◌, ℕ, ◌+◌, ◌<◌, ◌≤◌, List, [], ◌∷◌, ◌++◌, length, map, take, drop, get_or, set, refl, sym, ap, ◌∙◌, arith, drop-cons, add-one, suc, append_assoc, append-nil, subst, true, false, rules, Ok, Err}
+use Rattle.std.proofs.Common.{◌≡◌, ℕ, ◌+◌, ◌<◌, ◌≤◌, List, [], ◌∷◌, ◌++◌, length, map, take, drop, get_or, set, refl, sym, ap, ◌∙◌, arith, drop-cons, add-one, suc, append_assoc, append-nil, Bool, true, false, ◌||◌, rules, Ok, Err}
 use Rattle.std.specs.Prelude.{⊤}
 use Rattle.std.proofs.lemmas.List.{map-set, length-map, get_or-map, set-get_or, take_more_set, take_all, drop_all, map-append}
 use Rattle.std.proofs.lemmas.List.Edits.{map_over_more}
-use Rattle.client_spec.specs.Typed.{Reason, Checked, ◌>>=◌, RegisterType, RegisterTypes, is_owner, joined_one, joined, kept_one, kept}
+use Rattle.client_spec.specs.Typed.{Reason, Checked, ◌>>=◌, RegisterType, RegisterTypes, joined_one, joined, kept_one, kept}
 
 -- setting the next element to its image extends the mapped prefix
 pub map_more : {X Y : Type 0} (view : X → Y) (f : Y → Y) (xs : List X) (ys : List Y) (i : ℕ) (d y : X) → i < length xs → length ys ≡ length xs
@@ -45,17 +45,14 @@ joined_step front xs ys x y k e = ap (λ r. after front (r >>= λ z. joined xs y
 joined_stop : (front xs ys : RegisterTypes) (x y : RegisterType) (reason : Reason) → joined_one x y ≡ Err reason → after front (joined (x ∷ xs) (y ∷ ys)) ≡ Err reason
 joined_stop front xs ys x y reason e = ap (λ r. after front (r >>= λ z. joined xs ys >>= λ zs. Ok (z ∷ zs))) e
 
-nothing_stays : (x : RegisterType) → is_owner x ≡ false → joined_one x RegisterType.Undefined ≡ Ok RegisterType.Undefined
-nothing_stays RegisterType.Undefined e = refl
-nothing_stays RegisterType.Int e = refl
-nothing_stays (RegisterType.Reference x t) e = refl
-nothing_stays (RegisterType.Owner t) e = search rules
+-- two flags, of which neither is set, or the first, or only the second
+pub neither : {Z : Type 0} (a b : Bool) → (a ≡ false → b ≡ false → Z) → (a || b) ≡ false → Z
+neither true b f e = search rules
+neither false b f e = f refl e
 
-owner_lost : (x : RegisterType) → is_owner x ≡ true → joined_one x RegisterType.Undefined ≡ Err Reason.OwnerLost
-owner_lost RegisterType.Undefined e = search rules
-owner_lost RegisterType.Int e = search rules
-owner_lost (RegisterType.Reference x t) e = search rules
-owner_lost (RegisterType.Owner t) e = refl
+pub either : {Z : Type 0} (a b : Bool) → (a ≡ true → Z) → (a ≡ false → b ≡ true → Z) → (a || b) ≡ true → Z
+either true b first second e = first refl
+either false b first second e = second refl e
 
 after_none : (r : Checked RegisterTypes) → r ≡ after [] r
 after_none (Ok ks) = refl
@@ -69,38 +66,24 @@ module _ {X : Type 0} (view : X → RegisterType) where
   pub joined_none : (xs ys both : List X) → JoinedTo xs ys both 0
   joined_none xs ys both = after_none (joined (map view xs) (map view ys))
 
-  at_place : (front : RegisterTypes) (xs ys : List X) (i : ℕ) (d : X)
+  at_place : (front : RegisterTypes) (xs ys : List X) (i : ℕ) (d e : X)
       → i < length xs → i < length ys → after front (joined (drop i (map view xs)) (drop i (map view ys))) ≡ after front
-      (joined (view (get_or xs i d) ∷ drop (i + 1) (map view xs)) (view (get_or ys i d) ∷ drop (i + 1) (map view ys)))
-  at_place front xs ys i d near_xs near_ys =
+      (joined (view (get_or xs i d) ∷ drop (i + 1) (map view xs)) (view (get_or ys i e) ∷ drop (i + 1) (map view ys)))
+  at_place front xs ys i d e near_xs near_ys =
       ap (λ zs. after front (joined zs (drop i (map view ys)))) (from_here view xs i d near_xs)
-      ∙ ap (λ zs. after front (joined (view (get_or xs i d) ∷ drop (i + 1) (map view xs)) zs)) (from_here view ys i d near_ys)
+      ∙ ap (λ zs. after front (joined (view (get_or xs i d) ∷ drop (i + 1) (map view xs)) zs)) (from_here view ys i e near_ys)
 
-  pub joined_more : (xs ys both : List X) (i : ℕ) (d k : X) → i < length xs → i < length ys → i < length both → JoinedTo xs ys both i
-      → Ok (view k) ≡ joined_one (view (get_or xs i d)) (view (get_or ys i d)) → JoinedTo xs ys (set both i k) (i + 1)
-  joined_more xs ys both i d k near_xs near_ys near so_far e =
-      so_far ∙ at_place (map view (take i both)) xs ys i d near_xs near_ys
-      ∙ joined_step (map view (take i both)) (drop (i + 1) (map view xs)) (drop (i + 1) (map view ys)) (view (get_or xs i d)) (view (get_or ys i d)) (view k) (sym e)
+  pub joined_more : (xs ys both : List X) (i : ℕ) (d e k : X) → i < length xs → i < length ys → i < length both → JoinedTo xs ys both i
+      → Ok (view k) ≡ joined_one (view (get_or xs i d)) (view (get_or ys i e)) → JoinedTo xs ys (set both i k) (i + 1)
+  joined_more xs ys both i d e k near_xs near_ys near so_far same =
+      so_far ∙ at_place (map view (take i both)) xs ys i d e near_xs near_ys
+      ∙ joined_step (map view (take i both)) (drop (i + 1) (map view xs)) (drop (i + 1) (map view ys)) (view (get_or xs i d)) (view (get_or ys i e)) (view k) (sym same)
       ∙ ap (λ front. after front (joined (drop (i + 1) (map view xs)) (drop (i + 1) (map view ys)))) (sym (ap (map view) (take_more_set both i k near) ∙ map-append view (take i both) (k ∷ [])))
 
-  pub joined_not : (xs ys both : List X) (i : ℕ) (d : X) (reason : Reason) → i < length xs → i < length ys → JoinedTo xs ys both i
-      → Err reason ≡ joined_one (view (get_or xs i d)) (view (get_or ys i d)) → joined (map view xs) (map view ys) ≡ Err reason
-  joined_not xs ys both i d reason near_xs near_ys so_far e =
-      so_far ∙ at_place (map view (take i both)) xs ys i d near_xs near_ys ∙ joined_stop (map view (take i both)) (drop (i + 1) (map view xs)) (drop (i + 1) (map view ys)) (view (get_or xs i d)) (view (get_or ys i d)) reason (sym e)
-
-  pub joined_stays : (xs ys both : List X) (i : ℕ) (d : X) → i < length xs → i < length ys → i < length both → JoinedTo xs ys both i
-      → get_or both i d ≡ get_or ys i d → view (get_or both i d) ≡ RegisterType.Undefined → is_owner (view (get_or xs i d)) ≡ false → JoinedTo xs ys both (i + 1)
-  joined_stays xs ys both i d near_xs near_ys near so_far same nothing free =
-      subst (λ zs. JoinedTo xs ys zs (i + 1)) (set-get_or both i d) (
-      joined_more xs ys both i d (get_or both i d) near_xs near_ys near so_far
-      (ap Ok nothing ∙ sym (nothing_stays (view (get_or xs i d)) free) ∙ ap (joined_one (view (get_or xs i d))) (sym nothing ∙ ap view same))
-      )
-
-  pub joined_lost : (xs ys both : List X) (i : ℕ) (d : X) → i < length xs → i < length ys → JoinedTo xs ys both i
-      → get_or both i d ≡ get_or ys i d → view (get_or both i d) ≡ RegisterType.Undefined → is_owner (view (get_or xs i d)) ≡ true → joined (map view xs) (map view ys) ≡ Err Reason.OwnerLost
-  joined_lost xs ys both i d near_xs near_ys so_far same nothing owned =
-      joined_not xs ys both i d Reason.OwnerLost near_xs near_ys so_far
-      (sym (owner_lost (view (get_or xs i d)) owned) ∙ ap (joined_one (view (get_or xs i d))) (sym nothing ∙ ap view same))
+  pub joined_not : (xs ys both : List X) (i : ℕ) (d e : X) (reason : Reason) → i < length xs → i < length ys → JoinedTo xs ys both i
+      → Err reason ≡ joined_one (view (get_or xs i d)) (view (get_or ys i e)) → joined (map view xs) (map view ys) ≡ Err reason
+  joined_not xs ys both i d e reason near_xs near_ys so_far same =
+      so_far ∙ at_place (map view (take i both)) xs ys i d e near_xs near_ys ∙ joined_stop (map view (take i both)) (drop (i + 1) (map view xs)) (drop (i + 1) (map view ys)) (view (get_or xs i d)) (view (get_or ys i e)) reason (sym same)
 
   pub joined_all : (xs ys both : List X) (i : ℕ) → length xs ≤ i → length ys ≤ i → length both ≤ i → JoinedTo xs ys both i → joined (map view xs) (map view ys) ≡ Ok (map view both)
   joined_all xs ys both i all_xs all_ys all so_far =
@@ -118,19 +101,20 @@ module _ {X : Type 0} (view : X → RegisterType) where
   abbrev pub KeptTo : List X → List X → ℕ → Type 0
   KeptTo xs ys i = kept (map view xs) (map view ys) ≡ kept (drop i (map view xs)) (drop i (map view ys))
 
-  kept_at : (xs ys : List X) (i : ℕ) (d : X) → i < length xs → i < length ys → kept (drop i (map view xs))
-      (drop i (map view ys)) ≡ (kept_one (view (get_or xs i d)) (view (get_or ys i d)) >>= λ _. kept (drop (i + 1) (map view xs)) (drop (i + 1) (map view ys)))
-  kept_at xs ys i d near_xs near_ys =
+  kept_at : (xs ys : List X) (i : ℕ) (d e : X) → i < length xs → i < length ys → kept (drop i (map view xs))
+      (drop i (map view ys)) ≡ (kept_one (view (get_or xs i d)) (view (get_or ys i e)) >>= λ _. kept (drop (i + 1) (map view xs)) (drop (i + 1) (map view ys)))
+  kept_at xs ys i d e near_xs near_ys =
       ap (λ zs. kept zs (drop i (map view ys))) (from_here view xs i d near_xs)
-      ∙ ap (kept (view (get_or xs i d) ∷ drop (i + 1) (map view xs))) (from_here view ys i d near_ys)
+      ∙ ap (kept (view (get_or xs i d) ∷ drop (i + 1) (map view xs))) (from_here view ys i e near_ys)
 
-  pub kept_more : (xs ys : List X) (i : ℕ) (d : X) (done : ⊤) → i < length xs → i < length ys → KeptTo xs ys i → Ok done ≡ kept_one (view (get_or xs i d)) (view (get_or ys i d)) → KeptTo xs ys (i + 1)
-  kept_more xs ys i d done near_xs near_ys so_far e =
-      so_far ∙ kept_at xs ys i d near_xs near_ys ∙ ap (λ r. r >>= λ _. kept (drop (i + 1) (map view xs)) (drop (i + 1) (map view ys))) (sym e)
+  pub kept_more : (xs ys : List X) (i : ℕ) (d e : X) (done : ⊤) → i < length xs → i < length ys → KeptTo xs ys i → Ok done ≡ kept_one (view (get_or xs i d)) (view (get_or ys i e)) → KeptTo xs ys (i + 1)
+  kept_more xs ys i d e done near_xs near_ys so_far same =
+      so_far ∙ kept_at xs ys i d e near_xs near_ys ∙ ap (λ r. r >>= λ _. kept (drop (i + 1) (map view xs)) (drop (i + 1) (map view ys))) (sym same)
 
-  pub kept_not : (xs ys : List X) (i : ℕ) (d : X) (reason : Reason) → i < length xs → i < length ys → KeptTo xs ys i → Err reason ≡ kept_one (view (get_or xs i d)) (view (get_or ys i d)) → kept (map view xs) (map view ys) ≡ Err reason
-  kept_not xs ys i d reason near_xs near_ys so_far e =
-      so_far ∙ kept_at xs ys i d near_xs near_ys ∙ ap (λ r. r >>= λ _. kept (drop (i + 1) (map view xs)) (drop (i + 1) (map view ys))) (sym e)
+  pub kept_not : (xs ys : List X) (i : ℕ) (d e : X) (reason : Reason) → i < length xs → i < length ys → KeptTo xs ys i
+      → Err reason ≡ kept_one (view (get_or xs i d)) (view (get_or ys i e)) → kept (map view xs) (map view ys) ≡ Err reason
+  kept_not xs ys i d e reason near_xs near_ys so_far same =
+      so_far ∙ kept_at xs ys i d e near_xs near_ys ∙ ap (λ r. r >>= λ _. kept (drop (i + 1) (map view xs)) (drop (i + 1) (map view ys))) (sym same)
 
   pub kept_all : (xs ys : List X) (i : ℕ) → length xs ≤ i → length ys ≤ i → KeptTo xs ys i → kept (map view xs) (map view ys) ≡ Ok tt
   kept_all xs ys i all_xs all_ys so_far =

@@ -74,9 +74,9 @@ module _ (types : Table) (constants : List Constant) where
       ∙ given (needed >>= λ _. known_after ks) (λ _. inside ks body parts) (λ q. walk q rest) (λ _. walk (standing ks 0 (body ∷ parts)) rest) (λ _. ap (λ now. walk (standing ks 0 now) rest) (opened body parts room))
       ∙ sym (followed needed (λ _. known_after ks) (λ _. walk (standing ks 0 (body ∷ parts)) rest) (λ _. walk (standing ks 0 (body ∷ parts)) rest) (λ _. refl))
 
-  past_else : (good bad : RegisterTypes) (k before : ℕ) (parts : List Open) (rest : List Instruction) → length parts < 8
+  past_else : (good bad : RegisterTypes) (k before : ℕ) (parts : List Open) (rest : List Instruction)
       → walk (standing good k (in_success bad before ∷ parts)) (mark Operation.Else ∷ rest) ≡ walk (standing bad 0 (in_else good k before ∷ parts)) rest
-  past_else good bad k before parts rest room = ap (λ now. walk (standing bad 0 now) rest) (opened (in_else good k before) parts room)
+  past_else good bad k before parts rest = refl
 
   after_parts : (good bad : RegisterTypes) (k l before : ℕ) (parts : List Open) (rest : List Instruction)
       → walk (standing bad l (in_else good k before ∷ parts)) (mark Operation.End ∷ rest) ≡ (joined good bad >>= λ both. walk (standing both (at_most (before + max l k)) parts) rest)
@@ -126,7 +126,7 @@ module _ (types : Table) (constants : List Constant) where
       let to = λ (both : RegisterTypes). walk (standing both (at_most (n + (1 + max a b))) parts) rest in
       let parts_end = λ (good bad : RegisterTypes). after_parts good bad k l before parts rest
       ∙ alike (joined good bad) (λ both. walk (standing both (at_most (before + max l k)) parts) rest) to (λ both. ap (λ m. walk (standing both m parts) rest) (steps_of_parts n a b)) in
-      let in_code = λ (good otherwise : RegisterTypes). past_else good otherwise k before parts code free
+      let in_code = λ (good otherwise : RegisterTypes). past_else good otherwise k before parts code
       ∙ on_code otherwise 0 (in_else good k before ∷ parts) (mark Operation.End ∷ rest) (omega arith) (omega arith)
       ∙ followed (g otherwise) (λ bad. joined good bad) (λ bad. walk (standing bad l (in_else good k before ∷ parts)) (mark Operation.End ∷ rest)) to (λ bad. parts_end good bad) in
       ap (walk (standing ks n parts)) (two_parts (i ∷ xs) ys rest (mark Operation.Else) (mark Operation.End))

@@ -49,12 +49,24 @@ abbrev pub following : RegisterTypes → (before steps : ℕ) → List Open → 
 following ks before steps parts =
     record { known = ks; steps = at_most (before + steps); parts = parts }
 
+-- what is kept with an open part, and the steps before it
+abbrev pub kept_with : Open → RegisterTypes
+kept_with (in_success otherwise before) = otherwise
+kept_with (in_else success steps before) = success
+kept_with (in_body found turns before) = found
+
+abbrev pub steps_before : Open → ℕ
+steps_before (in_success otherwise before) = before
+steps_before (in_else success steps before) = before
+steps_before (in_body found turns before) = before
+
 -- from the success part to its else part
 abbrev pub turned : Progress → List Open → Progress
-turned p (in_success otherwise before ∷ parts) =
-    inside otherwise (in_else p.known p.steps before) parts
-turned p (in_else success steps before ∷ parts) = record p { parts = parts }
-turned p (in_body found turns before ∷ parts) = record p { parts = parts }
+turned p (part ∷ parts) = record {
+  known = kept_with part;
+  steps = 0;
+  parts = in_else p.known p.steps (steps_before part) ∷ parts;
+}
 turned p [] = p
 
 -- after the innermost part

@@ -1,4 +1,4 @@
-ghost use Rattle.std.specs.Prelude.{◌≡◌};
+ghost use Rattle.std.specs.Prelude.{◌≡◌, ◌≤◌, ◌<◌, ◌/◌, ◌%◌};
 ghost use Rattle.client_spec.specs.Typed as typed;
 ghost use Rattle.client_verify.specs.Packing.{IsPackedClass, IsPacked};
 
@@ -164,7 +164,8 @@ impl PackedRegister {
     fn kind(self) -> u8
         ensures { result ≡ self.bits % 256 }
     {
-        self.bits as u8
+        let [kind, _, _, _] = self.bits.to_le_bytes();
+        kind
     }
 
     /// The type of an owner or a reference.
@@ -172,7 +173,8 @@ impl PackedRegister {
     fn type_id(self) -> TypeId
         ensures { result ≡ self.bits / 256 % 256 }
     {
-        (self.bits >> 8) as u8
+        let [_, type_id, _, _] = self.bits.to_le_bytes();
+        type_id
     }
 
     /// The class of a reference.

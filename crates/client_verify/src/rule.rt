@@ -309,12 +309,9 @@ impl<'a> Rule<'a> {
         let Some((_, to)) = held.referred() else {
             return PackedRegister::int();
         };
-        let Some(kind) = self.types.kind(to) else {
-            return PackedRegister::int();
-        };
-        match self.part_of(kind) {
-            Some(part) => held.part(kind, part),
-            None => PackedRegister::int(),
+        match (self.types.kind(to), self.part()) {
+            (Some(kind), Some(part)) => held.part(kind, part),
+            _ => PackedRegister::int(),
         }
     }
 }

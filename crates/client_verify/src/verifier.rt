@@ -166,14 +166,16 @@ impl<'a> Verifier<'a> {
         ensures turned { progress_of self.new
             ≡ turned (progress_of self.old) (progress_of self.old).parts }
     {
-        let Some(open) = self.parts.as_mut_slice().last_mut() else {
+        let Some(innermost) = self.parts.len().checked_sub(1) else {
             return;
         };
-        let success = self.registers;
-        self.registers = open.registers;
-        open.registers = success;
-        open.part = Part::Else { steps: self.steps };
-        self.steps = 0;
+        if let Some(open) = self.parts.get_mut(innermost) {
+            let success = self.registers;
+            self.registers = open.registers;
+            open.registers = success;
+            open.part = Part::Else { steps: self.steps };
+            self.steps = 0;
+        }
     }
 
     /// Closes the innermost part at its `END`.

@@ -9,7 +9,7 @@ loop-i-preserved c =
     let t = c.loop-i-test.true in
     let self_long : length c.args.self.now.types ≡ 16 = omega arith in
     let after_long : length c.args.after.now.types ≡ 16 = omega arith in
-    kept_more known_of c.args.self.now.types c.args.after.now.types c.loop-i.i _ _ (omega arith) (omega arith) c.loop-i.invariant c.in_ok-keeps.ensures
+    kept_more known_of c.args.self.now.types c.args.after.now.types c.loop-i.i _ _ _ (omega arith) (omega arith) c.loop-i.invariant c.in_ok-keeps.ensures
 
 pub returns-in_err-keeps : goal.returns-in_err-keeps
 returns-in_err-keeps c =
@@ -20,7 +20,7 @@ returns-in_err-keeps c =
     let failed = err_from_is_err_and c.from_residual.result c.from_residual.ensures.1 in
     let same : failed.0 ≡ e = failed.2 in
     ap (checked (λ x. x)) (failed.1 ∙ ap Err same)
-    ∙ sym (kept_not known_of c.args.self.now.types c.args.after.now.types c.loop-i.i _ (reason_of e) (omega arith) (omega arith) c.loop-i.invariant c.in_err-keeps.ensures)
+    ∙ sym (kept_not known_of c.args.self.now.types c.args.after.now.types c.loop-i.i _ _ (reason_of e) (omega arith) (omega arith) c.loop-i.invariant c.in_err-keeps.ensures)
 
 pub returns : goal.returns
 returns c =

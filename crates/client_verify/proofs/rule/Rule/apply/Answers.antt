@@ -8,7 +8,7 @@ use Rattle.client_spec.specs.Operations.{row_of}
 use Rattle.client_verify.specs.declared.rule.Rule.{Rule}
 use Rattle.client_verify.specs.Views.{registers_of, checked}
 use Rattle.client_verify.specs.Passing.{rule_at}
-use Rattle.client_verify.specs.Checking.{held, referred, checked_by, known_in_parts, applied}
+use Rattle.client_verify.specs.Checking.{checked_by, known_in_parts, applied}
 use Rattle.client_verify.specs.Changes.{given_of, known_by}
 use Rattle.client_verify.specs.Steps.{step_by}
 use Rattle.client_verify.proofs.Numbers.{are_named}
@@ -28,7 +28,7 @@ returns-in_err-check c constants right =
     let e = c.in_err-check.field-0.0 in
     let failed = err_from_is_err_and c.from_residual.result c.from_residual.ensures.1 in
     let same : failed.0 ≡ e = failed.2 in
-    let all = ap (λ x. checked_by s x (given_of c.after-after.result)) c.after-after.ensures.led ∙ ap (checked_by s (referred (held s))) c.after-after.ensures.given in
+    let all = ap (checked_by s) c.after-after.ensures.given in
     ap (checked (known_by (registers_of c.args.self.now.before.now))) (failed.1 ∙ ap Err same)
     ∙ ap (λ r. r >>= λ _. Ok (known_in_parts s)) (c.in_err-check.ensures ∙ all)
     ∙ columns_say c.args.self.now constants right
@@ -36,7 +36,7 @@ returns-in_err-check c constants right =
 pub returns : goal.returns
 returns c constants right =
     let s = step_by c.args.self.now in
-    let all = ap (λ x. checked_by s x (given_of c.after-after.result)) c.after-after.ensures.led ∙ ap (checked_by s (referred (held s))) c.after-after.ensures.given in
+    let all = ap (checked_by s) c.after-after.ensures.given in
     ap Ok c.after-after.ensures.known
     ∙ ap (λ r. r >>= λ _. Ok (known_in_parts s)) (c.in_ok-check.ensures ∙ all)
     ∙ columns_say c.args.self.now constants right

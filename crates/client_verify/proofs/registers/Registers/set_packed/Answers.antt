@@ -2,7 +2,7 @@ use Rattle.std.proofs.Common.{ap, ◌∙◌}
 use Rattle.std.specs.Prelude.{slice_set}
 use Rattle.std.proofs.lemmas.List.{map-set}
 use Rattle.client_verify.specs.Views.{known_of, registers_of}
-use Rattle.client_verify.proofs.registers.Registers.set.Goals as goal
+use Rattle.client_verify.proofs.registers.Registers.set_packed.Goals as goal
 
 pub returns-then-place-lt-COUNT : goal.returns-then-place-lt-COUNT
 returns-then-place-lt-COUNT c =
