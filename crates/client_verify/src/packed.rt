@@ -247,8 +247,8 @@ impl PackedRegister {
     /// A reference to a part of the value that this one refers to. It is read-only if this one is, or if it passes through a
     /// `shared`.
     #[inline]
-    pub fn part(self, of: Type, part: TypeId) -> PackedRegister
-        ensures { known_of result ≡ part_below (form_of of) part (known_of self) }
+    pub fn part(self, of: &Type, part: TypeId) -> PackedRegister
+        ensures { known_of result ≡ part_below (form_of of.now) part (known_of self) }
     {
         match (self.kind(), of) {
             (REFERENCE, Type::Shared(_)) | (READ_ONLY, _) => {

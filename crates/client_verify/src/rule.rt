@@ -230,8 +230,8 @@ impl<'a> Rule<'a> {
     }
 
     /// The type of an item, of a map's value, of an owned or shared object, or of the field with the instruction's number.
-    fn part_of(&self, kind: Type) -> Option<TypeId>
-        ensures { result ≡ part_of self.now.instruction.number (form_of kind) }
+    fn part_of(&self, kind: &Type) -> Option<TypeId>
+        ensures { result ≡ part_of self.now.instruction.number (form_of kind.now) }
     {
         match kind {
             Type::I64 | Type::Str => None,
@@ -240,8 +240,8 @@ impl<'a> Rule<'a> {
             | Type::FlatMap(part)
             | Type::Map(part)
             | Type::Own(part)
-            | Type::Shared(part) => Some(part),
-            Type::Struct(fields) => self.field(&fields),
+            | Type::Shared(part) => Some(*part),
+            Type::Struct(fields) => self.field(fields),
         }
     }
 
@@ -258,7 +258,7 @@ impl<'a> Rule<'a> {
         ensures { result ≡ part_in (step_by self.now) }
     {
         let (_, to) = self.held().referred()?;
-        self.part_of(self.types.kind(to)?)
+        self.part_of(&self.types.kind(to)?)
     }
 
     /// The register that changes, and what it contains after success.
@@ -309,9 +309,12 @@ impl<'a> Rule<'a> {
         let Some((_, to)) = held.referred() else {
             return PackedRegister::int();
         };
-        match (self.types.kind(to), self.part()) {
-            (Some(kind), Some(part)) => held.part(kind, part),
-            _ => PackedRegister::int(),
+        let Some(kind) = self.types.kind(to) else {
+            return PackedRegister::int();
+        };
+        match self.part_of(&kind) {
+            Some(part) => held.part(&kind, part),
+            None => PackedRegister::int(),
         }
     }
 }

@@ -35,9 +35,9 @@ returns-clause-passes c constants right =
     let success = c.succeed.ensures ∙ ap (λ r. success_after after (registers_of r)) c.push.ensures.registers ∙ ap (success_after after) otherwise
     ∙ success_again (given_of after) after.role after.ends after.c ended in
     let gives : Gives types registers c.args.instruction after =
-        subst (λ i. Gives types registers i after) c.new.ensures.instruction
-        (subst (λ b. Gives types b (instruction_in rule) after) c.new.ensures.before
-        (subst (λ t. Gives t (before_of rule) (instruction_in rule) after) c.new.ensures.types c.in_ok-after.ensures)) in
+    subst (λ i. Gives types registers i after) c.new.ensures.instruction
+    (subst (λ b. Gives types b (instruction_in rule) after) c.new.ensures.before
+    (subst (λ t. Gives t (before_of rule) (instruction_in rule) after) c.new.ensures.types c.in_ok-after.ensures)) in
     ap (λ (p : Progress). Ok (record p { known = registers_of c.succeed.new.registers })) c.push.ensures.inside
     ∙ ap (λ ks. Ok (inside (registers_of c.succeed.new.registers) (in_success ks steps) parts)) otherwise
     ∙ ap (λ ks. Ok (inside ks (in_success (otherwise_after after ended) steps) parts)) success
