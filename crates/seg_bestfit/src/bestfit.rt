@@ -8,7 +8,7 @@ use crate::free_tree::{
     BySize, best_fit, free_tree, put_in, release_joined, take_front, take_out, take_whole,
 };
 use seg_block::{
-    Block, Fit, FreeStructure, HEAP_START, UNIT, UNITS_BEFORE, block_at, block_of, cut,
+    Block, BlockAt, Fit, FreeStructure, HEAP_START, UNIT, UNITS_BEFORE, block_at, block_of, cut,
     free_before, granted, is_live, last_block, resize, room_after, set_size,
 };
 use seg_ptr::Window;
@@ -56,7 +56,7 @@ impl Fit for BestFit {
         Self::release(w, (), Block { at, units });
     }
 
-    fn allocate<A: Allocator>(w: &mut Window<A>, need: u32) -> Option<u32> {
+    fn allocate<A: Allocator>(w: &mut Window<A>, need: u32) -> Option<BlockAt> {
         let mut path = Path::new(FREE);
         let gap = best_fit(&mut path, w, need)?;
         // no free block between `need` and this block's size exists, so a rest of at least `need` units keeps its place
@@ -70,7 +70,7 @@ impl Fit for BestFit {
         Some(gap.at)
     }
 
-    fn free<A: Allocator>(w: &mut Window<A>, block: u32) {
+    fn free<A: Allocator>(w: &mut Window<A>, block: BlockAt) {
         let Some(block) = block_at(w, block) else {
             return;
         };
