@@ -44,17 +44,6 @@ pub fn next<F: Fit, A: Allocator>(heap: &Heap<F, A>, item: ValueAt) -> ValueAt
     item_of(neighbour(heap, node_of(item), Way::Forward))
 }
 
-/// The item before an item of a list; before the first one this is the last one.
-pub fn prev<F: Fit, A: Allocator>(heap: &Heap<F, A>, item: ValueAt) -> ValueAt
-    ensures { (allocator U i : ℕ) (list : reads.Place) (vs : Values) (blocks : List ℕ) →
-        HasList allocator heap.now list U vs blocks →
-        Leads heap.now.window.bytes heap.now.types list (Selector.item i ∷ []) (object_at item U) →
-        Leads heap.now.window.bytes heap.now.types list
-        (Selector.item (around way.Backward (count vs) i 1) ∷ []) (object_at result U) }
-{
-    item_of(neighbour(heap, node_of(item), Way::Backward))
-}
-
 /// Adds a default item at the front of a list, and returns its position. `OtherType` if the place is no list,
 /// `BadAlloc` if there is no room for the item; then nothing changes.
 pub fn push_front<F: Fit, A: Allocator>(heap: &mut Heap<F, A>, list: Place) -> Result<ValueAt, Code>
