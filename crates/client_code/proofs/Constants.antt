@@ -1,13 +1,12 @@
 -- Constants that follow each other in a file.
-use Rattle.std.proofs.Common.{◌≡◌, ◌≢◌, ℕ, ◌+◌, ◌<◌, ◌≤◌, List, [], ◌∷◌, ◌++◌, length, drop, get_or, refl, sym, ap, ◌∙◌, subst, arith, inl, inr, append_assoc, append-nil, Option, Some, None}
+use Rattle.std.proofs.Common.{◌≡◌, ◌≢◌, ℕ, ◌+◌, ◌<◌, ◌≤◌, List, [], ◌∷◌, ◌++◌, length, drop, get_or, refl, sym, ap, ◌∙◌, subst, arith, inl, inr, append_assoc, append-nil}
 use Rattle.std.specs.Prelude.{⊤, flat_map, All, AllPairs}
 use Rattle.std.specs.List.{AllByRecursion}
-use Rattle.std.specs.Option.{option_map}
 use Rattle.std.proofs.lemmas.Bool.{cases_lt}
 use Rattle.std.proofs.lemmas.List.{length-append, flat_map_more, get_or_append_left, get_or_push, get_or_at, length_push}
 use Rattle.std.proofs.lemmas.List.Elements.{All-push}
 use Rattle.client_spec.specs.Syntax.{Constant}
-use Rattle.client_spec.specs.Grammar.{constant_bytes, IsConstant, IsTextConstant, NamesBy, Differ}
+use Rattle.client_spec.specs.Grammar.{constant_bytes, IsConstant, Differ}
 use Rattle.client_spec.proofs.OneClient.{constant_front}
 use Rattle.client_code.specs.declared.constant.ConstantKind.{ConstantKind}
 use Rattle.client_code.specs.declared.constant.ConstantKind.TheVariants as kind
@@ -147,33 +146,3 @@ text_differs (Constant.Name y) kind.Text bytes e = tt
 text_differs (Constant.Family y) kind.Text bytes e = tt
 text_differs x kind.Name bytes e = cc
 text_differs x kind.Family bytes e = cc
-
-pub is_text_by : (o : Option Constant) → option_map kind_of o ≡ Some kind.Text → IsTextConstant o
-is_text_by None e = cc
-is_text_by (Some (Constant.Text bytes)) e = tt
-is_text_by (Some (Constant.Name bytes)) e = cc
-is_text_by (Some (Constant.Family bytes)) e = cc
-
-pub no_text_by : (o : Option Constant) (k : Option ConstantKind) → option_map kind_of o ≡ k → (k ≡ Some kind.Text → ⊥) → IsTextConstant o → ⊥
-no_text_by None k e other is = is
-no_text_by (Some (Constant.Text bytes)) k e other is = other (sym e)
-no_text_by (Some (Constant.Name bytes)) k e other is = is
-no_text_by (Some (Constant.Family bytes)) k e other is = is
-
-pub name_by : (o : Option Constant) (b : ℕ) → option_map kind_of o ≡ Some kind.Name → (b ≡ 16 → NamesBy o b) × (NamesBy o b → b ≡ 16)
-name_by None b e = cc
-name_by (Some (Constant.Text bytes)) b e = cc
-name_by (Some (Constant.Name bytes)) b e = (λ h. h, λ h. h)
-name_by (Some (Constant.Family bytes)) b e = cc
-
-pub family_by : (o : Option Constant) (b : ℕ) → option_map kind_of o ≡ Some kind.Family → (b < 16 → NamesBy o b) × (NamesBy o b → b < 16)
-family_by None b e = cc
-family_by (Some (Constant.Text bytes)) b e = cc
-family_by (Some (Constant.Name bytes)) b e = cc
-family_by (Some (Constant.Family bytes)) b e = (λ h. h, λ h. h)
-
-pub no_name_by : (o : Option Constant) (k : Option ConstantKind) (b : ℕ) → option_map kind_of o ≡ k → (k ≡ Some kind.Name → ⊥) → (k ≡ Some kind.Family → ⊥) → NamesBy o b → ⊥
-no_name_by None k b e name family is = is
-no_name_by (Some (Constant.Text bytes)) k b e name family is = is
-no_name_by (Some (Constant.Name bytes)) k b e name family is = name (sym e)
-no_name_by (Some (Constant.Family bytes)) k b e name family is = family (sym e)

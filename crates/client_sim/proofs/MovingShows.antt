@@ -53,9 +53,6 @@ module _ {others : List Root} {types : Table} {constants : List Constant} (one :
   abbrev pub known_put : RegisterTypes
   known_put = others_ended class b ks
 
-  root_then : Value
-  root_then = values.with_value_at l.path.selectors v l.found.whole
-
   pub put_known : IsAsKnown types constants known_put put_then
   put_known =
       let refers : Refers constants s (register s b) class T = record { path = l.path; is = l.path_is; within = l.within; leads = record { value = l.value; there = l.there; typed = l.typed } } in

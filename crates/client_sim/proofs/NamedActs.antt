@@ -147,16 +147,6 @@ why_killed T (Some r) root e = choose (r.type == T) refl e
     choose true f g = (g, (let same : r ≡ root = cc in ap (λ (x : Root). x.type == T) (sym same) ∙ f))
     choose false f g = cc
 
-owner_ended : (class : Class) (k : RegisterType) → is_owner (without_class (sharing class) k) ≡ is_owner k
-owner_ended class RegisterType.Undefined = refl
-owner_ended class RegisterType.Int = refl
-owner_ended class (RegisterType.Owner t) = refl
-owner_ended class (RegisterType.Reference c t) = choose (same_class (sharing class) (sharing c))
-  where
-    choose : (b : Bool) → is_owner (if b then RegisterType.Undefined else RegisterType.Reference c t) ≡ false
-    choose true = refl
-    choose false = refl
-
 -- ---- worlds with another image
 
 module _ {others : List Root} {types : Table} {constants : List Constant} {first : Option (List ℕ)} {allocator : ℕ} {ks : RegisterTypes} {s : State} {w : World} (h : Shows others types constants first allocator ks s w) where

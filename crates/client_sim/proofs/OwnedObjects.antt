@@ -1,10 +1,10 @@
 -- The object of a register as calls need it: loose, with its value, apart from a place of another
 -- root.
-use Rattle.std.proofs.Common.{◌≡◌, ◌≢◌, ℕ, ◌+◌, ◌*◌, ◌<◌, ◌≤◌, List, [], ◌∷◌, ◌++◌, Option, Some, refl, sym, ◌∙◌, ap, subst, arith}
+use Rattle.std.proofs.Common.{◌≡◌, ◌≢◌, ℕ, ◌+◌, ◌*◌, ◌≤◌, List, [], ◌∷◌, ◌++◌, Option, Some, refl, sym, ◌∙◌, ap, subst, arith}
 use Rattle.std.proofs.lemmas.List.{append-nil}
 use Rattle.seg_spec.specs.Bytes.{slice}
 use Rattle.seg_spec.specs.Types.{Table, size}
-use Rattle.seg_spec.specs.Value.{Value, nil, cons, count}
+use Rattle.seg_spec.specs.Value.{Value, nil, cons}
 use Rattle.seg_spec.specs.Heap.{live}
 use Rattle.seg_spec.specs.Block.{IsBlock, Kind, tag_of, block_of}
 use Rattle.seg_spec.specs.Index.{Root, plain_root}
@@ -92,9 +92,6 @@ nowhere_else here = refl
 
 first_at : (table : Table) (root : Root) → (item_of table root 0).at ≡ root.at
 first_at table root = omega arith
-
-first_item : (root : Root) (v : Value) (i : ℕ) → root.values ≡ cons v nil → i < count root.values → i ≡ 0
-first_item root v i e within = let n = ap count e in omega (arith, n, within)
 
 module _ {others : List Root} {types : Table} {constants : List Constant} {first : Option (List ℕ)} {allocator : ℕ} {ks : RegisterTypes} {s : State} {w : World} (h : Shows others types constants first allocator ks s w) (c : ℕ) where
   pub record OwnsHere (U : ℕ) : Type 0 where

@@ -19,7 +19,7 @@ use Rattle.client_spec.specs.Answer.{provided, with_room}
 use Rattle.client_spec.specs.Effect.{combine, next_byte, add_object, item_of_object, find_or_add, count_of_object, destroy_object, add_unique}
 use Rattle.client_spec.specs.Effect.{item_of_value, pop_bytes, pop_last, pop_first, set_text, first_key, take_content, see_content}
 use Rattle.client_spec.specs.Typed.{Class, RegisterType, RegisterTypes, Rule, known, same_class, sharing, ended, others_ended, reference_needed}
-use Rattle.client_spec.specs.Typed.{form_needed, known_after, gives, opens, rule}
+use Rattle.client_spec.specs.Typed.{form_needed, known_after, gives, opens}
 use Rattle.client_spec.specs.Bare.{bare}
 use Rattle.client_spec.proofs.Bare.{known_bare, IsBare, FrozenFrom, from_set, gives_bare, opens_bare, after_bares}
 use Rattle.client_spec.specs.Typed as typed
@@ -436,9 +436,6 @@ module _ (types : Table) (constants : List Constant) (ks : RegisterTypes) (b : �
       ∙ not_ended (sharing x.0) ks good bad (λ r z u h. back r z u (f r z u h)) (λ r z u h. back r z u (g r z u h)) still
 
   module _ (one : OneEach constants) (s : State) (h : IsAsKnown types constants (bare ks) s) where
-    abbrev pub IsSpared : Operation → ℕ → ℤ → Type 0
-    IsSpared = Spared constants one (Class.Frozen class) types (bare ks) s h b
-
     -- if b's class ends except for b, and register a is set, b's class isn't the class that stays
     -- known
     pub opens_far : {A : Type 0} (f : Form → Option A) (rest : Class × ℕ → A → Rule) (good bad : RegisterTypes) → IsBare (known ks b)

@@ -1,9 +1,9 @@
 -- Rules that give the same in both parts of an opener. Instructions without an else part have such
 -- rules.
 use Rattle.std.proofs.Common.{◌≡◌, ℕ, Option, sym, ◌∙◌, ap}
-use Rattle.std.specs.Prelude.{Ok, Err}
+use Rattle.std.specs.Prelude.{Ok}
 use Rattle.seg_spec.specs.Types.{Form, Table}
-use Rattle.client_spec.specs.Typed.{Class, RegisterType, Checked, Reason, RegisterTypes, Rule, known, reference_needed, form_needed, integer_needed, known_after, assigned, gives, combines}
+use Rattle.client_spec.specs.Typed.{Class, RegisterType, Checked, RegisterTypes, Rule, known, reference_needed, form_needed, integer_needed, known_after, assigned, gives, combines}
 use Rattle.client_spec.specs.Typed as typed
 use Rattle.client_spec.proofs.FirstRows.{bind_ok, Ok_inj}
 
@@ -13,9 +13,6 @@ pub record Alike (r : Rule) : Type 0 where
 
 pub alike_known : (ks : RegisterTypes) → Alike (known_after ks)
 alike_known ks = record { by = λ good bad e. let p : (ks, ks) ≡ (good, bad) = Ok_inj e in sym (ap (λ (q : RegisterTypes × RegisterTypes). q.0) p) ∙ ap (λ (q : RegisterTypes × RegisterTypes). q.1) p }
-
-pub alike_refused : (reason : Reason) → Alike (Err reason)
-alike_refused reason = record { by = λ good bad e. cc }
 
 pub alike_bind : {A : Type 0} (r : Checked A) (f : A → Rule) → ((x : A) → Alike (f x)) → Alike (typed.◌>>=◌ r f)
 alike_bind r f h = record { by = λ good bad e. let p = bind_ok r f (good, bad) e in (h p.0).by good bad p.2 }

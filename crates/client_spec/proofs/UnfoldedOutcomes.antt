@@ -25,11 +25,6 @@ pub finds_mapped : {A B : Type 0} (g : A → B) (x : Option A) (y : Option B) �
 finds_mapped g None y e = tt
 finds_mapped g (Some a) y e = e
 
-pub finds_then : {A B C D : Type 0} (g : A → B) (h : C → D) (x : Option A) (y : Option B) (f : A → Option C) (k : B → Option D)
-    → Finds g x y → ((a : A) → x ≡ Some a → Finds h (f a) (k (g a))) → Finds h (x >>= f) (y >>= k)
-finds_then g h None y f k e rest = tt
-finds_then g h (Some a) y f k e rest = subst (λ z. Finds h (f a) (z >>= k)) (sym e) (rest a refl)
-
 module _ (m : ℕ → Value) where
   -- if there is a row from the state, there is the same row from the unfolded state
   abbrev pub Same : Outcome → Outcome → Type 0

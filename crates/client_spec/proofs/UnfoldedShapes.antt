@@ -11,9 +11,8 @@ use Rattle.seg_spec.proofs.Frame.{each_left, each_right}
 use Rattle.seg_spec.proofs.Unfolding.{same_tree}
 use Rattle.client_spec.specs.Machine.{Register, Object, State, register}
 use Rattle.client_spec.specs.Shape.{IsLabel, HasShape, HaveShapes}
-use Rattle.client_spec.specs.Trees.{unfolded_object, unfolded_register, unfolded_state, Unfolds}
+use Rattle.client_spec.specs.Trees.{unfolded_object, unfolded_register, unfolded_state}
 use Rattle.client_spec.proofs.UnfoldedValues.{count_replaced}
-use Rattle.client_spec.proofs.UnfoldedStates.{unfolds_is, is_unfolds}
 
 -- ---- shapes
 
@@ -115,6 +114,3 @@ module _ (m m' : ℕ → Value) (plain : State) where
     input = plain.input;
     output = plain.output;
   }
-
-  pub unfolds_again : (s : State) → AgreeThere → Unfolds m plain s → Unfolds m' plain s
-  unfolds_again s a h = is_unfolds m' plain s (unfolds_is m plain s h ∙ trees_agree a)

@@ -34,11 +34,6 @@ line_is word a b c n old t0 t1 t2 t3 t4 new e0 e1 e2 e3 e4 e =
     regroup : (o w a b c n : List ℕ) → ((((o ++ w) ++ a) ++ b) ++ c) ++ n ≡ o ++ (w ++ (((a ++ b) ++ c) ++ n))
     regroup o w a b c n = simp append_assoc
 
--- pushing a space and a word adds the word to the group
-pub one_word : (words : Words) (word start text : List ℕ) → text ≡ start ++ with_spaces words → text ++ 32 ∷ word ≡ start ++ with_spaces (words ++ word ∷ [])
-one_word words word start text e =
-    ap (λ xs. xs ++ 32 ∷ word) e ∙ append_assoc start (with_spaces words) (32 ∷ word) ∙ ap (λ xs. start ++ xs) (ap (λ xs. with_spaces words ++ xs) (sym (append-nil (32 ∷ word))) ∙ sym (spaces_two words (word ∷ [])))
-
 pub struct_line : (words : Words) (old t0 t1 new : List ℕ) → t0 ≡ old ++ codes "type struct" → t1 ≡ t0 ++ with_spaces words → new ≡ t1 ++ 10 ∷ [] → new ≡ old ++ (spaced_words (codes "type" ∷ codes "struct" ∷ words) ++ 10 ∷ [])
 struct_line words old t0 t1 new e0 e1 e =
     e ∙ ap (λ xs. xs ++ 10 ∷ []) (e1 ∙ ap (λ xs. xs ++ with_spaces words) e0 ∙ append_assoc old (codes "type struct") (with_spaces words) ∙ ap (λ xs. old ++ (codes "type " ++ xs)) (sym (spaced_is (codes "struct") words)))

@@ -4,7 +4,7 @@ use Rattle.std.specs.Prelude.{flat_map}
 use Rattle.std.proofs.lemmas.List.{flat_map_more, take_all}
 use Rattle.std.proofs.lemmas.List.Concat.{flat_map-append}
 use Rattle.std.proofs.lemmas.List.Folds.{flat_map-map}
-use Rattle.std.proofs.lemmas.List.Elements.{All-nil, All-push}
+use Rattle.std.proofs.lemmas.List.Elements.{All-push}
 use Rattle.seg_spec.specs.Types.{Form, Table, version_of, form_bytes}
 use Rattle.client_spec.specs.Syntax.{Constant, Instruction}
 use Rattle.client_spec.specs.Grammar.{file_version, constant_bytes, instruction_bytes}
@@ -24,9 +24,6 @@ pub record Written (lines : List (List ℕ)) (start file : List ℕ) (n : ℕ) :
   pub spelled : EachSpells (take n lines) items
   pub readable : All IsReadable items
   pub bytes : file ≡ start ++ flat_map item_bytes items
-
-pub begin : (lines : List (List ℕ)) (start : List ℕ) → Written lines start start 0
-begin lines start = record { items = []; spelled = tt; readable = All-nil IsReadable; bytes = sym (append-nil start) }
 
 spelled_more : (lines : List (List ℕ)) (items : List Item) (line : List ℕ) (item : Item) → EachSpells lines items → SpellsItem line item → EachSpells (lines ++ line ∷ []) (items ++ item ∷ [])
 spelled_more [] [] line item spells here = (here, tt)

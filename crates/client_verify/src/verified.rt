@@ -1,5 +1,4 @@
-ghost use Rattle.std.specs.Prelude.{◌≡◌, ◌≤◌, ◌↔◌, IsTrue};
-ghost use Rattle.seg_spec.specs.Types.{Agree};
+ghost use Rattle.std.specs.Prelude.{◌≡◌, ◌≤◌};
 ghost use Rattle.client_spec.specs.Run as run;
 ghost use Rattle.client_spec.specs.Safe.{IsAccepted, NeverGoesWrong};
 ghost use Rattle.client_code.specs.Clients.{OfTree};
@@ -50,12 +49,5 @@ impl<'a> Verified<'a> {
         ensures bound { OfTree (client_of self.now) (λ tree. result ≡ run.bound tree.code) }
     {
         self.bound
-    }
-
-    /// Whether a table and the client's types agree on the entries that both have.
-    pub fn fits(&self, table: &TypeTable) -> bool
-        ensures { OfTree (client_of self.now) (λ tree. IsTrue result ↔ Agree table.now tree.types) }
-    {
-        table.agrees(self.types()).is_ok()
     }
 }

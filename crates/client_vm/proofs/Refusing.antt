@@ -1,12 +1,12 @@
 -- Why no client runs: from the faults of an image and of clients to the reasons of the definitions.
-use Rattle.std.proofs.Common.{◌≡◌, ℕ, zero, suc, ◌+◌, ◌-◌, ◌≤◌, List, ◌++◌, length, Option, Some, None, Result, Ok, Err, refl, sym, ap, ◌∙◌, subst, inr, arith, length-append}
+use Rattle.std.proofs.Common.{◌≡◌, ℕ, zero, suc, ◌+◌, ◌-◌, ◌≤◌, List, ◌++◌, length, Option, Some, None, Result, Ok, Err, refl, sym, ap, ◌∙◌, subst, inr, arith}
 use Rattle.std.specs.Result.{IsErrAnd, MatchResult}
-use Rattle.std.specs.Prelude.{replicate, IfOk, IfErr}
+use Rattle.std.specs.Prelude.{replicate, IfErr}
 use Rattle.std.proofs.Math.Seq.{take-length}
 use Rattle.std.proofs.lemmas.List.{length-replicate}
 use Rattle.std.proofs.lemmas.Result.{MatchResult-at_ok}
 use Rattle.seg_spec.specs.Bytes.{slice, IsPlaced}
-use Rattle.seg_spec.specs.Window.{Placement, region_of, IsPlace}
+use Rattle.seg_spec.specs.Window.{Placement, region_of}
 use Rattle.seg_spec.proofs.SliceLaws.{region-placed}
 use Rattle.seg_spec.specs.Types.{Table}
 use Rattle.seg_spec.specs.Images.{IsSound}
@@ -117,13 +117,6 @@ pub placed_there : {E : Type 0} (Q : E → Type 0) (result : Result Placement E)
     → MatchResult result (λ v. (region_of v ≡ host) × (length v.before ≡ base) × (length v.bytes ≡ len)) Q → (region_of w ≡ host) × (length w.before ≡ base) × (length w.bytes ≡ len)
 placed_there Q result w host base len is h = MatchResult-at_ok _ Q w is h
 
--- a region of zeros with the image in it has the region's length
-pub zeros_around : (image : List ℕ) (base room : ℕ) → IsPlace room base (length image) → length ((replicate base 0 ++ image) ++ replicate (room - (base + length image)) 0) ≡ room
-zeros_around image base room place =
-    let zeros = replicate (room - (base + length image)) 0 in
-    let front : length (replicate base 0 ++ image) ≡ base + length image = length-append (replicate base 0) image ∙ ap (λ n. n + length image) (length-replicate base 0) in
-    length-append (replicate base 0 ++ image) zeros ∙ ap (λ m. m + length zeros) front ∙ ap (λ n. base + length image + n) (length-replicate (room - (base + length image)) 0) ∙ (let fits = place.1 in omega arith)
-
 pub among_zeros : (image : List ℕ) (base room : ℕ) (host : List ℕ) → host ≡ (replicate base 0 ++ image) ++ replicate (room - (base + length image)) 0 → IsPlaced host base image
 among_zeros image base room host is =
     let zeros = replicate (room - (base + length image)) 0 in
@@ -141,11 +134,6 @@ pub other_allocator : (n : ℕ) → n ≤ 1 → (n ≡ 1 → ⊥) → n ≡ 0
 other_allocator zero small isnt = refl
 other_allocator (suc zero) small isnt = absurd (isnt refl)
 other_allocator (suc (suc n)) small isnt = absurd (omega (arith, small))
-
--- a claim about a known value is true of the result
-pub ok_is : {A E : Type 0} (result : Result A E) (x : A) (P : A → Type 0) → P x → IfOk result (λ y. y ≡ x) → IfOk result P
-ok_is (Ok a) x P p is = subst P (sym is) p
-ok_is (Err e) x P p is = tt
 
 -- a claim about an error is true of the result that passes it on
 pub err_is : {A E : Type 0} (result : Result A E) (e : E) (P : E → Type 0) → P e → IsErrAnd result (λ x. x ≡ e) → IfErr result P

@@ -1,6 +1,6 @@
 -- Clients one after the other: the result of those that ran, from which the next one continues.
 use Rattle.std.proofs.Common.{◌≡◌, ◌≢◌, ℕ, ◌↔◌, Bool, true, false, List, [], ◌∷◌, ◌++◌, length, drop, Option, Some, None, Result, Ok, Err, refl, sym, ap, ◌∙◌, subst, append_assoc, arith}
-use Rattle.std.specs.Prelude.{if◌then◌else◌, IfOk, OnOk}
+use Rattle.std.specs.Prelude.{if◌then◌else◌, IfOk}
 use Rattle.seg_spec.specs.Bytes.{word}
 use Rattle.seg_spec.specs.Header.{allocator_word}
 use Rattle.seg_check.specs.Faults.{IsImageOf}
@@ -112,9 +112,6 @@ module _ (allocator : ℕ) (clients : List Client) (moves : List Move) (input : 
       abbrev its : Left
       its = left_of report has.output new
 
-      given_then : Given
-      given_then = given_of [] moves left_then new
-
       goes_on : (more : List Left) → GoOn failed clients_then (given_of [] moves left_then new) more → RunClients (client ∷ clients_then) (given_of [] moves left now) (its ∷ more)
       goes_on more h = (has.runs, go failed (ending_of report.ended) ending_so h)
         where
@@ -177,10 +174,6 @@ module _ (allocator : ℕ) (clients : List Client) (moves : List Move) (input : 
 pub if_ok : {A E : Type 0} (P Q : A → Type 0) (result : Result A E) → ((x : A) → P x → Q x) → IfOk result P → IfOk result Q
 if_ok P Q (Ok x) f h = f x h
 if_ok P Q (Err e) f h = tt
-
-pub both_ok : {A E : Type 0} (B : Type 0) (P Q : A → Type 0) (result : Result A E) → ((x : A) → B → P x → Q x) → OnOk result B → IfOk result P → IfOk result Q
-both_ok B P Q (Ok x) f b h = f x b h
-both_ok B P Q (Err e) f b h = tt
 
 pub ending_failed : (failed : Bool) (how : Ended) → (failed ≡ true → how ≡ ended.OutputFailed) → (failed ≡ false → how ≡ ended.Done) → ending_if failed ≡ ending_of how
 ending_failed true how t f = ap ending_of (sym (t refl))

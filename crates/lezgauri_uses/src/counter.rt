@@ -1,10 +1,10 @@
 ghost use Rattle.std.specs.Prelude.{◌≡◌, false};
 
-use lezgauri::{AllocatorKind, Fault, Image, IndexKind, Sink, prepare, run, verify};
+use lezgauri::{AllocatorKind, Error, Image, IndexKind, Sink, prepare, run, verify};
 use std::alloc::Global;
 
 /// An image with room for a counter. The first client makes the counter.
-pub fn new_counter(alloc: Global) -> Result<Vec<u8>, Fault> {
+pub fn new_counter(alloc: Global) -> Result<Vec<u8>, Error> {
     let image = Image::create(alloc, 1024, AllocatorKind::Seq, IndexKind::Flat)?;
     Ok(image.into_bytes())
 }
@@ -17,7 +17,7 @@ pub fn count<W: Sink>(
     client: &[u8],
     times: u32,
     out: &mut W,
-) -> Result<Vec<u8>, Fault>
+) -> Result<Vec<u8>, Error>
     requires works { W.has_failed out.old ≡ false }
 {
     let mut image = Image::open(alloc, image)?;

@@ -1,35 +1,23 @@
 -- The gap that a search in the tree finds.
-use Rattle.std.proofs.Common.{◌≡◌, ℕ, suc, ◌+◌, ◌-◌, ◌*◌, ◌^◌, ◌<◌, ◌≤◌, Bool, cond, leb, List, [], ◌∷◌, ◌++◌, length, Option, Some, None, refl, sym, ap, ◌∙◌, subst, arith}
-use Rattle.std.proofs.lemmas.List.{length-map}
+use Rattle.std.proofs.Common.{◌≡◌, ℕ, ◌+◌, ◌-◌, ◌*◌, ◌^◌, ◌<◌, ◌≤◌, List, [], ◌∷◌, ◌++◌, length, Option, Some, None, refl, sym, ◌∙◌, subst, arith}
 use Rattle.std.specs.Prelude.{IsSomeAnd}
 use Rattle.std.specs.Option.{option_map}
 use Rattle.std.specs.Ordering.{nat_cmp}
 use Rattle.std.specs.declared.cmp.Ordering.TheVariants.{Equal}
-use Rattle.seg_spec.specs.Heap.{Span, units_at, heap_start, tiles, gaps, by_size, best_fit, IsHeap, IsFreeTree}
-use Rattle.seg_spec.specs.Search.{reaches, Ascend, first_where, looks, IsSearchTree}
-use Rattle.seg_spec.specs.Shapes.{Tree, leaf, fork, nodes_of}
+use Rattle.seg_spec.specs.Heap.{Span, units_at, best_fit, IsFreeTree}
+use Rattle.seg_spec.specs.Search.{reaches, Ascend, first_where, IsSearchTree}
+use Rattle.seg_spec.specs.Shapes.{Tree, nodes_of}
 use Rattle.seg_spec.proofs.PickLaws.{best_fit-smallest}
-use Rattle.seg_spec.proofs.TileLaws.{Fill-le}
-use Rattle.seg_block.proofs.FreeTiles.{heap_free_blocks}
 use Rattle.seg_block.specs.declared.block.Block.{Block}
 use Rattle.seg_block.specs.Blocks.{IsSized}
 use Rattle.seg_block.specs.FreeBlocks.{AreFreeBlocks}
 use Rattle.seg_bestfit.specs.FreeTree.{by_units}
-use Rattle.seg_bestfit.proofs.SizeOrder.{node_of, fits_is}
-use Rattle.seg_bestfit.proofs.FreeGaps.{length-by_size}
+use Rattle.seg_bestfit.proofs.SizeOrder.{node_of}
 use Rattle.seg_bestfit.proofs.Listing.{search_tree, tree_ascends, best_node}
 
 block_in : (bytes : List ℕ) (from : ℕ) (xs : List Span) (g : Span) (ys : List Span) → AreFreeBlocks bytes from (xs ++ g ∷ ys) → IsSized bytes g
 block_in bytes from [] g ys a = a.1
 block_in bytes from (x ∷ xs) g ys a = block_in bytes (x.at + 16 * x.units) xs g ys a.2
-
--- searches with two equal tests have the same result
-looks-same : (p q : ℕ → Bool) → ((x : ℕ) → p x ≡ q x) → (tree : Tree) → looks p tree ≡ looks q tree
-looks-same p q same leaf = refl
-looks-same p q same (fork left at colour right) =
-    let l = looks-same p q same left in
-    let r = looks-same p q same right in
-    ap (λ b. suc (cond b (looks p left) (looks p right))) (same at) ∙ (λ i. suc (cond (q at) (l i) (r i)))
 
 -- what the search down the tree at the word `root` ensures
 abbrev pub Finds : List ℕ → ℕ → ℕ → Option ℕ → Type 0
@@ -86,33 +74,3 @@ module _ (bytes : List ℕ) (root u : ℕ) (node : Option ℕ) (root_is : root �
 
     pub finds_best : (f : Block) → Reads bytes at (Some f) → best_fit gs u ≡ Some (record { at = f.at; units = f.units })
     finds_best f read = let b = finds_some at found in let r = read b.gap b.place b.block in b.is_best ∙ (λ i. Some (record { at = sym r.0 i; units = sym r.1 i }))
-
--- ---- the gap that an allocation takes
-
-module _ (bytes : List ℕ) (root u count : ℕ) (node : Option ℕ) (root_is : root ≡ 24) (h : IsHeap 1 bytes) where
-  low : 704 ≤ length bytes
-  low = Fill-le (tiles bytes) heap_start (length bytes) h.filled
-
-  free : AreFreeBlocks bytes 704 (gaps bytes)
-  free = heap_free_blocks bytes h
-
-  pub located : Finds bytes root u node → option_map (λ n. n - 16) node ≡ option_map (λ (g : Span). g.at) (best_fit (gaps bytes) u)
-  located finds = ap (option_map (λ n. n - 16)) (node_is bytes root u node root_is finds (gaps bytes) h.free free low h.small) ∙ go (best_fit (gaps bytes) u)
-    where
-      go : (o : Option Span) → option_map (λ n. n - 16) (option_map node_of o) ≡ option_map (λ (g : Span). g.at) o
-      go None = refl
-      go (Some g) = let place : g.at + 16 - 16 ≡ g.at = omega arith in ap Some place
-
-  tree_here : IsSearchTree bytes root h.free.tree
-  tree_here = subst (λ r. IsSearchTree bytes r h.free.tree) (sym root_is) (search_tree bytes (gaps bytes) low h.small free h.free)
-
-  pub looked : ((shape : Tree) → IsSearchTree bytes root shape → Ascend (by_units bytes) (nodes_of shape) → count ≡ looks (λ x. reaches Equal (nat_cmp (units_at bytes (x - 16)) u)) shape)
-      → count ≡ looks (λ node. leb u (units_at bytes (node - 16))) h.free.tree
-  looked is =
-      is h.free.tree tree_here (tree_ascends bytes (gaps bytes) low h.small free h.free)
-      ∙ looks-same (λ x. reaches Equal (nat_cmp (units_at bytes (x - 16)) u)) (λ node. leb u (units_at bytes (node - 16))) (λ x. fits_is (units_at bytes (x - 16)) u) h.free.tree
-
-  pub few_looked : ((shape : Tree) → IsSearchTree bytes root shape → Ascend (by_units bytes) (nodes_of shape) → 2 ^ count ≤ (length (nodes_of shape) + 1) ^ 2) → 2 ^ count ≤ (length (gaps bytes) + 1) ^ 2
-  few_looked is =
-      let long : length (nodes_of h.free.tree) ≡ length (gaps bytes) = ap length h.free.nodes_are ∙ length-map (by_size (gaps bytes)) node_of ∙ length-by_size (gaps bytes) in
-      subst (λ n. 2 ^ count ≤ (n + 1) ^ 2) long (is h.free.tree tree_here (tree_ascends bytes (gaps bytes) low h.small free h.free))

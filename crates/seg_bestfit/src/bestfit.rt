@@ -1,40 +1,16 @@
-ghost use Rattle.std.specs.Prelude.{◌≡◌, ◌+◌, ◌^◌, ◌≤◌, nat_le, length};
-ghost use Rattle.std.specs.Option.{option_map};
-ghost use Rattle.seg_spec.specs.Heap.{IsHeap, gaps, best_fit};
-ghost use Rattle.seg_spec.specs.Search.{looks};
-ghost use Rattle.seg_bestfit.specs.FreeTree.{node_units};
-
-use crate::free_tree::{
-    BySize, best_fit, free_tree, put_in, release_joined, take_front, take_out, take_whole,
-};
+use crate::free_tree::{best_fit, put_in, release_joined, take_front, take_out, take_whole};
 use seg_block::{
-    Block, Fit, FreeStructure, HEAP_START, UNIT, UNITS_BEFORE, block_at, block_of, cut,
-    free_before, granted, is_live, last_block, resize, room_after, set_size,
+    Block, BlockAt, Fit, FreeStructure, HEAP_START, UNIT, UNITS_BEFORE, block_at, cut, free_before,
+    granted, is_live, last_block, resize, room_after, set_size,
 };
 use seg_ptr::Window;
 use seg_ptr::header::{FREE, SIZE};
-use seg_rbtree::{Looked, Path, TREE_WORDS};
+use seg_rbtree::{Path, TREE_WORDS};
 use std::alloc::Allocator;
 
 /// The best-fit allocator: it takes the smallest free block that is large enough, the lowest among equals. Sizes are in
 /// units.
 pub struct BestFit;
-
-/// The position of the free block that an allocation of `need` units would take, and how many free blocks the search
-/// looks at.
-pub fn locate<A: Allocator>(w: &Window<A>, need: u32) -> (Option<u32>, u32)
-    ensures gap { IsHeap 1 w.now.bytes
-        → result.0 ≡ option_map (λ g. g.at) (best_fit (gaps w.now.bytes) need) }
-    ensures looks { (h : IsHeap 1 w.now.bytes)
-        → result.1 ≡ looks (λ x. nat_le need (node_units w.now.bytes x)) h.free.tree }
-    ensures few { IsHeap 1 w.now.bytes → 2 ^ result.1 ≤ (length (gaps w.now.bytes) + 1) ^ 2 }
-{
-    let Looked { node, looks } = free_tree().first_at_least(w, &BySize, need);
-    match node {
-        Some(node) => (Some(block_of(node)), looks),
-        None => (None, looks),
-    }
-}
 
 impl Fit for BestFit {
     ghost allocator = { 1 };
@@ -56,7 +32,7 @@ impl Fit for BestFit {
         Self::release(w, (), Block { at, units });
     }
 
-    fn allocate<A: Allocator>(w: &mut Window<A>, need: u32) -> Option<u32> {
+    fn allocate<A: Allocator>(w: &mut Window<A>, need: u32) -> Option<BlockAt> {
         let mut path = Path::new(FREE);
         let gap = best_fit(&mut path, w, need)?;
         // no free block has a size between `need` and this block's size, so a rest of at least `need` units keeps its place
@@ -70,7 +46,7 @@ impl Fit for BestFit {
         Some(gap.at)
     }
 
-    fn free<A: Allocator>(w: &mut Window<A>, block: u32) {
+    fn free<A: Allocator>(w: &mut Window<A>, block: BlockAt) {
         let Some(block) = block_at(w, block) else {
             return;
         };

@@ -16,7 +16,7 @@ use crate::bestfit::BestFit;
 use seg_block::{Block, FreeStructure, HEAP_START, LINK, TAG, UNIT, block_at, set_size, units_in};
 use seg_ptr::header::FREE;
 use seg_ptr::{MAX_LEN, View, Window};
-use seg_rbtree::{NodeOrder, Path, Tree};
+use seg_rbtree::{NodeAt, NodeOrder, Path, Tree};
 use std::alloc::Allocator;
 use std::cmp::Ordering;
 
@@ -24,14 +24,14 @@ use std::cmp::Ordering;
 pub(crate) struct BySize;
 
 /// The units of the free block with this node.
-fn size(view: View, node: u32) -> u32
+fn size(view: View, node: NodeAt) -> u32
     ensures { result ≡ node_units view.entry.bytes.now node }
 {
     units_in(view.get32(node.saturating_sub(UNIT) as usize))
 }
 
 /// The size in units and the position of the free block with this node, in one number that orders like the pair.
-fn rank(view: View, node: u32) -> u64
+fn rank(view: View, node: NodeAt) -> u64
     ensures { result ≡ node_units view.entry.bytes.now node * 2 ^ 32 + node }
 {
     u64::from(size(view, node)) * (1 << 32) + u64::from(node)
@@ -46,11 +46,11 @@ impl NodeOrder<u32> for BySize {
 
     ghost read = { λ _ _ x. part (x - 16) 4 ∷ [] };
 
-    fn nodes(&self, view: View, node: u32, other: u32) -> Ordering {
+    fn nodes(&self, view: View, node: NodeAt, other: NodeAt) -> Ordering {
         rank(view, node).cmp(&rank(view, other))
     }
 
-    fn key(&self, view: View, node: u32, key: u32) -> Ordering {
+    fn key(&self, view: View, node: NodeAt, key: u32) -> Ordering {
         size(view, node).cmp(&key)
     }
 
@@ -76,7 +76,7 @@ pub(crate) fn free_tree() -> Tree
     Tree::new(FREE)
 }
 
-fn node_block<A: Allocator>(w: &Window<A>, node: u32) -> Option<Block>
+fn node_block<A: Allocator>(w: &Window<A>, node: NodeAt) -> Option<Block>
     ensures bounds { IfSome result (λ f. (f.at + UNIT ≡ node) × LiesIn w.now.bytes f) }
     ensures read { (g : Span) → node ≡ g.at + UNIT → IsSized w.now.bytes g
         → IsSomeAnd result (λ f. Covers f g) }

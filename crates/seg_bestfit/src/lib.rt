@@ -5,4 +5,4 @@
 mod bestfit;
 mod free_tree;
 
-pub use bestfit::{BestFit, locate};
+pub use bestfit::BestFit;

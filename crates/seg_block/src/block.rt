@@ -7,7 +7,8 @@ ghost use Rattle.seg_block.specs.Tiling.{tile_of, tile_after, grown, halves, IsT
 ghost use Rattle.seg_block.specs.Blocks.{block_end, Covers, LiesIn, IsJustBefore, HasRoom, payload_at, IsSized, IsReadFree, HasEnd, IsLiveBlock, room_after};
 
 use crate::header::{
-    HEAP_START, LIVE, TAG, UNIT, UNITS_BEFORE, block_of, is_live, units, units_before,
+    BlockAt, HEAP_START, LIVE, PayloadAt, TAG, UNIT, UNITS_BEFORE, block_of, is_live, units,
+    units_before,
 };
 use seg_ptr::{MAX_LEN, Window};
 use std::alloc::Allocator;
@@ -15,7 +16,7 @@ use std::alloc::Allocator;
 /// A block: the position of its header, and its size in units, with the header.
 #[derive(Debug, Clone, Copy, PartialEq, Eq)]
 pub struct Block {
-    pub at: u32,
+    pub at: BlockAt,
     pub units: u32,
 }
 
@@ -27,7 +28,7 @@ pub fn need(n: u32) -> u32
 }
 
 /// The block at a position, or `None` if the segment is too short for the size in its header.
-pub fn block_at<A: Allocator>(w: &Window<A>, at: u32) -> Option<Block>
+pub fn block_at<A: Allocator>(w: &Window<A>, at: BlockAt) -> Option<Block>
     ensures stated { SomeIff result (HasRoom w.now.bytes at)
         (record { at = at; units = units_at w.now.bytes at }) }
     ensures bounds { IfSome result (λ f. (f.at ≡ at) × LiesIn w.now.bytes f) }
@@ -38,7 +39,7 @@ pub fn block_at<A: Allocator>(w: &Window<A>, at: u32) -> Option<Block>
 }
 
 /// The block of `units` units at a position, or `None` if that is too small for a block or ends after `len`.
-pub fn block_within(len: u32, at: u32, units: u32) -> Option<Block>
+pub fn block_within(len: u32, at: BlockAt, units: u32) -> Option<Block>
     ensures { SomeIff result ((2 ≤ units) × (at + UNIT * units ≤ len))
         (record { at = at; units = units }) }
 {
@@ -50,7 +51,7 @@ pub fn block_within(len: u32, at: u32, units: u32) -> Option<Block>
 
 /// How many entries of `size` bytes fit in the block whose payload begins at `payload`. 0 if the segment is too short
 /// for the size in its header.
-pub fn capacity<A: Allocator>(w: &Window<A>, payload: u32, size: u32) -> u32
+pub fn capacity<A: Allocator>(w: &Window<A>, payload: PayloadAt, size: u32) -> u32
     requires { 1 ≤ size }
     ensures stated { HasRoom w.now.bytes (payload - UNIT)
         → result ≡ payload_at w.now.bytes (payload - UNIT) / size }
@@ -91,7 +92,7 @@ pub fn size_word(units: u32, live: bool) -> u32
 }
 
 /// Writes the size in units of the block at a position, to its header and to the header of the block after it.
-pub fn set_size<A: Allocator>(w: &mut Window<A>, block: u32, units: u32, live: bool)
+pub fn set_size<A: Allocator>(w: &mut Window<A>, block: BlockAt, units: u32, live: bool)
     requires { units < LIVE }
     ensures { w.new ≡ with_bytes w.old (set_size w.old.bytes block units live) }
 {

@@ -8,7 +8,7 @@ ghost use Rattle.seg_block.specs.Tiling.{ending};
 ghost use Rattle.seg_spec.specs.Bytes.{set_word};
 
 use crate::block::{Block, block_at, last_block, room_after, set_size};
-use crate::header::{HEAP_START, UNIT, UNITS_BEFORE};
+use crate::header::{BlockAt, HEAP_START, UNIT, UNITS_BEFORE};
 use crate::rules::{expanded, shrunk};
 use seg_ptr::header::SIZE;
 use seg_ptr::{MAX_LEN, Window};
@@ -41,14 +41,14 @@ pub trait Fit {
 
     /// Allocates a block of `need` units, or of one more if one unit would be left over. `None` if no free block is
     /// large enough.
-    fn allocate<A: Allocator>(w: &mut Window<A>, need: u32) -> Option<u32>
+    fn allocate<A: Allocator>(w: &mut Window<A>, need: u32) -> Option<BlockAt>
         requires { 2 ≤ need }
         ensures host { KeepsHost w.old w.new }
         ensures takes { IsHeap allocator w.old.bytes →
             Takes allocator w.old.bytes w.new.bytes need result };
 
     /// Frees an allocated block, and merges it with the free blocks next to it.
-    fn free<A: Allocator>(w: &mut Window<A>, block: u32)
+    fn free<A: Allocator>(w: &mut Window<A>, block: BlockAt)
         ensures host { KeepsHost w.old w.new }
         ensures gives { IsHeap allocator w.old.bytes → IsLive w.old.bytes block
             → Gives allocator w.old.bytes w.new.bytes block };
@@ -91,7 +91,7 @@ pub trait Fit {
 
     /// Enlarges an allocated block in place to `need` units, or to one more. False if the free block right after it is
     /// too small.
-    final fn expand<A: Allocator>(w: &mut Window<A>, block: u32, need: u32) -> bool
+    final fn expand<A: Allocator>(w: &mut Window<A>, block: BlockAt, need: u32) -> bool
         requires { 2 ≤ need }
         ensures host { KeepsHost w.old w.new }
         ensures expands { (x : ℕ) → IsHeap allocator w.old.bytes → IsLiveBlock w.old.bytes block x
@@ -110,7 +110,7 @@ pub trait Fit {
 
     /// Cuts an allocated block to `need` units. It keeps a single unit more, unless a free block follows. If its size
     /// stays, nothing changes.
-    final fn shrink<A: Allocator>(w: &mut Window<A>, block: u32, need: u32)
+    final fn shrink<A: Allocator>(w: &mut Window<A>, block: BlockAt, need: u32)
         requires { 2 ≤ need }
         ensures host { KeepsHost w.old w.new }
         ensures shrinks { (x : ℕ) → IsHeap allocator w.old.bytes → IsLiveBlock w.old.bytes block x

@@ -5,14 +5,15 @@ ghost use Rattle.seg_block.specs.Blocks.{IsLiveBlock};
 ghost use Rattle.seg_block.specs.Request.{Grants, GrantsNew};
 
 use crate::fit::Fit;
+use crate::header::BlockAt;
 use seg_ptr::Window;
 use std::alloc::Allocator;
 
 /// The answer to a request: the old block in place, or a new block.
 #[derive(Clone, Copy, Debug, PartialEq, Eq)]
 pub enum Grant {
-    Same(u32),
-    New(u32),
+    Same(BlockAt),
+    New(BlockAt),
 }
 
 /// Allocates a block of `preferred` units, or of `limit` units if that fails.
@@ -37,7 +38,7 @@ pub fn request_new<F: Fit, A: Allocator>(
 /// a new block.
 pub fn request_at<F: Fit, A: Allocator>(
     w: &mut Window<A>,
-    block: u32,
+    block: BlockAt,
     preferred: u32,
     limit: u32,
 ) -> Option<Grant>
@@ -66,7 +67,7 @@ pub fn request_at<F: Fit, A: Allocator>(
 /// leaves the old one allocated.
 pub fn request<F: Fit, A: Allocator>(
     w: &mut Window<A>,
-    old: Option<u32>,
+    old: Option<BlockAt>,
     preferred: u32,
     limit: u32,
 ) -> Option<Grant>

@@ -9,6 +9,12 @@ use std::alloc::Allocator;
 /// The size of a unit, and of a block's header, in bytes.
 pub const UNIT: u32 = 16;
 
+/// The position of a block's header, in bytes from the segment's start.
+pub type BlockAt = u32;
+
+/// The position of a block's payload, in bytes from the segment's start.
+pub type PayloadAt = u32;
+
 /// The position where the heap begins.
 pub const HEAP_START: u32 = 704;
 
@@ -25,49 +31,49 @@ pub const LINK: usize = 12;
 pub(crate) const LIVE: u32 = 1 << 31;
 
 /// The position of the block whose payload begins at `payload`.
-pub fn block_of(payload: u32) -> u32
+pub fn block_of(payload: PayloadAt) -> BlockAt
     ensures { result ≡ payload - UNIT }
 {
     payload.saturating_sub(UNIT)
 }
 
 /// The size in units of the block at a position, with its header.
-pub fn units<A: Allocator>(w: &Window<A>, block: u32) -> u32
+pub fn units<A: Allocator>(w: &Window<A>, block: BlockAt) -> u32
     ensures { result ≡ units_at w.now.bytes block }
 {
     units_in(w.get32(block as usize))
 }
 
 /// Whether the block at a position is allocated.
-pub fn is_live<A: Allocator>(w: &Window<A>, block: u32) -> bool
+pub fn is_live<A: Allocator>(w: &Window<A>, block: BlockAt) -> bool
     ensures { result ≡ is_live_at w.now.bytes block }
 {
     is_live_in(w.get32(block as usize))
 }
 
 /// The size in units of the block before, as the header at a position states it. 0 for the first block.
-pub fn units_before<A: Allocator>(w: &Window<A>, block: u32) -> u32
+pub fn units_before<A: Allocator>(w: &Window<A>, block: BlockAt) -> u32
     ensures { result ≡ units_before w.now.bytes block }
 {
     w.get32(block as usize + UNITS_BEFORE)
 }
 
 /// The tag word of a block ([`Tag::read`](crate::Tag::read)).
-pub fn tag_word<A: Allocator>(w: &Window<A>, block: u32) -> u32
+pub fn tag_word<A: Allocator>(w: &Window<A>, block: BlockAt) -> u32
     ensures { result ≡ tag_at w.now.bytes block }
 {
     w.get32(block as usize + TAG)
 }
 
 /// The position that the block's link points to.
-pub fn link<A: Allocator>(w: &Window<A>, block: u32) -> Option<u32>
+pub fn link<A: Allocator>(w: &Window<A>, block: BlockAt) -> Option<u32>
     ensures { result ≡ link_at w.now.bytes block }
 {
     w.target(block as usize + LINK)
 }
 
 /// The size of the block's payload in bytes.
-pub fn payload<A: Allocator>(w: &Window<A>, block: u32) -> u64
+pub fn payload<A: Allocator>(w: &Window<A>, block: BlockAt) -> u64
     ensures { result ≡ payload_at w.now.bytes block }
 {
     (u64::from(UNIT) * u64::from(units(w, block))).saturating_sub(u64::from(UNIT))
@@ -103,7 +109,7 @@ pub struct Header {
 
 impl Header {
     /// The header of the block at a position. If it doesn't lie inside the segment, its words are 0.
-    pub fn read(view: View, block: u32) -> Header
+    pub fn read(view: View, block: BlockAt) -> Header
         ensures inside { block + UNIT ≤ length view.entry.bytes.now
             → result ≡ header_at view.entry.bytes.now block }
         ensures past { length view.entry.bytes.now < block + UNIT

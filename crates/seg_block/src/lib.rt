@@ -18,8 +18,8 @@ pub use fit::Fit;
 pub use free_structure::{FreeStructure, cut, resize};
 pub use grant::{Grant, request, request_at, request_new};
 pub use header::{
-    HEAP_START, Header, LINK, TAG, UNIT, UNITS_BEFORE, block_of, is_live, link, payload, tag_word,
-    units, units_before, units_in,
+    BlockAt, HEAP_START, Header, LINK, PayloadAt, TAG, UNIT, UNITS_BEFORE, block_of, is_live, link,
+    payload, tag_word, units, units_before, units_in,
 };
 pub use rules::{expanded, granted, preferred, shrunk};
 pub use seg_ptr::{Code, Fault, MAX_LEN, MIN_LEN, Region, View, Window};

@@ -3,7 +3,7 @@ ghost use Rattle.seg_spec.specs.Bytes.{set_word};
 ghost use Rattle.seg_spec.specs.Window.{with_bytes};
 ghost use Rattle.seg_block.specs.Tags.{word_of};
 
-use crate::header::TAG;
+use crate::header::{BlockAt, TAG};
 use seg_ptr::Window;
 use std::alloc::Allocator;
 
@@ -63,7 +63,7 @@ impl Tag {
     }
 
     /// Writes the tag into the header of the block at a position.
-    pub fn write<A: Allocator>(self, w: &mut Window<A>, block: u32)
+    pub fn write<A: Allocator>(self, w: &mut Window<A>, block: BlockAt)
         ensures { w.new ≡ with_bytes w.old (set_word w.old.bytes (block + TAG) (word_of self)) }
     {
         w.put32(block as usize + TAG, self.word());

@@ -1,7 +1,8 @@
 ghost use Rattle.std.specs.Prelude.{◌≡◌, ℕ, ◌+◌, ◌*◌, ◌%◌, ◌^◌, ◌≤◌, Some, IfSome};
 ghost use Rattle.seg_spec.specs.Types.{IsTable};
 
-use crate::place::Place;
+use crate::place::{Place, ValueAt};
+use seg_block::PayloadAt;
 use seg_layout::{TypeId, TypeTable};
 
 /// The size of a key in bytes.
@@ -81,21 +82,21 @@ impl Entry {
     }
 
     /// The position of the entry with this index, in a block whose payload begins at `start`.
-    pub fn at(self, start: u32, index: u32) -> u32
+    pub fn at(self, start: PayloadAt, index: u32) -> u32
         ensures { result ≡ (start + index * self.size) % 2 ^ 32 }
     {
         start.wrapping_add(index.wrapping_mul(self.size))
     }
 
     /// The position of the content of the entry with this index.
-    pub fn value_at(self, start: u32, index: u32) -> u32
+    pub fn value_at(self, start: PayloadAt, index: u32) -> ValueAt
         ensures { result ≡ (start + index * self.size + self.before) % 2 ^ 32 }
     {
         self.at(start, index).wrapping_add(self.before)
     }
 
     /// The value in the entry with this index, if these entries have values.
-    pub fn value(self, start: u32, index: u32) -> Option<Place>
+    pub fn value(self, start: PayloadAt, index: u32) -> Option<Place>
         ensures value { (t : ℕ) → self.held ≡ Held.Value t →
             result ≡ Some (record {
               at = (start + index * self.size + self.before) % 2 ^ 32;

@@ -9,9 +9,9 @@ mod entry;
 mod place;
 mod search;
 
-pub use cell::{count, load, start};
+pub use cell::{CellAt, count, load, start};
 pub use cells::{Cells, IDS, point_each_again, set_default};
 pub use content::{Content, FROZEN_WORDS, Shape};
 pub use entry::{Entry, Held, KEY, LIST_LINKS, PREVIOUS};
-pub use place::Place;
+pub use place::{Place, ValueAt};
 pub use search::binary_search;

@@ -2,10 +2,13 @@ ghost use Rattle.std.specs.Prelude.{◌≡◌, ◌+◌, ◌%◌, ◌^◌};
 
 use seg_layout::{Cell, TypeId};
 
+/// The position of a value, in bytes from the segment's start.
+pub type ValueAt = u32;
+
 /// A value: the position where it begins, and its type.
 #[derive(Debug, Clone, Copy, PartialEq, Eq)]
 pub struct Place {
-    pub at: u32,
+    pub at: ValueAt,
     pub type_id: TypeId,
 }
 

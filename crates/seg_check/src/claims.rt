@@ -12,7 +12,8 @@ ghost use Rattle.seg_check.specs.Cells.{AreRight};
 use crate::bytes::{frozen_number, has_payload};
 use crate::fault::ContentFault;
 use crate::marks::{Mark, Turn, Waiting};
-use seg_block::{HEAP_START, Tag, UNIT, block_of};
+use seg_block::{BlockAt, HEAP_START, PayloadAt, Tag, UNIT, block_of};
+use seg_cells::CellAt;
 use seg_ptr::{View, Window};
 use std::alloc::{AllocError, Allocator};
 use std::marker::Model;
@@ -82,7 +83,7 @@ impl<A: Allocator> Claims<A> {
 
     /// Adds the block at a position, which wasn't added before. There are fewer blocks than units, so that no count of
     /// them wraps.
-    pub(crate) fn add(&mut self, block: u32, is_live: bool)
+    pub(crate) fn add(&mut self, block: BlockAt, is_live: bool)
         ensures added { IsUnit self.old.units block → times block self.old.unclaimed ≡ 0 →
             times block self.old.free ≡ 0 → Adds self.old block is_live self.new }
         ensures units { self.new.units ≡ self.old.units }
@@ -96,7 +97,7 @@ impl<A: Allocator> Claims<A> {
         }
     }
 
-    fn set_mark(&mut self, block: u32, new: Mark)
+    fn set_mark(&mut self, block: BlockAt, new: Mark)
         ensures own { IsUnit self.old.units block → IsMarked self.new block new }
         ensures live { IsMarked self.old block Mark.Live → IsMarked self.new block new }
         ensures others { KeepsOthers self.old self.new block }
@@ -106,7 +107,7 @@ impl<A: Allocator> Claims<A> {
         }
     }
 
-    fn mark(&self, block: u32) -> Mark
+    fn mark(&self, block: BlockAt) -> Mark
         ensures { IsMarked self.now block result }
     {
         match self.unit_at(block) {
@@ -131,7 +132,7 @@ impl<A: Allocator> Claims<A> {
     }
 
     /// Whether a free block begins at this position.
-    pub(crate) fn is_free(&self, block: u32) -> bool
+    pub(crate) fn is_free(&self, block: BlockAt) -> bool
         ensures { IsTrue result ↔ (1 ≤ times block self.now.free) }
     {
         self.mark(block).is_free()
@@ -153,7 +154,7 @@ impl<A: Allocator> Claims<A> {
         pointer: u32,
         tag: Tag,
         size: u64,
-    ) -> Result<u32, ContentFault>
+    ) -> Result<PayloadAt, ContentFault>
         ensures taken { self.new.taken ≡ self.old.taken }
         ensures claimed { AreLive bytes.entry.bytes.now self.old.unclaimed → IfOk result
             (ClaimsBlock bytes.entry.bytes.now self.old self.new pointer (word_of tag) size []) }
@@ -201,10 +202,10 @@ impl<A: Allocator> Claims<A> {
     pub(crate) fn name(
         &mut self,
         bytes: View,
-        cell: u32,
+        cell: CellAt,
         tag: Tag,
         size: u64,
-    ) -> Result<u32, ContentFault>
+    ) -> Result<PayloadAt, ContentFault>
         ensures taken { self.new.taken ≡ self.old.taken }
         ensures named { IsNameable bytes.entry.bytes.now self.old →
             IfOk result
@@ -237,7 +238,7 @@ impl<A: Allocator> Claims<A> {
     }
 
     /// Claims the block of a frozen object that has no owner so far, and puts it in the queue.
-    fn claim_frozen(&mut self, block: u32, waiting: Waiting) -> Result<(), ContentFault>
+    fn claim_frozen(&mut self, block: BlockAt, waiting: Waiting) -> Result<(), ContentFault>
         ensures taken { self.new.taken ≡ self.old.taken }
         ensures claimed { IsMarked self.old block Mark.Live →
             OnOk result (ClaimsFrozen self.old self.new block waiting) }
@@ -250,7 +251,7 @@ impl<A: Allocator> Claims<A> {
     }
 
     /// How many more cells may point to the frozen object in a block.
-    fn left(&self, block: u32) -> Option<u32>
+    fn left(&self, block: BlockAt) -> Option<u32>
         ensures { heap_start ≤ block → result ≡ left_at self.now block }
     {
         let slot = block.wrapping_sub(HEAP_START) / (2 * UNIT);
@@ -258,7 +259,7 @@ impl<A: Allocator> Claims<A> {
     }
 
     /// Sets how many more cells may point to the frozen object in a block.
-    fn put_left(&mut self, block: u32, left: Option<u32>)
+    fn put_left(&mut self, block: BlockAt, left: Option<u32>)
         ensures own { heap_start ≤ block → slot_of block < length self.old.naming.counts →
             left_at self.new block ≡ left }
         ensures others { heap_start ≤ block → (h : ℕ) → slot_of h ≢ slot_of block →
@@ -320,7 +321,7 @@ impl<A: Allocator> Claims<A> {
     }
 
     /// Whether the frozen object in a block counts its cells, and has a number below `next`.
-    fn is_right(&self, bytes: View, block: u32, next: u32) -> bool
+    fn is_right(&self, bytes: View, block: BlockAt, next: u32) -> bool
         ensures { heap_start ≤ block → block + 20 < 2 ^ 32 → IsTrue result
             ↔ ((left_at self.now block ≡ Some 0)
             × (number_at bytes.entry.bytes.now (block + 16) < next)) }
@@ -330,7 +331,7 @@ impl<A: Allocator> Claims<A> {
     }
 
     /// The lowest allocated block without an owner.
-    pub(crate) fn first_unowned(&self) -> Option<u32>
+    pub(crate) fn first_unowned(&self) -> Option<BlockAt>
         ensures { IsCounted self.now → MatchOption result (self.now.unclaimed ≡ [])
             (λ block. (1 ≤ times block self.now.unclaimed) ×
             ((h : ℕ) → 1 ≤ times h self.now.unclaimed → block ≤ h)) }

@@ -8,7 +8,7 @@ ghost use Rattle.seg_check.specs.Walks.{is_above};
 use crate::claims::Claims;
 use crate::image::Image;
 use crate::walk::{Tree, Visit};
-use seg_block::{block_of, link, units};
+use seg_block::{BlockAt, block_of, link, units};
 use seg_ptr::{Window, header};
 use std::alloc::Allocator;
 
@@ -46,7 +46,7 @@ impl<A: Allocator> Image<'_, A> {
 }
 
 /// Whether a free block comes after the one before it in the tree, if there is one.
-fn is_above<A: Allocator>(w: &Window<A>, before: Option<u32>, block: u32) -> bool
+fn is_above<A: Allocator>(w: &Window<A>, before: Option<u32>, block: BlockAt) -> bool
     ensures { result ≡ is_above w.now.bytes before block }
 {
     let Some(before) = before else {

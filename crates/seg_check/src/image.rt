@@ -10,7 +10,7 @@ use crate::claims::Claims;
 use crate::fault::ContentFault;
 use crate::free_list::FreeList;
 use crate::marks::Turn;
-use seg_block::Tag;
+use seg_block::{PayloadAt, Tag};
 use seg_cells::{Content, Entry, Held};
 use seg_layout::TypeTable;
 use seg_ptr::{View, Window, header};
@@ -73,7 +73,7 @@ impl<A: Allocator> Image<'_, A> {
         pointer: u32,
         content: &Content,
         count: u32,
-    ) -> Result<u32, ContentFault>
+    ) -> Result<PayloadAt, ContentFault>
         ensures taken { claims.new.taken ≡ claims.old.taken }
         ensures claimed { AreLive self.now.w.now.bytes claims.old.unclaimed →
             IfOk result (λ start. ClaimsBlock self.now.w.now.bytes claims.old claims.new pointer
@@ -121,7 +121,7 @@ impl Owner<'_> {
         claims: &mut Claims<B>,
         pointer: u32,
         count: u32,
-    ) -> Result<u32, ContentFault>
+    ) -> Result<PayloadAt, ContentFault>
         ensures taken { claims.new.taken ≡ claims.old.taken }
         ensures claimed { AreLive self.entry.bytes.bytes.now claims.old.unclaimed →
             IfOk result (λ start. ClaimsBlock self.entry.bytes.bytes.now claims.old claims.new

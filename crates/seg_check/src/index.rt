@@ -21,6 +21,7 @@ use seg_cells::Content;
 use seg_entry::{ENTRY, IndexKind, MAX_NAME, NameEntry, name_count, named_tag};
 use seg_layout::TypeId;
 use seg_ptr::header;
+use seg_rbtree::NodeAt;
 use std::alloc::Allocator;
 
 /// The position of the pointer to the entries, or to the root node.
@@ -202,7 +203,7 @@ impl<'w, A: Allocator> Image<'w, A> {
 }
 
 /// The position of the entry in a node of the index, after the tree words.
-fn entry_in(node: u32) -> u32
+fn entry_in(node: NodeAt) -> u32
     ensures { node + index_node_size ≤ 2 ^ 32 → result ≡ node + tree_words }
 {
     node.wrapping_add(Content::index_node().entry.size - ENTRY)

@@ -8,8 +8,9 @@ ghost use Rattle.seg_check.specs.Cells.{NamesBy};
 use crate::claims::Claims;
 use crate::fault::ContentFault;
 use crate::image::Image;
-use seg_cells::{Content, PREVIOUS};
+use seg_cells::{CellAt, Content, PREVIOUS};
 use seg_ptr::View;
+use seg_rbtree::NodeAt;
 use std::alloc::Allocator;
 
 impl<A: Allocator> Image<'_, A> {
@@ -19,7 +20,7 @@ impl<A: Allocator> Image<'_, A> {
         &self,
         claims: &mut Claims<B>,
         content: &Content,
-        cell: u32,
+        cell: CellAt,
     ) -> Result<(), ContentFault>
         ensures taken { claims.new.taken ≡ claims.old.taken }
         ensures steps { (T U : ℕ) → NamesBy self.now.types.now T (Form.list U) content.now →
@@ -50,7 +51,7 @@ impl<A: Allocator> Image<'_, A> {
 }
 
 /// Whether `next` points back to `node`.
-fn is_previous(bytes: View, node: u32, next: u32) -> bool
+fn is_previous(bytes: View, node: NodeAt, next: NodeAt) -> bool
     ensures { next + PREVIOUS < 2 ^ 32 →
         IsTrue result ↔ (target bytes.entry.bytes.now (next + PREVIOUS) ≡ Some node) }
 {

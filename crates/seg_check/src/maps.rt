@@ -9,7 +9,7 @@ use crate::claims::Claims;
 use crate::fault::ContentFault;
 use crate::image::Image;
 use crate::walk::{Tree, Visit};
-use seg_cells::{Content, KEY};
+use seg_cells::{CellAt, Content, KEY, ValueAt};
 use std::alloc::Allocator;
 
 impl<A: Allocator> Image<'_, A> {
@@ -18,7 +18,7 @@ impl<A: Allocator> Image<'_, A> {
         &self,
         claims: &mut Claims<B>,
         content: &Content,
-        cell: u32,
+        cell: CellAt,
     ) -> Result<(), ContentFault>
         ensures taken { claims.new.taken ≡ claims.old.taken }
         ensures steps { (T U : ℕ) → NamesBy self.now.types.now T (Form.flat_map U) content.now →
@@ -42,7 +42,7 @@ impl<A: Allocator> Image<'_, A> {
         &self,
         claims: &mut Claims<B>,
         content: &Content,
-        cell: u32,
+        cell: CellAt,
     ) -> Result<(), ContentFault>
         ensures taken { claims.new.taken ≡ claims.old.taken }
         ensures steps { (T U : ℕ) → NamesBy self.now.types.now T (Form.map U) content.now →
@@ -72,7 +72,7 @@ impl<A: Allocator> Image<'_, A> {
 
     /// The key right before the value at a position.
     #[tactic(auto, unfolding(seg_spec::specs::Bytes::signed))]
-    fn key(&self, value: u32) -> i64
+    fn key(&self, value: ValueAt) -> i64
         ensures { KEY ≤ value → result ≡ signed_long self.now.w.now.bytes (value - KEY) }
     {
         self.w.get64(value.wrapping_sub(KEY) as usize).cast_signed()
@@ -118,7 +118,7 @@ impl Keys {
     }
 
     /// `BadValue` with the map's cell if a key wasn't above the one before.
-    fn check(self, cell: u32) -> Result<(), ContentFault>
+    fn check(self, cell: CellAt) -> Result<(), ContentFault>
         ensures { (ks : List ℤ) → HasKeys self ks → MatchResult result (λ _. IsAscending ks)
             (λ fault. (fault ≡ ContentFault.BadValue cell) × (IsAscending ks → ⊥)) }
     {

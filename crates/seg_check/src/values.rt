@@ -13,8 +13,8 @@ use crate::claims::Claims;
 use crate::fault::ContentFault;
 use crate::image::Image;
 use crate::marks::Turn;
-use seg_block::{Kind, Tag, block_of, tag_word};
-use seg_cells::{Content, Entry, Place, count};
+use seg_block::{BlockAt, Kind, Tag, block_of, tag_word};
+use seg_cells::{CellAt, Content, Entry, Place, count};
 use seg_layout::{Type, TypeId};
 use std::alloc::Allocator;
 
@@ -58,7 +58,7 @@ impl<A: Allocator> Image<'_, A> {
     }
 
     /// The layout of the entries in a claimed block of the queue.
-    fn entry_of(&self, block: u32) -> Option<Entry>
+    fn entry_of(&self, block: BlockAt) -> Option<Entry>
         ensures { IsTable self.now.types.now →
             IsOwnable self.now.w.now.bytes self.now.types.now block →
             HoldsEntries self.now.w.now.bytes self.now.types.now block result }
@@ -142,7 +142,7 @@ impl<A: Allocator> Image<'_, A> {
         &self,
         claims: &mut Claims<B>,
         content: &Content,
-        cell: u32,
+        cell: CellAt,
     ) -> Result<(), ContentFault>
         ensures taken { claims.new.taken ≡ claims.old.taken }
         ensures steps { (T : ℕ) (form : Form) → HasItems form →
@@ -162,7 +162,7 @@ impl<A: Allocator> Image<'_, A> {
         &self,
         claims: &mut Claims<B>,
         content: &Content,
-        cell: u32,
+        cell: CellAt,
     ) -> Result<(), ContentFault>
         ensures taken { claims.new.taken ≡ claims.old.taken }
         ensures steps { (T U : ℕ) → NamesBy self.now.types.now T (Form.own U) content.now →
@@ -185,7 +185,7 @@ impl<A: Allocator> Image<'_, A> {
         &self,
         claims: &mut Claims<B>,
         held: TypeId,
-        cell: u32,
+        cell: CellAt,
     ) -> Result<(), ContentFault>
         ensures taken { claims.new.taken ≡ claims.old.taken }
         ensures steps { (T : ℕ) → form_at self.now.types.now T ≡ Some (Form.shared held) →
@@ -211,7 +211,7 @@ impl<A: Allocator> Image<'_, A> {
 
     /// The count of a cell, or `None` if the cell is empty. `BadPointer` if it counts something and its pointer is
     /// null.
-    pub(crate) fn counted(&self, cell: u32) -> Result<Option<u32>, ContentFault>
+    pub(crate) fn counted(&self, cell: CellAt) -> Result<Option<u32>, ContentFault>
         ensures { result ≡ counted_by cell (target self.now.w.now.bytes cell)
             (count_at self.now.w.now.bytes cell) }
     {
@@ -224,7 +224,7 @@ impl<A: Allocator> Image<'_, A> {
 
     /// Like [`counted`](Image::counted), of a cell that counts the blocks it points to: `BadValue` if it points to one
     /// and counts none.
-    pub(crate) fn counted_blocks(&self, cell: u32) -> Result<Option<u32>, ContentFault>
+    pub(crate) fn counted_blocks(&self, cell: CellAt) -> Result<Option<u32>, ContentFault>
         ensures { result ≡ blocks_counted_by cell (target self.now.w.now.bytes cell)
             (count_at self.now.w.now.bytes cell) }
     {

@@ -5,7 +5,7 @@ ghost use Rattle.seg_check.specs.Colours.{is_red, may_stand, is_height};
 use arrayvec::ArrayVec;
 use seg_block::UNIT;
 use seg_ptr::Window;
-use seg_rbtree::{Colour, Side, child_word, node_colour};
+use seg_rbtree::{Colour, NodeAt, Side, child_word, node_colour};
 use std::alloc::Allocator;
 
 /// The longest path in a tree, in nodes. An image has fewer than 2^26 nodes, so a red-black tree of them has at most 52
@@ -51,7 +51,7 @@ pub(crate) enum Visit {
     /// The position of a pointer to a node.
     Enter(u32),
     /// The next node in order.
-    Pass(u32),
+    Pass(NodeAt),
 }
 
 /// What is above a place in a tree.
@@ -68,7 +68,7 @@ struct Above {
 /// A node that was entered and not passed, and what is above its children.
 #[derive(Clone, Copy, Default)]
 struct Entered {
-    node: u32,
+    node: NodeAt,
     above: Above,
 }
 
@@ -125,7 +125,7 @@ impl Stage {
 
     /// Enters the node of this colour at the current place, and goes to its left child. False before a node that would
     /// be too deep.
-    fn enter(&mut self, node: u32, colour: Option<Colour>) -> bool
+    fn enter(&mut self, node: NodeAt, colour: Option<Colour>) -> bool
         ensures goes_on { IsTrue result → (bytes : List ℕ) (height : ℕ) (rest entering : List ℕ)
             → target bytes self.old.pointer ≡ Some node → IsColourOf bytes node colour
             → self.old.nodes < 2 ^ 32 → self.old.above.blacks < 255
@@ -166,7 +166,7 @@ impl Stage {
     }
 
     /// Goes from an empty place to the right child of the next node in order, and returns this node.
-    fn pass(&mut self) -> Option<u32>
+    fn pass(&mut self) -> Option<NodeAt>
         ensures goes_on { IfSome result (λ node. (bytes : List ℕ) (height : ℕ)
             → (rest entering : List ℕ)
             → target bytes self.old.pointer ≡ None → node + 4 < 2 ^ 32
@@ -280,7 +280,7 @@ fn may_stand(colour: Option<Colour>, below_red: bool) -> bool
 }
 
 /// The position of the pointer to a child of a node that lies in the segment.
-fn child_pointer(node: u32, side: Side) -> u32
+fn child_pointer(node: NodeAt, side: Side) -> u32
     ensures { side_word node side < 2 ^ 32 → result ≡ side_word node side }
 {
     u32::try_from(child_word(node, side)).unwrap_or(u32::MAX)

@@ -10,10 +10,6 @@ use Rattle.std.proofs.lemmas.Cmp.{ranked}
 use Rattle.seg_spec.specs.Index.{Precedes, same_name}
 use Rattle.seg_entry.proofs.NameOrder.{ranks, level}
 
--- how two names compare
-abbrev pub names_cmp : List ℕ → List ℕ → Ordering
-names_cmp xs ys = slice_cmp nat_cmp xs ys
-
 pub less_of_precedes : (xs ys : List ℕ) → Precedes xs ys → slice_cmp nat_cmp xs ys ≡ Less
 less_of_precedes [] [] h = absurd h
 less_of_precedes [] (y ∷ ys) h = refl
@@ -55,9 +51,6 @@ equal_of_same xs ys e = ap (slice_cmp nat_cmp xs) (sym e) ∙ equal_self xs
 
 pub precedes_of_greater : (xs ys : List ℕ) → slice_cmp nat_cmp xs ys ≡ Greater → Precedes ys xs
 precedes_of_greater xs ys e = precedes_of_less ys xs (nat_list_cmp_total.antisymm ys xs ∙ ap ordering_reverse e)
-
-pub greater_of_precedes : (xs ys : List ℕ) → Precedes ys xs → slice_cmp nat_cmp xs ys ≡ Greater
-greater_of_precedes xs ys h = nat_list_cmp_total.antisymm xs ys ∙ ap ordering_reverse (less_of_precedes ys xs h)
 
 pub precedes_trans : (xs ys zs : List ℕ) → Precedes xs ys → Precedes ys zs → Precedes xs zs
 precedes_trans xs ys zs h k = precedes_of_less xs zs (nat_list_cmp_total.trans xs ys zs (less_of_precedes xs ys h) (less_of_precedes ys zs k))

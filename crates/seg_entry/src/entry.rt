@@ -3,7 +3,7 @@ ghost use Rattle.seg_spec.specs.Window.{KeepsHost, with_bytes};
 ghost use Rattle.seg_entry.specs.Names.{named_type, type_of, name_of};
 ghost use Rattle.seg_entry.specs.Entries.{entry_read, write_entry};
 
-use seg_block::{Kind, TAG, Tag, UNIT};
+use seg_block::{Kind, PayloadAt, TAG, Tag, UNIT};
 use seg_layout::{TypeId, TypeTable};
 use seg_ptr::{View, Window};
 use std::alloc::Allocator;
@@ -45,7 +45,7 @@ fn named_type(word: u32) -> Option<TypeId>
 #[derive(Debug, Clone, Copy, PartialEq, Eq)]
 pub struct NameEntry {
     /// The position of the named object's payload, or `None` if the pointer is null.
-    pub object: Option<u32>,
+    pub object: Option<PayloadAt>,
     /// How many values the object has.
     pub count: u16,
     /// The length of its name in bytes.
@@ -56,7 +56,7 @@ pub struct NameEntry {
 
 impl NameEntry {
     /// The entry of an object of `count` values with a name of `name_len` bytes.
-    pub fn new(object: u32, count: u16, name_len: u8) -> NameEntry
+    pub fn new(object: PayloadAt, count: u16, name_len: u8) -> NameEntry
         ensures { result ≡ record {
           object = Some object;
           count = count;

@@ -18,7 +18,7 @@ use crate::places::placed;
 use seg_layout::TypeId;
 use seg_manager::Fit;
 use seg_raw::Code;
-use seg_value::{Content, Heap, Place, set_own};
+use seg_value::{Content, Heap, PayloadAt, Place, set_own};
 use std::alloc::Allocator;
 
 /// Owns: values that own one object without a name, or none.
@@ -63,7 +63,7 @@ fn put_new<F: Fit, A: Allocator>(
     heap: &mut Heap<F, A>,
     own: Place,
     object: TypeId,
-) -> Result<u32, Code>
+) -> Result<PayloadAt, Code>
     ensures window { KeepsHost heap.old.window heap.new.window }
     ensures types { heap.new.types ≡ heap.old.types }
     ensures puts { (v : Value) (blocks : List ℕ) →

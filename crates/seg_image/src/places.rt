@@ -9,11 +9,11 @@ ghost use Rattle.seg_image.specs.Places.{position_of, object_type};
 use crate::image::Image;
 use seg_layout::{Type, TypeId};
 use seg_raw::Code;
-use seg_value::Place;
+use seg_value::{Place, ValueAt};
 use std::alloc::Allocator;
 
 /// The place of a value of this type, from the position that a call returned.
-pub(crate) fn placed(position: Result<u32, Code>, type_id: TypeId) -> Result<Place, Code>
+pub(crate) fn placed(position: Result<ValueAt, Code>, type_id: TypeId) -> Result<Place, Code>
     ensures position { position_of result ≡ position }
     ensures of_type { IfOk result (λ place. place.type_id ≡ type_id) }
 {

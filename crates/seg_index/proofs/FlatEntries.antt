@@ -11,8 +11,8 @@ use Rattle.seg_spec.specs.Header.{index_kind_word, index_cell, heap_start}
 use Rattle.seg_spec.specs.Pointer.{target}
 use Rattle.seg_spec.specs.Types.{Table}
 use Rattle.seg_spec.specs.Heap.{live}
-use Rattle.seg_spec.specs.Block.{Kind, tag_of, block_of}
-use Rattle.seg_spec.specs.Reads.{count_at, named, start, spaced, NamesRoom}
+use Rattle.seg_spec.specs.Block.{block_of}
+use Rattle.seg_spec.specs.Reads.{count_at, named, start, spaced}
 use Rattle.seg_spec.specs.Index.{Root, Index, OpensIndex, OpensFlat, IsEntry, AreEntries}
 use Rattle.seg_spec.specs.Sound.{times, positions}
 use Rattle.seg_spec.proofs.Leading.{each_at}
@@ -85,9 +85,6 @@ module _ (allocator : ℕ) (bytes : List ℕ) (table : Table) (names : List Root
 
   pub flat_entry : (i : ℕ) (r : Root) → slice_get names i ≡ Some r → IsEntry bytes (start bytes index_cell + i * 8) r
   flat_entry = entries_indexed bytes from n names entries
-
-  pub flat_room : NamesRoom bytes index_cell (tag_of Kind.index_buffer 0) 8
-  flat_room = opens.named_room
 
   pub flat_named : (i : ℕ) (r : Root) → slice_get names i ≡ Some r → IsNamed bytes table r
   flat_named i r e = (each_at _ names i r f.named e).0

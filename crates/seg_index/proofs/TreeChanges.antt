@@ -66,13 +66,6 @@ module _ (bytes : List ℕ) (table : Table) where
     pub lefts : AreListed bytes table front before
     pub rights : AreListed bytes table back after
 
-  pub halve_listed : (front back : List ℕ) (rs : List Root) → AreListed bytes table (front ++ back) rs → Halves front back rs
-  halve_listed [] back rs h = record { before = []; after = rs; names_are = refl; lefts = tt; rights = h }
-  halve_listed (x ∷ front) back [] h = absurd h
-  halve_listed (x ∷ front) back (r ∷ rs) h =
-      let more = halve_listed front back rs h.1 in
-      record { before = r ∷ more.before; after = more.after; names_are = ap (λ qs. r ∷ qs) more.names_are; lefts = (h.0, more.lefts); rights = more.rights }
-
   pub join_listed : (xs : List ℕ) (rs : List Root) (ys : List ℕ) (qs : List Root) → AreListed bytes table xs rs → AreListed bytes table ys qs → AreListed bytes table (xs ++ ys) (rs ++ qs)
   join_listed [] [] ys qs h k = k
   join_listed [] (r ∷ rs) ys qs h k = absurd h

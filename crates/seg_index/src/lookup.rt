@@ -6,7 +6,7 @@ ghost use Rattle.seg_index.specs.Lists.{WhereNames, IsOccupied, IsVacant, IsRoot
 use crate::{flat, tree};
 use seg_entry::{IndexKind, NameEntry};
 use seg_rbtree::Path;
-use seg_value::{Code, Fit, Heap};
+use seg_value::{Code, Fit, Heap, PayloadAt};
 use std::alloc::Allocator;
 
 /// Where a search for a name ended.
@@ -62,7 +62,7 @@ impl Vacant {
     pub fn insert<F: Fit, A: Allocator>(
         mut self,
         heap: &mut Heap<F, A>,
-        object: u32,
+        object: PayloadAt,
         count: u16,
         name_len: u8,
     ) -> Result<(), Code>

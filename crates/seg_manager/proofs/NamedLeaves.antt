@@ -1,5 +1,5 @@
 -- A named object is destroyed: its entry is removed from the index, then its blocks are freed.
-use Rattle.std.proofs.Common.{◌≡◌, ◌≢◌, ℕ, ◌+◌, ◌≤◌, ◌⊎◌, inl, inr, true, false, List, [], ◌∷◌, ◌++◌, map, Option, Some, None, Ok, Err, is_ok, eqb, refl, sym, ap, ◌∙◌, subst, append_assoc, arith}
+use Rattle.std.proofs.Common.{◌≡◌, ◌≢◌, ℕ, ◌+◌, ◌≤◌, ◌⊎◌, inl, inr, true, false, List, [], ◌∷◌, ◌++◌, map, Some, Ok, Err, eqb, refl, sym, ap, ◌∙◌, subst, append_assoc, arith}
 use Rattle.std.proofs.lemmas.Bool.Decides.{nat_tests}
 use Rattle.std.proofs.lemmas.Bool.{cases_eq}
 use Rattle.seg_spec.specs.Bytes.{word}
@@ -57,20 +57,6 @@ is_found T root found e = go (cases_eq root.type T)
         let test : eqb root.type T ≡ false = grind (arith, nat_tests) in
         let none : Ok found ≡ Err code.OtherType = rw test at e in
         absurd (let no : Ok found ≡ Err code.OtherType = none in cc)
-
--- if a search finds no object of the type, no object is destroyed
-pub not_killed : (T : ℕ) (o : Option Root) → is_ok (found_as T o) ≡ false → killed o T ≡ None
-not_killed T None e = refl
-not_killed T (Some root) e = go (cases_eq root.type T)
-  where
-    go : (root.type ≡ T) ⊎ (root.type ≢ T) → killed (Some root) T ≡ None
-    go (inl same) =
-        let test : eqb root.type T ≡ true = grind (arith, nat_tests) in
-        let is : true ≡ false = rw test at e in
-        absurd (let no : true ≡ false = is in cc)
-    go (inr other) =
-        let test : eqb root.type T ≡ false = grind (arith, nat_tests) in
-        rw test refl
 
 -- an object that the index lists has no words before its values
 nothing_before : (bytes entries : List ℕ) (before : List Root) (root : Root) (after : List Root) → AreEntries bytes entries (before ++ root ∷ after) → root.words ≡ []

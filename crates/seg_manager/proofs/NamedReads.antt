@@ -1,5 +1,5 @@
 -- The named objects that calls find when they read the index.
-use Rattle.std.proofs.Common.{◌≡◌, ℕ, ◌<◌, Bool, true, false, List, [], ◌∷◌, Option, Some, None, MatchOption, Result, Ok, Err, option_map, refl, sym, ap, ◌∙◌, subst}
+use Rattle.std.proofs.Common.{◌≡◌, ℕ, ◌<◌, Bool, true, false, List, [], ◌∷◌, Option, Some, None, MatchOption, Ok, Err, option_map, refl, sym, ap, ◌∙◌, subst}
 use Rattle.std.specs.Prelude.{◌==◌, if◌then◌else◌, not, nat_eq, slice_get, IsSomeAnd}
 use Rattle.std.specs.Option.{option_eq}
 use Rattle.std.specs.List.{AllByRecursion}
@@ -9,7 +9,6 @@ use Rattle.seg_spec.specs.Sound.{Picture}
 use Rattle.seg_spec.specs.Types.{Table}
 use Rattle.seg_spec.proofs.Frame.{each_weaker}
 use Rattle.seg_spec.proofs.Leading.{each_at}
-use Rattle.seg_raw.specs.declared.code.Code.{Code}
 use Rattle.seg_raw.specs.declared.code.Code.TheVariants as code
 use Rattle.seg_value.specs.Stored.{Stored}
 use Rattle.seg_entry.specs.Names.{type_of, name_of}
@@ -93,9 +92,6 @@ module _ (bytes : List ℕ) (table : Table) (root : Root) (entry : NameEntry) (n
       go : (b : Bool) → (root.type == T) ≡ b → Ok here ≡ found_as T (Some root)
       go true e = rw e (ap Ok made)
       go false e = absurd (let both : false ≡ true = same ∙ ap not (tests ∙ e) in cc)
-
-  pub found_none : (T : ℕ) → entry.object ≡ None → (r : Result Found Code) → r ≡ found_as T (Some root)
-  found_none T none r = absurd (let both : None ≡ Some root.at = sym none ∙ ap (λ (e : NameEntry). e.object) is in cc)
 
 -- ---- the names of a segment
 

@@ -31,9 +31,6 @@ pub record Filled (old now : List ℕ) (table : Table) (at T n k : ℕ) : Type 0
   pub changes : ChangesOnly old now at (n * size table T)
   pub each : (i : ℕ) → i < k → Holds now table (value_at table at T i) (default_of table T) []
 
-pub filled_first : (old : List ℕ) (table : Table) (at T n : ℕ) → Filled old old table at T n 0
-filled_first old table at T n = record { changes = record { length_kept = refl; others = λ p m apart. refl }; each = λ i h. absurd (omega arith) }
-
 pub filled_next : (old now next : List ℕ) (table here : Table) (at T n k each p type : ℕ) → HasValuesRoom old table at T n → Filled old now table at T n k → k < n → here ≡ table → type ≡ T → each ≡ size table T
     → p ≡ (at + k * each) % 2 ^ 32
     → (IsWithin now p (size here type) → ChangesOnly now next p (size here type)) → (IsWithin now p (size here type) → type < length here → Holds next here (record { at = p; type = type }) (default_of here type) [])

@@ -30,9 +30,6 @@ spell_more zero (f ∷ fs) = append-nil (form_bytes f)
 spell_more (suc k) [] = ap (λ xs. replicate 16 0 ++ xs) (spell_more k []) ∙ sym (append_assoc (replicate 16 0) (spell k []) (replicate 16 0))
 spell_more (suc k) (f ∷ fs) = ap (λ xs. form_bytes f ++ xs) (spell_more k fs) ∙ sym (append_assoc (form_bytes f) (spell k fs) (entry_at fs k))
 
-zeros : ℕ → List ℕ
-zeros n = replicate n 0
-
 spell_none : (k : ℕ) → spell k [] ≡ replicate (16 * k) 0
 spell_none zero = refl
 spell_none (suc k) =

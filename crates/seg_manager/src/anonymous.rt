@@ -7,14 +7,14 @@ ghost use Rattle.seg_manager.specs.Segments.{IsSegment, one_value, MakesLoose, L
 
 use crate::segment::Segment;
 use seg_raw::Code;
-use seg_value::{Content, Fit, TypeId};
+use seg_value::{Content, Fit, PayloadAt, TypeId};
 use std::alloc::Allocator;
 
 /// Objects without a name. The caller must give each an owner or destroy it.
 impl<F: Fit, A: Allocator> Segment<F, A> {
     /// Makes an object with the default value of a type, and returns the value's position. `BadAlloc` if there is no
     /// room; then nothing changes.
-    pub fn new_anonymous(&mut self, t: TypeId) -> Result<u32, Code>
+    pub fn new_anonymous(&mut self, t: TypeId) -> Result<PayloadAt, Code>
         ensures window { KeepsHost self.old.window self.new.window }
         ensures types { self.new.types ≡ self.old.types }
         ensures code { IsOkUnless result Code.BadAlloc }
@@ -29,7 +29,7 @@ impl<F: Fit, A: Allocator> Segment<F, A> {
     }
 
     /// Destroys an object that no pointer points to, given by the position of its value, and everything that it owns.
-    pub fn destroy_anonymous(&mut self, object: u32)
+    pub fn destroy_anonymous(&mut self, object: PayloadAt)
         ensures window { KeepsHost self.old.window self.new.window }
         ensures types { self.new.types ≡ self.old.types }
         ensures loses { (picture : Picture) (before : List Root) (root : Root)

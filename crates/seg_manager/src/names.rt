@@ -22,13 +22,13 @@ ghost use Rattle.seg_manager.specs.Segments.{IsSegment, new_root};
 use crate::segment::Segment;
 use seg_index::{MAX_NAME, NameEntry, Vacant, find, look_up};
 use seg_raw::Code;
-use seg_value::{Fit, Kind, Place, Tag, TypeId, UNIT, need};
+use seg_value::{Fit, Kind, PayloadAt, Place, Tag, TypeId, UNIT, need};
 use std::alloc::Allocator;
 
 /// A named object: the position of its first value, and the number of its values.
 #[derive(Debug, Clone, Copy, PartialEq, Eq)]
 pub struct Found {
-    pub at: u32,
+    pub at: PayloadAt,
     pub count: u16,
 }
 
@@ -59,7 +59,7 @@ impl<F: Fit, A: Allocator> Segment<F, A> {
     /// Makes an object of `count` default values, and returns the position of the first one. `OutOfRange` if the name
     /// isn't allowed or the count isn't from 1 to 65535, `AlreadyExists` if an object has the name, `BadAlloc` if there
     /// is no room for the object or its entry in the index; then nothing changes.
-    pub fn construct(&mut self, name: &[u8], t: TypeId, count: u32) -> Result<u32, Code>
+    pub fn construct(&mut self, name: &[u8], t: TypeId, count: u32) -> Result<PayloadAt, Code>
         ensures window { KeepsHost self.old.window self.new.window }
         ensures types { self.new.types ≡ self.old.types }
         ensures tells { (picture : Picture) → IsSegment F.allocator self.old picture →
@@ -96,7 +96,7 @@ impl<F: Fit, A: Allocator> Segment<F, A> {
         name: Name,
         t: TypeId,
         count: u16,
-    ) -> Result<u32, Code>
+    ) -> Result<PayloadAt, Code>
         ensures window { KeepsHost self.old.window self.new.window }
         ensures types { self.new.types ≡ self.old.types }
         ensures code { IsOkUnless result Code.BadAlloc }
@@ -122,7 +122,7 @@ impl<F: Fit, A: Allocator> Segment<F, A> {
     }
 
     /// A block for a named object: default values, followed by the name.
-    fn new_named(&mut self, name: Name, t: TypeId, count: u16) -> Result<u32, Code>
+    fn new_named(&mut self, name: Name, t: TypeId, count: u16) -> Result<PayloadAt, Code>
         ensures window { KeepsHost self.old.window self.new.window }
         ensures types { self.new.types ≡ self.old.types }
         ensures code { IsOkUnless result Code.BadAlloc }
@@ -154,7 +154,7 @@ impl<F: Fit, A: Allocator> Segment<F, A> {
     }
 
     /// Writes `count` default values of a type from a position on.
-    fn init_values(&mut self, object: u32, t: TypeId, count: u16)
+    fn init_values(&mut self, object: PayloadAt, t: TypeId, count: u16)
         ensures window { KeepsHost self.old.window self.new.window }
         ensures types { self.new.types ≡ self.old.types }
         ensures changes { HasValuesRoom self.old.window.bytes self.old.types object t count →
@@ -202,7 +202,7 @@ impl<F: Fit, A: Allocator> Segment<F, A> {
     /// The position of the first value of the object with this name. If there is none, it is made with one default
     /// value. `OutOfRange` if the name isn't allowed, `OtherType` if the object has another type, `BadAlloc` if there
     /// is no room.
-    pub fn find_or_construct(&mut self, name: &[u8], t: TypeId) -> Result<u32, Code>
+    pub fn find_or_construct(&mut self, name: &[u8], t: TypeId) -> Result<PayloadAt, Code>
         ensures window { KeepsHost self.old.window self.new.window }
         ensures types { self.new.types ≡ self.old.types }
         ensures tells { (picture : Picture) → IsSegment F.allocator self.old picture →
@@ -275,7 +275,7 @@ impl<F: Fit, A: Allocator> Segment<F, A> {
 }
 
 /// The place of a value of an object, by its index. Each value has `size` bytes.
-fn value_of(object: u32, type_id: TypeId, size: u32, index: u16) -> Place
+fn value_of(object: PayloadAt, type_id: TypeId, size: u32, index: u16) -> Place
     ensures at { result.at ≡ (object + index * size) % 2 ^ 32 }
     ensures type_id { result.type_id ≡ type_id }
 {

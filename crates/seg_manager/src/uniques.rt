@@ -6,14 +6,14 @@ ghost use Rattle.seg_manager.specs.Segments.{IsSegment, unique_at, MakesUnique, 
 use crate::segment::Segment;
 use seg_index::{set_unique, unique};
 use seg_raw::Code;
-use seg_value::{Fit, MAX_TYPES, TypeId};
+use seg_value::{Fit, MAX_TYPES, PayloadAt, TypeId};
 use std::alloc::Allocator;
 
 /// Unique objects: at most one for each type.
 impl<F: Fit, A: Allocator> Segment<F, A> {
     /// Makes the unique object of a type, with its default value, and returns the value's position. `AlreadyExists` if
     /// the object exists, `BadAlloc` if there is no room; then nothing changes.
-    pub fn construct_unique(&mut self, t: TypeId) -> Result<u32, Code>
+    pub fn construct_unique(&mut self, t: TypeId) -> Result<PayloadAt, Code>
         ensures window { KeepsHost self.old.window self.new.window }
         ensures types { self.new.types ≡ self.old.types }
         ensures makes { (picture : Picture) → IsSegment F.allocator self.old picture →
@@ -30,7 +30,7 @@ impl<F: Fit, A: Allocator> Segment<F, A> {
     }
 
     /// The position of the unique object of a type. `Absent` if there is none.
-    pub fn find_unique(&self, t: TypeId) -> Result<u32, Code>
+    pub fn find_unique(&self, t: TypeId) -> Result<PayloadAt, Code>
         ensures { (picture : Picture) → IsSegment F.allocator self.now picture → t < MAX_TYPES →
             MatchResult result (λ at. unique_at picture t ≡ Some at)
             (λ code. (code ≡ Code.Absent) × (unique_at picture t ≡ None)) }
@@ -39,7 +39,7 @@ impl<F: Fit, A: Allocator> Segment<F, A> {
     }
 
     /// The position of the unique object of a type, which is made if it doesn't exist. `BadAlloc` if there is no room.
-    pub fn find_or_construct_unique(&mut self, t: TypeId) -> Result<u32, Code>
+    pub fn find_or_construct_unique(&mut self, t: TypeId) -> Result<PayloadAt, Code>
         ensures window { KeepsHost self.old.window self.new.window }
         ensures types { self.new.types ≡ self.old.types }
         ensures makes { (picture : Picture) → IsSegment F.allocator self.old picture →

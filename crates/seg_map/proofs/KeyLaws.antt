@@ -55,10 +55,6 @@ above_less : (a b : ℤ) (xs : List ℤ) → a <ℤ b → AllAbove b xs → AllA
 above_less a b [] h all = tt
 above_less a b (x ∷ xs) h all = (int_chain a b x h all.0, above_less a b xs h all.1)
 
-below_more : (a b : ℤ) (xs : List ℤ) → a <ℤ b → AllBelow a xs → AllBelow b xs
-below_more a b [] h all = tt
-below_more a b (x ∷ xs) h all = (int_chain x a b all.0 h, below_more a b xs h all.1)
-
 pub ascending_tail : (x : ℤ) (xs : List ℤ) → IsAscending (x ∷ xs) → IsAscending xs
 ascending_tail x [] a = tt
 ascending_tail x (y ∷ ys) a = a.1
@@ -82,15 +78,6 @@ above_left x (y ∷ xs) ys a = (a.0, above_left x xs ys a.1)
 above_right : (x : ℤ) (xs ys : List ℤ) → AllAbove x (xs ++ ys) → AllAbove x ys
 above_right x [] ys a = a
 above_right x (y ∷ xs) ys a = above_right x xs ys a.1
-
-pub ascending_right : (xs ys : List ℤ) → IsAscending (xs ++ ys) → IsAscending ys
-ascending_right [] ys a = a
-ascending_right (x ∷ xs) ys a = ascending_right xs ys (ascending_tail x (xs ++ ys) a)
-
--- the keys before a key are smaller
-pub ascending_before : (xs : List ℤ) (k : ℤ) (ys : List ℤ) → IsAscending (xs ++ k ∷ ys) → AllBelow k xs
-ascending_before [] k ys a = tt
-ascending_before (x ∷ xs) k ys a = ((above_right x xs (k ∷ ys) (ascending_head x (xs ++ k ∷ ys) a)).0, ascending_before xs k ys (ascending_tail x (xs ++ k ∷ ys) a))
 
 -- a key is inserted between the keys below it and those above it
 pub ascending_with : (xs : List ℤ) (k : ℤ) (ys : List ℤ) → IsAscending (xs ++ ys) → AllBelow k xs → AllAbove k ys → IsAscending (xs ++ k ∷ ys)

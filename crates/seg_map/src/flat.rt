@@ -12,14 +12,14 @@ ghost use Rattle.seg_value.specs.Entries.{NamesFlatMap, flat_asks};
 ghost use Rattle.seg_map.specs.Maps.{WhereMap, FindsValue, PutsKey, RemovesKey, KeepsLowerKeys, first_of, keys_above};
 
 use seg_raw::Code;
-use seg_value::{Content, Entry, Fit, Heap, binary_search};
+use seg_value::{CellAt, Content, Entry, Fit, Heap, ValueAt, binary_search};
 use std::alloc::Allocator;
 
 /// `Ok` with the index of a key's entry, or `Err` with the index to insert it at.
 fn search<F: Fit, A: Allocator>(
     heap: &Heap<F, A>,
     entry: Entry,
-    cell: u32,
+    cell: CellAt,
     key: i64,
 ) -> Result<u32, u32>
     ensures { WhereMap Form.flat_map F.allocator heap.now.window.bytes heap.now.types cell
@@ -37,9 +37,9 @@ fn search<F: Fit, A: Allocator>(
 pub(crate) fn get<F: Fit, A: Allocator>(
     heap: &Heap<F, A>,
     entry: Entry,
-    cell: u32,
+    cell: CellAt,
     key: i64,
-) -> Option<u32>
+) -> Option<ValueAt>
     ensures { WhereMap Form.flat_map F.allocator heap.now.window.bytes heap.now.types cell
         (λ T U keys vs blocks. IsEntryOf heap.now.types 8 U entry →
         FindsValue heap.now.window.bytes heap.now.types (object_at cell T) U keys key result) }
@@ -52,9 +52,9 @@ pub(crate) fn get<F: Fit, A: Allocator>(
 pub(crate) fn put<F: Fit, A: Allocator>(
     heap: &mut Heap<F, A>,
     content: &Content,
-    cell: u32,
+    cell: CellAt,
     key: i64,
-) -> Result<u32, Code>
+) -> Result<ValueAt, Code>
     ensures window { KeepsHost heap.old.window heap.new.window }
     ensures types { heap.new.types ≡ heap.old.types }
     ensures code { IsOkUnless result Code.BadAlloc }
@@ -74,10 +74,10 @@ pub(crate) fn put<F: Fit, A: Allocator>(
 fn insert<F: Fit, A: Allocator>(
     heap: &mut Heap<F, A>,
     content: &Content,
-    cell: u32,
+    cell: CellAt,
     index: u32,
     key: i64,
-) -> Result<u32, Code>
+) -> Result<ValueAt, Code>
     ensures window { KeepsHost heap.old.window heap.new.window }
     ensures types { heap.new.types ≡ heap.old.types }
     ensures code { IsOkUnless result Code.BadAlloc }
@@ -100,7 +100,7 @@ fn insert<F: Fit, A: Allocator>(
 pub(crate) fn remove<F: Fit, A: Allocator>(
     heap: &mut Heap<F, A>,
     content: &Content,
-    cell: u32,
+    cell: CellAt,
     key: i64,
 ) -> bool
     ensures window { KeepsHost heap.old.window heap.new.window }
@@ -128,7 +128,7 @@ pub(crate) fn remove<F: Fit, A: Allocator>(
 fn key_of<F: Fit, A: Allocator>(
     heap: &Heap<F, A>,
     entry: Entry,
-    cell: u32,
+    cell: CellAt,
     index: u32,
 ) -> Option<i64>
     ensures { WhereMap Form.flat_map F.allocator heap.now.window.bytes heap.now.types cell
@@ -145,7 +145,7 @@ fn key_of<F: Fit, A: Allocator>(
 pub(crate) fn first_key<F: Fit, A: Allocator>(
     heap: &Heap<F, A>,
     entry: Entry,
-    cell: u32,
+    cell: CellAt,
 ) -> Option<i64>
     ensures { WhereMap Form.flat_map F.allocator heap.now.window.bytes heap.now.types cell
         (λ T U keys vs blocks. IsEntryOf heap.now.types 8 U entry → result ≡ first_of keys) }
@@ -158,7 +158,7 @@ pub(crate) fn first_key<F: Fit, A: Allocator>(
 pub(crate) fn next_key<F: Fit, A: Allocator>(
     heap: &Heap<F, A>,
     entry: Entry,
-    cell: u32,
+    cell: CellAt,
     after: i64,
 ) -> Option<i64>
     ensures { WhereMap Form.flat_map F.allocator heap.now.window.bytes heap.now.types cell

@@ -14,7 +14,7 @@ ghost use Rattle.seg_map.specs.Maps.{FindsValue, PutsKey, RemovesKey, first_of, 
 use crate::{flat, tree};
 use seg_raw::Code;
 use seg_rbtree::Path;
-use seg_value::{Content, Fit, Heap, KEY, Place, Shape};
+use seg_value::{Content, Fit, Heap, KEY, Place, Shape, ValueAt};
 use std::alloc::Allocator;
 
 /// The two kinds of maps, with the layout of what the map's cell points to.
@@ -60,7 +60,7 @@ pub fn len<F: Fit, A: Allocator>(heap: &Heap<F, A>, map: Place) -> Result<u32, C
 }
 
 /// The position of a key's value. `OtherType` if the place isn't a map, `Absent` if the map doesn't have the key.
-pub fn get<F: Fit, A: Allocator>(heap: &Heap<F, A>, map: Place, key: i64) -> Result<u32, Code>
+pub fn get<F: Fit, A: Allocator>(heap: &Heap<F, A>, map: Place, key: i64) -> Result<ValueAt, Code>
     ensures other { has_keys (form_at heap.now.types map.type_id) ≡ false →
         result ≡ Err Code.OtherType }
     ensures code { has_keys (form_at heap.now.types map.type_id) ≡ true →
@@ -78,7 +78,11 @@ pub fn get<F: Fit, A: Allocator>(heap: &Heap<F, A>, map: Place, key: i64) -> Res
 
 /// The position of a key's value. A missing key is added with a default value. `OtherType` if the place isn't a map,
 /// `BadAlloc` if there is no room for the key; then nothing changes.
-pub fn put<F: Fit, A: Allocator>(heap: &mut Heap<F, A>, map: Place, key: i64) -> Result<u32, Code>
+pub fn put<F: Fit, A: Allocator>(
+    heap: &mut Heap<F, A>,
+    map: Place,
+    key: i64,
+) -> Result<ValueAt, Code>
     ensures window { KeepsHost heap.old.window heap.new.window }
     ensures types { heap.new.types ≡ heap.old.types }
     ensures other { has_keys (form_at heap.old.types map.type_id) ≡ false →

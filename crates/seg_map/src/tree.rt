@@ -25,8 +25,8 @@ ghost use Rattle.seg_map.specs.Maps.{WhereMap, FindsValue, PutsKey, RemovesKey, 
 ghost use Rattle.seg_map.specs.Trees.{VALUE, NamesTree, KeepsOtherKeys};
 
 use seg_raw::Code;
-use seg_rbtree::{NodeOrder, Path, TREE_WORDS, Tree, UniqueKeys};
-use seg_value::{Content, Entry, Fit, Heap, View};
+use seg_rbtree::{NodeAt, NodeOrder, Path, TREE_WORDS, Tree, UniqueKeys};
+use seg_value::{CellAt, Content, Entry, Fit, Heap, ValueAt, View};
 use std::alloc::Allocator;
 use std::cmp::Ordering;
 
@@ -42,11 +42,11 @@ impl NodeOrder<i64> for ByKey {
 
     ghost read = { λ _ _ x. part ((x + 16) % 2 ^ 32) 8 ∷ [] };
 
-    fn nodes(&self, view: View, node: u32, other: u32) -> Ordering {
+    fn nodes(&self, view: View, node: NodeAt, other: NodeAt) -> Ordering {
         key_of(view, node).cmp(&key_of(view, other))
     }
 
-    fn key(&self, view: View, node: u32, key: i64) -> Ordering {
+    fn key(&self, view: View, node: NodeAt, key: i64) -> Ordering {
         key_of(view, node).cmp(&key)
     }
 
@@ -73,20 +73,20 @@ impl UniqueKeys<i64> for ByKey {
         key first second };
 }
 
-fn key_place(node: u32) -> u32
+fn key_place(node: NodeAt) -> u32
     ensures { result ≡ (node + 16) % 2 ^ 32 }
 {
     node.wrapping_add(TREE_WORDS)
 }
 
 #[tactic(auto, unfolding(seg_spec::specs::Bytes::signed))]
-fn key_of(view: View, node: u32) -> i64
+fn key_of(view: View, node: NodeAt) -> i64
     ensures { result ≡ signed_long view.entry.bytes.now ((node + 16) % 2 ^ 32) }
 {
     view.get64(key_place(node) as usize).cast_signed()
 }
 
-fn tree_of(cell: u32) -> Tree
+fn tree_of(cell: CellAt) -> Tree
     ensures { root_word result ≡ cell }
 {
     Tree::new(cell as usize)
@@ -96,9 +96,9 @@ fn tree_of(cell: u32) -> Tree
 pub(crate) fn get<F: Fit, A: Allocator>(
     heap: &Heap<F, A>,
     entry: Entry,
-    cell: u32,
+    cell: CellAt,
     key: i64,
-) -> Option<u32>
+) -> Option<ValueAt>
     ensures { WhereMap Form.map F.allocator heap.now.window.bytes heap.now.types cell
         (λ T U keys vs blocks. IsEntryOf heap.now.types VALUE U entry
         → FindsValue heap.now.window.bytes heap.now.types (object_at cell T) U keys key result) }
@@ -111,9 +111,9 @@ pub(crate) fn get<F: Fit, A: Allocator>(
 pub(crate) fn put<F: Fit, A: Allocator>(
     heap: &mut Heap<F, A>,
     content: &Content,
-    cell: u32,
+    cell: CellAt,
     key: i64,
-) -> Result<u32, Code>
+) -> Result<ValueAt, Code>
     ensures window { KeepsHost heap.old.window heap.new.window }
     ensures types { heap.new.types ≡ heap.old.types }
     ensures code { IsOkUnless result Code.BadAlloc }
@@ -143,7 +143,7 @@ pub(crate) fn put<F: Fit, A: Allocator>(
 pub(crate) fn remove<F: Fit, A: Allocator>(
     heap: &mut Heap<F, A>,
     content: &Content,
-    cell: u32,
+    cell: CellAt,
     key: i64,
 ) -> bool
     ensures window { KeepsHost heap.old.window heap.new.window }
@@ -174,7 +174,7 @@ pub(crate) fn remove<F: Fit, A: Allocator>(
 pub(crate) fn first_key<F: Fit, A: Allocator>(
     heap: &Heap<F, A>,
     cursor: &mut Path,
-    cell: u32,
+    cell: CellAt,
 ) -> Option<i64>
     ensures first { WhereMap Form.map F.allocator heap.now.window.bytes heap.now.types cell
         (λ T U keys vs blocks. result ≡ first_of keys) }
@@ -188,7 +188,7 @@ pub(crate) fn first_key<F: Fit, A: Allocator>(
 pub(crate) fn next_key<F: Fit, A: Allocator>(
     heap: &Heap<F, A>,
     cursor: &mut Path,
-    cell: u32,
+    cell: CellAt,
     after: i64,
 ) -> Option<i64>
     ensures next { LeadsInside heap.now.window.bytes cursor.old

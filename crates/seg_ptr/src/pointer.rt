@@ -2,6 +2,9 @@
 ghost use Rattle.std.specs.Prelude.{◌≡◌, ◌+◌, ◌%◌, ◌^◌, ◌==◌, if◌then◌else◌, Some, None};
 ghost use Rattle.seg_spec.specs.Pointer.{distance};
 
+/// The position of a node of a tree or of a list, in bytes from the segment's start.
+pub type NodeAt = u32;
+
 /// The target of a pointer at a position with this distance.
 pub(crate) fn named(at: usize, distance: u32) -> Option<u32>
     ensures { result

@@ -59,12 +59,6 @@ pub beside-swap : (xs ys : List ℕ) → Beside xs ys → Beside ys xs
 beside-swap [] ys h = nothing_beside ys
 beside-swap (x ∷ xs) ys h = column x xs ys (clear-each x ys h.0) (beside-swap xs ys h.1)
 
-beside_left : (xs ys zs : List ℕ) → Beside xs (ys ++ zs) → Beside xs ys × Beside xs zs
-beside_left [] ys zs h = (tt, tt)
-beside_left (x ∷ xs) ys zs h =
-    let rest = beside_left xs ys zs h.1 in
-    ((each_left _ ys zs h.0, rest.0), (each_right _ ys zs h.0, rest.1))
-
 -- ---- two parts of a list
 
 pub record ApartParts (xs ys : List ℕ) : Type 0 where

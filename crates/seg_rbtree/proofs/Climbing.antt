@@ -37,9 +37,6 @@ pub record IsClimbing (layers : List Layer) (items : List Step) : Type 0 where
   pub rightward : AreRight lower
   pub steps_are : items ≡ steps_of upper
 
-pub climbing_start : (layers : List Layer) (items : List Step) → items ≡ steps_of layers → IsClimbing layers items
-climbing_start layers items e = record { lower = []; upper = layers; layers_are = refl; rightward = tt; steps_are = e }
-
 right_on : (lower : List Layer) (layer : Layer) → AreRight lower → layer.side ≡ Right → AreRight (lower ++ layer ∷ [])
 right_on [] layer r e = (e, tt)
 right_on (l ∷ lower) layer r e = (r.0, right_on lower layer r.1 e)

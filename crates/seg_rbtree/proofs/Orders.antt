@@ -1,10 +1,10 @@
 -- The nodes of a tree with one node more, in order.
-use Rattle.std.proofs.Common.{◌≡◌, ℕ, suc, ◌+◌, ◌≤◌, Bool, true, false, List, [], ◌∷◌, ◌++◌, length, refl, sym, ap, ◌∙◌, subst, cond, eqb}
+use Rattle.std.proofs.Common.{◌≡◌, ℕ, suc, ◌+◌, ◌≤◌, Bool, true, false, List, [], ◌∷◌, ◌++◌, length, refl, sym, ap, ◌∙◌, subst}
 use Rattle.std.specs.Cmp.{IsTotalOrder}
 use Rattle.std.specs.Ordering.{is_lt, ordering_reverse}
 use Rattle.std.specs.List.{AllByRecursion}
 use Rattle.std.specs.declared.cmp.Ordering.{Ordering}
-use Rattle.std.specs.declared.cmp.Ordering.TheVariants.{Less, Equal, Greater}
+use Rattle.std.specs.declared.cmp.Ordering.TheVariants.{Less, Greater}
 use Rattle.seg_spec.specs.Shapes.{Tree, nodes_of}
 use Rattle.seg_spec.specs.Search.{Ascend}
 use Rattle.seg_spec.specs.Apart.{Separate}
@@ -12,7 +12,7 @@ use Rattle.seg_spec.proofs.Frame.{each_left, each_right, each_weaker}
 use Rattle.seg_rbtree.specs.declared.node.Side.{Side}
 use Rattle.seg_rbtree.specs.declared.node.Side.TheVariants.{Left, Right}
 use Rattle.seg_rbtree.specs.Ways.{Layer, branch, grow, plug, turn_of, LeadBy}
-use Rattle.seg_rbtree.specs.Changes.{NodesApart, StandApart, IsNew, with_node, without_node}
+use Rattle.seg_rbtree.specs.Changes.{NodesApart, StandApart, with_node}
 use Rattle.seg_rbtree.proofs.Apartness.{separate-swap}
 
 -- ---- parts of lists in order
@@ -119,9 +119,6 @@ module _ (order : ℕ → ℕ → Ordering) (node : ℕ) where
     below_all : (at : ℕ) (xs : List ℕ) → order node at ≡ Greater → AllByRecursion (λ x. order x at ≡ Less) xs → AllByRecursion (λ x. order node x ≡ Greater) xs
     below_all at xs e h = each_weaker _ _ (λ x l. forth x node (total.trans x at node l (back node at e))) xs h
 
-    above_all : (at : ℕ) (ys : List ℕ) → order node at ≡ Less → AllByRecursion (λ y. order at y ≡ Less) ys → AllByRecursion (λ y. order node y ≡ Less) ys
-    above_all at ys e h = each_weaker _ _ (λ y l. total.trans node at y e l) ys h
-
     grown : (side : Side) (layer : Layer) (x t : Tree) → order node layer.at ≡ turn_of side → Ascend order (nodes_of (branch side layer.at layer.colour t layer.other)) → nodes_of x ≡ with_node order node (nodes_of t)
         → nodes_of (branch side layer.at layer.colour x layer.other) ≡ with_node order node (nodes_of (branch side layer.at layer.colour t layer.other))
     grown Left layer x t e a h = ap (λ ns. ns ++ layer.at ∷ nodes_of layer.other) h ∙ sym (with_node-left (nodes_of t) layer.at (nodes_of layer.other) e)
@@ -137,25 +134,4 @@ module _ (order : ℕ → ℕ → Ordering) (node : ℕ) where
     nodes-added x t (layer ∷ layers) l a h =
         nodes-added (grow layer x) (grow layer t) layers l.1 a (grown layer.side layer x t l.0 (ascend-down order (grow layer t) layers a) h)
 
-    -- the list with a new node is in order
-    pub Ascend-with_node : (ns : List ℕ) → IsNew order node ns → Ascend order ns → Ascend order (with_node order node ns)
-    Ascend-with_node [] new a = (tt, tt)
-    Ascend-with_node (x ∷ ns) new a = go (order node x) refl (Ascend-with_node ns new.1 a.1)
-      where
-        go : (r : Ordering) → order node x ≡ r → Ascend order (with_node order node ns) → Ascend order (with_node order node (x ∷ ns))
-        go Less e h = subst (Ascend order) (sym (here x ns (less x e))) ((e, above_all x ns e a.0), a)
-        go Equal e h = absurd (new.0 e)
-        go Greater e h = subst (Ascend order) (sym (later x ns (not_less x e))) (each_with (λ y. order x y ≡ Less) ns (back node x e) a.0, h)
-
 -- ---- one node less
-
-each_but : (node : ℕ) (P : ℕ → Type 0) (ns : List ℕ) → AllByRecursion P ns → AllByRecursion P (without_node node ns)
-each_but node P [] h = tt
-each_but node P (x ∷ ns) h =
-    elim (eqb node x) as (λ b. AllByRecursion P (cond b ns (x ∷ without_node node ns))) [ true ↦ h.1 | false ↦ (h.0, each_but node P ns h.1) ]
-
--- the list without a node is in order
-pub Ascend-without_node : (order : ℕ → ℕ → Ordering) (node : ℕ) (ns : List ℕ) → Ascend order ns → Ascend order (without_node node ns)
-Ascend-without_node order node [] a = tt
-Ascend-without_node order node (x ∷ ns) a =
-    elim (eqb node x) as (λ b. Ascend order (cond b ns (x ∷ without_node node ns))) [ true ↦ a.1 | false ↦ (each_but node _ ns a.0, Ascend-without_node order node ns a.1) ]

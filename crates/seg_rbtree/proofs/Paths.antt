@@ -16,7 +16,6 @@ use Rattle.seg_rbtree.specs.declared.node.Side.TheVariants.{Left, Right}
 use Rattle.seg_rbtree.specs.declared.path.Path.{Path}
 use Rattle.seg_rbtree.specs.Ways.{Layer, branch, grow, plug, turn_of, LeadBy, EndsAt, LeadsTo, before, following}
 use Rattle.seg_rbtree.specs.Paths.{node_at, IsEqualAmong, FindsEqual}
-use Rattle.seg_rbtree.specs.Changes.{IsNew}
 use Rattle.seg_rbtree.proofs.Apartness.{each_join}
 use Rattle.seg_rbtree.proofs.Orders.{ascend-parts, ascend-down}
 use Rattle.seg_rbtree.proofs.Searching.{first_here, first_later}
@@ -114,11 +113,6 @@ pub leads_same : (turn other : ℕ → Ordering) (shape : Tree) (path : Path) �
 leads_same turn other shape path same way =
     let both = leads_by_same turn other way.layers way.rest (subst (λ s. AllByRecursion (λ x. turn x ≡ other x) (nodes_of s)) (sym way.shape_is) same) way.leads in
     record { layers = way.layers; rest = way.rest; shape_is = way.shape_is; steps_are = way.steps_are; leads = both.0; ends = ends_same turn other way.rest both.1 way.ends }
-
--- a node that compares with the others like the key is new if no node equals the key
-pub finds_new : (compare : ℕ → Ordering) (order : ℕ → ℕ → Ordering) (node : ℕ) (nodes : List ℕ) → AllByRecursion (λ x. ordering_reverse (compare x) ≡ order node x) nodes → FindsEqual compare nodes None → IsNew order node nodes
-finds_new compare order node [] same d = tt
-finds_new compare order node (x ∷ nodes) same d = ((λ e. d.0 (reversed (compare x) Equal (same.0 ∙ e))), finds_new compare order node nodes same.1 d.1)
 
 -- ---- at most one node equals the key
 

@@ -1,11 +1,11 @@
 -- A short subtree is repaired step by step.
-use Rattle.std.proofs.Common.{◌≡◌, ℕ, ◌+◌, ◌≤◌, true, false, List, refl, ◌∙◌, subst, arith}
+use Rattle.std.proofs.Common.{◌≡◌, ℕ, ◌+◌, ◌≤◌, true, false, List, ◌∙◌, subst, arith}
 use Rattle.seg_spec.specs.Shapes.{Tree, nodes_of}
 use Rattle.seg_rbtree.specs.declared.path.Path.{Path}
 use Rattle.seg_rbtree.specs.Ways.{Layer, plug, steps_of}
 use Rattle.seg_rbtree.specs.Turns.{Turns}
 use Rattle.seg_rbtree.specs.Removing.{StandsAt, IsShort, Lengthens, Restores, turns}
-use Rattle.seg_rbtree.proofs.Turning.{turns-none, turns-then, turns-room}
+use Rattle.seg_rbtree.proofs.Turning.{turns-then, turns-room}
 use Rattle.seg_rbtree.proofs.ShortSide.{turns_few}
 use Rattle.seg_rbtree.proofs.Lengthening.{stands_again}
 
@@ -18,17 +18,6 @@ pub record IsRestoring (old now : List ℕ) (first path : Path) (layers : List L
   pub nodes_are : nodes_of (plug part above) ≡ nodes_of (plug tree layers)
   pub short : IsShort above part
   pub left : count + turns above part ≤ 64
-
-pub restoring_start : (bytes : List ℕ) (path : Path) (layers : List Layer) (tree : Tree) → StandsAt bytes path layers tree → IsShort layers tree → IsRestoring bytes bytes path path layers tree 0
-restoring_start bytes path layers tree s short = record {
-  above = layers;
-  part = tree;
-  steps_are = s.steps_are;
-  turned = turns-none bytes path.root (plug tree layers) (plug tree layers) s.hangs;
-  nodes_are = refl;
-  short = short;
-  left = omega (arith, (turns_few layers tree short).1);
-}
 
 -- the short subtree is at the end of the path
 pub restoring_stands : (old now : List ℕ) (first path : Path) (layers : List Layer) (tree : Tree) (count : ℕ) → path.root ≡ first.root → StandsAt old first layers tree → (i : IsRestoring old now first path layers tree count)

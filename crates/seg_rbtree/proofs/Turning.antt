@@ -50,10 +50,6 @@ two_words : (at : ℕ) (side : Side) → Separate (side_word at (opposite side))
 two_words at Left = inr (omega arith)
 two_words at Right = inl (omega arith)
 
-two_words_back : (at : ℕ) (side : Side) → Separate (side_word at side) 4 (side_word at (opposite side)) 4
-two_words_back at Left = inl (omega arith)
-two_words_back at Right = inr (omega arith)
-
 colour_beside : (at : ℕ) (side : Side) → Separate (at + 8) 8 (side_word at side) 4
 colour_beside at Left = inr (omega arith)
 colour_beside at Right = inr (omega arith)
@@ -106,9 +102,6 @@ relink bytes node colour side to near far c n f apart clear =
     (tree-word bytes at v (target bytes (side_word node (opposite side))) far (side_word-clear node side (nodes_of far) clear) f))
 
 -- ---- a colour
-
-fork_parts : (bytes : List ℕ) (node : ℕ) (colour : Colour) (l r : Tree) → IsTree bytes (Some node) (fork l node colour r) → HasColour bytes node colour × IsTree bytes (target bytes node) l × IsTree bytes (target bytes (node + 4)) r
-fork_parts bytes node colour l r h = (h.1, h.2, h.3)
 
 pub small_colour : (c : Paint) → colour_number c < 256 ^ 4
 small_colour Black = omega arith

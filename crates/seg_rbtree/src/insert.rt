@@ -12,7 +12,7 @@ use crate::order::{NodeOrder, Sought};
 use crate::path::{DEPTH, Path};
 use crate::step::Step;
 use crate::tree::Tree;
-use seg_ptr::Window;
+use seg_ptr::{NodeAt, Window};
 use std::alloc::Allocator;
 
 impl Tree {
@@ -21,7 +21,7 @@ impl Tree {
         self,
         w: &mut Window<A>,
         order: &O,
-        node: u32,
+        node: NodeAt,
     )
         ensures host { KeepsHost w.old w.new }
         ensures added { O.exact → WhereOrdered (O.compare order.now) w.old (root_word self)
@@ -40,7 +40,7 @@ impl Tree {
 impl Path {
     /// Adds a node at the empty place at the path's end. The node may be written after the search. Only tree words and
     /// the root word change. The path is then empty.
-    pub fn insert<A: Allocator>(&mut self, w: &mut Window<A>, node: u32)
+    pub fn insert<A: Allocator>(&mut self, w: &mut Window<A>, node: NodeAt)
         ensures host { KeepsHost w.old w.new }
         ensures added { AddsAt w.old.bytes w.new.bytes self.old node }
     {
@@ -58,7 +58,7 @@ impl Path {
 
 /// Repairs the tree if a red node has a red parent. Returns a red node further up whose parent may be red, if that
 /// remains to be done.
-fn settle<A: Allocator>(w: &mut Window<A>, path: &mut Path, node: u32) -> Option<u32>
+fn settle<A: Allocator>(w: &mut Window<A>, path: &mut Path, node: NodeAt) -> Option<NodeAt>
     ensures host { KeepsHost w.old w.new }
     ensures root { path.new.root ≡ path.old.root }
     ensures settled { (nodes : List ℕ)
@@ -90,7 +90,7 @@ fn settle<A: Allocator>(w: &mut Window<A>, path: &mut Path, node: u32) -> Option
 }
 
 /// Makes a node red and its two children black.
-fn push_red_up<A: Allocator>(w: &mut Window<A>, node: u32, child: u32, other: u32)
+fn push_red_up<A: Allocator>(w: &mut Window<A>, node: NodeAt, child: NodeAt, other: NodeAt)
     ensures { w.new ≡ with_bytes w.old
         (with_colour (with_colour (with_colour w.old.bytes child Colour.Black) other Colour.Black)
         node Colour.Red) }
@@ -115,7 +115,7 @@ fn straighten<A: Allocator>(w: &mut Window<A>, word: usize, grandparent: Step, p
 
 /// Moves the node at a pointer word down to a side and makes it red, and moves its child on the other side up and makes
 /// it black.
-fn raise<A: Allocator>(w: &mut Window<A>, word: usize, node: u32, side: Side)
+fn raise<A: Allocator>(w: &mut Window<A>, word: usize, node: NodeAt, side: Side)
     ensures { w.new ≡ with_bytes w.old (raised w.old.bytes word node side) }
 {
     if let Some(up) = rotate(w, word, node, side) {

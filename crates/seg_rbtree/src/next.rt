@@ -15,13 +15,13 @@ use crate::node::{Side, child, child_in};
 use crate::order::{NodeOrder, Sought, UniqueKeys};
 use crate::path::{DEPTH, Path};
 use crate::tree::Tree;
-use seg_ptr::{View, Window};
+use seg_ptr::{NodeAt, View, Window};
 use std::alloc::Allocator;
 use std::cmp::Ordering;
 
 impl Path {
     /// Goes to the first node of a tree. `None` if the tree is empty.
-    pub fn first<A: Allocator>(&mut self, w: &Window<A>, tree: Tree) -> Option<u32>
+    pub fn first<A: Allocator>(&mut self, w: &Window<A>, tree: Tree) -> Option<NodeAt>
         ensures node { (shape : _) → IsSearchTree w.now.bytes (root_word tree) shape
             → result ≡ first_where (λ _. true) (nodes_of shape) }
         ensures inside { LeadsInside w.now.bytes self.new }
@@ -50,7 +50,7 @@ impl Path {
         tree: Tree,
         order: &O,
         key: K,
-    ) -> Option<u32>
+    ) -> Option<NodeAt>
         ensures node { O.exact → LeadsInside w.now.bytes self.old
             → WhereOrdered (O.compare order.now) w.now (root_word tree)
             (λ shape. result ≡ first_where
@@ -74,7 +74,7 @@ impl Path {
         tree: Tree,
         order: &O,
         key: K,
-    ) -> Option<u32>
+    ) -> Option<NodeAt>
         ensures there { IfSome result (λ node. (path_root self.now ≡ root_word tree)
             × (node_at view.entry.bytes.now self.now ≡ Some node)) }
         ensures equals { O.exact → IfSome result
@@ -100,7 +100,7 @@ impl Path {
         tree: Tree,
         order: &O,
         key: K,
-    ) -> Option<u32>
+    ) -> Option<NodeAt>
         ensures node { O.exact → WhereOrdered (O.compare order.now) w.now (root_word tree)
             (λ shape. result ≡ first_where
             (λ node. reaches Ordering.Greater (O.compare_key order.now w.now.bytes node key))
@@ -114,7 +114,7 @@ impl Path {
 
     /// Goes to the next node: the one after the node at the path's end, or after the empty place there. `None` if there
     /// is no next node; the path is then back at the root.
-    fn go_on(&mut self, view: View) -> Option<u32>
+    fn go_on(&mut self, view: View) -> Option<NodeAt>
         ensures root { path_root self.new ≡ path_root self.old }
         ensures on { (layers : _) (part : _) → IsPartAt view.entry.bytes.now self.old layers part
             → GoesOn view.entry.bytes.now layers part self.new result }
@@ -127,7 +127,7 @@ impl Path {
 
     /// Like `go_on`, from the node at the path's end.
     #[inline]
-    fn go_on_from(&mut self, view: View, node: u32) -> Option<u32>
+    fn go_on_from(&mut self, view: View, node: NodeAt) -> Option<NodeAt>
         ensures root { path_root self.new ≡ path_root self.old }
         ensures on { node_at view.entry.bytes.now self.old ≡ Some node
             → (layers : _) (part : _) → IsPartAt view.entry.bytes.now self.old layers part
@@ -141,7 +141,7 @@ impl Path {
 
     /// Goes up to the nearest node from which the path went left. `None` if there is none; the path is then at the
     /// root.
-    pub(crate) fn climb(&mut self) -> Option<u32>
+    pub(crate) fn climb(&mut self) -> Option<NodeAt>
         ensures root { path_root self.new ≡ path_root self.old }
         ensures climbs { (layers : _) → self.old.steps.items ≡ steps_of layers
             → MatchOption result (AreRight layers × (self.new.steps.items ≡ []))
@@ -158,7 +158,7 @@ impl Path {
 }
 
 /// Goes from a node with a right child to the next one in order, which has no left child.
-pub(crate) fn descend_to_next(view: View, path: &mut Path, node: u32) -> Option<u32>
+pub(crate) fn descend_to_next(view: View, path: &mut Path, node: NodeAt) -> Option<NodeAt>
     ensures root { path.new.root ≡ path.old.root }
     ensures descended { (layers : _) (left right : _) (colour : _)
         → IsPartAt view.entry.bytes.now path.old layers (fork left node colour right)
@@ -170,7 +170,7 @@ pub(crate) fn descend_to_next(view: View, path: &mut Path, node: u32) -> Option<
 }
 
 /// Like `descend_to_next`, if the node's right child is known.
-fn descend_right(view: View, path: &mut Path, node: u32, right: u32) -> Option<u32>
+fn descend_right(view: View, path: &mut Path, node: NodeAt, right: NodeAt) -> Option<NodeAt>
     ensures root { path.new.root ≡ path.old.root }
     ensures descended { (layers : _) (left tree : _) (colour : _)
         → IsPartAt view.entry.bytes.now path.old layers (fork left node colour tree)
@@ -185,7 +185,7 @@ fn descend_right(view: View, path: &mut Path, node: u32, right: u32) -> Option<u
 }
 
 /// Goes to the first node below a place. `None` if the place is empty.
-fn descend_to_first(view: View, path: &mut Path) -> Option<u32>
+fn descend_to_first(view: View, path: &mut Path) -> Option<NodeAt>
     ensures root { path.new.root ≡ path.old.root }
     ensures none { node_at view.entry.bytes.now path.old ≡ None
         → (result ≡ None) × (path.new.steps.items ≡ path.old.steps.items) }
@@ -199,7 +199,7 @@ fn descend_to_first(view: View, path: &mut Path) -> Option<u32>
 }
 
 /// Like `descend_to_first`, if the node at the place is known.
-fn descend_from(view: View, path: &mut Path, node: u32) -> Option<u32>
+fn descend_from(view: View, path: &mut Path, node: NodeAt) -> Option<NodeAt>
     ensures root { path.new.root ≡ path.old.root }
     ensures descended { (layers : _) (tree : _)
         → IsPartAt view.entry.bytes.now path.old layers tree

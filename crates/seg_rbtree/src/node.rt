@@ -5,7 +5,7 @@ ghost use Rattle.seg_spec.specs.Window.{with_bytes};
 ghost use Rattle.seg_rbtree.specs.Nodes.{side_word, opposite, colour_at, shade, with_child, with_colour, with_new_node, rotated};
 ghost use Rattle.seg_rbtree.specs.Removing.{in_place_of, as_another};
 
-use seg_ptr::{View, Window};
+use seg_ptr::{NodeAt, View, Window};
 use std::alloc::Allocator;
 
 /// The offset of a node's pointer to the right child, in bytes. The pointer to the left child is first.
@@ -43,7 +43,7 @@ pub enum Colour {
 }
 
 /// The position of the pointer to a child.
-pub fn child_word(node: u32, side: Side) -> usize
+pub fn child_word(node: NodeAt, side: Side) -> usize
     ensures { result ≡ side_word node side }
 {
     match side {
@@ -53,27 +53,32 @@ pub fn child_word(node: u32, side: Side) -> usize
 }
 
 /// The child of a node on a side.
-pub fn child<A: Allocator>(w: &Window<A>, node: u32, side: Side) -> Option<u32>
+pub fn child<A: Allocator>(w: &Window<A>, node: NodeAt, side: Side) -> Option<NodeAt>
     ensures { result ≡ target w.now.bytes (side_word node side) }
 {
     w.target(child_word(node, side))
 }
 
 /// Like [`child`], from the segment's bytes.
-pub(crate) fn child_in(view: View, node: u32, side: Side) -> Option<u32>
+pub(crate) fn child_in(view: View, node: NodeAt, side: Side) -> Option<NodeAt>
     ensures { result ≡ target view.entry.bytes.now (side_word node side) }
 {
     view.target(child_word(node, side))
 }
 
-pub(crate) fn set_child<A: Allocator>(w: &mut Window<A>, node: u32, side: Side, child: Option<u32>)
+pub(crate) fn set_child<A: Allocator>(
+    w: &mut Window<A>,
+    node: NodeAt,
+    side: Side,
+    child: Option<NodeAt>,
+)
     ensures { w.new ≡ with_bytes w.old (with_child w.old.bytes node side child) }
 {
     w.point(child_word(node, side), child);
 }
 
 /// The colour of a node, or `None` if its words don't encode a colour.
-pub fn node_colour<A: Allocator>(w: &Window<A>, node: u32) -> Option<Colour>
+pub fn node_colour<A: Allocator>(w: &Window<A>, node: NodeAt) -> Option<Colour>
     ensures { MatchOption result ((c : _) → HasColour w.now.bytes node c → ⊥)
         (λ c. HasColour w.now.bytes node (shade c)) }
 {
@@ -88,7 +93,7 @@ pub fn node_colour<A: Allocator>(w: &Window<A>, node: u32) -> Option<Colour>
 }
 
 /// The colour of a node: red if its word is red's, otherwise black. An empty place is black.
-pub(crate) fn colour_of<A: Allocator>(w: &Window<A>, node: Option<u32>) -> Colour
+pub(crate) fn colour_of<A: Allocator>(w: &Window<A>, node: Option<NodeAt>) -> Colour
     ensures { result ≡ colour_at w.now.bytes node }
 {
     match node {
@@ -97,20 +102,20 @@ pub(crate) fn colour_of<A: Allocator>(w: &Window<A>, node: Option<u32>) -> Colou
     }
 }
 
-pub(crate) fn is_red<A: Allocator>(w: &Window<A>, node: Option<u32>) -> bool
+pub(crate) fn is_red<A: Allocator>(w: &Window<A>, node: Option<NodeAt>) -> bool
     ensures { IsTrue result ↔ (colour_at w.now.bytes node ≡ Colour.Red) }
 {
     colour_of(w, node) == Colour::Red
 }
 
-pub(crate) fn paint<A: Allocator>(w: &mut Window<A>, node: u32, colour: Colour)
+pub(crate) fn paint<A: Allocator>(w: &mut Window<A>, node: NodeAt, colour: Colour)
     ensures { w.new ≡ with_bytes w.old (with_colour w.old.bytes node colour) }
 {
     w.put32(node as usize + COLOUR, colour as u32);
 }
 
 /// Makes a node a red one without children.
-pub(crate) fn init<A: Allocator>(w: &mut Window<A>, node: u32)
+pub(crate) fn init<A: Allocator>(w: &mut Window<A>, node: NodeAt)
     ensures { w.new ≡ with_bytes w.old (with_new_node w.old.bytes node) }
 {
     set_child(w, node, Side::Left, None);
@@ -120,7 +125,7 @@ pub(crate) fn init<A: Allocator>(w: &mut Window<A>, node: u32)
 }
 
 /// Copies the children and the colour of one node to another.
-pub(crate) fn take_place<A: Allocator>(w: &mut Window<A>, from: u32, to: u32)
+pub(crate) fn take_place<A: Allocator>(w: &mut Window<A>, from: NodeAt, to: NodeAt)
     ensures { w.new ≡ with_bytes w.old (in_place_of w.old.bytes from to) }
 {
     let left = child(w, from, Side::Left);
@@ -132,7 +137,7 @@ pub(crate) fn take_place<A: Allocator>(w: &mut Window<A>, from: u32, to: u32)
 }
 
 /// Writes a node with the children and the colour of another. The words of the two may overlap.
-pub(crate) fn init_as<A: Allocator>(w: &mut Window<A>, node: u32, other: u32)
+pub(crate) fn init_as<A: Allocator>(w: &mut Window<A>, node: NodeAt, other: NodeAt)
     ensures { w.new ≡ with_bytes w.old (as_another w.old.bytes other node) }
 {
     take_place(w, other, node);
@@ -144,9 +149,9 @@ pub(crate) fn init_as<A: Allocator>(w: &mut Window<A>, node: u32, other: u32)
 pub(crate) fn rotate<A: Allocator>(
     w: &mut Window<A>,
     word: usize,
-    node: u32,
+    node: NodeAt,
     side: Side,
-) -> Option<u32>
+) -> Option<NodeAt>
     ensures up { result ≡ target w.old.bytes (side_word node (opposite side)) }
     ensures rotated { w.new ≡ with_bytes w.old (rotated w.old.bytes word node side) }
 {

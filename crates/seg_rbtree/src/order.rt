@@ -9,7 +9,7 @@ ghost use Rattle.seg_spec.specs.Search.{rank_of};
 ghost use Rattle.seg_rbtree.specs.Parts.{Part};
 ghost use Rattle.seg_rbtree.specs.Paths.{sought_by};
 
-use seg_ptr::View;
+use seg_ptr::{NodeAt, View};
 use std::cmp::Ordering;
 
 /// The order of a tree's nodes, and how nodes compare with keys. It may read any bytes of a node but its tree words.
@@ -31,11 +31,11 @@ pub trait NodeOrder<K: Copy> {
     ghost placed: { Self → List ℕ → ℕ → Type 0 } = { λ _ _ _. ⊤ };
 
     /// Compares two nodes.
-    fn nodes(&self, view: View, node: u32, other: u32) -> Ordering
+    fn nodes(&self, view: View, node: NodeAt, other: NodeAt) -> Ordering
         ensures { exact → result ≡ compare self.now view.entry.bytes.now node other };
 
     /// Compares a node with a key.
-    fn key(&self, view: View, node: u32, key: K) -> Ordering
+    fn key(&self, view: View, node: NodeAt, key: K) -> Ordering
         ensures { exact → result ≡ compare_key self.now view.entry.bytes.now node key };
 
     // The order is total. Nodes that compare as equal need not be the same.
@@ -70,7 +70,7 @@ pub trait UniqueKeys<K: Copy>: NodeOrder<K> {
 #[derive(Debug, Clone, Copy)]
 pub(crate) enum Sought<K> {
     /// A node, or the empty place to insert it at.
-    Node(u32),
+    Node(NodeAt),
     /// A node that equals a key, or the empty place to insert one at.
     Key(K),
     /// The empty place before the first node that is at or above a key.
@@ -79,7 +79,7 @@ pub(crate) enum Sought<K> {
 
 impl<K: Copy> Sought<K> {
     /// Compares what is looked for with a node.
-    pub(crate) fn compare<O: NodeOrder<K>>(self, view: View, order: &O, node: u32) -> Ordering
+    pub(crate) fn compare<O: NodeOrder<K>>(self, view: View, order: &O, node: NodeAt) -> Ordering
         ensures { O.exact → result ≡ sought_by (O.compare order.now view.entry.bytes.now)
             (O.compare_key order.now view.entry.bytes.now) self node }
     {

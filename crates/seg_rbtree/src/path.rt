@@ -11,7 +11,7 @@ use crate::node::{Side, child_word, rotate};
 use crate::step::Step;
 use crate::tree::Tree;
 use arrayvec::ArrayVec;
-use seg_ptr::{View, Window};
+use seg_ptr::{NodeAt, View, Window};
 use std::alloc::Allocator;
 
 /// The longest path in a tree, in nodes. No red-black tree of fewer than 2^32 nodes has a longer one. A segment has
@@ -61,7 +61,7 @@ impl Path {
     }
 
     /// Goes one step down. False if the path would be longer than any in a tree.
-    pub(crate) fn push(&mut self, node: u32, side: Side) -> bool
+    pub(crate) fn push(&mut self, node: NodeAt, side: Side) -> bool
         ensures root { self.new.root ≡ self.old.root }
         ensures room { length self.old.steps.items < DEPTH → IsTrue result }
         ensures pushed { IsTrue result → node < 2 ^ 31 → self.new.steps.items
@@ -103,7 +103,7 @@ impl Path {
     }
 
     /// Replaces the node at step `i` of the path.
-    pub(crate) fn set_step(&mut self, i: usize, node: u32)
+    pub(crate) fn set_step(&mut self, i: usize, node: NodeAt)
         ensures root { self.new.root ≡ self.old.root }
         ensures replaced { (step : _) → i < length self.old.steps.items → node < 2 ^ 31
             → step ≡ slice_index_or self.old.steps.items i step
@@ -137,28 +137,28 @@ impl Path {
     }
 
     /// The node at the path's end, if there is one.
-    pub fn node<A: Allocator>(&self, w: &Window<A>) -> Option<u32>
+    pub fn node<A: Allocator>(&self, w: &Window<A>) -> Option<NodeAt>
         ensures { result ≡ node_at w.now.bytes self.now }
     {
         w.target(self.word())
     }
 
     /// Like [`node`](Path::node), from the segment's bytes.
-    pub(crate) fn node_in(&self, view: View) -> Option<u32>
+    pub(crate) fn node_in(&self, view: View) -> Option<NodeAt>
         ensures { result ≡ node_at view.entry.bytes.now self.now }
     {
         view.target(self.word())
     }
 
     /// Makes the pointer word to the place point to a node, or makes it null.
-    pub(crate) fn set<A: Allocator>(&self, w: &mut Window<A>, node: Option<u32>)
+    pub(crate) fn set<A: Allocator>(&self, w: &mut Window<A>, node: Option<NodeAt>)
         ensures { w.new ≡ with_bytes w.old (set_pointer w.old.bytes (end_word self.now) node) }
     {
         w.point(self.word(), node);
     }
 
     /// Makes the pointer word to the place after this many steps point to a node.
-    pub(crate) fn set_at<A: Allocator>(&self, w: &mut Window<A>, steps: usize, node: u32)
+    pub(crate) fn set_at<A: Allocator>(&self, w: &mut Window<A>, steps: usize, node: NodeAt)
         ensures host { KeepsHost w.old w.new }
         ensures set { steps ≤ length self.now.steps.items
             → w.new ≡ with_bytes w.old
@@ -172,9 +172,9 @@ impl Path {
     pub(crate) fn rotate<A: Allocator>(
         &self,
         w: &mut Window<A>,
-        node: u32,
+        node: NodeAt,
         side: Side,
-    ) -> Option<u32>
+    ) -> Option<NodeAt>
         ensures up { result ≡ target w.old.bytes (side_word node (opposite side)) }
         ensures rotated { w.new
             ≡ with_bytes w.old (rotated w.old.bytes (end_word self.now) node side) }

@@ -16,7 +16,7 @@ use crate::order::{NodeOrder, Sought};
 use crate::path::{DEPTH, Path};
 use crate::step::Step;
 use crate::tree::Tree;
-use seg_ptr::Window;
+use seg_ptr::{NodeAt, Window};
 use std::alloc::Allocator;
 
 impl Tree {
@@ -25,7 +25,7 @@ impl Tree {
         self,
         w: &mut Window<A>,
         order: &O,
-        node: u32,
+        node: NodeAt,
     )
         ensures host { KeepsHost w.old w.new }
         ensures removed { O.exact → WhereOrdered (O.compare order.now) w.old (root_word self)
@@ -62,7 +62,7 @@ impl Path {
 }
 
 /// Unlinks the node at the end of a path, which then ends where a node is missing. Returns the missing node's colour.
-fn unlink<A: Allocator>(w: &mut Window<A>, path: &mut Path, node: u32) -> Colour
+fn unlink<A: Allocator>(w: &mut Window<A>, path: &mut Path, node: NodeAt) -> Colour
     ensures host { KeepsHost w.old w.new }
     ensures root { path.new.root ≡ path.old.root }
     ensures unlinked { (layers : _) (tree : _)
@@ -80,7 +80,7 @@ fn unlink<A: Allocator>(w: &mut Window<A>, path: &mut Path, node: u32) -> Colour
 }
 
 /// Unlinks the node at the end of a path, if it has no child on one side. Returns its colour.
-fn unlink_lone<A: Allocator>(w: &mut Window<A>, path: &Path, node: u32, empty: Side) -> Colour
+fn unlink_lone<A: Allocator>(w: &mut Window<A>, path: &Path, node: NodeAt, empty: Side) -> Colour
     ensures gone { result ≡ colour_at w.old.bytes (Some node) }
     ensures set { w.new ≡ with_bytes w.old (set_pointer w.old.bytes (end_word path.now)
         (target w.old.bytes (side_word node (opposite empty)))) }
@@ -93,7 +93,7 @@ fn unlink_lone<A: Allocator>(w: &mut Window<A>, path: &Path, node: u32, empty: S
 
 /// Unlinks a node with two children: the next node in order replaces it and takes its colour. Returns the next node's
 /// colour.
-fn unlink_by_next<A: Allocator>(w: &mut Window<A>, path: &mut Path, node: u32) -> Colour
+fn unlink_by_next<A: Allocator>(w: &mut Window<A>, path: &mut Path, node: NodeAt) -> Colour
     ensures host { KeepsHost w.old w.new }
     ensures root { path.new.root ≡ path.old.root }
     ensures unlinked { (layers : _) (left right : _) (colour : _)
@@ -170,7 +170,7 @@ fn lengthen_beside<A: Allocator>(w: &mut Window<A>, path: &mut Path, short: Step
 }
 
 /// Moves a red sibling up, so that the short subtree gets a black sibling.
-fn lower<A: Allocator>(w: &mut Window<A>, path: &mut Path, short: Step, sibling: u32)
+fn lower<A: Allocator>(w: &mut Window<A>, path: &mut Path, short: Step, sibling: NodeAt)
     ensures host { KeepsHost w.old w.new }
     ensures root { path.new.root ≡ path.old.root }
     ensures lowered { (layers : _) (tree inner outer : _) (colour other : _)
@@ -190,7 +190,7 @@ fn lower<A: Allocator>(w: &mut Window<A>, path: &mut Path, short: Step, sibling:
 
 /// Takes a black node for the short subtree from a red child of its black sibling. If the sibling has no red child, its
 /// subtree is shortened too, so that both have the same lack, and the subtree above them is short.
-fn borrow<A: Allocator>(w: &mut Window<A>, path: &mut Path, short: Step, sibling: u32) -> bool
+fn borrow<A: Allocator>(w: &mut Window<A>, path: &mut Path, short: Step, sibling: NodeAt) -> bool
     ensures host { KeepsHost w.old w.new }
     ensures root { path.new.root ≡ path.old.root }
     ensures lengthened { (layers : _) (tree inner outer : _) (colour : _)
@@ -219,7 +219,7 @@ fn borrow<A: Allocator>(w: &mut Window<A>, path: &mut Path, short: Step, sibling
 }
 
 /// The child on a side, if it is red.
-fn red_child<A: Allocator>(w: &Window<A>, node: u32, side: Side) -> Option<u32>
+fn red_child<A: Allocator>(w: &Window<A>, node: NodeAt, side: Side) -> Option<NodeAt>
     ensures red { IfSome result (λ child. (target w.now.bytes (side_word node side) ≡ Some child)
         × (colour_at w.now.bytes (Some child) ≡ Colour.Red)) }
     ensures none { IfNone result

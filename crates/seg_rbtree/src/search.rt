@@ -13,7 +13,7 @@ use crate::node::{Side, child_in, child_word};
 use crate::order::{NodeOrder, Sought, UniqueKeys};
 use crate::path::{DEPTH, Path};
 use crate::tree::Tree;
-use seg_ptr::Window;
+use seg_ptr::{NodeAt, Window};
 use std::alloc::Allocator;
 use std::cmp::Ordering;
 
@@ -22,7 +22,7 @@ const MOST_LOOKS: u32 = DEPTH as u32;
 /// The result of a search, and how many nodes it looked at.
 #[derive(Debug, Clone, Copy, PartialEq, Eq)]
 pub struct Looked {
-    pub node: Option<u32>,
+    pub node: Option<NodeAt>,
     pub looks: u32,
 }
 
@@ -44,7 +44,7 @@ impl Tree {
         w: &Window<A>,
         order: &O,
         key: K,
-    ) -> Option<u32>
+    ) -> Option<NodeAt>
         ensures { O.exact → WhereOrdered (O.compare order.now) w.now (root_word self)
             (λ shape. result ≡ first_where
             (λ node. is_eq (O.compare_key order.now w.now.bytes node key)) (nodes_of shape)) }
@@ -90,7 +90,7 @@ impl Tree {
         w: &Window<A>,
         order: &O,
         key: K,
-    ) -> Option<u32>
+    ) -> Option<NodeAt>
         ensures { O.exact → WhereOrdered (O.compare order.now) w.now (root_word self)
             (λ shape. result ≡ first_where
             (λ node. reaches Ordering.Greater (O.compare_key order.now w.now.bytes node key))
@@ -167,7 +167,7 @@ impl Path {
         w: &Window<A>,
         tree: Tree,
         order: &O,
-        node: u32,
+        node: NodeAt,
     )
         ensures root { path_root self.new ≡ root_word tree }
         ensures leads { O.exact → (shape : _) → IsSearchTree w.now.bytes (root_word tree) shape
@@ -187,7 +187,7 @@ impl Path {
         tree: Tree,
         order: &O,
         key: K,
-    ) -> Option<u32>
+    ) -> Option<NodeAt>
         ensures root { path_root self.new ≡ root_word tree }
         ensures node { O.exact → WhereOrdered (O.compare order.now) w.now (root_word tree)
             (λ shape. result ≡ first_where

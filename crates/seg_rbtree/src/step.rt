@@ -1,6 +1,7 @@
 ghost use Rattle.std.specs.Prelude.{◌≡◌, ◌<◌, ◌^◌};
 
 use crate::node::Side;
+use seg_ptr::NodeAt;
 use std::marker::Model;
 
 /// A node, and the side on which the path continues, in one word. The lowest bit is the side, and the bits above it are
@@ -24,7 +25,7 @@ impl Model for Step {
 impl Step {
     /// The step from a node to a side of it.
     #[inline]
-    pub(crate) fn new(node: u32, side: Side) -> Step
+    pub(crate) fn new(node: NodeAt, side: Side) -> Step
         ensures { node < 2 ^ 31 → result ≡ record { node = node; side = side } }
     {
         Step {
@@ -33,7 +34,7 @@ impl Step {
     }
 
     #[inline]
-    pub(crate) fn node(self) -> u32
+    pub(crate) fn node(self) -> NodeAt
         ensures { result ≡ self.node }
     {
         self.word >> 1

@@ -5,7 +5,7 @@ ghost use Rattle.seg_rbtree.specs.Roots.{root_word};
 
 use crate::node::{Side, child_in};
 use crate::path::DEPTH;
-use seg_ptr::Window;
+use seg_ptr::{NodeAt, Window};
 use std::alloc::Allocator;
 
 /// The size of a node's tree words in bytes.
@@ -33,7 +33,7 @@ impl Tree {
     }
 
     /// The first node.
-    pub fn first<A: Allocator>(self, w: &Window<A>) -> Option<u32>
+    pub fn first<A: Allocator>(self, w: &Window<A>) -> Option<NodeAt>
         ensures { (shape : _) → IsSearchTree w.now.bytes (root_word self) shape
             → result ≡ first_where (λ _. true) (nodes_of shape) }
     {

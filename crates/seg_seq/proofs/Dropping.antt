@@ -176,9 +176,6 @@ module _ (allocator : ℕ) (old : List ℕ) (table : Table) (list : Place) (U no
   b_live : 1 ≤ times b (positions (live old))
   b_live = node_live allocator old s.heap list.at s.home inside s.aligned all low own node node_some
 
-  b_low : 16 ≤ node
-  b_low = there (λ q. 16 ≤ q) node all low node_some
-
   not_home : (h : ℕ) → 1 ≤ times h (map block_of all) + times h owned → h ≢ s.home
   not_home h some e =
       let o = fits h in
@@ -400,12 +397,6 @@ module _ (allocator : ℕ) (old : List ℕ) (table : Table) (list : Place) (U no
               let lo = inside.low in
               let hi = inside.high in
               IsSame-part one new (s.home + 16) (payload_size one s.home) list.at 8 (omega arith) (omega arith) home_now.payload
-
-          front_owned : (h : ℕ) → 1 ≤ times h p.front → 1 ≤ times h owned
-          front_owned h some = let n = owned_count h in let a = times-append h p.front p.back in omega arith
-
-          back_owned : (h : ℕ) → 1 ≤ times h p.back → 1 ≤ times h owned
-          back_owned h some = let n = owned_count h in let a = times-append h p.front p.back in omega arith
 
           node_kept : (q : ℕ) → 1 ≤ times q (xs ++ ys) → KeepsBlock one new (block_of q)
           node_kept q some =

@@ -14,7 +14,7 @@ use Rattle.seg_spec.specs.Sound.{times, positions}
 use Rattle.seg_spec.specs.Roots.{ChangesPlace}
 use Rattle.seg_spec.specs.Owning.{Stands}
 use Rattle.seg_spec.proofs.BytesLaws.{number-set_other}
-use Rattle.seg_spec.proofs.Frame.{SamePlace, each_weaker, each_left, each_right, IsBlock-kept, IsRing-same, Holds-kept, HoldsEach-kept, nodes-same, inner-same, shorter}
+use Rattle.seg_spec.proofs.Frame.{SamePlace, each_weaker, each_left, each_right, IsRing-same, Holds-kept, HoldsEach-kept, nodes-same, inner-same, shorter}
 use Rattle.seg_spec.proofs.Composing.{around_twice}
 use Rattle.seg_spec.proofs.LiveLaws.{times-same, times-append, there}
 use Rattle.seg_spec.proofs.TypesLaws.{size-form}
@@ -137,9 +137,6 @@ module _ (allocator : ℕ) (bytes : List ℕ) (table : Table) (list : Place) (U 
           (x, (ring_first bytes (target bytes list.at) x xs r).0, leads_on bytes table list U f vs blocks its_list 0 x [] (value_in U x) known here)
 
 -- ---- the last item becomes the first
-
-abbrev one_more : Values → Value → Values
-one_more vs v = append vs (cons v nil)
 
 -- lists of values that are equal with one more value at the end
 last_same : (vs ws : Values) (v w : Value) → count vs ≡ count ws → append vs (cons v nil) ≡ append ws (cons w nil) → (vs ≡ ws) × (v ≡ w)

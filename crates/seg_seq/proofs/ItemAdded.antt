@@ -52,14 +52,6 @@ module _ (allocator : ℕ) (bytes : List ℕ) (table : Table) (place : Place) (U
       go None e = let none = Rattle.seg_seq.proofs.Rooms.none_counted allocator bytes table place (Form.vec U) (Seq vs) blocks f refl s e in rw none (omega arith)
       go (Some p) e = let fits = Rattle.seg_seq.proofs.Rooms.entries_fit allocator bytes table place (Form.vec U) (Seq vs) blocks f refl s p e in let n = s.heap.small in omega arith
 
-  -- the size for one item more has 32 bits
-  pub next_small : (count_at bytes place.at + 1) * size table U < 2 ^ 32
-  next_small =
-      let few = few_items in
-      let limit = s.is_table.sizes U in
-      let more : (count_at bytes place.at + 1) * size table U ≡ count_at bytes place.at * size table U + size table U = grind arith in
-      omega arith
-
   pub count_few : count_at bytes place.at < 2 ^ 31
   count_few = let few = few_items in let large = size_large table s.is_table U in let m = Rattle.std.proofs.Math.Nat.mul-le-mul_left (count_at bytes place.at) large in omega arith
 

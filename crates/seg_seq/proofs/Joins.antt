@@ -1,17 +1,15 @@
 -- Nodes that are linked to each other, and the rings that result.
-use Rattle.std.proofs.Common.{◌≡◌, ◌≢◌, ℕ, ◌+◌, ◌%◌, ◌^◌, ◌<◌, ◌≤◌, ◌⊎◌, inl, inr, ⊎_elim, List, [], ◌∷◌, ◌++◌, length, Some, refl, sym, ◌∙◌, subst, arith}
+use Rattle.std.proofs.Common.{◌≡◌, ◌≢◌, ℕ, ◌+◌, ◌%◌, ◌^◌, ◌<◌, ◌≤◌, ◌⊎◌, inl, inr, ⊎_elim, List, [], ◌∷◌, ◌++◌, length, Some, sym, ◌∙◌, subst, arith}
 use Rattle.std.specs.List.{AllByRecursion}
 use Rattle.std.proofs.lemmas.Bool.{cases_lt}
-use Rattle.seg_spec.specs.Bytes.{word, set_word, IsSame}
+use Rattle.seg_spec.specs.Bytes.{word, set_word}
 use Rattle.seg_spec.specs.Pointer.{target, distance, set_pointer}
-use Rattle.seg_spec.specs.Apart.{Separate}
 use Rattle.seg_spec.specs.Shapes.{AreLinked, IsLinked}
 use Rattle.seg_spec.specs.Sound.{times}
 use Rattle.seg_spec.proofs.BytesLaws.{length-set_number, number-set_other}
 use Rattle.seg_spec.proofs.PointerLaws.{target-set_same, target-same as word_target}
 use Rattle.seg_spec.proofs.LiveLaws.{times-same, times-more}
 use Rattle.seg_spec.proofs.RingOwed.{last_of}
-use Rattle.seg_spec.proofs.Writing.{set_number-changes}
 use Rattle.seg_seq.specs.Rings.{coupled}
 
 -- ---- single words
@@ -52,11 +50,6 @@ module _ (bytes : List ℕ) (x y : ℕ) (hx : x % 8 ≡ 0) (hy : y % 8 ≡ 0) wh
   pub joined_length : length (coupled bytes x y) ≡ length bytes
   joined_length = length-set_number 4 (set_pointer bytes x (Some y)) (y + 4) (distance (y + 4) (Some x)) ∙ length-set_number 4 bytes x (distance x (Some y))
 
-  pub joined_others : (q m : ℕ) → Separate q m x 8 → Separate q m y 8 → IsSame bytes (coupled bytes x y) q m
-  joined_others q m a b =
-      (set_number-changes 4 (set_pointer bytes x (Some y)) (y + 4) (distance (y + 4) (Some x))).others q m (⊎_elim (λ l. inl (omega arith)) (λ r. inr (omega arith)) b)
-      ∙ (set_number-changes 4 bytes x (distance x (Some y))).others q m (⊎_elim (λ l. inl (omega arith)) (λ r. inr (omega arith)) a)
-
   pub joined_linked : length bytes ≤ 2 ^ 30 → x + 8 ≤ length bytes → y + 8 ≤ length bytes → AreLinked (coupled bytes x y) x y
   unfolding first
   joined_linked small fx fy =
@@ -78,10 +71,6 @@ linked_append bytes x (v ∷ vs) y zs z l m = (l.0, linked_append bytes v vs y z
 pub linked_split : (bytes : List ℕ) (x : ℕ) (ys : List ℕ) (y : ℕ) (zs : List ℕ) (z : ℕ) → IsLinked bytes z x (ys ++ y ∷ zs) → IsLinked bytes y x ys × IsLinked bytes z y zs
 linked_split bytes x [] y zs z l = (l.0, l.1)
 linked_split bytes x (v ∷ vs) y zs z l = let rest = linked_split bytes v vs y zs z l.1 in ((l.0, rest.0), rest.1)
-
-pub last_append : (x : ℕ) (ys : List ℕ) (y : ℕ) (zs : List ℕ) → last_of x (ys ++ y ∷ zs) ≡ last_of y zs
-last_append x [] y zs = refl
-last_append x (v ∷ vs) y zs = last_append v vs y zs
 
 pub last_among : (x : ℕ) (ys : List ℕ) → 1 ≤ times (last_of x ys) (x ∷ ys)
 last_among x [] = omega (arith, times-same x [])

@@ -5,7 +5,7 @@ use Rattle.seg_spec.specs.Header.{free_word, back_start, back_size}
 use Rattle.seg_spec.specs.Bytes.{word, IsSame, ChangesOnly}
 use Rattle.seg_spec.specs.Types.{Table, size}
 use Rattle.seg_spec.specs.Value.{Value}
-use Rattle.seg_spec.specs.Heap.{Span, units_at, IsHeap, live}
+use Rattle.seg_spec.specs.Heap.{Span, IsHeap, live}
 use Rattle.seg_spec.specs.Block.{IsOwnable, IsInside, KeepsBlock}
 use Rattle.seg_spec.specs.Reads.{Place, Holds}
 use Rattle.seg_spec.specs.Apart.{KeepsBlockAround}
@@ -92,9 +92,6 @@ module _ (allocator : ℕ) (old mid : List ℕ) (table : Table) (place : Place) 
     -- all other blocks are kept
     pub other_kept : (h : ℕ) → 1 ≤ times h (positions (live mid)) → h ≢ g → KeepsBlock mid new h
     other_kept h some ne = (but h some).kept ne
-
-    pub units_same : (h : ℕ) → 1 ≤ times h (positions (live mid)) → units_at new h ≡ units_at mid h
-    units_same h some = (but h some).units_kept
 
     pub header_same : (h : ℕ) → 1 ≤ times h (positions (live mid)) → IsSame mid new h 16
     header_same h some = (but h some).outside h 16 (omega arith) (omega arith)

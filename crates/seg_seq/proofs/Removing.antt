@@ -1,5 +1,5 @@
 -- A ring without one of its nodes.
-use Rattle.std.proofs.Common.{◌≡◌, ◌≢◌, ℕ, suc, ◌+◌, ◌-◌, ◌%◌, ◌^◌, ◌<◌, ◌≤◌, ◌⊎◌, inl, inr, Bool, true, false, eqb, List, [], ◌∷◌, ◌++◌, length, Option, Some, None, refl, sym, ap, ◌∙◌, subst, arith, length-append, eqb-true}
+use Rattle.std.proofs.Common.{◌≡◌, ◌≢◌, ℕ, suc, ◌+◌, ◌-◌, ◌%◌, ◌^◌, ◌≤◌, ◌⊎◌, inl, inr, Bool, true, false, eqb, List, [], ◌∷◌, ◌++◌, length, Option, Some, None, refl, sym, ap, ◌∙◌, subst, arith, length-append, eqb-true}
 use Rattle.std.specs.Option.{option_eq}
 use Rattle.std.specs.Prelude.{unwrap_or}
 use Rattle.std.proofs.lemmas.Bool.Decides.{nat_tests}
@@ -14,7 +14,7 @@ use Rattle.seg_spec.proofs.Frame.{IsRing-same, each_left, each_right}
 use Rattle.seg_spec.proofs.LiveLaws.{times-same, times-more, times-append, there}
 use Rattle.seg_spec.proofs.RingOwed.{last_of, last_named}
 use Rattle.seg_seq.specs.Rings.{coupled, AreSpread, ChangesAt, HasRing, Relinks}
-use Rattle.seg_seq.proofs.Joins.{word_other, target_other, names, joined_next, joined_second, joined_length, linked_to, linked_beside, linked_append, linked_split, last_among, chain_end}
+use Rattle.seg_seq.proofs.Joins.{word_other, names, joined_next, joined_second, linked_to, linked_beside, linked_append, linked_split, last_among, chain_end}
 use Rattle.seg_seq.proofs.Inserting.{spread_part, aligned_of, first_once, rest_once, not_among, changes_none, changes_word, changes_joined, nodes_kept, ring_recounted}
 
 -- the cell of a ring with nodes points to the first one
@@ -96,9 +96,6 @@ module _ (bytes : List ℕ) (cell node x : ℕ) (xs after : List ℕ) (s : AreSp
 
   some_last : 1 ≤ times last nodes
   some_last = let c = counts last in let k = last_among x xs in omega arith
-
-  some_node : 1 ≤ times node nodes
-  some_node = let c = counts node in let k = times-same node after in omega arith
 
   all_once : (h : ℕ) → times h nodes ≤ 1
   all_once = rest_once cell nodes s.once
@@ -216,9 +213,6 @@ option_test_false n o b e f same =
     absurd (cc)
 
 module _ (old : List ℕ) (cell node : ℕ) (before after : List ℕ) (r : HasRing old cell (before ++ node ∷ after)) (s : AreSpread old (cell ∷ before ++ node ∷ after)) (k : ℕ) (k_is : k ≡ count_at old cell - 1) where
-  abbrev ring_is : List ℕ
-  ring_is = before ++ node ∷ after
-
   abbrev one : List ℕ
   one = set_word old (cell + 4) k
 

@@ -13,10 +13,9 @@ use Rattle.seg_spec.specs.Owning.{Stands}
 use Rattle.seg_spec.specs.Spending.{item_size}
 use Rattle.seg_spec.proofs.BytesLaws.{length-slice}
 use Rattle.seg_spec.proofs.SliceLaws.{IsSame-part}
-use Rattle.seg_spec.proofs.TypesLaws.{size_large}
 use Rattle.seg_spec.proofs.Frame.{word-same}
 use Rattle.seg_spec.proofs.LiveLaws.{times-same, there, LiesIn, live-lie}
-use Rattle.seg_spec.proofs.PlaceSteps.{owned_live, owned_other, place_within}
+use Rattle.seg_spec.proofs.PlaceSteps.{owned_live, owned_other}
 use Rattle.seg_spec.proofs.Buffered.{Buffered, buffered}
 
 -- a block with the same header is still a block, with room for m bytes
@@ -31,9 +30,6 @@ module _ (allocator : ℕ) (bytes : List ℕ) (table : Table) (place : Place) (f
     (s : Stands allocator bytes table place v blocks) where
   pub its : Buffered bytes table place form v blocks
   its = buffered bytes table place form v blocks f b s.holds_it
-
-  pub cell_fits : place.at + 8 ≤ length bytes
-  cell_fits = let w = place_within allocator bytes table place v blocks s in let l = size_large table s.is_table place.type in omega arith
 
   -- the buffer's block is allocated and belongs to the place
   pub record Reaches (p : ℕ) : Type 0 where

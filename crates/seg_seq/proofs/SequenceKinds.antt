@@ -1,5 +1,5 @@
 -- The layouts of what the cells of each kind of sequence point to.
-use Rattle.std.proofs.Common.{◌≡◌, ◌⊎◌, inl, inr, ℕ, Option, Some, None, Ok, refl, sym, ◌∙◌, ap, subst}
+use Rattle.std.proofs.Common.{◌≡◌, ◌⊎◌, inl, inr, ℕ, Some, Ok, sym, subst}
 use Rattle.seg_spec.specs.Types.{Form, Table, form_at}
 use Rattle.seg_value.specs.Buffers.{NamesBuffer}
 use Rattle.seg_cells.specs.Contents.{ContentOf}
@@ -40,29 +40,3 @@ module _ (table : Table) (T : ℕ) (c : Content) where
 
     pub buffer_vector : (U : ℕ) → form_at table T ≡ Some (Form.vec U) → NamesBuffer table T c
     buffer_vector U f = elim is [ inl e ↦ let no = rw f at (subst Kinds e of) in absurd no | inr e ↦ names_vector U f (subst Kinds e of) ]
-
--- a type with the layout of a string is a string
-pub text_of : (table : Table) (T : ℕ) (form : Option Form) (c : Content) → KindOf table T form (Ok (kind.Text, c)) → form ≡ Some Form.str
-text_of table T (Some Form.str) c k = refl
-text_of table T None c k = absurd k
-text_of table T (Some Form.i64) c k = absurd k
-text_of table T (Some (Form.struct Us)) c k = absurd k
-text_of table T (Some (Form.vec U)) c k = absurd k
-text_of table T (Some (Form.list U)) c k = absurd k
-text_of table T (Some (Form.flat_map U)) c k = absurd k
-text_of table T (Some (Form.map U)) c k = absurd k
-text_of table T (Some (Form.own U)) c k = absurd k
-text_of table T (Some (Form.shared U)) c k = absurd k
-
--- a vector whose entries contain values of a type is a vector of that type
-pub vector_of : (table : Table) (T V : ℕ) (form : Option Form) (c : Content) → KindOf table T form (Ok (kind.Vector, c)) → c.entry.held ≡ held.Value V → form ≡ Some (Form.vec V)
-vector_of table T V (Some (Form.vec U)) c k h = let same : held.Value U ≡ held.Value V = sym k.entry_is.held_is ∙ h in let e : U ≡ V = cc in ap (λ n. Some (Form.vec n)) e
-vector_of table T V None c k h = absurd k
-vector_of table T V (Some Form.i64) c k h = absurd k
-vector_of table T V (Some (Form.struct Us)) c k h = absurd k
-vector_of table T V (Some Form.str) c k h = absurd k
-vector_of table T V (Some (Form.list U)) c k h = absurd k
-vector_of table T V (Some (Form.flat_map U)) c k h = absurd k
-vector_of table T V (Some (Form.map U)) c k h = absurd k
-vector_of table T V (Some (Form.own U)) c k h = absurd k
-vector_of table T V (Some (Form.shared U)) c k h = absurd k

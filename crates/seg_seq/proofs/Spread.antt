@@ -5,7 +5,7 @@ use Rattle.std.proofs.lemmas.Bool.{false≢true}
 use Rattle.std.specs.List.{AllByRecursion}
 use Rattle.seg_spec.specs.Bytes.{word, IsSame}
 use Rattle.seg_spec.specs.Types.{Table}
-use Rattle.seg_spec.specs.Heap.{Span, Tile, units_at, tiles, free_of, live, gaps, IsHeap, heap_start, KeepsTiles}
+use Rattle.seg_spec.specs.Heap.{Tile, units_at, tiles, free_of, live, gaps, IsHeap, heap_start, KeepsTiles}
 use Rattle.seg_spec.specs.Block.{IsInside, IsOwnable, KeepsBlock, KeepsHeader, IsBlock, block_of, payload_size}
 use Rattle.seg_spec.specs.Apart.{Separate}
 use Rattle.seg_spec.specs.Sound.{times, positions}
@@ -137,9 +137,6 @@ module _ (allocator : ℕ) (old new : List ℕ) (places : List ℕ) (heap : IsHe
       has_tag = head_word 8 (omega arith);
       room = let u = units_same in omega arith;
     }
-
-    pub link_same : Rattle.seg_spec.specs.Heap.link_at new x ≡ Rattle.seg_spec.specs.Heap.link_at old x
-    link_same = Rattle.seg_spec.proofs.PointerLaws.target-same old new (x + 12) (head_word 12 (omega arith))
 
     -- a block without any of the places is kept
     pub block_same : ((p : ℕ) → 1 ≤ times p places → IsInside old x p 8 → ⊥) → KeepsBlock old new x

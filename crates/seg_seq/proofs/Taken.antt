@@ -22,9 +22,6 @@ record Grants (allocator : ℕ) (bs after : List Span) (end u : ℕ) : Type 0 wh
   taken : after_take allocator bs end u ≡ Some (at, after)
   counts : (h : ℕ) → times h (positions after) ≡ times h (at ∷ positions bs)
 
-abbrev taking : List Span → ℕ → Span → ℕ × List Span
-taking bs u g = (g.at, with_block (record { at = g.at; units = granted g.units u }) bs)
-
 granted_one : (allocator : ℕ) (bs after : List Span) (end n : ℕ) → after_asks allocator bs end (block_for n ∷ []) ≡ Some after → Grants allocator bs after end (need n)
 granted_one allocator bs after end n e = go (pick allocator (gaps_of bs end) (need n)) refl
   where

@@ -16,24 +16,25 @@ ghost use Rattle.seg_seq.specs.Lists.{IsList, HasList, IsNoList, AddsItem, Loses
 use crate::kind::Kind;
 use crate::ring::{Way, insert, neighbour, remove};
 use seg_block::Fit;
+use seg_ptr::NodeAt;
 use seg_raw::Code;
-use seg_value::{Content, Heap, LIST_LINKS, Place};
+use seg_value::{CellAt, Content, Heap, LIST_LINKS, Place, ValueAt};
 use std::alloc::Allocator;
 
-fn node_of(item: u32) -> u32
+fn node_of(item: ValueAt) -> NodeAt
     ensures { result ≡ (item + (2 ^ 32 - 8)) % 2 ^ 32 }
 {
     item.wrapping_sub(LIST_LINKS)
 }
 
-pub(crate) fn item_of(node: u32) -> u32
+pub(crate) fn item_of(node: NodeAt) -> ValueAt
     ensures { result ≡ (node + 8) % 2 ^ 32 }
 {
     node.wrapping_add(LIST_LINKS)
 }
 
 /// The item after an item of a list; after the last one this is the first one.
-pub fn next<F: Fit, A: Allocator>(heap: &Heap<F, A>, item: u32) -> u32
+pub fn next<F: Fit, A: Allocator>(heap: &Heap<F, A>, item: ValueAt) -> ValueAt
     ensures { (allocator U i : ℕ) (list : reads.Place) (vs : Values) (blocks : List ℕ) →
         HasList allocator heap.now list U vs blocks →
         Leads heap.now.window.bytes heap.now.types list (Selector.item i ∷ []) (object_at item U) →
@@ -43,20 +44,9 @@ pub fn next<F: Fit, A: Allocator>(heap: &Heap<F, A>, item: u32) -> u32
     item_of(neighbour(heap, node_of(item), Way::Forward))
 }
 
-/// The item before an item of a list; before the first one this is the last one.
-pub fn prev<F: Fit, A: Allocator>(heap: &Heap<F, A>, item: u32) -> u32
-    ensures { (allocator U i : ℕ) (list : reads.Place) (vs : Values) (blocks : List ℕ) →
-        HasList allocator heap.now list U vs blocks →
-        Leads heap.now.window.bytes heap.now.types list (Selector.item i ∷ []) (object_at item U) →
-        Leads heap.now.window.bytes heap.now.types list
-        (Selector.item (around way.Backward (count vs) i 1) ∷ []) (object_at result U) }
-{
-    item_of(neighbour(heap, node_of(item), Way::Backward))
-}
-
 /// Adds a default item at the front of a list, and returns its position. `OtherType` if the place isn't a list,
 /// `BadAlloc` if there is no room for the item; then nothing changes.
-pub fn push_front<F: Fit, A: Allocator>(heap: &mut Heap<F, A>, list: Place) -> Result<u32, Code>
+pub fn push_front<F: Fit, A: Allocator>(heap: &mut Heap<F, A>, list: Place) -> Result<ValueAt, Code>
     ensures window { KeepsHost heap.old.window heap.new.window }
     ensures types { heap.new.types ≡ heap.old.types }
     ensures other { IsNoList heap.old.types list.type_id →
@@ -84,8 +74,8 @@ pub fn push_front<F: Fit, A: Allocator>(heap: &mut Heap<F, A>, list: Place) -> R
 pub(crate) fn push_node<F: Fit, A: Allocator>(
     heap: &mut Heap<F, A>,
     content: &Content,
-    cell: u32,
-) -> Result<u32, Code>
+    cell: CellAt,
+) -> Result<ValueAt, Code>
     ensures window { KeepsHost heap.old.window heap.new.window }
     ensures types { heap.new.types ≡ heap.old.types }
     ensures code { IsOkUnless result Code.BadAlloc }
@@ -131,8 +121,8 @@ pub fn pop_front<F: Fit, A: Allocator>(heap: &mut Heap<F, A>, list: Place) -> Re
 pub(crate) fn remove_node<F: Fit, A: Allocator>(
     heap: &mut Heap<F, A>,
     content: &Content,
-    cell: u32,
-    node: u32,
+    cell: CellAt,
+    node: NodeAt,
 )
     ensures window { KeepsHost heap.old.window heap.new.window }
     ensures types { heap.new.types ≡ heap.old.types }

@@ -13,7 +13,7 @@ use crate::pushing::push_number_in_place;
 use crate::sequence::count_entry;
 use seg_block::Fit;
 use seg_raw::Code;
-use seg_value::{Content, Heap, Place};
+use seg_value::{CellAt, Content, Heap, Place, ValueAt};
 use std::alloc::Allocator;
 
 /// A vector of numbers, whose type was checked once, so that a push doesn't read the type table. Entries of the table
@@ -38,7 +38,11 @@ impl Numbers {
 
     /// Appends a number, and returns its position. `BadAlloc` if there is no room for it; then nothing changes.
     #[inline(always)]
-    pub fn push<F: Fit, A: Allocator>(self, heap: &mut Heap<F, A>, number: i64) -> Result<u32, Code>
+    pub fn push<F: Fit, A: Allocator>(
+        self,
+        heap: &mut Heap<F, A>,
+        number: i64,
+    ) -> Result<ValueAt, Code>
         ensures window { KeepsHost heap.old.window heap.new.window }
         ensures types { heap.new.types ≡ heap.old.types }
         ensures vector { PushesNumber F.allocator heap.old heap.new (place_of self.vector) number
@@ -56,7 +60,7 @@ impl Numbers {
         self,
         heap: &mut Heap<F, A>,
         number: i64,
-    ) -> Result<u32, Code>
+    ) -> Result<ValueAt, Code>
         ensures window { KeepsHost heap.old.window heap.new.window }
         ensures types { heap.new.types ≡ heap.old.types }
         ensures vector { PushesNumber F.allocator heap.old heap.new (place_of self.vector) number
@@ -74,9 +78,9 @@ impl Numbers {
 fn push_number<F: Fit, A: Allocator>(
     heap: &mut Heap<F, A>,
     content: &Content,
-    cell: u32,
+    cell: CellAt,
     number: i64,
-) -> Result<u32, Code>
+) -> Result<ValueAt, Code>
     ensures window { KeepsHost heap.old.window heap.new.window }
     ensures types { heap.new.types ≡ heap.old.types }
     ensures vector { (T U : ℕ) (vs : Values) (blocks : List ℕ) →

@@ -12,7 +12,7 @@ use crate::room::Room;
 use seg_block::Fit;
 use seg_layout::{Type, TypeId};
 use seg_ptr::words::put_word;
-use seg_value::{Heap, Place};
+use seg_value::{CellAt, Heap, Place, ValueAt};
 use std::alloc::Allocator;
 
 /// The bytes of a number.
@@ -69,9 +69,9 @@ fn push_any_in_place<F: Fit, A: Allocator>(heap: &mut Heap<F, A>, vector: Place)
 #[inline(always)]
 pub(crate) fn push_number_in_place<F: Fit, A: Allocator>(
     heap: &mut Heap<F, A>,
-    cell: u32,
+    cell: CellAt,
     number: i64,
-) -> Option<u32>
+) -> Option<ValueAt>
     ensures window { KeepsHost heap.old.window heap.new.window }
     ensures types { heap.new.types ≡ heap.old.types }
     ensures none { result ≡ None → heap.new.window ≡ heap.old.window }
@@ -91,7 +91,7 @@ pub(crate) fn push_number_in_place<F: Fit, A: Allocator>(
 /// Writes the count of a cell, and a number to a position.
 // Both writes are to the same borrowed slice, which stays in registers.
 #[inline(always)]
-fn put_number(bytes: &mut [u8], cell: u32, count: u32, at: usize, number: u64)
+fn put_number(bytes: &mut [u8], cell: CellAt, count: u32, at: usize, number: u64)
     ensures bytes { bytes.new ≡ set_long (set_word bytes.old (cell + 4) count) at number }
     ensures length { length bytes.new ≡ length bytes.old }
 {
@@ -106,9 +106,9 @@ fn put_number(bytes: &mut [u8], cell: u32, count: u32, at: usize, number: u64)
 #[inline(always)]
 fn push_value<F: Fit, A: Allocator>(
     heap: &mut Heap<F, A>,
-    cell: u32,
+    cell: CellAt,
     type_id: TypeId,
-) -> Option<u32>
+) -> Option<ValueAt>
     ensures window { KeepsHost heap.old.window heap.new.window }
     ensures types { heap.new.types ≡ heap.old.types }
     ensures none { result ≡ None → heap.new.window ≡ heap.old.window }

@@ -7,8 +7,8 @@ ghost use Rattle.seg_spec.specs.Window.{with_bytes, KeepsHost};
 ghost use Rattle.seg_seq.specs.Rings.{coupled, AreSpread, HasRing, Relinks, link_of, around};
 
 use seg_block::Fit;
-use seg_ptr::Window;
-use seg_value::{Heap, PREVIOUS};
+use seg_ptr::{NodeAt, Window};
+use seg_value::{CellAt, Heap, PREVIOUS};
 use std::alloc::Allocator;
 
 /// A direction in the ring.
@@ -19,7 +19,7 @@ pub(crate) enum Way {
 }
 
 /// The next or the previous node.
-pub(crate) fn neighbour<F: Fit, A: Allocator>(heap: &Heap<F, A>, node: u32, way: Way) -> u32
+pub(crate) fn neighbour<F: Fit, A: Allocator>(heap: &Heap<F, A>, node: NodeAt, way: Way) -> NodeAt
     ensures { result ≡ start heap.now.window.bytes (link_of way node) }
 {
     match way {
@@ -29,7 +29,7 @@ pub(crate) fn neighbour<F: Fit, A: Allocator>(heap: &Heap<F, A>, node: u32, way:
 }
 
 /// The node `steps` steps from another.
-fn walk<F: Fit, A: Allocator>(heap: &Heap<F, A>, from: u32, way: Way, steps: u32) -> u32
+fn walk<F: Fit, A: Allocator>(heap: &Heap<F, A>, from: NodeAt, way: Way, steps: u32) -> NodeAt
     ensures { (cell i : ℕ) (nodes : List ℕ) → HasRing heap.now.window.bytes cell nodes →
         AreSpread heap.now.window.bytes (cell ∷ nodes) → i < length nodes →
         from ≡ slice_index nodes i → steps ≤ length nodes →
@@ -43,7 +43,7 @@ fn walk<F: Fit, A: Allocator>(heap: &Heap<F, A>, from: u32, way: Way, steps: u32
 }
 
 /// The node of the item with this index, which the list must have. It is found from the nearer end.
-pub(crate) fn node_at<F: Fit, A: Allocator>(heap: &Heap<F, A>, cell: u32, index: u32) -> u32
+pub(crate) fn node_at<F: Fit, A: Allocator>(heap: &Heap<F, A>, cell: CellAt, index: u32) -> NodeAt
     ensures { (nodes : List ℕ) → HasRing heap.now.window.bytes cell nodes →
         AreSpread heap.now.window.bytes (cell ∷ nodes) → index < length nodes →
         result ≡ slice_index nodes index }
@@ -58,7 +58,7 @@ pub(crate) fn node_at<F: Fit, A: Allocator>(heap: &Heap<F, A>, cell: u32, index:
 }
 
 /// Makes one node the next of another.
-fn join<A: Allocator>(w: &mut Window<A>, node: u32, next: u32)
+fn join<A: Allocator>(w: &mut Window<A>, node: NodeAt, next: NodeAt)
     ensures { w.new ≡ with_bytes w.old (coupled w.old.bytes node next) }
 {
     w.point(node as usize, Some(next));
@@ -67,7 +67,7 @@ fn join<A: Allocator>(w: &mut Window<A>, node: u32, next: u32)
 
 /// Inserts a new node between the last and the first one. It is the last one, unless the cell's pointer is then set to
 /// it.
-pub(crate) fn insert<F: Fit, A: Allocator>(heap: &mut Heap<F, A>, cell: u32, node: u32)
+pub(crate) fn insert<F: Fit, A: Allocator>(heap: &mut Heap<F, A>, cell: CellAt, node: NodeAt)
     ensures window { KeepsHost heap.old.window heap.new.window }
     ensures types { heap.new.types ≡ heap.old.types }
     ensures inserted { (nodes : List ℕ) → HasRing heap.old.window.bytes cell nodes →
@@ -91,7 +91,7 @@ pub(crate) fn insert<F: Fit, A: Allocator>(heap: &mut Heap<F, A>, cell: u32, nod
 }
 
 /// Removes a node from the ring.
-pub(crate) fn remove<F: Fit, A: Allocator>(heap: &mut Heap<F, A>, cell: u32, node: u32)
+pub(crate) fn remove<F: Fit, A: Allocator>(heap: &mut Heap<F, A>, cell: CellAt, node: NodeAt)
     ensures window { KeepsHost heap.old.window heap.new.window }
     ensures types { heap.new.types ≡ heap.old.types }
     ensures removed { (before after : List ℕ) →

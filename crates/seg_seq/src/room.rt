@@ -3,6 +3,7 @@ ghost use Rattle.seg_seq.specs.Buffers.{LacksEntry, HasEntry};
 
 use seg_block::{UNIT, units_in};
 use seg_ptr::View;
+use seg_value::CellAt;
 
 /// The size of a cell in bytes.
 const CELL: usize = 8;
@@ -21,7 +22,7 @@ impl Room {
     /// buffer has no such room according to the header before its payload.
     // The test that the entry lies in the segment also covers the header before it.
     #[inline(always)]
-    pub(crate) fn of(bytes: View, cell: u32, size: u32) -> Option<Room>
+    pub(crate) fn of(bytes: View, cell: CellAt, size: u32) -> Option<Room>
         ensures { MatchOption result
             (LacksEntry bytes.entry.bytes.now cell size)
             (HasEntry bytes.entry.bytes.now cell size) }

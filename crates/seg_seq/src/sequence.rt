@@ -16,7 +16,7 @@ use crate::list::{item_of, push_node, remove_node};
 use crate::ring::{Way, neighbour, node_at};
 use seg_block::Fit;
 use seg_raw::Code;
-use seg_value::{Content, Heap, Held, Place};
+use seg_value::{CellAt, Content, Heap, Held, Place, ValueAt};
 use std::alloc::Allocator;
 
 /// How many bytes a string has, or how many items a vector or a list has. `OtherType` for other places.
@@ -38,7 +38,11 @@ pub fn len<F: Fit, A: Allocator>(heap: &Heap<F, A>, sequence: Place) -> Result<u
 
 /// The position of an item of a vector or a list, or of a byte of a string. `OtherType` for other places, `OutOfRange`
 /// if there is no such item.
-pub fn at<F: Fit, A: Allocator>(heap: &Heap<F, A>, sequence: Place, index: u32) -> Result<u32, Code>
+pub fn at<F: Fit, A: Allocator>(
+    heap: &Heap<F, A>,
+    sequence: Place,
+    index: u32,
+) -> Result<ValueAt, Code>
     ensures text { (xs blocks : List ℕ) →
         HasText F.allocator heap.now (place_of sequence) xs blocks →
         MatchResult result
@@ -69,7 +73,10 @@ pub fn at<F: Fit, A: Allocator>(heap: &Heap<F, A>, sequence: Place, index: u32) 
 
 /// Appends a default item to a vector or a list, and returns its position. `OtherType` if the place is neither,
 /// `BadAlloc` if there is no room for the item; then nothing changes.
-pub fn push_back<F: Fit, A: Allocator>(heap: &mut Heap<F, A>, sequence: Place) -> Result<u32, Code>
+pub fn push_back<F: Fit, A: Allocator>(
+    heap: &mut Heap<F, A>,
+    sequence: Place,
+) -> Result<ValueAt, Code>
     ensures window { KeepsHost heap.old.window heap.new.window }
     ensures types { heap.new.types ≡ heap.old.types }
     ensures vector { (U : ℕ) (vs : Values) (blocks : List ℕ) →
@@ -100,8 +107,8 @@ pub fn push_back<F: Fit, A: Allocator>(heap: &mut Heap<F, A>, sequence: Place) -
 fn push_entry<F: Fit, A: Allocator>(
     heap: &mut Heap<F, A>,
     content: &Content,
-    cell: u32,
-) -> Result<u32, Code>
+    cell: CellAt,
+) -> Result<ValueAt, Code>
     ensures window { KeepsHost heap.old.window heap.new.window }
     ensures types { heap.new.types ≡ heap.old.types }
     ensures vector { (T U : ℕ) (vs : Values) (blocks : List ℕ) →
@@ -124,8 +131,8 @@ fn push_entry<F: Fit, A: Allocator>(
 pub(crate) fn count_entry<F: Fit, A: Allocator>(
     heap: &mut Heap<F, A>,
     content: &Content,
-    cell: u32,
-) -> Result<u32, Code>
+    cell: CellAt,
+) -> Result<ValueAt, Code>
     ensures window { KeepsHost heap.old.window heap.new.window }
     ensures types { heap.new.types ≡ heap.old.types }
     ensures vector { (T U : ℕ) (vs : Values) (blocks : List ℕ) →
@@ -186,7 +193,12 @@ pub fn pop_back<F: Fit, A: Allocator>(heap: &mut Heap<F, A>, sequence: Place) ->
 }
 
 /// Destroys the last entry of a buffer.
-fn pop_entry<F: Fit, A: Allocator>(heap: &mut Heap<F, A>, content: &Content, cell: u32, last: u32)
+fn pop_entry<F: Fit, A: Allocator>(
+    heap: &mut Heap<F, A>,
+    content: &Content,
+    cell: CellAt,
+    last: u32,
+)
     ensures window { KeepsHost heap.old.window heap.new.window }
     ensures types { heap.new.types ≡ heap.old.types }
     ensures text { (T : ℕ) (xs blocks : List ℕ) → NamesBuffer heap.old.types T content.now →

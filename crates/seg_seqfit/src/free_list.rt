@@ -13,8 +13,8 @@ ghost use Rattle.seg_seqfit.specs.Leading.{leads_past};
 use crate::search::link_before;
 use crate::seqfit::SeqFit;
 use seg_block::{
-    Block, FreeStructure, LINK, TAG, UNIT, UNITS_BEFORE, free_before, room_after, set_size,
-    size_word,
+    Block, BlockAt, FreeStructure, LINK, TAG, UNIT, UNITS_BEFORE, free_before, room_after,
+    set_size, size_word,
 };
 use seg_ptr::words::{put_pointer, put_word, set_pointer, set_word};
 use seg_ptr::{MAX_LEN, Window};
@@ -50,7 +50,7 @@ impl FreeStructure for SeqFit {
 }
 
 /// Allocates a whole free block. `next`, its successor in the list, takes its place there.
-pub(crate) fn take_whole(bytes: &mut [u8], link: usize, gap: Block, next: Option<u32>)
+pub(crate) fn take_whole(bytes: &mut [u8], link: usize, gap: Block, next: Option<BlockAt>)
     requires inside { LiesIn bytes.old gap }
     ensures length { length bytes.new ≡ length bytes.old }
     ensures tiles { (xs ys : List Tile) → link ≡ link_to xs → next ≡ link_at bytes.old gap.at
@@ -65,7 +65,13 @@ pub(crate) fn take_whole(bytes: &mut [u8], link: usize, gap: Block, next: Option
 
 /// Allocates the first `units` units of a free block. The rest stays free and takes the block's place in the list,
 /// before `next`.
-pub(crate) fn take_front(bytes: &mut [u8], link: usize, gap: Block, next: Option<u32>, units: u32)
+pub(crate) fn take_front(
+    bytes: &mut [u8],
+    link: usize,
+    gap: Block,
+    next: Option<BlockAt>,
+    units: u32,
+)
     requires inside { LiesIn bytes.old gap }
     requires front { 2 ≤ units }
     requires rest { units + 2 ≤ gap.units }
@@ -124,7 +130,7 @@ fn link_after(link: usize, block: Block, room: u32) -> usize
 }
 
 /// Makes the blocks in `gap` one free block. `link` then points to it, and its successor in the list is `next`.
-fn put_in(bytes: &mut [u8], link: usize, next: Option<u32>, gap: Block)
+fn put_in(bytes: &mut [u8], link: usize, next: Option<BlockAt>, gap: Block)
     requires { LiesIn bytes.old gap }
     ensures length { length bytes.new ≡ length bytes.old }
     ensures tiles { (xs ms ys : List Tile) (t : Tile) → link ≡ link_to xs
@@ -139,7 +145,7 @@ fn put_in(bytes: &mut [u8], link: usize, next: Option<u32>, gap: Block)
 }
 
 /// Makes the blocks in `gap`, the first of which is free already, one free block. Its successor in the list is `next`.
-fn widen(bytes: &mut [u8], next: Option<u32>, gap: Block)
+fn widen(bytes: &mut [u8], next: Option<BlockAt>, gap: Block)
     requires { LiesIn bytes.old gap }
     ensures length { length bytes.new ≡ length bytes.old }
     ensures tiles { (xs ms ys : List Tile) (t : Tile) → t.live ≡ false

@@ -9,7 +9,7 @@ ghost use Rattle.seg_block.specs.Tiling.{tile_of, IsTiling};
 ghost use Rattle.seg_seqfit.specs.FreeBlocks.{IsFirstFit};
 ghost use Rattle.seg_seqfit.specs.Retiling.{link_to};
 
-use seg_block::{Block, HEAP_START, Header, LINK, UNIT, block_within, is_live, previous};
+use seg_block::{Block, BlockAt, HEAP_START, Header, LINK, UNIT, block_within, is_live, previous};
 use seg_ptr::header::FREE;
 use seg_ptr::{View, Window};
 use std::alloc::Allocator;
@@ -19,7 +19,7 @@ use std::alloc::Allocator;
 pub(crate) struct Found {
     pub(crate) link: usize,
     pub(crate) block: Block,
-    pub(crate) next: Option<u32>,
+    pub(crate) next: Option<BlockAt>,
 }
 
 /// The distance from a block's link to its payload, in bytes.
@@ -29,7 +29,7 @@ const PAST_LINK: u32 = 4;
 const LIST: u32 = 12;
 
 /// The free block that the link of the block at `at` points to, if it is above `at`.
-fn next_above(view: View, at: u32) -> Option<u32>
+fn next_above(view: View, at: BlockAt) -> Option<BlockAt>
     requires { PAST_LINK ≤ at }
     ensures bounds { IfSome result (λ next. (at < next) × (next < 2 ^ 32)) }
     ensures none { target view.entry.bytes.now (at + LINK) ≡ None → result ≡ None }

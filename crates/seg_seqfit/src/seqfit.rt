@@ -3,8 +3,8 @@ ghost use Rattle.std.specs.Prelude.{ℕ};
 use crate::free_list::{release_joined, take_front, take_whole};
 use crate::search::{Found, first_fit, link_before};
 use seg_block::{
-    Block, Fit, HEAP_START, LINK, TAG, UNIT, UNITS_BEFORE, block_at, granted, is_live, last_block,
-    resize, set_size,
+    Block, BlockAt, Fit, HEAP_START, LINK, TAG, UNIT, UNITS_BEFORE, block_at, granted, is_live,
+    last_block, resize, set_size,
 };
 use seg_ptr::Window;
 use seg_ptr::header::{FREE, SIZE};
@@ -33,7 +33,7 @@ impl Fit for SeqFit {
         set_size(w, HEAP_START, units, false);
     }
 
-    fn allocate<A: Allocator>(w: &mut Window<A>, need: u32) -> Option<u32> {
+    fn allocate<A: Allocator>(w: &mut Window<A>, need: u32) -> Option<BlockAt> {
         let Found { link, block, next } = first_fit(w, need)?;
         let units = granted(block.units, need);
         let bytes = w.bytes_mut();
@@ -45,7 +45,7 @@ impl Fit for SeqFit {
         Some(block.at)
     }
 
-    fn free<A: Allocator>(w: &mut Window<A>, block: u32) {
+    fn free<A: Allocator>(w: &mut Window<A>, block: BlockAt) {
         let Some(block) = block_at(w, block) else {
             return;
         };

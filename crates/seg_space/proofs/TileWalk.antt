@@ -16,9 +16,6 @@ pub record Rest (bytes : List ℕ) (at : ℕ) (ts : List Tile) : Type 0 where
   pub before : ℕ
   pub headers : AreHeaders bytes before ts
 
-pub all_rest : (allocator : ℕ) (bytes : List ℕ) → IsHeap allocator bytes → Rest bytes heap_start (tiles bytes)
-all_rest allocator bytes heap = record { aligned = omega arith; fill = heap.filled; before = 0; headers = heap.headers }
-
 -- the first of these tiles has its size in its header
 pub first_sized : (bytes : List ℕ) (at : ℕ) (t : Tile) (ts : List Tile) → Rest bytes at (t ∷ ts) → IsSized bytes (span at t.units)
 first_sized bytes at t ts r =
@@ -71,9 +68,6 @@ pub record Counted (bytes : List ℕ) (at total largest : ℕ) : Type 0 where
   pub total_is : total + bytes_of (free_of others) ≡ bytes_of (free_of (tiles bytes))
   pub largest_is : max largest (largest_of (free_of others)) ≡ largest_of (free_of (tiles bytes))
   pub few : total ≤ at
-
-pub begun : (allocator : ℕ) (bytes : List ℕ) → IsHeap allocator bytes → Counted bytes heap_start 0 0
-begun allocator bytes heap = record { others = tiles bytes; rest = all_rest allocator bytes heap; total_is = omega arith; largest_is = omega arith; few = omega arith }
 
 free_first : (t : Tile) (ts : List Tile) → t.live ≡ false → free_of (t ∷ ts) ≡ span_of t ∷ free_of ts
 free_first t ts e = ap (λ b. cond b (free_of ts) (span_of t ∷ free_of ts)) e

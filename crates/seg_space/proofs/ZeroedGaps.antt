@@ -41,18 +41,6 @@ pub record Zeroing (a : ℕ) (old new : List ℕ) (at : ℕ) : Type 0 where
   pub zeroed : AllByRecursion (IsZeroed a new) (free_of passed)
   pub beside : (p n : ℕ) → AllByRecursion (LiesBeside a p n) (free_of passed) → IsSame old new p n
 
-pub none_zeroed : (a : ℕ) (old : List ℕ) → IsHeap a old → Zeroing a old old heap_start
-none_zeroed a old heap = record {
-  passed = [];
-  others = tiles old;
-  tiles_are = refl;
-  fill = refl;
-  rest = record { aligned = omega arith; fill = heap.filled; before = 0; headers = heap.headers };
-  length_kept = refl;
-  zeroed = tt;
-  beside = λ p n l. refl;
-}
-
 -- a free tile lies before the end of the tiles
 pub free_before : (ts : List Tile) (from to : ℕ) → Fill from ts to → AllByRecursion (λ g. (from ≤ g.at) × (2 ≤ g.units) × (end_of g ≤ to)) (free_of ts)
 free_before [] from to f = tt

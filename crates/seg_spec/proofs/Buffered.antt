@@ -28,11 +28,6 @@ HoldsEntries bytes table (Form.flat_map U) at n v owned =
     (vs : Values) × (v ≡ Map (keys_at bytes entries) vs) × IsAscending (keys_at bytes entries) × HoldsEach bytes table (places_of U (map (λ p. p + 8) entries)) vs owned
 HoldsEntries bytes table form at n v owned = ⊥
 
--- the size of an entry's bytes before its value
-abbrev pub before_item : Form → ℕ
-before_item (Form.flat_map U) = 8
-before_item form = 0
-
 -- the place has a buffer with such entries, and owns it
 pub record Buffered (bytes : List ℕ) (table : Table) (place : Place) (form : Form) (v : Value) (blocks : List ℕ) : Type 0 where
   pub owned : List ℕ

@@ -373,11 +373,6 @@ all_fields [] (suc n) l = refl
 all_fields (x ∷ xs) zero l = absurd (omega arith)
 all_fields (x ∷ xs) (suc n) l = ap (λ ys. x ∷ ys) (all_fields xs n (omega arith))
 
-pub field_below : (table : Table) → IsTable table → (T i from U : ℕ) (Us : List ℕ) → form_at table T ≡ Some (Form.struct Us) → slice_get (fields_of table T) i ≡ Some (record { from = from; type = U }) → U < T
-field_below table valid T i from U Us f e =
-    let less = valid.forms T (Form.struct Us) f in
-    (nth_field table 0 i Us from U (rw f at e)).below T less.2
-
 module _ (R : List ℕ → List ℕ → ℕ → Option Form → Type 0) (local : IsLocal R) (table : Table) (valid : IsTable table) (T : ℕ) (Us : List ℕ) (f : form_at table T ≡ Some (Form.struct Us)) (a : List ℕ) (at : ℕ) where
   module _ (i from U : ℕ) (e : slice_get (fields_of table T) i ≡ Some (record { from = from; type = U })) (within : IsWithin a at (size table T)) where
     the_field : NthField table 0 i Us from U

@@ -47,11 +47,6 @@ owners_are picture by_name before these after e = ap (λ rs. rs ++ (picture.uniq
 owners_are picture by_type before these after e = ap (λ rs. picture.names ++ (rs ++ picture.loose)) e ∙ owners_with picture by_type before these after
 owners_are picture loose before these after e = ap (λ rs. picture.names ++ (picture.uniques ++ rs)) e ∙ owners_with picture loose before these after
 
-same_frozen : (picture : Picture) (which : Listed) (roots : List Root) → (with_roots picture which roots).frozen ≡ picture.frozen
-same_frozen picture by_name roots = refl
-same_frozen picture by_type roots = refl
-same_frozen picture loose roots = refl
-
 -- ---- the same targets, in any order
 
 pub record SameNames (xs ys : List Place) : Type 0 where

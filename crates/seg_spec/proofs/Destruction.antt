@@ -13,7 +13,7 @@ use Rattle.seg_spec.specs.Reads.{Place}
 use Rattle.seg_spec.specs.Apart.{KeepsBlockAround}
 use Rattle.seg_spec.specs.Sound.{times, SameBlocks, positions}
 use Rattle.seg_spec.specs.Demand.{after_gives}
-use Rattle.seg_spec.specs.Owing.{KeepsWhole, KeepsLinked, AreParts, Waits, none_waits, waits}
+use Rattle.seg_spec.specs.Owing.{KeepsLinked, AreParts, Waits, none_waits, waits}
 use Rattle.seg_spec.specs.Destroying.{AreLive, GoesWith, Pends, KeepsOthers, Awaits, Adds, Pops, PendsBeside, HoldFrozen, KeepFrozen, Destroys}
 use Rattle.seg_spec.proofs.SliceLaws.{IsSame-part}
 use Rattle.seg_spec.proofs.Composing.{kept_twice}
@@ -24,7 +24,7 @@ use Rattle.seg_spec.proofs.HeapFrame.{IsHeap-kept, live-kept}
 use Rattle.seg_spec.proofs.KeptLaws.{front_kept}
 use Rattle.seg_spec.proofs.WriteInside.{tiles_kept, low_kept, KeptBut, live_kept_but}
 use Rattle.seg_spec.proofs.Writing.{set_number-changes}
-use Rattle.seg_spec.proofs.Owed.{Waits-kept, Owes-kept, parts_kept}
+use Rattle.seg_spec.proofs.Owed.{Waits-kept, parts_kept}
 use Rattle.seg_spec.proofs.Pushing.{owes_begins, waits_begins, pushed}
 use Rattle.seg_spec.proofs.Giving.{given_kept}
 use Rattle.seg_spec.specs.Frozen.{Frozen, blocks_by}
@@ -122,12 +122,6 @@ awaits_kept allocator a b table valid first blocks names kept theirs final heap 
 module _ (allocator : ℕ) (a b : List ℕ) (table : Table) (valid : IsTable table) (xs ys : List ℕ) (owned : AreLive a (xs ++ ys)) (heap : IsHeap allocator b) (k : KeepsOthers a b xs) where
   pub awaits_then : (first : Option ℕ) (names : List ℕ) (kept : List Place) (theirs : ℕ → List ℕ) (final : List Frozen) → Awaits allocator a table first ys names kept theirs final → Awaits allocator b table first ys names kept theirs final
   awaits_then first names kept theirs final w = awaits_kept allocator a b table valid first ys names kept theirs final heap (λ h some. let n = no_common allocator a w.beside.pends.heap xs ys owned h some in k.others h n.0 n.1) w
-
-  pub goes_then : (p : ℕ) (ms : List ℕ) → IsHeap allocator a → GoesWith a table p ys ms → GoesWith b table p ys ms
-  goes_then p ms heap_a g = record { owed = g.owed; named = g.named; owes_it = Owes-kept a b table valid (each_there (KeepsWhole a b) g.owed one) g.owes_it; owed_are = g.owed_are; named_are = g.named_are }
-    where
-      one : (h : ℕ) → 1 ≤ times h g.owed → KeepsWhole a b h
-      one h some = let n = no_common allocator a heap_a xs ys owned h (omega (arith, g.owed_are h)) in (k.others h n.0 n.1).whole
 
 -- ---- a block whose payload is kept
 

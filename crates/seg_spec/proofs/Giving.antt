@@ -1,21 +1,19 @@
 -- The blocks that are kept, and the blocks that wait, after a block is freed.
-use Rattle.std.proofs.Common.{◌≡◌, ◌≢◌, ℕ, zero, suc, ◌+◌, ◌-◌, ◌*◌, ◌≤◌, ◌<◌, ◌⊎◌, inl, inr, true, false, List, [], ◌∷◌, length, Option, eqb, refl, sym, ap, ◌∙◌, subst, arith, min}
+use Rattle.std.proofs.Common.{◌≡◌, ◌≢◌, ℕ, zero, suc, ◌+◌, ◌-◌, ◌*◌, ◌≤◌, ◌<◌, ◌⊎◌, inl, inr, true, false, List, [], ◌∷◌, length, eqb, refl, sym, ap, ◌∙◌, subst, arith, min}
 use Rattle.std.specs.Prelude.{Contains, slice_index_or}
 use Rattle.std.proofs.lemmas.Bool.Decides.{nat_tests}
 use Rattle.std.proofs.lemmas.Bool.{cases_eq}
 use Rattle.seg_spec.specs.Bytes.{Agrees}
-use Rattle.seg_spec.specs.Types.{Table, IsTable}
+use Rattle.seg_spec.specs.Types.{Table}
 use Rattle.seg_spec.specs.Heap.{Span, without, IsHeap, live, Gives}
 use Rattle.seg_spec.specs.Block.{KeepsBlock, IsOwnable, payload_size}
 use Rattle.seg_spec.specs.Sound.{times, positions}
 use Rattle.seg_spec.specs.Demand.{after_gives}
-use Rattle.seg_spec.specs.Owing.{Waits}
 use Rattle.seg_spec.proofs.BytesLaws.{number-agrees}
 use Rattle.seg_spec.proofs.PointerLaws.{target-same}
-use Rattle.seg_spec.proofs.LiveLaws.{times-other, times-more, each_there, not_there}
+use Rattle.seg_spec.proofs.LiveLaws.{times-other, times-more, not_there}
 use Rattle.seg_spec.proofs.KeptLaws.{each_contained, StatesSpan, live_stated, block_kept}
 use Rattle.seg_spec.specs.Owing.{KeepsLinked}
-use Rattle.seg_spec.proofs.Owed.{Waits-kept}
 
 -- the block at a position of the list
 pub record Found (k : ℕ) (bs : List Span) : Type 0 where
@@ -90,7 +88,3 @@ module _ (allocator : ℕ) (old new : List ℕ) (at : ℕ) (heap : IsHeap alloca
         link_kept = target-same old new (f.block.at + 12) (number-agrees old new (f.block.at + 8) (f.block.at + 16 * f.block.units) 4 (f.block.at + 12) agrees (omega arith) (omega arith));
       } in
       subst (λ h. KeepsLinked old new h) b_at r
-
-  -- the same blocks wait if the freed block isn't one of them
-  pub waits_then : (table : Table) → IsTable table → {first : Option ℕ} (ys ms : List ℕ) → ((h : ℕ) → 1 ≤ times h ys → (1 ≤ times h (positions (live old))) × (h ≢ at)) → Waits old table first ys ms → Waits new table first ys ms
-  waits_then table valid ys ms apart w = Waits-kept old new table valid (each_there (KeepsLinked old new) ys (λ h some. let a = apart h some in given_kept h a.0 a.1)) w

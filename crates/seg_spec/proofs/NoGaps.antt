@@ -47,9 +47,6 @@ no_expanded x room u v l m =
     ap (λ b. cond b (Some x) (cond (leb v (x + room)) (Some (granted (x + room) v)) None)) f ∙ ap (λ b. cond b (Some (granted (x + room) v)) None) g
 
 module _ (allocator : ℕ) (bs : List Span) (end : ℕ) where
-  took : ℕ → Span → ℕ × List Span
-  took u g = (g.at, with_block (record { at = g.at; units = granted g.units u }) bs)
-
   abbrev IsTooSmall : ℕ → Option ℕ → Type 0
   IsTooSmall limit old = AllByRecursion (λ g. g.units < limit) (gaps_of bs end) × IfSome old (λ at. room_at bs at + room_at (gaps_of bs end) (at + 16 * room_at bs at) < limit)
 

@@ -79,9 +79,6 @@ module _ (allocator : ℕ) (old : List ℕ) (table : Table) (place : Place) (v :
       let mine : 1 ≤ times s.home rest = subst (λ x. 1 ≤ times x rest) e some in
       omega (arith, counts s.home, home_apart)
 
-  rest_kept : (h : ℕ) → 1 ≤ times h rest → times h c.its ≡ 0
-  rest_kept h some = omega (arith, own_home h, once h, counts h)
-
   -- ---- the place of the value
 
   module _ (block : ℕ) (inside : IsInside old block inner.at (size table inner.type)) (mine : 1 ≤ times block rest) (aligned : inner.at % 8 ≡ 0) where

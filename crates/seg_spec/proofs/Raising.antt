@@ -120,9 +120,6 @@ module _ (allocator : ℕ) (old : List ℕ) (table : Table) (valid : IsTable tab
   pub by_raised : (h : ℕ) → times h (blocks_by theirs (raised q.at now)) ≡ times h (blocks_by theirs now)
   by_raised h = ap (λ fs. times h (blocks_by theirs fs)) raised_is ∙ among (with_count k.object (suc k.object.count)) refl h ∙ sym (shares_count h)
 
-  abbrev pub own : ℕ
-  own = block_of q.at
-
   own_there : 1 ≤ times (block_of k.object.at) mine
   own_there = let e : times (block_of k.object.at) mine ≡ times (block_of k.object.at) (block_of k.object.at ∷ there_is.inside) = ap (times (block_of k.object.at)) there_is.blocks_are in
       omega (arith, times-same (block_of k.object.at) there_is.inside)
@@ -141,9 +138,6 @@ module _ (allocator : ℕ) (old : List ℕ) (table : Table) (valid : IsTable tab
 
   pub count_fits : q.at + 4 ≤ length old
   count_fits = let l = there (LiesIn old heap_start (length old)) (block_of q.at) (positions (live old)) (live-lie old allocator heap) own_live in omega (arith, l.high, count_inside.high)
-
-  pub starts_even : q.at ≡ block_of q.at + 16
-  starts_even = let low = there_is.block.after_header in omega (arith, k.at_is)
 
   fits : AreLive old (mine ++ (lefts ++ rights))
   fits h = omega (arith, owned h, shares_count h, times-append h mine (lefts ++ rights), times-append h lefts rights)

@@ -91,21 +91,9 @@ module _ (allocator : ℕ) (bs : List Span) (end least : ℕ) where
       let took : GrantedAs at x (fresh outer.x.0 outer.x.1) = took_pair u outer.x l outer.o_is in
       subst (GrantedAs at x) outer.y_is took
 
-  by_take_new : (u : ℕ) (r : Granted) → least ≤ u → option_map (λ t. fresh t.0 t.1) (after_take allocator bs end u) ≡ Some r → GrantedNew r
-  by_take_new u r l e =
-      let outer = map_some (λ (t : ℕ × List Span). fresh t.0 t.1) (after_take allocator bs end u) r e in
-      let took : GrantedNew (fresh outer.x.0 outer.x.1) = took_pair u outer.x l outer.o_is in
-      subst GrantedNew outer.y_is took
-
   pub granted_at : (at x preferred : ℕ) (r : Granted) → least ≤ preferred → after_request_at allocator bs end at x preferred least ≡ Some r → GrantedAs at x r
   granted_at at x preferred r l e = first (or_some _ _ r e)
     where
-      expand : ℕ → Option Granted
-      expand u = option_map same (after_expand bs end at x u)
-
-      take_new : ℕ → Option Granted
-      take_new u = option_map (λ t. fresh t.0 t.1) (after_take allocator bs end u)
-
       fourth : (option_map same (after_expand bs end at x least) ≡ Some r) ⊎ (option_map (λ t. fresh t.0 t.1) (after_take allocator bs end least) ≡ Some r) → GrantedAs at x r
       fourth (inl f) = by_expand at x least r (omega arith) f
       fourth (inr f) = by_take at x least r (omega arith) f

@@ -14,9 +14,6 @@ use Rattle.seg_spec.proofs.SharedLaws.{named-append, elsewhere, wider}
 
 -- ---- one more cell points to an object
 
-one_raised : Frozen → ℕ → Frozen
-one_raised f p = cond (eqb f.at p) (with_count f (suc f.count)) f
-
 raised_each : (P : Frozen → Type 0) → ((f : Frozen) (n : ℕ) → P f → P (with_count f n)) → (p : ℕ) (fs : List Frozen) → AllByRecursion P fs → AllByRecursion P (raised p fs)
 raised_each P whatever p [] a = tt
 raised_each P whatever p (f ∷ fs) a = (go (eqb f.at p), raised_each P whatever p fs a.1)

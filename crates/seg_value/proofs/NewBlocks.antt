@@ -1,9 +1,9 @@
 -- A new block with the default of its value, from how the steps change the bytes.
-use Rattle.std.proofs.Common.{◌≡◌, ℕ, ◌+◌, ◌-◌, ◌*◌, ◌%◌, ◌^◌, ◌<◌, ◌≤◌, List, [], ◌∷◌, length, Some, None, refl, ap, ◌∙◌, arith}
+use Rattle.std.proofs.Common.{◌≡◌, ℕ, ◌+◌, ◌-◌, ◌*◌, ◌%◌, ◌^◌, ◌<◌, ◌≤◌, List, [], ◌∷◌, length, Some, refl, ap, ◌∙◌, arith}
 use Rattle.seg_spec.specs.Bytes.{set_word, ChangesOnly}
 use Rattle.seg_spec.specs.Types.{Table, IsTable, size}
 use Rattle.seg_spec.specs.Value.{default_of}
-use Rattle.seg_spec.specs.Heap.{Span, IsHeap, live, with_block, granted, after_take, Takes}
+use Rattle.seg_spec.specs.Heap.{IsHeap, live, after_take, Takes}
 use Rattle.seg_spec.specs.Reads.{Holds}
 use Rattle.seg_spec.specs.Demand.{need, after_asks, block_for}
 use Rattle.seg_spec.specs.Sound.{times, positions}
@@ -27,12 +27,6 @@ need_room n = omega arith
 -- the requests of the call were granted
 pub asks_granted : (allocator : ℕ) (old new : List ℕ) (n h : ℕ) → after_take allocator (live old) (length old) (need n) ≡ Some (h, live new) → after_asks allocator (live old) (length old) (block_for n ∷ []) ≡ Some (live new)
 asks_granted allocator old new n h e = rw e refl
-
-abbrev taking : List ℕ → ℕ → Span → ℕ × List Span
-taking old u g = (g.at, with_block (record { at = g.at; units = granted g.units u }) (live old))
-
-no_ask : (allocator : ℕ) (old : List ℕ) (n : ℕ) → after_take allocator (live old) (length old) (need n) ≡ None → after_asks allocator (live old) (length old) (block_for n ∷ []) ≡ None
-no_ask allocator old n e = rw e refl
 
 pub gives_block : (allocator h tag before U : ℕ) (old taken new : List ℕ) (table : Table) → IsHeap allocator old → Takes allocator old taken (need (before + size table U)) (Some h) → h + 16 ≤ length taken → tag < 2 ^ 32
     → ChangesOnly (set_word taken (h + 8) tag) new (h + 16 + before) (size table U) → Holds new table (record { at = h + 16 + before; type = U }) (default_of table U) [] → GivesBlock allocator old new table tag before U (h + 16)

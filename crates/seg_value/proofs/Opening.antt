@@ -5,10 +5,10 @@ use Rattle.std.proofs.Math.Nat.{div-mul-le_self}
 use Rattle.seg_spec.specs.Types.{Form, Table, form_at, IsTable, size}
 use Rattle.seg_spec.specs.Heap.{Span, units_at, tag_at, live, heap_start}
 use Rattle.seg_spec.specs.Block as block
-use Rattle.seg_spec.specs.Block.{tag_of, IsBlock, IsInside, block_of, payload_size}
+use Rattle.seg_spec.specs.Block.{tag_of, IsInside, block_of, payload_size}
 use Rattle.seg_spec.specs.Reads.{Place, holds}
 use Rattle.seg_spec.specs.Sound.{times, SameBlocks, positions}
-use Rattle.seg_spec.specs.Owing.{IsPart, AreParts, no_parts, more_parts, entries_at, OpensBlock, Owes, owes, OwesLinks, no_links}
+use Rattle.seg_spec.specs.Owing.{IsPart, AreParts, no_parts, more_parts, entries_at, OpensBlock, Owes, owes, OwesLinks}
 use Rattle.seg_spec.specs.Frozen.{Frozen}
 use Rattle.seg_spec.specs.Destroying.{AreLive, GoesWith, Awaits, Adds}
 use Rattle.seg_spec.proofs.MoreTypes.{below_length}
@@ -85,9 +85,6 @@ module _ (bytes : List ℕ) (table : Table) (valid : IsTable table) (p : ℕ) wh
     pub entries : ((content.entry.held ≡ held.Bytes) × Nothing us vs) ⊎ HasEntries content us vs
 
   module _ (content : Content) (k : Kind) (t : ℕ) (values : List Place) (links us bs vs ws : List ℕ) (parts : AreParts bytes table values us vs) (more : OwesLinks bytes table links bs ws) where
-    one_times : (n : ℕ) → 1 * n ≡ n
-    one_times n = omega arith
-
     object_shows : (T : ℕ) → OpensBlock bytes table p block.Kind.object T (form_at table T) values links → tag_at bytes (block_of p) ≡ tag_of (kind_of k) t → OfBlock table k t (Some content) → Shows content us bs vs ws
     object_shows T o tag of =
         let is = same_object k t T (sym tag ∙ o.0.has_tag) in

@@ -56,9 +56,6 @@ module _ (table : Table) (valid : IsTable table) (U : ℕ) where
       every (q ∷ qs) = (nothing_by bytes q (form_at table U) refl h, every qs)
 
   module _ (allocator : ℕ) (old : List ℕ) (p before used : ℕ) (heap : IsHeap allocator old) (low : 16 ≤ p) (here : 1 ≤ times (block_of p) (positions (live old))) (fits : used * (before + size table U) ≤ payload_size old (block_of p)) where
-    each : ℕ
-    each = before + size table U
-
     lies : LiesIn old heap_start (length old) (block_of p)
     lies = there (LiesIn old heap_start (length old)) (block_of p) (positions (live old)) (live-lie old allocator heap) here
 

@@ -29,8 +29,8 @@ ghost use Rattle.seg_cells.specs.Places.{place_of, object_at as place_at};
 use crate::cell::room;
 use crate::entry::need;
 use crate::heap::Heap;
-use seg_block::{Fit, Grant, UNIT, block_of, preferred, request};
-use seg_cells::{Content, Entry, Place, Shape};
+use seg_block::{BlockAt, Fit, Grant, PayloadAt, UNIT, block_of, preferred, request};
+use seg_cells::{CellAt, Content, Entry, Place, Shape};
 use seg_ptr::Code;
 use std::alloc::Allocator;
 
@@ -38,7 +38,7 @@ use std::alloc::Allocator;
 impl<F: Fit, A: Allocator> Heap<F, A> {
     /// How many entries fit in the block whose payload begins at `start`. 0 if the segment is too short for the size in
     /// the block's header.
-    pub fn capacity(&self, entry: Entry, start: u32) -> u32
+    pub fn capacity(&self, entry: Entry, start: PayloadAt) -> u32
         ensures stated { HasRoom self.now.window.bytes (start - 16) →
             result ≡ payload_at self.now.window.bytes (start - 16) / entry.size }
         ensures none { (HasRoom self.now.window.bytes (start - 16) → ⊥) → result ≡ 0 }
@@ -50,7 +50,7 @@ impl<F: Fit, A: Allocator> Heap<F, A> {
 
     /// Allocates a block for one entry, with the default of its value. Returns the position of its payload. `BadAlloc`
     /// if no free block is large enough; then nothing changes.
-    pub fn new_block(&mut self, content: &Content) -> Result<u32, Code>
+    pub fn new_block(&mut self, content: &Content) -> Result<PayloadAt, Code>
         ensures window { KeepsHost self.old.window self.new.window }
         ensures types { self.new.types ≡ self.old.types }
         ensures code { IsOkUnless result Code.BadAlloc }
@@ -81,7 +81,7 @@ impl<F: Fit, A: Allocator> Heap<F, A> {
     }
 
     /// Writes the tag of a new block, and returns the position of its payload.
-    fn tagged(&mut self, content: &Content, block: u32) -> u32
+    fn tagged(&mut self, content: &Content, block: BlockAt) -> PayloadAt
         ensures payload { result ≡ (block + 16) % 2 ^ 32 }
         ensures window { self.new.window ≡ with_bytes self.old.window
             (set_word self.old.window.bytes (block + 8) (word_of content.now.tag)) }
@@ -92,7 +92,7 @@ impl<F: Fit, A: Allocator> Heap<F, A> {
     }
 
     /// Frees the block whose payload begins at `start`. Its entries must not own anything.
-    pub fn free_block(&mut self, start: u32)
+    pub fn free_block(&mut self, start: PayloadAt)
         ensures window { KeepsHost self.old.window self.new.window }
         ensures types { self.new.types ≡ self.old.types }
         ensures gives { IsHeap F.allocator self.old.window.bytes →
@@ -106,7 +106,12 @@ impl<F: Fit, A: Allocator> Heap<F, A> {
     /// Makes room for `limit` entries in the buffer of a cell, including those that it has. Returns the position of its
     /// payload, as [`Heap::start`] does. `BadAlloc` if there is no such room; then nothing changes.
     #[inline(always)]
-    pub fn reserve(&mut self, content: &Content, cell: u32, limit: u32) -> Result<u32, Code>
+    pub fn reserve(
+        &mut self,
+        content: &Content,
+        cell: CellAt,
+        limit: u32,
+    ) -> Result<PayloadAt, Code>
         ensures window { KeepsHost self.old.window self.new.window }
         ensures types { self.new.types ≡ self.old.types }
         ensures code { IsOkUnless result Code.BadAlloc }
@@ -130,7 +135,7 @@ impl<F: Fit, A: Allocator> Heap<F, A> {
     }
 
     /// The size in bytes of the buffer that a cell points to, or 0 if its pointer is null.
-    fn room(&self, named: Option<u32>) -> u64
+    fn room(&self, named: Option<PayloadAt>) -> u64
         ensures { (cell : ℕ) → named ≡ target self.now.window.bytes cell →
             result ≡ 16 * units_named self.now.window.bytes cell - 16 }
     {
@@ -141,7 +146,7 @@ impl<F: Fit, A: Allocator> Heap<F, A> {
     }
 
     /// The block of a cell's buffer, if it has one.
-    fn buffer_of(&self, cell: u32) -> Option<u32>
+    fn buffer_of(&self, cell: CellAt) -> Option<BlockAt>
         ensures { result ≡ option_map (λ p. p - UNIT) (target self.now.window.bytes cell) }
     {
         let start = self.window.target(cell as usize)?;
@@ -150,7 +155,7 @@ impl<F: Fit, A: Allocator> Heap<F, A> {
 
     /// Finds a larger buffer for a cell without room for `limit` entries, in place or elsewhere.
     #[inline(never)]
-    fn enlarge(&mut self, content: &Content, cell: u32, limit: u32) -> Result<(), Code>
+    fn enlarge(&mut self, content: &Content, cell: CellAt, limit: u32) -> Result<(), Code>
         ensures window { KeepsHost self.old.window self.new.window }
         ensures types { self.new.types ≡ self.old.types }
         ensures code { IsOkUnless result Code.BadAlloc }
@@ -181,7 +186,7 @@ impl<F: Fit, A: Allocator> Heap<F, A> {
     }
 
     /// Moves the entries of a cell to a new block, and frees the old one.
-    fn move_buffer(&mut self, content: &Content, cell: u32, block: u32)
+    fn move_buffer(&mut self, content: &Content, cell: CellAt, block: BlockAt)
         ensures window { KeepsHost self.old.window self.new.window }
         ensures types { self.new.types ≡ self.old.types }
         ensures moves { (T u : ℕ) (before : List ℕ) (v : Value) (blocks : List ℕ) →
@@ -236,7 +241,7 @@ impl<F: Fit, A: Allocator> Heap<F, A> {
     }
 
     /// Frees the buffer of a cell, whose entries must not own anything. The cell's pointer is then null.
-    pub fn free_buffer(&mut self, cell: u32)
+    pub fn free_buffer(&mut self, cell: CellAt)
         ensures window { KeepsHost self.old.window self.new.window }
         ensures types { self.new.types ≡ self.old.types }
         ensures frees { (T : ℕ) (form : Form) (v : Value) (blocks : List ℕ) →

@@ -11,7 +11,7 @@ ghost use Rattle.seg_cells.specs.Places.{object_at as place_at};
 
 use crate::heap::Heap;
 use seg_block::Fit;
-use seg_cells::Content;
+use seg_cells::{CellAt, Content};
 use seg_ptr::Code;
 use std::alloc::Allocator;
 
@@ -20,7 +20,7 @@ impl<F: Fit, A: Allocator> Heap<F, A> {
     /// Makes room for an entry at an index of a cell's buffer: the entries from there on move up by one, and the cell's
     /// count grows. Returns the position of the new entry, whose bytes the caller writes. `BadAlloc` if there is no
     /// room; then nothing changes.
-    pub fn open_entry(&mut self, content: &Content, cell: u32, index: u32) -> Result<u32, Code>
+    pub fn open_entry(&mut self, content: &Content, cell: CellAt, index: u32) -> Result<u32, Code>
         ensures window { KeepsHost self.old.window self.new.window }
         ensures types { self.new.types ≡ self.old.types }
         ensures code { IsOkUnless result Code.BadAlloc }
@@ -55,7 +55,7 @@ impl<F: Fit, A: Allocator> Heap<F, A> {
 
     /// Removes the entry at an index of a cell's buffer, which must not own anything: the entries after it move down by
     /// one, and the cell's count shrinks.
-    pub fn close_entry(&mut self, content: &Content, cell: u32, index: u32)
+    pub fn close_entry(&mut self, content: &Content, cell: CellAt, index: u32)
         ensures window { KeepsHost self.old.window self.new.window }
         ensures types { self.new.types ≡ self.old.types }
         ensures closes { (T U : ℕ) (keys : List ℤ) (vs : Values) (blocks : List ℕ) →

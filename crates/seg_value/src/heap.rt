@@ -73,17 +73,6 @@ impl<F: Fit, A: Allocator> Heap<F, A> {
         &self.types
     }
 
-    /// The window, to write, and the types, to read meanwhile.
-    pub fn parts_mut(&mut self) -> (&mut Window<A>, &TypeTable)
-        ensures window { result.0.now ≡ self.old.window }
-        ensures types { result.1.now ≡ self.old.types }
-        ensures* writes_back { sem 𝓛 (Lends (the_row F.row A.row F.Fit A.Allocator)
-            (the_window.the_row A.row A.Allocator) self.entry result.0
-            (λ w. record self.old { window = w })) }
-    {
-        (&mut self.window, &self.types)
-    }
-
     /// Replaces the type table of the heap, but not the table in the bytes.
     pub fn set_types(&mut self, types: TypeTable)
         ensures window { self.new.window ≡ self.old.window }

@@ -17,10 +17,10 @@ mod sharing;
 pub use cell::room;
 pub use heap::Heap;
 pub use own::{set_own, take_own};
-pub use seg_block::{Fit, Kind, Tag, UNIT, block_of, need};
+pub use seg_block::{Fit, Kind, PayloadAt, Tag, UNIT, block_of, need};
 pub use seg_cells::{
-    Content, Entry, FROZEN_WORDS, Held, KEY, LIST_LINKS, PREVIOUS, Place, Shape, binary_search,
-    count, load, start,
+    CellAt, Content, Entry, FROZEN_WORDS, Held, KEY, LIST_LINKS, PREVIOUS, Place, Shape, ValueAt,
+    binary_search, count, load, start,
 };
 pub use seg_layout::{ENTRY, Fields, MAX_TYPES, Type, TypeId, TypeTable};
 pub use seg_ptr::{Code, Fault, MAX_LEN, MIN_LEN, Region, View, Window, header, is_size};

@@ -13,13 +13,13 @@ ghost use Rattle.seg_cells.specs.Places.{place_of, object_at};
 ghost use Rattle.seg_value.specs.Places.{TakesOwn, SetsOwn};
 
 use crate::Heap;
-use seg_block::Fit;
+use seg_block::{Fit, PayloadAt};
 use seg_cells::Place;
 use std::alloc::Allocator;
 
 /// Makes an own the owner of an object, given by the position of its value. The object must not have an owner, and must
 /// not reach the own's cell. The own's previous object is destroyed first.
-pub fn set_own<F: Fit, A: Allocator>(heap: &mut Heap<F, A>, own: Place, object: u32)
+pub fn set_own<F: Fit, A: Allocator>(heap: &mut Heap<F, A>, own: Place, object: PayloadAt)
     ensures window { KeepsHost heap.old.window heap.new.window }
     ensures types { heap.new.types ≡ heap.old.types }
     ensures set { (U : ℕ) (v w : Value) (blocks inside : List ℕ) →
@@ -39,7 +39,7 @@ pub fn set_own<F: Fit, A: Allocator>(heap: &mut Heap<F, A>, own: Place, object: 
 }
 
 /// Takes the object out of an own, and returns the position of its value. The own is then empty.
-pub fn take_own<F: Fit, A: Allocator>(heap: &mut Heap<F, A>, own: Place) -> Option<u32>
+pub fn take_own<F: Fit, A: Allocator>(heap: &mut Heap<F, A>, own: Place) -> Option<PayloadAt>
     ensures window { KeepsHost heap.old.window heap.new.window }
     ensures types { heap.new.types ≡ heap.old.types }
     ensures empty { (allocator U : ℕ) (blocks : List ℕ) →

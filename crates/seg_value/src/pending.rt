@@ -21,8 +21,8 @@ ghost use Rattle.seg_cells.specs.Places.{place_of, object_at};
 ghost use Rattle.seg_value.specs.Waiting.{AddsWaiting, OpensPending, links_of};
 
 use crate::heap::Heap;
-use seg_block::{Fit, LINK, Tag, UNIT, block_of, link, tag_word};
-use seg_cells::{Content, Entry, Held, PREVIOUS, Place, Shape};
+use seg_block::{Fit, LINK, PayloadAt, Tag, UNIT, block_of, link, tag_word};
+use seg_cells::{CellAt, Content, Entry, Held, PREVIOUS, Place, Shape};
 use std::alloc::Allocator;
 
 /// The offset of the pointer to the right child in a map's node, in bytes.
@@ -34,7 +34,7 @@ const RIGHT: u32 = 4;
 #[derive(Drop)]
 pub(crate) struct Pending {
     /// The position of the payload of the first one.
-    first: Option<u32>,
+    first: Option<PayloadAt>,
 }
 
 impl Pending {
@@ -45,7 +45,7 @@ impl Pending {
     }
 
     /// Adds the block whose payload begins at a position.
-    pub(crate) fn push<F: Fit, A: Allocator>(&mut self, heap: &mut Heap<F, A>, payload: u32)
+    pub(crate) fn push<F: Fit, A: Allocator>(&mut self, heap: &mut Heap<F, A>, payload: PayloadAt)
         ensures window { KeepsHost heap.old.window heap.new.window }
         ensures types { heap.new.types ≡ heap.old.types }
         ensures added { (xs ns : List ℕ) →
@@ -57,7 +57,7 @@ impl Pending {
     }
 
     /// Removes the first block, and returns the position of its payload.
-    fn pop<F: Fit, A: Allocator>(&mut self, heap: &Heap<F, A>) -> Option<u32>
+    fn pop<F: Fit, A: Allocator>(&mut self, heap: &Heap<F, A>) -> Option<PayloadAt>
         ensures none { result ≡ None → self.old.first ≡ None }
         ensures first { (p : ℕ) → result ≡ Some p → self.old.first ≡ Some p }
         ensures popped { (allocator : ℕ) (blocks names : List ℕ) (kept : List reads.Place)
@@ -119,7 +119,7 @@ impl Pending {
 
     /// Lowers the count of a frozen object for one cell that no longer points to it. Adds the object if no cell is
     /// left.
-    fn release<F: Fit, A: Allocator>(&mut self, heap: &mut Heap<F, A>, payload: u32)
+    fn release<F: Fit, A: Allocator>(&mut self, heap: &mut Heap<F, A>, payload: PayloadAt)
         ensures window { KeepsHost heap.old.window heap.new.window }
         ensures types { heap.new.types ≡ heap.old.types }
         ensures released { AddsWaiting heap.old heap.new self.old.first self.new.first
@@ -133,7 +133,7 @@ impl Pending {
     }
 
     /// Adds the blocks that a block of the list points to.
-    fn open<F: Fit, A: Allocator>(&mut self, heap: &mut Heap<F, A>, payload: u32)
+    fn open<F: Fit, A: Allocator>(&mut self, heap: &mut Heap<F, A>, payload: PayloadAt)
         ensures window { KeepsHost heap.old.window heap.new.window }
         ensures types { heap.new.types ≡ heap.old.types }
         ensures opened { (xs ns : List ℕ) →
@@ -152,7 +152,12 @@ impl Pending {
     }
 
     /// Adds the nodes that the pointers of a node point to. Other blocks have no such pointers.
-    fn add_links<F: Fit, A: Allocator>(&mut self, heap: &mut Heap<F, A>, shape: Shape, payload: u32)
+    fn add_links<F: Fit, A: Allocator>(
+        &mut self,
+        heap: &mut Heap<F, A>,
+        shape: Shape,
+        payload: PayloadAt,
+    )
         ensures window { KeepsHost heap.old.window heap.new.window }
         ensures types { heap.new.types ≡ heap.old.types }
         ensures added { (home : ℕ) (xs ns : List ℕ) →
@@ -188,7 +193,7 @@ impl Pending {
         &mut self,
         heap: &mut Heap<F, A>,
         entry: Entry,
-        start: u32,
+        start: PayloadAt,
         n: u32,
     )
         ensures window { KeepsHost heap.old.window heap.new.window }
@@ -238,7 +243,7 @@ impl Pending {
 
 impl<F: Fit, A: Allocator> Heap<F, A> {
     /// Makes the link of a block point to a payload.
-    fn set_link(&mut self, payload: u32, to: Option<u32>)
+    fn set_link(&mut self, payload: PayloadAt, to: Option<PayloadAt>)
         ensures window { self.new.window ≡ with_bytes self.old.window
             (set_pointer self.old.window.bytes (block_of payload + LINK) to) }
         ensures types { self.new.types ≡ self.old.types }
@@ -247,7 +252,7 @@ impl<F: Fit, A: Allocator> Heap<F, A> {
     }
 
     /// Writes how many cells point to a frozen object.
-    fn set_cell_count(&mut self, payload: u32, count: u32)
+    fn set_cell_count(&mut self, payload: PayloadAt, count: u32)
         ensures window { self.new.window ≡ with_bytes self.old.window
             (set_word self.old.window.bytes payload count) }
         ensures types { self.new.types ≡ self.old.types }
@@ -256,7 +261,7 @@ impl<F: Fit, A: Allocator> Heap<F, A> {
     }
 
     /// How many entries a block has: as many as a buffer has room for, or one in any other block.
-    fn entry_count(&self, content: &Content, start: u32) -> u32
+    fn entry_count(&self, content: &Content, start: PayloadAt) -> u32
         ensures buffer { (g : Span) → content.now.shape ≡ Shape.Buffer → start ≡ g.at + UNIT →
             IsSized self.now.window.bytes g →
             result ≡ (UNIT * g.units - UNIT) / content.now.entry.size }
@@ -282,7 +287,7 @@ impl<F: Fit, A: Allocator> Heap<F, A> {
 
     /// Prepares the block that a cell points to, so that it shows by itself what it owns: the unused entries of a
     /// buffer become defaults, and the last node of a ring gets a null pointer to the next.
-    fn uncouple(&mut self, content: &Content, cell: u32, payload: u32)
+    fn uncouple(&mut self, content: &Content, cell: CellAt, payload: PayloadAt)
         ensures window { KeepsHost self.old.window self.new.window }
         ensures types { self.new.types ≡ self.old.types }
         ensures uncouples { (allocator T : ℕ) (v : Value) (xs : List ℕ) →
@@ -305,7 +310,7 @@ impl<F: Fit, A: Allocator> Heap<F, A> {
     }
 
     /// Writes defaults to the unused entries of a buffer, if their values may have pointers to blocks.
-    fn default_rest(&mut self, entry: Entry, start: u32, used: u32)
+    fn default_rest(&mut self, entry: Entry, start: PayloadAt, used: u32)
         ensures window { KeepsHost self.old.window self.new.window }
         ensures types { self.new.types ≡ self.old.types }
         ensures bytes { entry.held ≡ Held.Bytes → self.new.window ≡ self.old.window }
@@ -330,7 +335,7 @@ impl<F: Fit, A: Allocator> Heap<F, A> {
     }
 
     /// Makes the last node's pointer to the next node null.
-    fn open_ring(&mut self, first: u32)
+    fn open_ring(&mut self, first: PayloadAt)
         ensures window { KeepsHost self.old.window self.new.window }
         ensures types { self.new.types ≡ self.old.types }
         ensures opened { (last : ℕ) → target self.old.window.bytes (first + 4) ≡ Some last →

@@ -22,15 +22,15 @@ ghost use Rattle.seg_cells.specs.Places.{place_of, object_at};
 ghost use Rattle.seg_spec.specs.Sharing.{FrozenBeside, cell_count, MovesFrozen, Freezes};
 
 use crate::{Content, FROZEN_WORDS, Heap};
-use seg_block::Fit;
-use seg_cells::Place;
+use seg_block::{Fit, PayloadAt};
+use seg_cells::{CellAt, Place, ValueAt};
 use seg_layout::{Type, TypeId};
 use seg_ptr::Code;
 use seg_ptr::header::NEXT_NUMBER;
 use std::alloc::Allocator;
 
 /// The position of the value of the frozen object that a cell points to, if it points to one.
-pub fn frozen<F: Fit, A: Allocator>(heap: &Heap<F, A>, cell: Place) -> Option<u32>
+pub fn frozen<F: Fit, A: Allocator>(heap: &Heap<F, A>, cell: Place) -> Option<ValueAt>
     ensures { result ≡ option_map (λ p. (p + frozen_words) % 2 ^ 32)
         (target heap.now.window.bytes cell.at) }
 {
@@ -69,7 +69,7 @@ pub fn share<F: Fit, A: Allocator>(heap: &mut Heap<F, A>, to: Place, from: Place
 pub fn freeze<F: Fit, A: Allocator>(
     heap: &mut Heap<F, A>,
     cell: Place,
-    object: u32,
+    object: PayloadAt,
 ) -> Result<(), Code>
     ensures window { KeepsHost heap.old.window heap.new.window }
     ensures types { heap.new.types ≡ heap.old.types }
@@ -119,9 +119,9 @@ fn shared_type<F: Fit, A: Allocator>(heap: &Heap<F, A>, t: TypeId) -> TypeId
 fn move_frozen<F: Fit, A: Allocator>(
     heap: &mut Heap<F, A>,
     t: TypeId,
-    object: u32,
+    object: PayloadAt,
     number: u32,
-) -> Result<u32, Code>
+) -> Result<PayloadAt, Code>
     ensures window { KeepsHost heap.old.window heap.new.window }
     ensures types { heap.new.types ≡ heap.old.types }
     ensures code { IsOkUnless result Code.BadAlloc }
@@ -144,7 +144,7 @@ fn move_frozen<F: Fit, A: Allocator>(
 }
 
 /// Writes the words of a frozen object with one cell, and the number of the next object.
-fn count_frozen<F: Fit, A: Allocator>(heap: &mut Heap<F, A>, payload: u32, number: u32)
+fn count_frozen<F: Fit, A: Allocator>(heap: &mut Heap<F, A>, payload: PayloadAt, number: u32)
     ensures window { heap.new.window ≡ with_bytes heap.old.window (set_word (set_word (set_word
         heap.old.window.bytes payload 1) (payload + 4) number)
         next_word ((number + 1) % 2 ^ 32)) }
@@ -157,7 +157,7 @@ fn count_frozen<F: Fit, A: Allocator>(heap: &mut Heap<F, A>, payload: u32, numbe
 }
 
 /// Raises the count of a frozen object, if there is one.
-fn raise<F: Fit, A: Allocator>(heap: &mut Heap<F, A>, object: Option<u32>)
+fn raise<F: Fit, A: Allocator>(heap: &mut Heap<F, A>, object: Option<PayloadAt>)
     ensures window { KeepsHost heap.old.window heap.new.window }
     ensures types { heap.new.types ≡ heap.old.types }
     ensures none { object ≡ None → heap.new.window ≡ heap.old.window }
@@ -175,7 +175,7 @@ fn raise<F: Fit, A: Allocator>(heap: &mut Heap<F, A>, object: Option<u32>)
 }
 
 /// Makes a cell point to a frozen object, or makes its pointer null.
-fn name<F: Fit, A: Allocator>(heap: &mut Heap<F, A>, cell: u32, object: Option<u32>)
+fn name<F: Fit, A: Allocator>(heap: &mut Heap<F, A>, cell: CellAt, object: Option<PayloadAt>)
     ensures window { heap.new.window ≡ with_bytes heap.old.window (set_word
         (set_pointer heap.old.window.bytes cell object) (cell + 4) (cell_count object)) }
     ensures types { heap.new.types ≡ heap.old.types }

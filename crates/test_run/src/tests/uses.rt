@@ -1,7 +1,7 @@
 //! Clients that share their objects, and hosts that embed the library.
 
 use crate::tests::plays::plays;
-use lezgauri::{Code, Fault, Through};
+use lezgauri::{Code, Error, Fault, Through};
 use lezgauri_uses::{Cache, Settings, count, new_counter, read_settings, write_settings};
 use std::test::Fail;
 use support_data::{CACHE, CONFIGURE, COUNT, Limited, SETTINGS};
@@ -97,7 +97,7 @@ fn a_counter_counts(rt: HostRuntime) -> Result<(), Fail> {
 fn no_image_is_counted(rt: HostRuntime) {
     let mut out = Through::new(Limited::unlimited(rt.alloc()));
     let none = count(rt.alloc(), Vec::new(rt.alloc()), b"", 1, &mut out);
-    assert_eq!(rt; none.err(), Some(Fault::BadHeader));
+    assert_eq!(rt; none.err(), Some(Error::Fault(Fault::BadHeader)));
 }
 
 /// A host reads what a host wrote, and a client prints it.

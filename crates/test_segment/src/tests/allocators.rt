@@ -1,6 +1,6 @@
 use crate::tests::support::one_gap;
 use crate::tests::tiles::live_are;
-use seg_bestfit::{BestFit, locate};
+use seg_bestfit::BestFit;
 use seg_block::{Fit, Grant, request, units};
 use seg_manager::Window;
 use seg_seqfit::SeqFit;
@@ -56,14 +56,4 @@ fn blocks_change(rt: HostRuntime) -> Result<(), Fail> {
 fn requests_are_met(rt: HostRuntime) -> Result<(), Fail> {
     meets_requests::<SeqFit>(&rt)?;
     meets_requests::<BestFit>(&rt)
-}
-
-/// The free block that best fit takes, and how many free blocks it looks at.
-#[test]
-fn best_fit_locates_a_gap(rt: HostRuntime) -> Result<(), Fail> {
-    let w = with_a_gap::<BestFit>(&rt)?;
-    let (gap, looks) = locate(&w, 4);
-    assert_eq!(rt; gap, Some(768));
-    assert!(rt; looks <= 2);
-    Ok(())
 }
