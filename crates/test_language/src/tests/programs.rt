@@ -103,8 +103,7 @@ fn types_agree_with_a_table(rt: HostRuntime) -> Result<(), Fail> {
     assert_eq!(rt; verified.bound(), 6);
     assert_eq!(rt; verified.types().len(), 1);
     assert_eq!(rt; verified.client().instruction_count(), 8);
-    assert!(rt; verified.fits(&numbers));
-    assert!(rt; verified.fits(&TypeTable::new()));
-    assert!(rt; !verified.fits(&texts));
+    assert!(rt; numbers.agrees(verified.types()).is_ok());
+    assert!(rt; texts.agrees(verified.types()).is_err());
     Ok(())
 }
