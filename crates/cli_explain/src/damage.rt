@@ -2,7 +2,7 @@
 
 use crate::bytes::word;
 use crate::field::entry_flaw;
-use crate::image::Image;
+use crate::image::ImageReader;
 use crate::sources::type_bytes;
 use client_code::ENTRY;
 use seg_index::{Fault, MAX_LEN, MIN_LEN, header, is_size};
@@ -121,12 +121,12 @@ pub(crate) fn add_place(
     }
 }
 
-fn add_location(text: &mut String, image: &Image, at: u32) -> Result<(), AllocError> {
+fn add_location(text: &mut String, image: &ImageReader, at: u32) -> Result<(), AllocError> {
     let location = image.location(at);
     write!(text, "byte {at} is {location}\n")
 }
 
-fn add_target(text: &mut String, image: &Image, at: u32) -> Result<(), AllocError> {
+fn add_target(text: &mut String, image: &ImageReader, at: u32) -> Result<(), AllocError> {
     match image.target(at) {
         None => text.push_str("the pointer there is null\n"),
         Some(to) => {
@@ -137,7 +137,7 @@ fn add_target(text: &mut String, image: &Image, at: u32) -> Result<(), AllocErro
 }
 
 /// Adds what the value at a byte should be.
-fn add_rules(text: &mut String, image: &Image, at: u32) -> Result<(), AllocError> {
+fn add_rules(text: &mut String, image: &ImageReader, at: u32) -> Result<(), AllocError> {
     if image.is_frozen(at) {
         return text.push_str(FROZEN);
     }
@@ -148,9 +148,9 @@ fn add_rules(text: &mut String, image: &Image, at: u32) -> Result<(), AllocError
     Ok(())
 }
 
-fn image_of(alloc: Global, image: Option<&[u8]>) -> Result<Option<Image>, AllocError> {
+fn image_of(alloc: Global, image: Option<&[u8]>) -> Result<Option<ImageReader>, AllocError> {
     match image {
-        Some(bytes) => Image::new(alloc, bytes),
+        Some(bytes) => ImageReader::new(alloc, bytes),
         None => Ok(None),
     }
 }

@@ -13,15 +13,15 @@ use std::alloc::{AllocError, Global};
 
 /// An image that is only read, so its allocator doesn't matter.
 #[derive(Drop)]
-pub(crate) struct Image {
+pub(crate) struct ImageReader {
     heap: Heap<SeqFit, Global>,
 }
 
-impl Image {
+impl ImageReader {
     /// The image with these bytes, unless they are too long.
-    pub(crate) fn new(alloc: Global, bytes: &[u8]) -> Result<Option<Image>, AllocError> {
+    pub(crate) fn new(alloc: Global, bytes: &[u8]) -> Result<Option<ImageReader>, AllocError> {
         match window_of(Vec::from_slice(alloc, bytes)?) {
-            Some(window) => Ok(Some(Image {
+            Some(window) => Ok(Some(ImageReader {
                 heap: Heap::new(window, types_of(bytes).unwrap_or(TypeTable::new())),
             })),
             None => Ok(None),

@@ -87,9 +87,9 @@ impl fmt::Display for Location<'_> {
 
 /// The contents of an allocated block.
 #[derive(Clone, Copy)]
-struct Content(Tag);
+struct BlockContents(Tag);
 
-impl fmt::Display for Content {
+impl fmt::Display for BlockContents {
     fn fmt<W: fmt::Write>(&self, f: &mut fmt::Formatter<W>) -> fmt::Result {
         let Tag { kind, type_id } = self.0;
         let what = match kind {
@@ -114,7 +114,7 @@ impl fmt::Display for Owner<'_> {
             }
             Owner::Unique(type_id) => write!(f, "the unique object of type {type_id}"),
             Owner::Live(at, tag) => {
-                let content = Content(tag);
+                let content = BlockContents(tag);
                 write!(f, "the block at {at}, {content}")
             }
             Owner::Free(at) => write!(f, "the free block at {at}"),

@@ -3,7 +3,7 @@
 use crate::names::Names;
 use crate::quoted::Quoted;
 use crate::registers::{Demand, used};
-use crate::replay::{Change, Part, Replay};
+use crate::replay::{Change, OpenPart, Replay};
 use crate::text::line;
 use client_code::{Client, Ends, Gives, Instruction, REGISTERS, Role};
 use client_text::print;
@@ -225,11 +225,15 @@ or if it was defined before the loop",
     fn add_end(&self, text: &mut String) -> Result<(), AllocError> {
         for register in 0..REGISTERS {
             match self.replay.innermost() {
-                Some(Part::Body(before)) => self.add_kept(text, register, before.get(register))?,
-                Some(Part::Else(success)) => {
+                Some(OpenPart::Body(before)) => self.add_kept(
+                    text,
+                    register,
+                    before.get(register),
+                )?,
+                Some(OpenPart::Else(success)) => {
                     self.add_joined(text, register, success.get(register))?;
                 }
-                Some(Part::Success) | None => {}
+                Some(OpenPart::Success) | None => {}
             }
         }
         Ok(())

@@ -11,7 +11,7 @@ pub(crate) struct Change {
 
 /// An open part of the code, with what its end is compared with.
 #[derive(Clone, Copy)]
-pub(crate) enum Part {
+pub(crate) enum OpenPart {
     Success,
     /// What was known at the end of the success part.
     Else(Registers),
@@ -25,7 +25,7 @@ pub(crate) struct Replay {
     registers: Registers,
     steps: u64,
     changes: [Option<Change>; REGISTERS as usize],
-    parts: Vec<Part>,
+    parts: Vec<OpenPart>,
 }
 
 impl Replay {
@@ -65,7 +65,7 @@ impl Replay {
     }
 
     /// The part that the next `END` ends.
-    pub(crate) fn innermost(&self) -> Option<Part> {
+    pub(crate) fn innermost(&self) -> Option<OpenPart> {
         self.parts.last().copied()
     }
 
@@ -73,11 +73,11 @@ impl Replay {
     fn nest(&mut self, role: Role) -> Result<(), AllocError> {
         match role {
             Role::Plain => {}
-            Role::Opener => self.parts.push(Part::Success)?,
-            Role::Loop => self.parts.push(Part::Body(self.registers))?,
+            Role::Opener => self.parts.push(OpenPart::Success)?,
+            Role::Loop => self.parts.push(OpenPart::Body(self.registers))?,
             Role::Else => {
                 self.parts.pop();
-                self.parts.push(Part::Else(self.registers))?;
+                self.parts.push(OpenPart::Else(self.registers))?;
             }
             Role::End => {
                 self.parts.pop();

@@ -2,7 +2,7 @@
 
 ghost use Rattle.std.specs.Prelude.{◌<◌};
 
-use crate::lines::Lines;
+use crate::lines::IndentedText;
 use crate::owners::{OwnedBlock, owned_blocks};
 use crate::purpose::{PURPOSES, Purpose};
 use seg_block::{Fit, HEAP_START, UNIT};
@@ -28,7 +28,7 @@ const MARGIN: u32 = 8;
 
 /// A cell of the picture. All cells have the same number of units.
 #[derive(Clone, Copy)]
-struct Cell {
+struct PictureCell {
     /// The purpose of the block that has most of the cell's units.
     purpose: Purpose,
     /// How many of the cell's units that block has.
@@ -44,7 +44,7 @@ pub fn picture<F: Fit>(alloc: Global, segment: &Segment<F, Global>) -> Result<Ve
     let scale = units.div_ceil(COLUMNS * ROWS).max(1);
     let owned = owned_blocks(alloc, segment.heap(), &[])?;
     let cells = cells(alloc, owned.as_slice(), units.div_ceil(scale), scale)?;
-    let mut lines = Lines::new(alloc);
+    let mut lines = IndentedText::new(alloc);
     begin(&mut lines, units.div_ceil(scale).div_ceil(COLUMNS))?;
     add_legend(&mut lines, scale)?;
     add_cells(&mut lines, cells.as_slice())?;
@@ -58,10 +58,10 @@ fn cells(
     owned: &[OwnedBlock],
     count: u32,
     scale: u32,
-) -> Result<Vec<Cell>, AllocError>
+) -> Result<Vec<PictureCell>, AllocError>
     requires some { 0 < scale }
 {
-    let empty = Cell {
+    let empty = PictureCell {
         purpose: Purpose::Gap,
         units: 0,
         begins: false,
@@ -74,7 +74,7 @@ fn cells(
 }
 
 /// Gives a block each cell of which it has more units than the blocks before it.
-fn paint(cells: &mut [Cell], it: &OwnedBlock, scale: u32)
+fn paint(cells: &mut [PictureCell], it: &OwnedBlock, scale: u32)
     requires some { 0 < scale }
 {
     let from = it.block.at.saturating_sub(HEAP_START) / UNIT;
@@ -86,7 +86,7 @@ fn paint(cells: &mut [Cell], it: &OwnedBlock, scale: u32)
             .saturating_sub(from.max(begin));
         if let Some(cell) = cells.get_mut(index as usize) {
             if units > cell.units {
-                *cell = Cell {
+                *cell = PictureCell {
                     purpose: Purpose::of(it),
                     units,
                     begins: begin == from && scale == 1,
@@ -102,7 +102,7 @@ const HEAD: &str = "<title>The heap of a segment</title>
 ";
 
 /// Begins a picture with this number of rows, with its background.
-fn begin(lines: &mut Lines, rows: u32) -> Result<(), AllocError> {
+fn begin(lines: &mut IndentedText, rows: u32) -> Result<(), AllocError> {
     let margin = MARGIN;
     let width = COLUMNS * WIDTH + 2 * MARGIN;
     let height = rows
@@ -118,7 +118,7 @@ fn begin(lines: &mut Lines, rows: u32) -> Result<(), AllocError> {
     )?.as_bytes())
 }
 
-fn add_legend(lines: &mut Lines, scale: u32) -> Result<(), AllocError> {
+fn add_legend(lines: &mut IndentedText, scale: u32) -> Result<(), AllocError> {
     let mut x = 0u32;
     for purpose in PURPOSES {
         add_key(lines, x, purpose)?;
@@ -131,7 +131,7 @@ fn add_legend(lines: &mut Lines, scale: u32) -> Result<(), AllocError> {
 }
 
 /// Adds a purpose's colour and word to the legend.
-fn add_key(lines: &mut Lines, x: u32, purpose: Purpose) -> Result<(), AllocError> {
+fn add_key(lines: &mut IndentedText, x: u32, purpose: Purpose) -> Result<(), AllocError> {
     let (colour, word) = (purpose.colour(), purpose.word());
     let after = x.saturating_add(20);
     lines.add(format!(in lines.alloc();
@@ -140,7 +140,7 @@ fn add_key(lines: &mut Lines, x: u32, purpose: Purpose) -> Result<(), AllocError
 }
 
 /// Adds a rectangle for each run of equal cells in a row.
-fn add_cells(lines: &mut Lines, cells: &[Cell]) -> Result<(), AllocError> {
+fn add_cells(lines: &mut IndentedText, cells: &[PictureCell]) -> Result<(), AllocError> {
     let mut from = 0;
     let mut to = 0u32;
     for cell in cells {
@@ -155,7 +155,7 @@ fn add_cells(lines: &mut Lines, cells: &[Cell]) -> Result<(), AllocError> {
 }
 
 /// Whether the next cell is different, or is in another row.
-fn ends_run(cells: &[Cell], index: usize) -> bool {
+fn ends_run(cells: &[PictureCell], index: usize) -> bool {
     let following = index.saturating_add(1);
     match (cells.get(index), cells.get(following)) {
         (Some(cell), Some(next)) => {
@@ -166,7 +166,12 @@ fn ends_run(cells: &[Cell], index: usize) -> bool {
 }
 
 /// Adds the rectangle for the cells from one index to another in a row, with a line after it.
-fn add_run(lines: &mut Lines, from: u32, to: u32, purpose: Purpose) -> Result<(), AllocError> {
+fn add_run(
+    lines: &mut IndentedText,
+    from: u32,
+    to: u32,
+    purpose: Purpose,
+) -> Result<(), AllocError> {
     let (x, y) = (
         from % COLUMNS * WIDTH,
         (from / COLUMNS).saturating_mul(HEIGHT).saturating_add(TOP),

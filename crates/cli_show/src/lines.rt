@@ -6,14 +6,14 @@ const DEEPEST: usize = 20;
 
 /// Lines of text, indented by level.
 #[derive(Drop)]
-pub(crate) struct Lines {
+pub(crate) struct IndentedText {
     alloc: Global,
     text: Vec<u8>,
 }
 
-impl Lines {
-    pub(crate) fn new(alloc: Global) -> Lines {
-        Lines {
+impl IndentedText {
+    pub(crate) fn new(alloc: Global) -> IndentedText {
+        IndentedText {
             alloc,
             text: Vec::new(alloc),
         }

@@ -1,6 +1,6 @@
 //! The heap block by block, as lines of text.
 
-use crate::lines::Lines;
+use crate::lines::IndentedText;
 use crate::owners::{OwnedBlock, owned_blocks};
 use crate::purpose::Purpose;
 use crate::roots::{Root, RootName, roots};
@@ -20,7 +20,7 @@ pub fn heap_lines<F: Fit>(
     let roots = roots(alloc, segment)?;
     let owned = owned_blocks(alloc, segment.heap(), roots.as_slice())?;
     let largest = most_units(owned.as_slice());
-    let mut lines = Lines::new(alloc);
+    let mut lines = IndentedText::new(alloc);
     for it in &owned {
         add_block(&mut lines, it, roots.as_slice(), largest)?;
     }
@@ -37,7 +37,7 @@ fn most_units(owned: &[OwnedBlock]) -> u32 {
 }
 
 fn add_block(
-    lines: &mut Lines,
+    lines: &mut IndentedText,
     it: &OwnedBlock,
     roots: &[Root],
     largest: u32,
@@ -56,7 +56,7 @@ fn add_block(
 }
 
 /// Adds a block's position and size.
-fn add_extent(lines: &mut Lines, block: Block) -> Result<(), AllocError> {
+fn add_extent(lines: &mut IndentedText, block: Block) -> Result<(), AllocError> {
     lines.add_number("", i64::from(block.at))?;
     lines.add_number(" ", i64::from(block.units))?;
     lines.add(b" ")
@@ -73,7 +73,7 @@ fn bar(units: u32, largest: u32) -> u32 {
     u32::try_from(length).unwrap_or(LONGEST_BAR).max(1)
 }
 
-fn add_owner(lines: &mut Lines, root: &Root) -> Result<(), AllocError> {
+fn add_owner(lines: &mut IndentedText, root: &Root) -> Result<(), AllocError> {
     lines.add(b" of ")?;
     match root.name {
         RootName::Named(name) => lines.add(name),

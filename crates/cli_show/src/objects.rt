@@ -1,10 +1,10 @@
 //! The objects of a segment with their values, as indented lines.
 
 use crate::extent::Extent;
-use crate::lines::Lines;
-use crate::parts::Step;
+use crate::lines::IndentedText;
+use crate::parts::Selector;
 use crate::roots::{Root, RootName, frozen_number, roots};
-use crate::walk::{Met, Walk, most_turns};
+use crate::walk::{Met, ValueWalk, most_turns};
 use seg_block::{Fit, UNIT};
 use seg_manager::{Heap, Place, Segment, Type, frozen};
 use std::alloc::{AllocError, Global};
@@ -48,7 +48,7 @@ pub fn one_object<F: Fit>(
 struct Shown<'h, F: Fit> {
     heap: &'h Heap<F, Global>,
     extent: Extent,
-    lines: Lines,
+    lines: IndentedText,
     /// For each unit of the segment, whether a cell in these lines points to the frozen object whose value begins in it. Empty if
     /// no object is frozen.
     named: Vec<bool>,
@@ -69,7 +69,7 @@ impl<'h, F: Fit> Shown<'h, F> {
         Ok(Shown {
             heap,
             extent,
-            lines: Lines::new(alloc),
+            lines: IndentedText::new(alloc),
             named: Vec::from_elem(alloc, false, units as usize)?,
         })
     }
@@ -92,7 +92,7 @@ impl<'h, F: Fit> Shown<'h, F> {
     /// Ends the line of a value, and adds the lines of all values inside it.
     fn add_value(&mut self, value: Place) -> Result<(), AllocError> {
         self.end_line(value)?;
-        let mut walk = Walk::new(self.lines.alloc(), self.heap, value, self.extent)?;
+        let mut walk = ValueWalk::new(self.lines.alloc(), self.heap, value, self.extent)?;
         for _ in 0..most_turns(self.heap.window().len()) {
             let Some(met) = walk.next(self.heap)? else {
                 break;
@@ -164,7 +164,7 @@ impl<'h, F: Fit> Shown<'h, F> {
 }
 
 /// Begins the line of one of an object's values.
-fn add_root_name(lines: &mut Lines, root: &Root, index: u16) -> Result<(), AllocError> {
+fn add_root_name(lines: &mut IndentedText, root: &Root, index: u16) -> Result<(), AllocError> {
     match root.name {
         RootName::Named(name) => lines.add(name)?,
         RootName::Unique => {
@@ -182,7 +182,7 @@ fn add_root_name(lines: &mut Lines, root: &Root, index: u16) -> Result<(), Alloc
 }
 
 /// Adds how many parts aren't shown, if there are any.
-fn add_rest(lines: &mut Lines, level: usize, rest: u32) -> Result<(), AllocError> {
+fn add_rest(lines: &mut IndentedText, level: usize, rest: u32) -> Result<(), AllocError> {
     if rest == 0 {
         return Ok(());
     }
@@ -192,12 +192,12 @@ fn add_rest(lines: &mut Lines, level: usize, rest: u32) -> Result<(), AllocError
     lines.end()
 }
 
-fn add_step(lines: &mut Lines, step: Step) -> Result<(), AllocError> {
+fn add_step(lines: &mut IndentedText, step: Selector) -> Result<(), AllocError> {
     match step {
-        Step::Index(index) => lines.add_index(index),
-        Step::Key(key) => lines.add_number("", key),
-        Step::Field(index) => lines.add_number("field ", i64::from(index)),
-        Step::Content => lines.add(b"content"),
+        Selector::Index(index) => lines.add_index(index),
+        Selector::Key(key) => lines.add_number("", key),
+        Selector::Field(index) => lines.add_number("field ", i64::from(index)),
+        Selector::Content => lines.add(b"content"),
     }
 }
 

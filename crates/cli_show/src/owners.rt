@@ -1,7 +1,7 @@
 use crate::blocks::{blocks, live_tag};
 use crate::extent::Extent;
 use crate::roots::Root;
-use crate::walk::{Met, Walk, most_turns};
+use crate::walk::{Met, ValueWalk, most_turns};
 use seg_block::{Block, Fit, Tag};
 use seg_manager::{Heap, Place, Type, Window};
 use std::alloc::{AllocError, Global};
@@ -66,7 +66,7 @@ fn claim_value<F: Fit>(
     index: usize,
 ) -> Result<(), AllocError> {
     claim_blocks(heap, owned, value, index);
-    let mut walk = Walk::new(alloc, heap, value, Extent::All)?;
+    let mut walk = ValueWalk::new(alloc, heap, value, Extent::All)?;
     for _ in 0..most_turns(heap.window().len()) {
         match walk.next(heap)? {
             Some(Met::Part { part, .. }) => claim_blocks(heap, owned, part.place, index),

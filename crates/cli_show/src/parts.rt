@@ -6,7 +6,7 @@ use std::alloc::Global;
 
 /// A step from a value to a part of it.
 #[derive(Clone, Copy)]
-pub(crate) enum Step {
+pub(crate) enum Selector {
     /// The item of a vector or a list with this index, from 0.
     Index(u32),
     /// The value of this key in a map.
@@ -19,14 +19,14 @@ pub(crate) enum Step {
 
 /// A direct part of a value.
 #[derive(Clone, Copy)]
-pub(crate) struct Part {
-    pub(crate) step: Step,
+pub(crate) struct ValuePart {
+    pub(crate) step: Selector,
     pub(crate) place: Place,
 }
 
-impl Part {
-    fn new(step: Step, at: u32, type_id: TypeId) -> Part {
-        Part {
+impl ValuePart {
+    fn new(step: Selector, at: u32, type_id: TypeId) -> ValuePart {
+        ValuePart {
             step,
             place: Place { at, type_id },
         }
@@ -66,7 +66,7 @@ impl Parts {
         self.left
     }
 
-    pub(crate) fn next<F: Fit>(&mut self, heap: &Heap<F, Global>) -> Option<Part> {
+    pub(crate) fn next<F: Fit>(&mut self, heap: &Heap<F, Global>) -> Option<ValuePart> {
         self.left = self.left.checked_sub(1)?;
         let index = self.came;
         self.came = index.saturating_add(1);
@@ -76,40 +76,50 @@ impl Parts {
             Type::Vec(t) => self.item(heap, index, t),
             Type::List(t) => self.list_item(heap, index, t),
             Type::FlatMap(t) | Type::Map(t) => self.entry(heap, index, t),
-            Type::Own(t) => Some(Part::new(Step::Content, heap.start(self.whole.at), t)),
+            Type::Own(t) => Some(ValuePart::new(Selector::Content, heap.start(self.whole.at), t)),
         }
     }
 
-    fn field<F: Fit>(&self, heap: &Heap<F, Global>, index: u32) -> Option<Part> {
+    fn field<F: Fit>(&self, heap: &Heap<F, Global>, index: u32) -> Option<ValuePart> {
         let cell = heap.types().field(self.whole.type_id, index)?;
-        Some(Part {
-            step: Step::Field(index),
+        Some(ValuePart {
+            step: Selector::Field(index),
             place: self.whole.part(cell),
         })
     }
 
-    fn item<F: Fit>(&self, heap: &Heap<F, Global>, index: u32, t: TypeId) -> Option<Part> {
+    fn item<F: Fit>(&self, heap: &Heap<F, Global>, index: u32, t: TypeId) -> Option<ValuePart> {
         let item = item_at(heap, self.whole, index)?;
-        Some(Part::new(Step::Index(index), item, t))
+        Some(ValuePart::new(Selector::Index(index), item, t))
     }
 
     /// The list item after the last one.
-    fn list_item<F: Fit>(&mut self, heap: &Heap<F, Global>, index: u32, t: TypeId) -> Option<Part> {
+    fn list_item<F: Fit>(
+        &mut self,
+        heap: &Heap<F, Global>,
+        index: u32,
+        t: TypeId,
+    ) -> Option<ValuePart> {
         self.item = match index {
             0 => item_at(heap, self.whole, 0)?,
             1.. => next(heap, self.item),
         };
-        Some(Part::new(Step::Index(index), self.item, t))
+        Some(ValuePart::new(Selector::Index(index), self.item, t))
     }
 
     /// The value of the key after the last one.
-    fn entry<F: Fit>(&mut self, heap: &Heap<F, Global>, index: u32, t: TypeId) -> Option<Part> {
+    fn entry<F: Fit>(
+        &mut self,
+        heap: &Heap<F, Global>,
+        index: u32,
+        t: TypeId,
+    ) -> Option<ValuePart> {
         self.key = match index {
             0 => least_key(heap, self.whole)?,
             1.. => key_after(heap, self.whole, self.key)?,
         };
         let value = value_of(heap, self.whole, self.key)?;
-        Some(Part::new(Step::Key(self.key), value, t))
+        Some(ValuePart::new(Selector::Key(self.key), value, t))
     }
 }
 

@@ -1,5 +1,5 @@
 use crate::extent::Extent;
-use crate::parts::{Part, Parts};
+use crate::parts::{Parts, ValuePart};
 use seg_block::Fit;
 use seg_manager::{Heap, MAX_TYPES, Place};
 use std::alloc::{AllocError, Global};
@@ -8,7 +8,7 @@ use std::alloc::{AllocError, Global};
 #[derive(Clone, Copy)]
 pub(crate) enum Met {
     /// A value inside it, at this level, counted from 1.
-    Part { level: usize, part: Part },
+    Part { level: usize, part: ValuePart },
     /// The end of the parts at this level; `rest` is how many of them the walk skipped.
     End { level: usize, rest: u32 },
 }
@@ -16,19 +16,19 @@ pub(crate) enum Met {
 /// A walk through all values inside a value, each before the values inside it. It needs host memory for the values on its path,
 /// and no recursion.
 #[derive(Drop)]
-pub(crate) struct Walk {
+pub(crate) struct ValueWalk {
     open: Vec<Parts>,
     extent: Extent,
 }
 
-impl Walk {
+impl ValueWalk {
     pub(crate) fn new<F: Fit>(
         alloc: Global,
         heap: &Heap<F, Global>,
         value: Place,
         extent: Extent,
-    ) -> Result<Walk, AllocError> {
-        Ok(Walk {
+    ) -> Result<ValueWalk, AllocError> {
+        Ok(ValueWalk {
             open: Vec::from_slice(alloc, &[Parts::of(heap, value)])?,
             extent,
         })

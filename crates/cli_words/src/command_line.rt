@@ -1,4 +1,4 @@
-use crate::{Argument, FORCE, INPUT, Line, RUN, Takes, parser, parser_of};
+use crate::{Argument, CommandRow, FORCE, INPUT, RUN, Takes, parser, parser_of};
 use clap::Command;
 use std::alloc::{AllocError, Global};
 
@@ -103,86 +103,86 @@ const ASSEMBLE: [Argument; 3] = [
 ];
 
 /// The commands, in the order of the help text.
-const LINES: &[Line] = &[
-    Line {
+const LINES: &[CommandRow] = &[
+    CommandRow {
         name: "new",
         about: "Makes the image of an empty segment",
         arguments: &NEW,
         examples: "Example:\n  segtool new shop.image 65536 best tree",
     },
-    Line {
+    CommandRow {
         name: "check",
         about: "Prints ok if a file is a sound image, otherwise its first fault",
         arguments: &[IMAGE],
         examples: "Examples:\n  segtool check shop.image\n  segtool check damaged.image --explain",
     },
-    Line {
+    CommandRow {
         name: "verify",
         about: "Checks a client and prints the most steps that it can take on an image",
         arguments: &[IMAGE, CLIENT],
         examples: "Examples:\n  segtool verify shop.image stock.client\n  segtool verify shop.image stock.client --explain",
     },
-    Line {
+    CommandRow {
         name: "run",
         about: "Runs clients on an image, prints their output and saves the image",
         arguments: &RUN,
         examples: "Examples:\n  segtool run shop.image shop.image stock.client\n  segtool run shop.image saved.image stock.client sell.client --input orders.txt\n\nOUT may be IMAGE, but not a client or the input. A client, and the input, have at most 2^20 bytes.\nIf the output fails (status 3), the run ends there, and the image as it is then is still written to OUT.",
     },
-    Line {
+    CommandRow {
         name: "trace",
         about: "Runs a client, prints each step with the registers after it, and saves nothing",
         arguments: &TRACE,
         examples: "Examples:\n  segtool trace shop.image stock.client\n  segtool trace shop.image sell.client --input orders.txt",
     },
-    Line {
+    CommandRow {
         name: "stat",
         about: "Prints the size of a segment, its free memory, and how many objects it has",
         arguments: &[IMAGE],
         examples: "Example:\n  segtool stat shop.image",
     },
-    Line {
+    CommandRow {
         name: "list",
         about: "Prints the name, type number and number of values of each object, then the types of unique objects",
         arguments: &[IMAGE],
         examples: "Example:\n  segtool list shop.image",
     },
-    Line {
+    CommandRow {
         name: "show",
         about: "Prints the objects of a segment with their values",
         arguments: &SHOW,
         examples: "Examples:\n  segtool show shop.image\n  segtool show shop.image prices --all",
     },
-    Line {
+    CommandRow {
         name: "map",
         about: "Prints each block of the heap: its position, its size in units of 16 bytes, its use and its object",
         arguments: &MAP,
         examples: "Examples:\n  segtool map shop.image\n  segtool map shop.image --svg heap.svg",
     },
-    Line {
+    CommandRow {
         name: "grow",
         about: "Adds free memory at the end of a segment, rewrites the file and prints the new size",
         arguments: &GROW,
         examples: "Example:\n  segtool grow shop.image 4096\n\nIf the output fails (status 3), the file is still rewritten.",
     },
-    Line {
+    CommandRow {
         name: "shrink",
         about: "Removes the free memory at the end of a segment, rewrites the file and prints the new size",
         arguments: &[IMAGE],
         examples: "Example:\n  segtool shrink shop.image\n\nIf the output fails (status 3), the file is still rewritten.",
     },
-    Line {
+    CommandRow {
         name: "upgrade",
         about: "Rewrites an image as version 2 and prints the version",
         arguments: &[IMAGE],
         examples: "Example:\n  segtool upgrade shop.image\n\nIf the output fails (status 3), the file is still rewritten.",
     },
-    Line {
+    CommandRow {
         name: "asm",
         about: "Assembles the text of a client to a client file",
         arguments: &ASSEMBLE,
         examples: "Example:\n  segtool asm stock.text stock.client",
     },
-    Line {
+    CommandRow {
         name: "print",
         about: "Prints the text of a client file",
         arguments: &[CLIENT],
@@ -208,7 +208,7 @@ pub fn command_line<'a>(alloc: Global) -> Result<Command<'a>, AllocError> {
     Ok(program)
 }
 
-fn command<'a>(alloc: Global, line: &'static Line) -> Result<Command<'a>, AllocError> {
+fn command<'a>(alloc: Global, line: &'static CommandRow) -> Result<Command<'a>, AllocError> {
     let mut command = parser(alloc, line)?;
     for argument in SHARED {
         command = command.arg(parser_of(alloc, argument))?;

@@ -8,7 +8,7 @@ mod reading;
 mod request;
 mod run;
 
-pub use line::{Argument, Line, Takes, number, parser, parser_of, word};
+pub use line::{Argument, CommandRow, Takes, number, parser, parser_of, word};
 pub use misread::Misread;
 pub use reading::read;
 pub use request::{

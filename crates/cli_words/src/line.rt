@@ -3,7 +3,7 @@ use clap::{Arg, ArgAction, ArgMatches, Command, value_parser};
 use std::alloc::{AllocError, Global};
 
 /// A command with its arguments, in order.
-pub struct Line {
+pub struct CommandRow {
     pub name: &'static str,
     pub about: &'static str,
     pub arguments: &'static [Argument],
@@ -35,7 +35,7 @@ pub enum Takes {
 }
 
 /// The parser of a command.
-pub fn parser<'a>(alloc: Global, line: &'static Line) -> Result<Command<'a>, AllocError> {
+pub fn parser<'a>(alloc: Global, line: &'static CommandRow) -> Result<Command<'a>, AllocError> {
     let mut command = Command::new(alloc, line.name)
         .about(line.about)
         .after_help(line.examples);

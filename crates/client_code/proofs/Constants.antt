@@ -10,7 +10,7 @@ use Rattle.client_spec.specs.Grammar.{constant_bytes, IsConstant, Differ}
 use Rattle.client_spec.proofs.OneClient.{constant_front}
 use Rattle.client_code.specs.declared.constant.ConstantKind.{ConstantKind}
 use Rattle.client_code.specs.declared.constant.ConstantKind.TheVariants as kind
-use Rattle.client_code.specs.Views.{constant_by, kind_of}
+use Rattle.client_code.specs.Views.{constant_by, constant_kind_of}
 use Rattle.client_code.specs.Files.{AreConstants}
 
 -- two lists with the same spelling after a common prefix are equal, if each element has one
@@ -134,7 +134,7 @@ walk_done file cs end next front walk same = go walk.rest walk.whole
 
 -- ---- kinds
 
-pub kind_by : (k : ConstantKind) (bytes : List ℕ) → kind_of (constant_by k bytes) ≡ k
+pub kind_by : (k : ConstantKind) (bytes : List ℕ) → constant_kind_of (constant_by k bytes) ≡ k
 kind_by kind.Text bytes = refl
 kind_by kind.Name bytes = refl
 kind_by kind.Family bytes = refl

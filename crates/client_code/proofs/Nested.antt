@@ -14,7 +14,7 @@ use Rattle.client_spec.specs.Operations.{row_of}
 use Rattle.client_spec.specs.Grammar.{mark, listing, listing_one, IsOperand, IsNumber, IsInstruction, IsCode, IsStatement, depth, depth_one}
 use Rattle.client_code.specs.declared.nesting.Part.{Part}
 use Rattle.client_code.specs.declared.nesting.Part.TheVariants as part
-use Rattle.client_code.specs.Parts.{opened, passed, passed_all}
+use Rattle.client_code.specs.Parts.{with_open_part, passed, passed_all}
 use Rattle.client_code.proofs.OpenParts.{opened_room}
 
 abbrev pub role_of : Instruction → Role
@@ -56,7 +56,7 @@ chosen : (b : Bool) (n : ℕ) (x : List Part) (f : List Part → Option (List Pa
 chosen true n x f e h = (less_8 n e, h)
 chosen false n x f e h = cc
 
-opened_some : (parts : List Part) (part : Part) (f : List Part → Option (List Part)) → option_and_then f (opened parts part) ≡ Some [] → (length parts < 8) × (f (part ∷ parts) ≡ Some [])
+opened_some : (parts : List Part) (part : Part) (f : List Part → Option (List Part)) → option_and_then f (with_open_part parts part) ≡ Some [] → (length parts < 8) × (f (part ∷ parts) ≡ Some [])
 opened_some parts part f h = chosen (nat_lt (length parts) 8) (length parts) (part ∷ parts) f refl h
 
 -- ---- from instructions to code

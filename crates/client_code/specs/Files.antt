@@ -3,7 +3,7 @@
 --     code_place client                                the position of the code
 --     IsFileVersion version                            files may have this version
 --     IsFileHeader file types constants instructions   the header has these counts
---     AreRight file place                              the header's fields before a position
+--     AreHeaderWordsRight file place                   the header's fields before a position
 --                                                      are right
 --     AreTypes file table                              these types come after the header
 --     AreConstants file at constants following         these constants are at a position, and
@@ -33,7 +33,7 @@ pub record IsFileHeader (file : List ℕ) (types constants instructions : ℕ) :
   pub of_constants : bytes.word file 12 ≡ constants
   pub of_instructions : bytes.word file 16 ≡ instructions
 
-pub record AreRight (file : List ℕ) (place : ℕ) : Type 0 where
+pub record AreHeaderWordsRight (file : List ℕ) (place : ℕ) : Type 0 where
   pub magic : 4 ≤ place → take 4 file ≡ codes "SEGC"
   pub version : 8 ≤ place → (8 ≤ length file) × IsFileVersion (bytes.word file 4)
   pub of_types : 12 ≤ place → (12 ≤ length file) × (bytes.word file 8 ≤ 32)

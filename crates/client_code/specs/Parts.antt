@@ -9,13 +9,13 @@ use Rattle.client_code.specs.declared.nesting.Part.{Part}
 use Rattle.client_code.specs.declared.nesting.Part.TheVariants as part
 use Rattle.client_code.specs.declared.nesting.Nesting.{Nesting}
 
-abbrev pub opened : List Part → Part → Option (List Part)
-opened parts part = if nat_lt (length parts) 8 then Some (part ∷ parts) else None
+abbrev pub with_open_part : List Part → Part → Option (List Part)
+with_open_part parts part = if nat_lt (length parts) 8 then Some (part ∷ parts) else None
 
 abbrev pub passed : List Part → Role → Option (List Part)
 passed parts Role.Plain = Some parts
-passed parts Role.Opener = opened parts part.Success
-passed parts Role.Loop = opened parts part.Body
+passed parts Role.Opener = with_open_part parts part.Success
+passed parts Role.Loop = with_open_part parts part.Body
 passed (part.Success ∷ parts) Role.Else = Some (part.Else ∷ parts)
 passed (part.Else ∷ parts) Role.End = Some parts
 passed (part.Body ∷ parts) Role.End = Some parts

@@ -4,7 +4,7 @@ ghost use Rattle.client_spec.specs.Grammar.{listing, SpellsClient};
 ghost use Rattle.client_code.specs.Files.{code_place};
 
 use crate::constant::Constant;
-use crate::header::{Header, MOST_INSTRUCTIONS};
+use crate::header::{FileHeader, MOST_INSTRUCTIONS};
 use crate::instruction::Instruction;
 use crate::types::{MOST_TYPES, read_types};
 use arrayvec::ArrayVec;
@@ -18,7 +18,7 @@ pub type Constants<'a> = ArrayVec<Constant<'a>, 256>;
 #[derive(Debug, Clone, Copy)]
 pub struct Client<'a> {
     pub(crate) file: &'a [u8],
-    pub(crate) header: Header,
+    pub(crate) header: FileHeader,
     // the position of the first instruction
     pub(crate) code: u32,
     ghost near: { code ≤ 2 ^ 20 },

@@ -1,7 +1,7 @@
 ghost use Rattle.std.specs.Prelude.{◌≡◌, ◌≢◌, ℕ, List, ◌+◌, ◌^◌, ◌≤◌, ◌↔◌, ◌++◌, ◌∷◌, [], length, drop, slice_get, map, All, IsTrue, IfSome, IfNone, codes};
 ghost use Rattle.client_spec.specs.Syntax as syntax;
 ghost use Rattle.client_spec.specs.Grammar.{IsConstant, IsNameByte, IsTextConstant, NamesBy, Differ, constant_bytes};
-ghost use Rattle.client_code.specs.Views.{constant_of, constant_by, kind_of};
+ghost use Rattle.client_code.specs.Views.{constant_of, constant_by, constant_kind_of};
 
 use crate::instruction::{Instruction, REGISTERS};
 
@@ -132,7 +132,7 @@ impl<'a> Constant<'a> {
 
 /// Whether the constant with this number is a text, by the kinds of the constants.
 pub(crate) fn is_text(kinds: &[ConstantKind], n: usize) -> bool
-    ensures { (constants : List syntax.Constant) → map kind_of constants ≡ kinds.now →
+    ensures { (constants : List syntax.Constant) → map constant_kind_of constants ≡ kinds.now →
         (IsTrue result ↔ IsTextConstant (slice_get constants n)) }
 {
     match kinds.get(n) {
@@ -144,7 +144,7 @@ pub(crate) fn is_text(kinds: &[ConstantKind], n: usize) -> bool
 /// Whether an instruction may refer to objects by the constant with this number and register b. A family needs its number in b;
 /// for an exact name b must be `NONE`.
 pub(crate) fn names_by(kinds: &[ConstantKind], n: usize, b: u8) -> bool
-    ensures { (constants : List syntax.Constant) → map kind_of constants ≡ kinds.now →
+    ensures { (constants : List syntax.Constant) → map constant_kind_of constants ≡ kinds.now →
         (IsTrue result ↔ NamesBy (slice_get constants n) b) }
 {
     match kinds.get(n) {

@@ -1,7 +1,7 @@
 ghost use Rattle.std.specs.Prelude.{◌≡◌, ◌≢◌, ◌≤◌, ◌<◌, ◌+◌, ◌*◌, ℕ, length, IfOk, IfErr, OnOk, MatchOption};
 ghost use Rattle.seg_spec.specs.Bytes as bytes;
 ghost use Rattle.client_spec.specs.Grammar.{file_version};
-ghost use Rattle.client_code.specs.Files.{IsFileVersion, IsFileHeader, AreRight};
+ghost use Rattle.client_code.specs.Files.{IsFileVersion, IsFileHeader, AreHeaderWordsRight};
 ghost use Rattle.client_code.specs.declared.header.TheConstants.{MOST_CONSTANTS, MOST_INSTRUCTIONS};
 ghost use Rattle.client_code.specs.declared.types.TheConstants.{MOST_TYPES};
 
@@ -27,7 +27,7 @@ pub const MOST_INSTRUCTIONS: u32 = 4096;
 
 /// The counts in the header of a client file: how many types, constants and instructions follow.
 #[derive(Debug, Clone, Copy, PartialEq, Eq)]
-pub struct Header {
+pub struct FileHeader {
     pub types: u32,
     pub constants: u32,
     pub instructions: u32,
@@ -73,15 +73,15 @@ fn count(file: &[u8], at: u32, most: u32) -> Result<u32, Fault>
     }
 }
 
-impl Header {
+impl FileHeader {
     /// The header of a file. Fails with the position of the first field that is wrong or cut off.
-    pub fn read(file: &[u8]) -> Result<Header, Fault>
+    pub fn read(file: &[u8]) -> Result<FileHeader, Fault>
         ensures found { IfOk result
             (λ h. IsFileHeader file.now h.types h.constants h.instructions) }
         ensures wrong { IfErr result (λ fault. (t c i : ℕ) → t ≤ MOST_TYPES → c ≤ MOST_CONSTANTS →
             i ≤ MOST_INSTRUCTIONS → IsFileHeader file.now t c i → ⊥) }
         ensures fault { IfErr result (λ fault. (place : ℕ) × (fault ≡ Fault.BadCode place)
-            × AreRight file.now place × (AreRight file.now (place + 4) → ⊥)) }
+            × AreHeaderWordsRight file.now place × (AreHeaderWordsRight file.now (place + 4) → ⊥)) }
     {
         if !file.starts_with(MAGIC) {
             return Err(Fault::BadCode(0));
@@ -92,7 +92,7 @@ impl Header {
         let types = count(file, 8, MOST_TYPES)?;
         let constants = count(file, 12, MOST_CONSTANTS)?;
         let instructions = count(file, 16, MOST_INSTRUCTIONS)?;
-        Ok(Header {
+        Ok(FileHeader {
             types,
             constants,
             instructions,

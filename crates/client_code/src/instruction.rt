@@ -40,7 +40,7 @@ fn is_operand(operand: Operand, n: u8) -> bool
 }
 
 impl Instruction {
-    ghost use Rattle.client_code.specs.Views.{kind_of, instruction_of};
+    ghost use Rattle.client_code.specs.Views.{constant_kind_of, instruction_of};
     ghost use Rattle.client_code.specs.Operands.{HasOperands, IsSpelling};
 
     /// The operand for no register.
@@ -146,7 +146,7 @@ impl Instruction {
     pub fn is_valid(self, version: u32, types: usize, kinds: &[ConstantKind]) -> bool
         ensures { (table : Table) (constants : List syntax.Constant) →
             file_version table ≡ version → length table ≡ types →
-            map kind_of constants ≡ kinds.now →
+            map constant_kind_of constants ≡ kinds.now →
             (IsTrue result ↔ IsInstruction table constants
             (row_of self.operation).role (instruction_of self)) }
     {
@@ -160,7 +160,7 @@ impl Instruction {
 
     fn is_number(self, number: Number, types: usize, kinds: &[ConstantKind]) -> bool
         ensures { (table : Table) (constants : List syntax.Constant) → length table ≡ types →
-            map kind_of constants ≡ kinds.now →
+            map constant_kind_of constants ≡ kinds.now →
             (IsTrue result ↔ IsNumber table constants self.b number self.number) }
     {
         let Ok(n) = u32::try_from(self.number) else {

@@ -14,7 +14,7 @@ pub use client::{Client, Constants};
 pub use client_spec::table::{Ends, Gives, Kinds, Need, Number, Operand, Operation, Role, Row};
 pub use constant::{Constant, ConstantKind, LONGEST};
 pub use header::{
-    FIRST_VERSION, Header, MAGIC, MOST_CONSTANTS, MOST_INSTRUCTIONS, SHARING_VERSION,
+    FIRST_VERSION, FileHeader, MAGIC, MOST_CONSTANTS, MOST_INSTRUCTIONS, SHARING_VERSION,
 };
 pub use instruction::{Instruction, REGISTERS};
 pub use nesting::{DEPTH, Nesting};

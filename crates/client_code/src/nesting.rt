@@ -27,7 +27,7 @@ pub struct Nesting {
 }
 
 impl Nesting {
-    ghost use Rattle.client_code.specs.Parts.{opened, passed, open_parts};
+    ghost use Rattle.client_code.specs.Parts.{with_open_part, passed, open_parts};
 
     /// No open part.
     pub fn new() -> Nesting
@@ -47,8 +47,9 @@ impl Nesting {
 
     /// Opens a part. Returns false if too many parts are open.
     fn open(&mut self, part: Part) -> bool
-        ensures { MatchBool result (opened (open_parts self.old) part ≡ Some (open_parts self.new))
-            (opened (open_parts self.old) part ≡ None) }
+        ensures { MatchBool result
+            (with_open_part (open_parts self.old) part ≡ Some (open_parts self.new))
+            (with_open_part (open_parts self.old) part ≡ None) }
     {
         self.parts.try_push(part).is_ok()
     }

@@ -4,14 +4,14 @@ ghost use Rattle.seg_spec.specs.Bytes.{slice};
 ghost use Rattle.client_spec.specs.Syntax as syntax;
 ghost use Rattle.client_spec.specs.Syntax.{Statements};
 ghost use Rattle.client_spec.specs.Grammar.{constant_bytes, instruction_bytes, listing, IsConstant, Differ, SpellsClient};
-ghost use Rattle.client_code.specs.Views.{constant_of, kind_of, instruction_of};
+ghost use Rattle.client_code.specs.Views.{constant_of, constant_kind_of, instruction_of};
 ghost use Rattle.client_code.specs.Operands.{HasOperands};
 ghost use Rattle.client_code.specs.Files.{AreConstants, IsCodeAt};
 ghost use Rattle.client_code.specs.Clients.{bytes_of};
 
 use crate::client::Client;
 use crate::constant::{Constant, ConstantKind};
-use crate::header::{Header, MOST_CONSTANTS, MOST_INSTRUCTIONS, check_version};
+use crate::header::{FileHeader, MOST_CONSTANTS, MOST_INSTRUCTIONS, check_version};
 use crate::instruction::Instruction;
 use crate::nesting::Nesting;
 use crate::typed::TypedClient;
@@ -21,7 +21,7 @@ use seg_layout::TypeTable;
 use seg_raw::Fault;
 
 /// The kinds of a client's constants, in order.
-type Kinds = ArrayVec<ConstantKind, 256>;
+type ConstantKinds = ArrayVec<ConstantKind, 256>;
 
 /// Whether a constant differs from each of `count` constants, from a position on.
 fn differs_from(file: &[u8], at: u32, count: u32, constant: Constant) -> bool
@@ -48,13 +48,13 @@ fn differs_from(file: &[u8], at: u32, count: u32, constant: Constant) -> bool
 }
 
 /// Reads `count` constants from a position on, and adds the kind of each. Returns the position after them.
-fn find_constants(file: &[u8], at: u32, count: u32, kinds: &mut Kinds) -> Result<u32, Fault>
+fn find_constants(file: &[u8], at: u32, count: u32, kinds: &mut ConstantKinds) -> Result<u32, Fault>
     requires first { at ≤ 1000 }
     requires few { count ≤ MOST_CONSTANTS }
     requires none { kinds.old.items ≡ [] }
     ensures near { IfOk result (λ following. following ≤ at + 257 * count) }
     ensures found { IfOk result (λ following. (cs : List syntax.Constant) × (length cs ≡ count)
-        × AreConstants file.now at cs following × (map kind_of cs ≡ kinds.new.items)) }
+        × AreConstants file.now at cs following × (map constant_kind_of cs ≡ kinds.new.items)) }
     ensures wrong { IfErr result (λ fault. (cs : List syntax.Constant) (following : ℕ) →
         length cs ≡ count → AreConstants file.now at cs following → ⊥) }
     ensures fault { IfErr result (λ fault. (place : ℕ) × (fault ≡ Fault.BadCode place)) }
@@ -98,10 +98,10 @@ fn check_code(
     requires near { at ≤ 2 ^ 20 }
     requires few { count ≤ MOST_INSTRUCTIONS }
     ensures found { OnOk result ((constants : List syntax.Constant) →
-        map kind_of constants ≡ kinds.now → (tree : Statements)
+        map constant_kind_of constants ≡ kinds.now → (tree : Statements)
         × (length (listing tree) ≡ count) × IsCodeAt file.now at types.now constants tree) }
     ensures wrong { IfErr result (λ fault. (constants : List syntax.Constant) →
-        map kind_of constants ≡ kinds.now → (tree : Statements) →
+        map constant_kind_of constants ≡ kinds.now → (tree : Statements) →
         length (listing tree) ≡ count → IsCodeAt file.now at types.now constants tree → ⊥) }
     ensures fault { IfErr result (λ fault. (place : ℕ) × (fault ≡ Fault.BadCode place)) }
 {
@@ -145,7 +145,7 @@ pub fn parse_typed(file: &[u8]) -> Result<TypedClient<'_>, Fault>
         ⊥) }
     ensures fault { IfErr result (λ fault. (place : ℕ) × (fault ≡ Fault.BadCode place)) }
 {
-    let header = Header::read(file)?;
+    let header = FileHeader::read(file)?;
     let types = read_types(file, header.types)?;
     check_version(file, &types)?;
     let mut kinds = ArrayVec::new();

@@ -38,7 +38,7 @@ use Rattle.client_spec.specs.Pictures.{Pictures, meaning_in, trees_of}
 use Rattle.client_spec.specs.Shape.{HasShape}
 use Rattle.client_spec.specs.Meaning.{IsAsKnown, Meets, Refers}
 use Rattle.client_spec.specs.Typed.{Class, RegisterType, Reason, RegisterTypes, known, same_class, sharing, is_owner, without_class, ended, others_ended}
-use Rattle.client_spec.specs.Typed.{reference_needed, form_needed, owner_needed, required, freezes, reaches, sharing_rule, rule_of}
+use Rattle.client_spec.specs.Typed.{reference_needed, form_needed, owner_needed, required, freezes, change_allowed, sharing_rule, rule_of}
 use Rattle.client_spec.specs.Typed as typed
 use Rattle.client_spec.proofs.Bare.{IsBare, known_bare, bare_is_none, bare_set, bare_ended, bare_others, from_set}
 use Rattle.client_spec.proofs.CellsKept.{by_put, by_release, onward}
@@ -64,8 +64,8 @@ use Rattle.client_spec.specs.OnImages.{RowWith}
 use Rattle.client_spec.specs.Trees.{unfolded_register}
 use Rattle.client_sim.specs.Shows.{World, place_in, owns_in, KeepsRegister, Shows}
 use Rattle.client_sim.specs.Seeing.{Anchored, Sees, SeenActs}
-use Rattle.client_sim.specs.Sharing.{CellClaim, OnCell, FreezesObject, FindsNoRoom}
-use Rattle.client_sim.specs.Acting.{AreRight, ActsAs, IsRefusedAs}
+use Rattle.client_sim.specs.Sharing.{CellClaim, OnCell, FreezesObject, RefusesToFreeze}
+use Rattle.client_sim.specs.Acting.{AreDeclarationsRight, ActsAs, IsRefusedAs}
 use Rattle.client_sim.proofs.LeafPuts.{with_image}
 use Rattle.client_sim.proofs.Led.{Led}
 use Rattle.client_sim.proofs.Lifted.{changeable_bare}
@@ -93,7 +93,7 @@ module _ (allocator : ℕ) (constants : List Constant) (role : Role) (a b c : �
 
   -- ---- what the rule has found
 
-  module _ {types : Table} {others : List Root} {first : Option (List ℕ)} {ks good bad : RegisterTypes} {t : State} (right : AreRight types constants) (h : Sees others types constants first allocator ks t w)
+  module _ {types : Table} {others : List Root} {first : Option (List ℕ)} {ks good bad : RegisterTypes} {t : State} (right : AreDeclarationsRight types constants) (h : Sees others types constants first allocator ks t w)
       (valid : IsInstruction types constants role freeze) (e : rule_of types constants freeze ks ≡ Ok (good, bad)) where
     record Found : Type 0 where
       b_is : IsBare (known ks b)
@@ -112,7 +112,7 @@ module _ (allocator : ℕ) (constants : List Constant) (role : Role) (a b c : �
     found : Found
     unfolding sharing_rule
     found =
-        let p = bind_ok (reaches Operation.Freeze (known ks b)) (λ _. sharing_rule types constants Operation.Freeze a b c number ks) (good, bad) e in
+        let p = bind_ok (change_allowed Operation.Freeze (known ks b)) (λ _. sharing_rule types constants Operation.Freeze a b c number ks) (good, bad) e in
         let fourth = λ (x : Class × ℕ). typed.◌>>=◌ (required (not (same_class (sharing x.0) (Class.Register c))) Reason.PutIntoItself) (λ _. freezes a c (ended (Class.Register c) (others_ended x.0 b ks))) in
         let third = λ (x : Class × ℕ) (n u : ℕ). typed.◌>>=◌ (required (n == u) Reason.WrongOperand) (λ _. fourth x) in
         let second = λ (x : Class × ℕ) (n : ℕ). typed.◌>>=◌ (owner_needed (known ks c)) (third x n) in
@@ -513,7 +513,7 @@ module _ (allocator : ℕ) (constants : List Constant) (role : Role) (a b c : �
               same_input = refl;
             })
 
-  pub freeze_denied : suc (word w.image next_word) < 2 ^ 32 → FindsNoRoom allocator w.image new w.table (place_in w b) (place_in w c).at
+  pub freeze_denied : suc (word w.image next_word) < 2 ^ 32 → RefusesToFreeze allocator w.image new w.table (place_in w b) (place_in w c).at
       → IsRefusedAs allocator constants role freeze w (with_number (with_image w new) a (pos (answer_number bad_alloc)))
   freeze_denied some call types others first ks good bad t right valid e h =
       let f = found right h valid e in

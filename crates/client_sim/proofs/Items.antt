@@ -23,7 +23,7 @@ use Rattle.client_spec.specs.declared.table.Operation.{Operation}
 use Rattle.client_spec.specs.declared.table.Role.{Role}
 use Rattle.client_spec.specs.Syntax.{Constant, Instruction}
 use Rattle.client_spec.specs.Machine.{◌>>=◌, Path, extend, Register, State, register, set_register, path_value, put_at, part_type}
-use Rattle.client_spec.specs.Answer.{Answer, success, bad_alloc, null_or_none, answer_number, path_in, path_of, path_form, give, give_count, fail, refer, bytes_in, items_in, vec_or_list_item, list_item, with_room}
+use Rattle.client_spec.specs.Answer.{Answer, success, bad_alloc, null_or_none, answer_number, path_in, path_of, path_form, give, give_count, fail, refer, text_in, items_in, vec_or_list_item, list_item, with_room}
 use Rattle.client_spec.specs.Effect.{outcome, effect, pop_bytes, pop_last, pop_first}
 use Rattle.client_spec.specs.Shape.{HasShape, AllHaveShape}
 use Rattle.client_spec.specs.Asks.{ChangesBlocks, LedTo, PartGoes, PopGoes, cell_asks}
@@ -385,9 +385,9 @@ module _ (allocator : ℕ) (constants : List Constant) (role : Role) (a b c : �
       let g = λ (x : Class × ℕ) (u : ⊤). opens a RegisterType.Int (others_ended x.0 b ks) in
       let r = reaches one h can_pop g b good bad e in
       let o = opens_then one h r.class b a RegisterType.Int good bad r.rest in
-      let f = λ (v : Value). option_map_or (λ bytes. pop_bytes a r.its.path bytes s) (bytes_in v) (items_in v >>= λ vs. pop_last a r.its.path vs s) in
+      let f = λ (v : Value). option_map_or (λ bytes. pop_bytes a r.its.path bytes s) (text_in v) (items_in v >>= λ vs. pop_last a r.its.path vs s) in
       let row : outcome constants i true s ≡ f r.its.value =
-      ap (λ x. x >>= λ p. path_value s p >>= λ v. option_map_or (λ bytes. pop_bytes a p bytes s) (bytes_in v) (items_in v >>= λ vs. pop_last a p vs s)) r.path_is ∙ ap (λ x. x >>= f) r.its.there in
+      ap (λ x. x >>= λ p. path_value s p >>= λ v. option_map_or (λ bytes. pop_bytes a p bytes s) (text_in v) (items_in v >>= λ vs. pop_last a p vs s)) r.path_is ∙ ap (λ x. x >>= f) r.its.there in
       subst (λ k. Acts others types constants first allocator i success k s w (with_number (with_image w new) a (pos n))) (sym o.1) (elim (popped r.form r.what r.is) [
         | inl is ↦
             let v = text_value s.types r.form r.its.value tt is r.fits in
@@ -433,9 +433,9 @@ module _ (allocator : ℕ) (constants : List Constant) (role : Role) (a b c : �
       let g = λ (x : Class × ℕ) (u : ⊤). opens a RegisterType.Int (others_ended x.0 b ks) in
       let r = reaches one h can_pop g b good bad e in
       let o = opens_then one h r.class b a RegisterType.Int good bad r.rest in
-      let f = λ (v : Value). option_map_or (λ bytes. pop_bytes a r.its.path bytes s) (bytes_in v) (items_in v >>= λ vs. pop_last a r.its.path vs s) in
+      let f = λ (v : Value). option_map_or (λ bytes. pop_bytes a r.its.path bytes s) (text_in v) (items_in v >>= λ vs. pop_last a r.its.path vs s) in
       let row : outcome constants i true s ≡ f r.its.value =
-      ap (λ x. x >>= λ p. path_value s p >>= λ v. option_map_or (λ bytes. pop_bytes a p bytes s) (bytes_in v) (items_in v >>= λ vs. pop_last a p vs s)) r.path_is ∙ ap (λ x. x >>= f) r.its.there in
+      ap (λ x. x >>= λ p. path_value s p >>= λ v. option_map_or (λ bytes. pop_bytes a p bytes s) (text_in v) (items_in v >>= λ vs. pop_last a p vs s)) r.path_is ∙ ap (λ x. x >>= f) r.its.there in
       let fails : (f r.its.value ≡ fail a null_or_none s) × (new ≡ w.image) × (n ≡ 6) = elim (popped r.form r.what r.is) [
         | inl is ↦
             let v = text_value s.types r.form r.its.value tt is r.fits in

@@ -43,7 +43,7 @@ use Rattle.client_spec.proofs.Shapes.{all_copies}
 use Rattle.client_spec.proofs.Spelled.{one_each}
 use Rattle.client_spec.proofs.States.{name_there}
 use Rattle.client_sim.specs.Shows.{World, number_in, HasRegisters, Shown, Shows, Acts}
-use Rattle.client_sim.specs.Acting.{AreRight, ActsAs, IsRefusedAs}
+use Rattle.client_sim.specs.Acting.{AreDeclarationsRight, ActsAs, IsRefusedAs}
 use Rattle.client_sim.proofs.Lifted.{lifted_acts, lifted_refused}
 use Rattle.client_sim.proofs.Answering.{with_place, acts_so, shows_reference, shows_number, refuses_with, frame_number, frame_reference}
 use Rattle.client_sim.proofs.Framing.{Frame, frame_same, unknown_same}
@@ -182,7 +182,7 @@ module _ {others : List Root} {types : Table} {constants : List Constant} {first
               (λ o b x. origins_apart constants one class c o o g (ending o x) b refl))
 
   -- the client's types are the first types of the world
-  pub in_table : {T : ℕ} → AreRight types constants → T < length types → T < length w.table
+  pub in_table : {T : ℕ} → AreDeclarationsRight types constants → T < length types → T < length w.table
   in_table {T} right below =
       let f = item_below types T below in
       subst (λ (t : Table). T < length t) (sym h.table_is) (slice_get_within s.types T f.0 (h.as_known.same_types T f.0 f.1))
@@ -225,7 +225,7 @@ module _ {others : List Root} {types : Table} {constants : List Constant} {first
 
 -- ---- a new object, or none
 
-module _ {others : List Root} {types : Table} {constants : List Constant} {first : Option (List ℕ)} {allocator : ℕ} {ks : RegisterTypes} {s : State} {w : World} (right : AreRight types constants)
+module _ {others : List Root} {types : Table} {constants : List Constant} {first : Option (List ℕ)} {allocator : ℕ} {ks : RegisterTypes} {s : State} {w : World} (right : AreDeclarationsRight types constants)
     (h : Shows others types constants first allocator ks s w) (a k T : ℕ) (bytes : List ℕ) (by : IsNamedBy (slice_get constants k) bytes) (below : T < length types) (within : a < 16)
     (free : is_owner (known ks a) ≡ false) (i : Instruction) (new : List ℕ) where
   one : OneEach constants
@@ -306,7 +306,7 @@ module _ {others : List Root} {types : Table} {constants : List Constant} {first
 
 -- ---- an object is destroyed
 
-module _ {others : List Root} {types : Table} {constants : List Constant} {first : Option (List ℕ)} {allocator : ℕ} {ks : RegisterTypes} {s : State} {w : World} (right : AreRight types constants)
+module _ {others : List Root} {types : Table} {constants : List Constant} {first : Option (List ℕ)} {allocator : ℕ} {ks : RegisterTypes} {s : State} {w : World} (right : AreDeclarationsRight types constants)
     (h : Shows others types constants first allocator ks s w) (a k T : ℕ) (bytes : List ℕ) (by : IsNamedBy (slice_get constants k) bytes) (within : a < 16)
     (free : is_owner (known (ended (Class.Name k) ks) a) ≡ false) (i : Instruction) where
   abbrev class : Class

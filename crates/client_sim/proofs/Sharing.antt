@@ -29,7 +29,7 @@ use Rattle.client_spec.specs.Meaning.{IsAsKnown}
 use Rattle.client_spec.specs.Pictures.{Pictures, meaning_in, value_through, PicturesTrees, trees_of}
 use Rattle.client_spec.specs.Trees.{AreTrees, unfolded_register}
 use Rattle.client_spec.specs.Shape.{HasShape}
-use Rattle.client_spec.specs.Typed.{Class, RegisterType, Reason, RegisterTypes, known, same_class, sharing, reference_needed, form_needed, required, known_after, others_ended, reaches, sharing_rule, rule_of}
+use Rattle.client_spec.specs.Typed.{Class, RegisterType, Reason, RegisterTypes, known, same_class, sharing, reference_needed, form_needed, required, known_after, others_ended, change_allowed, sharing_rule, rule_of}
 use Rattle.client_spec.specs.Typed as typed
 use Rattle.client_spec.proofs.Bare.{IsBare, known_bare, bare_is_none, bare_others}
 use Rattle.client_spec.proofs.Cases.{reference_is, required_is}
@@ -46,7 +46,7 @@ use Rattle.client_spec.proofs.Values.{bind_some}
 use Rattle.client_sim.specs.Shows.{World, place_in, Shows}
 use Rattle.client_sim.specs.Seeing.{Anchored, Sees, SeenActs}
 use Rattle.client_sim.specs.Sharing.{SharesCell}
-use Rattle.client_sim.specs.Acting.{AreRight, ActsAs}
+use Rattle.client_sim.specs.Acting.{AreDeclarationsRight, ActsAs}
 use Rattle.client_sim.proofs.Changing.{shows_changed, frame_changed}
 use Rattle.client_sim.proofs.Framing.{Frame}
 use Rattle.client_sim.proofs.FrozenKept.{stay_named}
@@ -153,7 +153,7 @@ module _ (allocator : ℕ) (constants : List Constant) (role : Role) (a b c : �
       ∙ ap (λ o. o >>= λ v. provided (T == T) (proceed (put_at t p v))) value_is
       ∙ ap (λ y. provided y (proceed (put_at t p value))) (eq-eqb T T refl)
 
-  module _ {types : Table} {others : List Root} {first : Option (List ℕ)} {ks good bad : RegisterTypes} {t : State} (right : AreRight types constants) (h : Sees others types constants first allocator ks t w)
+  module _ {types : Table} {others : List Root} {first : Option (List ℕ)} {ks good bad : RegisterTypes} {t : State} (right : AreDeclarationsRight types constants) (h : Sees others types constants first allocator ks t w)
       (valid : IsInstruction types constants role share) (e : rule_of types constants share ks ≡ Ok (good, bad)) where
     record Found : Type 0 where
       b_is : IsBare (known ks b)
@@ -175,7 +175,7 @@ module _ (allocator : ℕ) (constants : List Constant) (role : Role) (a b c : �
     found : Found
     unfolding sharing_rule
     found =
-        let p = bind_ok (reaches Operation.Share (known ks b)) (λ _. sharing_rule types constants Operation.Share a b c number ks) (good, bad) e in
+        let p = bind_ok (change_allowed Operation.Share (known ks b)) (λ _. sharing_rule types constants Operation.Share a b c number ks) (good, bad) e in
         let last = λ (x : Class × ℕ) (n u : ℕ). typed.◌>>=◌ (required (n == u) Reason.WrongOperand) (λ _. known_after (others_ended x.0 b ks)) in
         let third = λ (x : Class × ℕ) (n : ℕ) (y : Class × ℕ). typed.◌>>=◌ (form_needed shared_type types y.1) (last x n) in
         let second = λ (x : Class × ℕ) (n : ℕ). typed.◌>>=◌ (reference_needed (known ks c)) (third x n) in

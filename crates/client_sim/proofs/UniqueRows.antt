@@ -34,7 +34,7 @@ use Rattle.client_spec.proofs.Defaults.{default_has}
 use Rattle.client_spec.proofs.FirstRows.{opens_ok, answer_is}
 use Rattle.client_spec.proofs.Spelled.{one_each}
 use Rattle.client_sim.specs.Shows.{World, Shows, Acts}
-use Rattle.client_sim.specs.Acting.{AreRight, ActsAs, IsRefusedAs}
+use Rattle.client_sim.specs.Acting.{AreDeclarationsRight, ActsAs, IsRefusedAs}
 use Rattle.client_sim.proofs.Lifted.{lifted_acts, lifted_refused}
 use Rattle.client_sim.proofs.LeafPuts.{with_image}
 use Rattle.client_sim.proofs.Numbers.{with_number, quiet, gives_both}
@@ -162,7 +162,7 @@ module _ (allocator : ℕ) (constants : List Constant) (role : Role) (a b c : �
   ks_then ks = slice_set ks a (RegisterType.Reference (Class.Unique T) T)
 
   -- the states that the world represents, and what the rule knows
-  module _ {types : Table} {others : List Root} {first : Option (List ℕ)} {ks good bad : RegisterTypes} {s : State} (right : AreRight types constants) (valid : IsNumber types constants b Number.TypeId number) (within : a < 16)
+  module _ {types : Table} {others : List Root} {first : Option (List ℕ)} {ks good bad : RegisterTypes} {s : State} (right : AreDeclarationsRight types constants) (valid : IsNumber types constants b Number.TypeId number) (within : a < 16)
       (e : opens a (RegisterType.Reference (Class.Unique (nat_abs number)) (nat_abs number)) ks ≡ Ok (good, bad)) (h : Shows others types constants first allocator ks s w) where
     its : (is_owner (known ks a) ≡ false) × (good ≡ slice_set ks a (RegisterType.Reference (Class.Unique (nat_abs number)) (nat_abs number))) × (bad ≡ slice_set ks a RegisterType.Int)
     its = opens_ok types constants ks s h.as_known a (RegisterType.Reference (Class.Unique (nat_abs number)) (nat_abs number)) good bad e
@@ -330,7 +330,7 @@ module _ (allocator : ℕ) (constants : List Constant) (role : Role) (a b c : �
       subst (λ k. Acts others types constants first allocator i success k s w (with_number (with_image w new) a (truth gone))) (sym good_is)
       (by types others first ks s right valid.a h one t.0 free row gone call))
     where
-      few : {types : Table} → AreRight types constants → IsInstruction types constants role (of Operation.KillUnique) → T < 32
+      few : {types : Table} → AreDeclarationsRight types constants → IsInstruction types constants role (of Operation.KillUnique) → T < 32
       few {types} right valid =
           let m = type_number types constants b number valid.number in
           let less = m.2 in
@@ -338,7 +338,7 @@ module _ (allocator : ℕ) (constants : List Constant) (role : Role) (a b c : �
           let is = names m.0 m.1 in
           omega (arith, less, small, is)
 
-      by : (types : Table) (others : List Root) (first : Option (List ℕ)) (ks : RegisterTypes) (s : State) → AreRight types constants → a < 16 → (h : Shows others types constants first allocator ks s w) → OneEach constants
+      by : (types : Table) (others : List Root) (first : Option (List ℕ)) (ks : RegisterTypes) (s : State) → AreDeclarationsRight types constants → a < 16 → (h : Shows others types constants first allocator ks s w) → OneEach constants
           → nat_abs number ≡ T
           → is_owner (known (ended (Class.Unique T) ks) a) ≡ false
           → ((o : Option Value) → s.uniques T ≡ o → outcome constants (of Operation.KillUnique) true s ≡ (if is_some o then give_count a 1 (record s { uniques = with_unique s.uniques T None }) else give_count a 0 s))

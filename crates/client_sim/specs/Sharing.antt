@@ -7,7 +7,7 @@
 --                                        type, if a number is left for a frozen object
 --     FreezesObject allocator old new table p object
 --                                        the object becomes frozen, and the cell at p refers to it
---     FindsNoRoom allocator old new table p object
+--     RefusesToFreeze allocator old new table p object
 --                                        no free block is large enough for the object to move to
 use Rattle.std.specs.Prelude.{◌≡◌, ℕ, suc, ◌+◌, ◌<◌, ◌≤◌, ◌^◌, List, [], ◌∷◌, ◌++◌, length, Some}
 use Rattle.std.specs.List.{AllByRecursion}
@@ -66,7 +66,7 @@ FreezesObject allocator old new table p object =
     Freezes allocator old new table p T object x inside blocks (names_in v) theirs now)
 
 -- out of memory: nothing changes
-abbrev pub FindsNoRoom : ℕ → List ℕ → List ℕ → Table → Place → ℕ → Type 0
-FindsNoRoom allocator old new table p object =
+abbrev pub RefusesToFreeze : ℕ → List ℕ → List ℕ → Table → Place → ℕ → Type 0
+RefusesToFreeze allocator old new table p object =
     OnCell allocator old table p object (λ T v x blocks inside theirs now.
     Refuses allocator old new (block_for (frozen_words + size table T) ∷ []))

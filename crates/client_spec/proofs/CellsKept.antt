@@ -14,7 +14,7 @@ use Rattle.client_spec.specs.Syntax.{Constant}
 use Rattle.client_spec.specs.Machine.{◌>>=◌, Origin, Path, extend, Register, Object, State, with_name, with_unique, register, set_register, owned_by, at_origin, path_value, put_origin, put_at}
 use Rattle.client_spec.specs.Answer.{Answer, success, out_of_range, other_type, path_from, Outcome, answer, integer_at, path_of}
 use Rattle.client_spec.specs.Answer.{path_in, give, fail, refer, give_count, index_below, constant_operand}
-use Rattle.client_spec.specs.Answer.{integer_in, constant_name, write_out, number_in, bytes_in, items_in}
+use Rattle.client_spec.specs.Answer.{integer_in, constant_name, write_out, int_in, text_in, items_in}
 use Rattle.client_spec.specs.Answer.{provided, with_room}
 use Rattle.client_spec.specs.Effect.{combine, next_byte, add_object, item_of_object, find_or_add, count_of_object, destroy_object, add_unique}
 use Rattle.client_spec.specs.Effect.{item_of_value, pop_bytes, pop_last, pop_first, set_text, first_key, take_content, see_content}
@@ -197,23 +197,23 @@ module _ (constants : List Constant) (one : OneEach constants) (class : Class) w
     pub each : (code : Answer) (s' : State) → o ≡ Some (code, s') → Kept s s'
 
   -- a value that has a number is a number, and a value that has a text is a text
-  number_of : (v : Value) (k : ℤ) → number_in v ≡ Some k → v ≡ Int k
+  number_of : (v : Value) (k : ℤ) → int_in v ≡ Some k → v ≡ Int k
   number_of (node (Label.int l) nil) k e = ap Int (Some_inj e)
   number_of v k e = cc
 
-  text_of : (v : Value) (bytes : List ℕ) → bytes_in v ≡ Some bytes → v ≡ Text bytes
+  text_of : (v : Value) (bytes : List ℕ) → text_in v ≡ Some bytes → v ≡ Text bytes
   text_of (node (Label.text xs) nil) bytes e = ap Text (Some_inj e)
   text_of v bytes e = cc
 
-  pub put_number : (s : State) (p : Path) (k : ℤ) (new : Value) → (path_value s p >>= number_in) ≡ Some k → Kept s (put_at s p new)
+  pub put_number : (s : State) (p : Path) (k : ℤ) (new : Value) → (path_value s p >>= int_in) ≡ Some k → Kept s (put_at s p new)
   put_number s p k new e =
-      let v = bind_some (path_value s p) number_in k e in
+      let v = bind_some (path_value s p) int_in k e in
       let is = number_of v.0 k v.2 in
       by_leaf s p (Int k) new (v.1 ∙ ap Some is) (number_leaf k) (λ V q f. cc)
 
-  pub put_text : (s : State) (p : Path) (bytes : List ℕ) (new : Value) → (path_value s p >>= bytes_in) ≡ Some bytes → Kept s (put_at s p new)
+  pub put_text : (s : State) (p : Path) (bytes : List ℕ) (new : Value) → (path_value s p >>= text_in) ≡ Some bytes → Kept s (put_at s p new)
   put_text s p bytes new e =
-      let v = bind_some (path_value s p) bytes_in bytes e in
+      let v = bind_some (path_value s p) text_in bytes e in
       let is = text_of v.0 bytes v.2 in
       by_leaf s p (Text bytes) new (v.1 ∙ ap Some is) (text_leaf bytes) (λ V q f. cc)
 
@@ -346,7 +346,7 @@ module _ {constants : List Constant} {one : OneEach constants} {class : Class} w
   value_item s a p x v =
       let byte = λ (bytes : List ℕ). option_map_or (λ i. give_count a (slice_index bytes i) s) (index_below (length bytes) x) (fail a out_of_range s) in
       let item_of = λ (vs : Values). option_map_or (λ i. refer a (extend p (Selector.item i)) s) (index_below (count vs) x) (fail a out_of_range s) in
-      either s byte (bytes_in v) (items_in v >>= item_of)
+      either s byte (text_in v) (items_in v >>= item_of)
       (λ bytes _. either s (λ i. give_count a (slice_index bytes i) s) (index_below (length bytes) x) (fail a out_of_range s) (λ i _. given s success a _) (λ _. given s _ a _))
       (λ _. bound s (items_in v) item_of (λ vs _. either s (λ i. refer a (extend p (Selector.item i)) s) (index_below (count vs) x) (fail a out_of_range s) (λ i _. given s success a _) (λ _. given s _ a _)))
 
@@ -382,7 +382,7 @@ module _ {constants : List Constant} {one : OneEach constants} {class : Class} w
     takes a t None = given s _ a _
     takes a t (Some v) = given_put a _ _
 
-  pub text : (s : State) (a : ℕ) (p : Path) (old bytes : List ℕ) (room : Bool) → (path_value s p >>= bytes_in) ≡ Some old → Keeps constants one class s (set_text a p bytes room s)
+  pub text : (s : State) (a : ℕ) (p : Path) (old bytes : List ℕ) (room : Bool) → (path_value s p >>= text_in) ≡ Some old → Keeps constants one class s (set_text a p bytes room s)
   text s a p old bytes room e = roomy s room a _ (answered s _ success a _ (put_text constants one class s p old (Text bytes) e))
 
 -- a constant that spells a name is a constant for that name

@@ -5,7 +5,7 @@ use Rattle.std.specs.Option.{option_map_or}
 use Rattle.std.proofs.lemmas.List.{append_assoc, append-nil}
 use Rattle.seg_spec.specs.Value.{Value, Values, nil, cons, count, Selector}
 use Rattle.client_spec.specs.Machine.{◌>>=◌, Origin, Path, extend, Register, Object, State, register, set_register, owned_by, at_origin, put_origin, put_at}
-use Rattle.client_spec.specs.Answer.{Answer, success, out_of_range, Outcome, answer, integer_at, give, fail, refer, give_count, index_below, bytes_in, items_in, provided, with_room, write_out}
+use Rattle.client_spec.specs.Answer.{Answer, success, out_of_range, Outcome, answer, integer_at, give, fail, refer, give_count, index_below, text_in, items_in, provided, with_room, write_out}
 use Rattle.client_spec.proofs.Values.{Some_inj}
 use Rattle.client_spec.specs.Safe.{Writes}
 use Rattle.client_spec.specs.Effect.{combine, next_byte, add_object, item_of_object, find_or_add, count_of_object, destroy_object, add_unique, item_of_value, pop_bytes, pop_last, pop_first, set_text, first_key, take_content, see_content}
@@ -120,7 +120,7 @@ module _ {s : State} where
   value_item a p x v =
       let byte = λ (bytes : List ℕ). option_map_or (λ i. give_count a (slice_index bytes i) s) (index_below (length bytes) x) (fail a out_of_range s) in
       let item_of = λ (vs : Values). option_map_or (λ i. refer a (extend p (Selector.item i)) s) (index_below (count vs) x) (fail a out_of_range s) in
-      either byte (bytes_in v) (items_in v >>= item_of)
+      either byte (text_in v) (items_in v >>= item_of)
       (λ bytes. either (λ i. give_count a (slice_index bytes i) s) (index_below (length bytes) x) (fail a out_of_range s) (λ i. given success a _) (given _ a _))
       (bound (items_in v) item_of (λ vs. either (λ i. refer a (extend p (Selector.item i)) s) (index_below (count vs) x) (fail a out_of_range s) (λ i. given success a _) (given _ a _)))
 

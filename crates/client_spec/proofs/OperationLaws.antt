@@ -20,7 +20,7 @@ use Rattle.client_spec.specs.Grammar.{IsNumber}
 use Rattle.client_spec.specs.Syntax.{Constant}
 use Rattle.client_spec.specs.Machine.{◌>>=◌, Register, State, register, set_register, owned_by, path_value, path_type, put_at}
 use Rattle.client_spec.specs.Answer.{success, copied, integer_at, path_of, index_below, object_count, byte_of, type_operand, constant_operand, integer_or, constant_name, constant_text}
-use Rattle.client_spec.specs.Answer.{number_in, bytes_in, items_in, entries_in, content_in, fields_in, length_in, vec_or_list_item, list_item, map_value, owned_type, path_form}
+use Rattle.client_spec.specs.Answer.{int_in, text_in, items_in, entries_in, content_in, fields_in, length_in, vec_or_list_item, list_item, map_value, owned_type, path_form}
 use Rattle.client_spec.specs.Answer.{shared_type}
 use Rattle.client_spec.specs.Effect.{effect}
 use Rattle.client_spec.specs.Typed.{Class, RegisterType, Reason, RegisterTypes, known, same_class, sharing, ended, others_ended, reference_needed, integer_needed, owner_needed, copy_needed}
@@ -190,10 +190,10 @@ laws Operation.OutStr = record {
   goes = λ types constants one ks s h a b c number m. outs_goes types constants one ks s h a b c number;
   alike = λ types constants ks a b c number f. alike_found types is_str (λ x y. known_after ks) b ks (λ x y. alike_known ks);
   bares = λ types constants ks b a c number b_is. bare.needs_form types b b_is is_str _ _ (λ x i y. bare.known_here);
-  kept = λ types constants one ks s h class a b c number room good bad e far. kept.bound s (path_of s b) _ (λ p _. kept.bound s (path_value s p >>= bytes_in) _ (λ bytes _. kept.writes s bytes));
+  kept = λ types constants one ks s h class a b c number room good bad e far. kept.bound s (path_of s b) _ (λ p _. kept.bound s (path_value s p >>= text_in) _ (λ bytes _. kept.writes s bytes));
   spared = λ types constants ks class one s h a b c number good bad e b_is still. tt;
   same = out_text_same;
-  follows = λ constants s a b c number room. follow.bound (path_of s b) _ (λ p. follow.bound (path_value s p >>= bytes_in) _ (λ bytes. follow.writes bytes));
+  follows = λ constants s a b c number room. follow.bound (path_of s b) _ (λ p. follow.bound (path_value s p >>= text_in) _ (λ bytes. follow.writes bytes));
 }
 laws Operation.OutConst = record {
   goes = λ types constants one ks s h a b c number m. outc_goes types constants one ks s h a b c number;
@@ -426,19 +426,19 @@ laws Operation.Load = record {
   goes = λ types constants one ks s h a b c number m. load_goes types constants ks s h a b c number;
   alike = λ types constants ks a b c number f. alike_found types is_i64 (λ x y. gives a RegisterType.Int ks) b ks (λ x y. alike_gives a RegisterType.Int ks);
   bares = λ types constants ks b a c number b_is. bare.needs_form types b b_is is_i64 _ _ (λ x i y. bare.gives_here a RegisterType.Int refl);
-  kept = λ types constants one ks s h class a b c number room good bad e far. kept.bound s (path_of s b) _ (λ p _. kept.bound s (path_value s p >>= number_in) _ (λ k _. kept.given s success a _));
+  kept = λ types constants one ks s h class a b c number room good bad e far. kept.bound s (path_of s b) _ (λ p _. kept.bound s (path_value s p >>= int_in) _ (λ k _. kept.given s success a _));
   spared = λ types constants ks class one s h a b c number good bad e b_is still. tt;
   same = load_same;
-  follows = λ constants s a b c number room. follow.bound (path_of s b) _ (λ p. follow.bound (path_value s p >>= number_in) _ (λ k. follow.given success a _));
+  follows = λ constants s a b c number room. follow.bound (path_of s b) _ (λ p. follow.bound (path_value s p >>= int_in) _ (λ k. follow.given success a _));
 }
 laws Operation.Store = record {
   goes = λ types constants one ks s h a b c number m. store_goes types constants ks s h a b c number;
   alike = λ types constants ks a b c number f. alike_found types is_i64 (λ x y. typed.◌>>=◌ (integer_needed (known ks c)) (λ _. known_after ks)) b ks (λ x y. alike_bind (integer_needed (known ks c)) (λ _. known_after ks) (λ _. alike_known ks));
   bares = λ types constants ks b a c number b_is. bare.needs_form types b b_is is_i64 _ _ (λ x i y. bare.needs_integer c _ _ bare.known_here);
-  kept = λ types constants one ks s h class a b c number room good bad e far. kept.bound s (path_of s b) _ (λ p _. kept.bound s (path_value s p >>= number_in) _ (λ k there. kept.bound s (integer_at s c) _ (λ x _. kept.some s success _ (kept.put_number constants one class s p k _ there))));
+  kept = λ types constants one ks s h class a b c number room good bad e far. kept.bound s (path_of s b) _ (λ p _. kept.bound s (path_value s p >>= int_in) _ (λ k there. kept.bound s (integer_at s c) _ (λ x _. kept.some s success _ (kept.put_number constants one class s p k _ there))));
   spared = λ types constants ks class one s h a b c number good bad e b_is still. tt;
   same = store_same;
-  follows = λ constants s a b c number room. follow.bound (path_of s b) _ (λ p. follow.bound (path_value s p >>= number_in) _ (λ k. follow.bound (integer_at s c) _ (λ x. follow.put_some p _)));
+  follows = λ constants s a b c number room. follow.bound (path_of s b) _ (λ p. follow.bound (path_value s p >>= int_in) _ (λ k. follow.bound (integer_at s c) _ (λ x. follow.put_some p _)));
 }
 laws Operation.Field = record {
   goes = λ types constants one ks s h a b c number m. field_goes types constants one ks s h a b c number;
@@ -492,11 +492,11 @@ laws Operation.PopBack = record {
   goes = λ types constants one ks s h a b c number m. pop_goes types constants one ks s h a b c number;
   alike = λ types constants ks a b c number f. absurd (subst IsPlain (sym f) tt);
   bares = λ types constants ks b a c number b_is. bare.needs_form types b b_is can_pop _ _ (λ x i y. bare.opens_others b b_is a RegisterType.Int x.0 refl);
-  kept = λ types constants one ks s h class a b c number room good bad e far. kept.bound s (path_of s b) _ (λ p at. let f = kept.far_at constants one class types ks s h b _ good bad e far p at in kept.bound s (path_value s p) _ (λ v there. kept.either s _ (bytes_in v) _
+  kept = λ types constants one ks s h class a b c number room good bad e far. kept.bound s (path_of s b) _ (λ p at. let f = kept.far_at constants one class types ks s h b _ good bad e far p at in kept.bound s (path_value s p) _ (λ v there. kept.either s _ (text_in v) _
       (λ bytes _. kept.bytes_pop s p v there f.its f.within f.far a bytes) (λ _. kept.bound s (items_in v) _ (λ vs _. kept.last_pop s p v there f.its f.within f.far a vs))));
   spared = λ types constants ks class one s h a b c number good bad e b_is still. kept.opened_far types constants ks b class one s h a can_pop (λ x y. RegisterType.Int) good bad b_is (λ x y _. refl) e still;
   same = pop_back_same;
-  follows = λ constants s a b c number room. follow.bound (path_of s b) _ (λ p. follow.bound (path_value s p) _ (λ v. follow.either _ (bytes_in v) _ (λ bytes. follow.bytes_pop a p bytes) (follow.bound (items_in v) _ (λ vs. follow.last_pop a p vs))));
+  follows = λ constants s a b c number room. follow.bound (path_of s b) _ (λ p. follow.bound (path_value s p) _ (λ v. follow.either _ (text_in v) _ (λ bytes. follow.bytes_pop a p bytes) (follow.bound (items_in v) _ (λ vs. follow.last_pop a p vs))));
 }
 laws Operation.PopFront = record {
   goes = λ types constants one ks s h a b c number m. popf_goes types constants one ks s h a b c number;
@@ -513,31 +513,31 @@ laws Operation.SetStr = record {
   alike = λ types constants ks a b c number f. absurd (subst IsPlain (sym f) tt);
   bares = λ types constants ks b a c number b_is. bare.needs_form types b b_is is_str _ _ (λ x i y. bare.same_needed (text_needed (slice_get constants (nat_abs number))) _ _ (λ _ _. bare.opens_here a RegisterType.Int refl));
   kept = λ types constants one ks s h class a b c number room good bad e far. kept.bound s (path_of s b) _
-      (λ p _. kept.bound s (path_value s p >>= bytes_in) _ (λ old there. kept.bound s (slice_get constants (nat_abs number) >>= constant_text) _ (λ new _. kept.text s a p old new room there)));
+      (λ p _. kept.bound s (path_value s p >>= text_in) _ (λ old there. kept.bound s (slice_get constants (nat_abs number) >>= constant_text) _ (λ new _. kept.text s a p old new room there)));
   spared = λ types constants ks class one s h a b c number good bad e b_is still. tt;
   same = set_text_same;
-  follows = λ constants s a b c number room. follow.bound (path_of s b) _ (λ p. follow.bound (path_value s p >>= bytes_in) _ (λ old. follow.bound (slice_get constants (nat_abs number) >>= constant_text) _ (λ new. follow.text a p new room)));
+  follows = λ constants s a b c number room. follow.bound (path_of s b) _ (λ p. follow.bound (path_value s p >>= text_in) _ (λ old. follow.bound (slice_get constants (nat_abs number) >>= constant_text) _ (λ new. follow.text a p new room)));
 }
 laws Operation.AddStr = record {
   goes = λ types constants one ks s h a b c number m. adds_goes types constants one ks s h a b c number;
   alike = λ types constants ks a b c number f. absurd (subst IsPlain (sym f) tt);
   bares = λ types constants ks b a c number b_is. bare.needs_form types b b_is is_str _ _ (λ x i y. bare.same_needed (text_needed (slice_get constants (nat_abs number))) _ _ (λ _ _. bare.opens_here a RegisterType.Int refl));
   kept = λ types constants one ks s h class a b c number room good bad e far. kept.bound s (path_of s b) _
-      (λ p _. kept.bound s (path_value s p >>= bytes_in) _ (λ old there. kept.bound s (slice_get constants (nat_abs number) >>= constant_text) _ (λ more _. kept.text s a p old _ room there)));
+      (λ p _. kept.bound s (path_value s p >>= text_in) _ (λ old there. kept.bound s (slice_get constants (nat_abs number) >>= constant_text) _ (λ more _. kept.text s a p old _ room there)));
   spared = λ types constants ks class one s h a b c number good bad e b_is still. tt;
   same = add_text_same;
-  follows = λ constants s a b c number room. follow.bound (path_of s b) _ (λ p. follow.bound (path_value s p >>= bytes_in) _ (λ old. follow.bound (slice_get constants (nat_abs number) >>= constant_text) _ (λ more. follow.text a p _ room)));
+  follows = λ constants s a b c number room. follow.bound (path_of s b) _ (λ p. follow.bound (path_value s p >>= text_in) _ (λ old. follow.bound (slice_get constants (nat_abs number) >>= constant_text) _ (λ more. follow.text a p _ room)));
 }
 laws Operation.AddByte = record {
   goes = λ types constants one ks s h a b c number m. addb_goes types constants one ks s h a b c number;
   alike = λ types constants ks a b c number f. absurd (subst IsPlain (sym f) tt);
   bares = λ types constants ks b a c number b_is. bare.needs_form types b b_is is_str _ _ (λ x i y. bare.needs_integer c _ _ (bare.opens_here a RegisterType.Int refl));
   kept = λ types constants one ks s h class a b c number room good bad e far. kept.bound s (path_of s b) _
-      (λ p _. kept.bound s (path_value s p >>= bytes_in) _ (λ old there. kept.bound s (integer_at s c) _ (λ x _. kept.either s _ (byte_of x) _ (λ byte _. kept.text s a p old _ room there)
+      (λ p _. kept.bound s (path_value s p >>= text_in) _ (λ old there. kept.bound s (integer_at s c) _ (λ x _. kept.either s _ (byte_of x) _ (λ byte _. kept.text s a p old _ room there)
       (λ _. kept.given s _ a _))));
   spared = λ types constants ks class one s h a b c number good bad e b_is still. tt;
   same = add_byte_same;
-  follows = λ constants s a b c number room. follow.bound (path_of s b) _ (λ p. follow.bound (path_value s p >>= bytes_in) _ (λ old. follow.bound (integer_at s c) _ (λ x. follow.either _ (byte_of x) _ (λ byte. follow.text a p _ room) (follow.given _ a _))));
+  follows = λ constants s a b c number room. follow.bound (path_of s b) _ (λ p. follow.bound (path_value s p >>= text_in) _ (λ old. follow.bound (integer_at s c) _ (λ x. follow.either _ (byte_of x) _ (λ byte. follow.text a p _ room) (follow.given _ a _))));
 }
 laws Operation.Shrink = record {
   goes = λ types constants one ks s h a b c number m. shrink_goes types constants one ks s h a b c number;

@@ -10,7 +10,7 @@ use Rattle.std.proofs.lemmas.List.{get_or_default, length-map}
 use Rattle.seg_spec.specs.Index.{same_name}
 use Rattle.client_spec.specs.declared.table.TheConstants.{OPERATIONS}
 use Rattle.client_spec.specs.declared.table.Operation.{Operation}
-use Rattle.client_spec.specs.Operations.{Entry, opcode, entries, no_entry, entry_of, mnemonic, row_of}
+use Rattle.client_spec.specs.Operations.{Entry, opcode, entries, no_entry, operation_entry, mnemonic, row_of}
 
 -- ---- operations by their numbers and words
 
@@ -55,12 +55,12 @@ entry_at view rows same k d h =
     ∙ get_or_default entries k (view d) no_entry h
 
 -- the entry at an operation's number is the operation's
-pub at_number : {A : Type 0} (view : A → Entry) (rows : List A) → map view rows ≡ entries → (o : Operation) (n : ℕ) (d : A) → n ≡ opcode o → view (slice_index_or rows (n - 1) d) ≡ entry_of o
+pub at_number : {A : Type 0} (view : A → Entry) (rows : List A) → map view rows ≡ entries → (o : Operation) (n : ℕ) (d : A) → n ≡ opcode o → view (slice_index_or rows (n - 1) d) ≡ operation_entry o
 at_number view rows same o n d e =
     let range = number_range o in
     entry_at view rows same (n - 1) d (omega arith) ∙ ap (λ m. slice_index_or entries (m - 1) no_entry) e
 
-pub at_index : {A : Type 0} (view : A → Entry) (rows : List A) → map view rows ≡ entries → (o : Operation) (k : ℕ) (d : A) → k + 1 ≡ opcode o → view (slice_index_or rows k d) ≡ entry_of o
+pub at_index : {A : Type 0} (view : A → Entry) (rows : List A) → map view rows ≡ entries → (o : Operation) (k : ℕ) (d : A) → k + 1 ≡ opcode o → view (slice_index_or rows k d) ≡ operation_entry o
 at_index view rows same o k d e =
     let here : k ≡ opcode o - 1 = omega arith in
     ap (λ j. view (slice_index_or rows j d)) here ∙ at_number view rows same o (opcode o) d refl
@@ -90,7 +90,7 @@ number_at k h =
     let here = index_map number_in entries k no_entry in
     omega arith
 
-pub entry_own : (k : ℕ) → k < OPERATIONS → entry_of (slice_index_or entries k no_entry).1.operation ≡ slice_index_or entries k no_entry
+pub entry_own : (k : ℕ) → k < OPERATIONS → operation_entry (slice_index_or entries k no_entry).1.operation ≡ slice_index_or entries k no_entry
 entry_own k h =
     let n = number_at k h in
     let place : opcode (slice_index_or entries k no_entry).1.operation - 1 ≡ k = omega arith in

@@ -3,12 +3,12 @@ use Rattle.std.proofs.Common.{ℕ, ℤ, List, Some, refl, ap}
 use Rattle.std.specs.Prelude.{option_map}
 use Rattle.seg_spec.specs.Value.{Label, Value, node, Values, nil, cons}
 use Rattle.seg_spec.specs.Shared.{replaced, replaced_each}
-use Rattle.client_spec.specs.Answer.{number_in, bytes_in, items_in, entries_in, content_in, fields_in, length_in}
+use Rattle.client_spec.specs.Answer.{int_in, text_in, items_in, entries_in, content_in, fields_in, length_in}
 use Rattle.client_spec.proofs.UnfoldedValues.{count_replaced}
 use Rattle.client_spec.proofs.UnfoldedOutcomes.{Finds}
 
 module _ (m : ℕ → Value) where
-  pub number_replaced : (v : Value) → Finds (λ k. k) (number_in v) (number_in (replaced m v))
+  pub number_replaced : (v : Value) → Finds (λ k. k) (int_in v) (int_in (replaced m v))
   unfolding replaced
   number_replaced (node (Label.int k) nil) = refl
   number_replaced (node (Label.int k) (cons v vs)) = tt
@@ -19,7 +19,7 @@ module _ (m : ℕ → Value) where
   number_replaced (node Label.struct vs) = tt
   number_replaced (node (Label.shared T p) vs) = tt
 
-  pub bytes_replaced : (v : Value) → Finds (λ k. k) (bytes_in v) (bytes_in (replaced m v))
+  pub bytes_replaced : (v : Value) → Finds (λ k. k) (text_in v) (text_in (replaced m v))
   unfolding replaced
   bytes_replaced (node (Label.int k) vs) = tt
   bytes_replaced (node (Label.text bytes) nil) = refl

@@ -9,8 +9,8 @@ use Rattle.seg_spec.specs.Shared.{replaced, replaced_each}
 use Rattle.client_spec.specs.declared.table.Operation.{Operation}
 use Rattle.client_spec.specs.Syntax.{Constant}
 use Rattle.client_spec.specs.Machine.{◌>>=◌, Path, extend, Register, State, register, set_register, owned_by, path_value, path_type, put_at}
-use Rattle.client_spec.specs.Answer.{absent, out_of_range, null_or_none, fail, refer, give_count, proceed, index_below, byte_of, constant_text, number_in}
-use Rattle.client_spec.specs.Answer.{bytes_in, items_in, entries_in, content_in, fields_in, length_in, vec_or_list_item, list_item, map_value, owned_type, shared_type, path_form, begins_at}
+use Rattle.client_spec.specs.Answer.{absent, out_of_range, null_or_none, fail, refer, give_count, proceed, index_below, byte_of, constant_text, int_in}
+use Rattle.client_spec.specs.Answer.{text_in, items_in, entries_in, content_in, fields_in, length_in, vec_or_list_item, list_item, map_value, owned_type, shared_type, path_form, begins_at}
 use Rattle.client_spec.specs.Effect.{item_of_value, pop_bytes, pop_last, pop_first, set_text, first_key, take_content, see_content, effect}
 use Rattle.client_spec.specs.Trees.{unfolded_state}
 use Rattle.client_spec.proofs.UnfoldedValues.{default_replaced, count_replaced, append_replaced, last_replaced, with_entry_replaced, without_entry_replaced}
@@ -116,8 +116,8 @@ module _ (m : ℕ → Value) (constants : List Constant) (s : State) where
   item_found a p x (node Label.struct vs) = tt
   item_found a p x (node (Label.shared T q) vs) = tt
 
-  last_gone : (a : ℕ) (p : Path) (v u : Value) → path_value s p ≡ Some u → Same m (option_map_or (λ bytes. pop_bytes a p bytes s) (bytes_in v) (items_in v >>= λ vs. pop_last a p vs s))
-      (option_map_or (λ bytes. pop_bytes a p bytes trees) (bytes_in (replaced m v)) (items_in (replaced m v) >>= λ vs. pop_last a p vs trees))
+  last_gone : (a : ℕ) (p : Path) (v u : Value) → path_value s p ≡ Some u → Same m (option_map_or (λ bytes. pop_bytes a p bytes s) (text_in v) (items_in v >>= λ vs. pop_last a p vs s))
+      (option_map_or (λ bytes. pop_bytes a p bytes trees) (text_in (replaced m v)) (items_in (replaced m v) >>= λ vs. pop_last a p vs trees))
   unfolding replaced
   last_gone a p (node (Label.int k) vs) u e = tt
   last_gone a p (node (Label.text bytes) nil) u e = popped_bytes a p bytes u e
@@ -132,7 +132,7 @@ module _ (m : ℕ → Value) (constants : List Constant) (s : State) where
 
   pub load_same : RowSame m constants s Operation.Load
   unfolding effect
-  load_same a b c number room = from_path m s b _ _ (λ p. from_part m s (λ k. k) p number_in number_in _ _ (number_replaced m) (λ k v _ _. give_same m a (Register.Int k) s trees refl))
+  load_same a b c number room = from_path m s b _ _ (λ p. from_part m s (λ k. k) p int_in int_in _ _ (number_replaced m) (λ k v _ _. give_same m a (Register.Int k) s trees refl))
 
   pub len_same : RowSame m constants s Operation.Len
   unfolding effect
@@ -178,7 +178,7 @@ module _ (m : ℕ → Value) (constants : List Constant) (s : State) where
   pub store_same : RowSame m constants s Operation.Store
   unfolding effect
   store_same a b c number room =
-      from_path m s b _ _ (λ p. from_part m s (λ k. k) p number_in number_in _ _ (number_replaced m) (λ k v e _. from_integer m s c _ _ (λ x.
+      from_path m s b _ _ (λ p. from_part m s (λ k. k) p int_in int_in _ _ (number_replaced m) (λ k v e _. from_integer m s c _ _ (λ x.
       proceed_same m (put_at s p (Int x)) (put_at trees p (Int x)) (putting p (Int x) v (Int x) e (int_replaced x)))))
 
   pub clear_same : RowSame m constants s Operation.Clear
@@ -190,19 +190,19 @@ module _ (m : ℕ → Value) (constants : List Constant) (s : State) where
   pub set_text_same : RowSame m constants s Operation.SetStr
   unfolding effect
   set_text_same a b c number room =
-      from_path m s b _ _ (λ p. from_part m s (λ k. k) p bytes_in bytes_in _ _ (bytes_replaced m) (λ old v e _.
+      from_path m s b _ _ (λ p. from_part m s (λ k. k) p text_in text_in _ _ (bytes_replaced m) (λ old v e _.
       along m (slice_get constants (nat_abs number) >>= constant_text) (slice_get constants (nat_abs number) >>= constant_text) _ _ refl (λ new. texts a p new room v e)))
 
   pub add_text_same : RowSame m constants s Operation.AddStr
   unfolding effect
   add_text_same a b c number room =
-      from_path m s b _ _ (λ p. from_part m s (λ k. k) p bytes_in bytes_in _ _ (bytes_replaced m) (λ old v e _.
+      from_path m s b _ _ (λ p. from_part m s (λ k. k) p text_in text_in _ _ (bytes_replaced m) (λ old v e _.
       along m (slice_get constants (nat_abs number) >>= constant_text) (slice_get constants (nat_abs number) >>= constant_text) _ _ refl (λ more. texts a p (old ++ more) room v e)))
 
   pub add_byte_same : RowSame m constants s Operation.AddByte
   unfolding effect
   add_byte_same a b c number room =
-      from_path m s b _ _ (λ p. from_part m s (λ k. k) p bytes_in bytes_in _ _ (bytes_replaced m) (λ old v e _. from_integer m s c _ _ (λ x.
+      from_path m s b _ _ (λ p. from_part m s (λ k. k) p text_in text_in _ _ (bytes_replaced m) (λ old v e _. from_integer m s c _ _ (λ x.
       either_same m (byte_of x) _ _ _ _ (λ byte. texts a p (old ++ byte ∷ []) room v e) (fail_same m a out_of_range s))))
 
   pub push_back_same : RowSame m constants s Operation.PushBack

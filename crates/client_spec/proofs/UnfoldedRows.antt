@@ -11,7 +11,7 @@ use Rattle.client_spec.specs.declared.table.Operation.{Operation}
 use Rattle.client_spec.specs.Syntax.{Constant}
 use Rattle.client_spec.specs.Machine.{◌>>=◌, Origin, Register, Object, State, with_name, with_unique, register, set_register, path_value}
 use Rattle.client_spec.specs.Answer.{already_exists, absent, other_type, out_of_range, null_or_none, copied, give, fail, refer}
-use Rattle.client_spec.specs.Answer.{give_count, path_from, index_below, object_count, type_operand, constant_operand, integer_or, constant_text, bytes_in}
+use Rattle.client_spec.specs.Answer.{give_count, path_from, index_below, object_count, type_operand, constant_operand, integer_or, constant_text, text_in}
 use Rattle.client_spec.specs.Effect.{combine, truth, next_byte, add_object, item_of_object, find_or_add, count_of_object, destroy_object, add_unique, effect}
 use Rattle.client_spec.specs.Trees.{unfolded_object, unfolded_register, unfolded_state}
 use Rattle.client_spec.proofs.UnfoldedValues.{default_replaced, count_replaced, copies_replaced}
@@ -97,7 +97,7 @@ module _ (m : ℕ → Value) (constants : List Constant) (s : State) where
 
   pub out_text_same : RowSame Operation.OutStr
   unfolding effect
-  out_text_same a b c number room = from_path m s b _ _ (λ p. from_part m s (λ k. k) p bytes_in bytes_in _ _ (bytes_replaced m) (λ bytes v _ _. write_same m bytes s))
+  out_text_same a b c number room = from_path m s b _ _ (λ p. from_part m s (λ k. k) p text_in text_in _ _ (bytes_replaced m) (λ bytes v _ _. write_same m bytes s))
 
   pub out_constant_same : RowSame Operation.OutConst
   unfolding effect

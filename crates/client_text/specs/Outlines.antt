@@ -8,7 +8,7 @@
 use Rattle.std.specs.Prelude.{◌≡◌, ℕ, ◌+◌, ◌≤◌, max, List, [], ◌∷◌, ◌++◌, replicate}
 use Rattle.seg_spec.specs.Types.{version_of}
 use Rattle.client_spec.specs.Text.{Item, type_item, constant_item, instruction_item}
-use Rattle.client_code.specs.declared.header.Header.{Header}
+use Rattle.client_code.specs.declared.header.FileHeader.{FileHeader}
 use Rattle.client_text.specs.declared.outline.Section.{Section}
 use Rattle.client_text.specs.declared.outline.Section.TheVariants as section
 
@@ -39,8 +39,8 @@ pub record IsOutline (sections : List Section) : Type 0 where
   pub few_instructions : instructions ≤ 4096
   pub in_order : sections ≡ outlined types constants instructions
 
-abbrev pub outline_of : Header → List Section
+abbrev pub outline_of : FileHeader → List Section
 outline_of header = outlined header.types header.constants header.instructions
 
-abbrev pub entry_total : Header → ℕ
+abbrev pub entry_total : FileHeader → ℕ
 entry_total header = header.types + header.constants + header.instructions

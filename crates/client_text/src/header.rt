@@ -2,7 +2,7 @@ ghost use Rattle.std.specs.Prelude.{◌≡◌, ◌+◌, ◌++◌, OnOk};
 ghost use Rattle.seg_spec.specs.Bytes.{spelling};
 ghost use Rattle.client_text.specs.Headers.{header_bytes};
 
-use client_code::{Header, MAGIC};
+use client_code::{FileHeader, MAGIC};
 use std::alloc::{AllocError, Allocator};
 
 fn append_word<A: Allocator>(file: &mut Vec<u8, A>, word: u32) -> Result<(), AllocError>
@@ -13,7 +13,7 @@ fn append_word<A: Allocator>(file: &mut Vec<u8, A>, word: u32) -> Result<(), All
 
 /// Adds the bytes of a header with a file version.
 pub fn append_header<A: Allocator>(
-    header: Header,
+    header: FileHeader,
     version: u32,
     file: &mut Vec<u8, A>,
 ) -> Result<(), AllocError>
@@ -28,7 +28,7 @@ pub fn append_header<A: Allocator>(
 }
 
 /// How many types, constants and instructions there are together.
-pub fn entries(header: Header) -> u32
+pub fn entries(header: FileHeader) -> u32
     ensures { result ≡ header.types + header.constants + header.instructions }
 {
     header.types + header.constants + header.instructions

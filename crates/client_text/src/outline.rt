@@ -6,7 +6,7 @@ ghost use Rattle.client_spec.specs.Pieces.{meant};
 use crate::lines::Lines;
 use crate::words::Words;
 use client_code::{
-    FIRST_VERSION, Header, MOST_CONSTANTS, MOST_INSTRUCTIONS, MOST_TYPES, SHARING_VERSION,
+    FIRST_VERSION, FileHeader, MOST_CONSTANTS, MOST_INSTRUCTIONS, MOST_TYPES, SHARING_VERSION,
 };
 
 /// The sections of a client, in order.
@@ -47,14 +47,14 @@ impl Section {
 }
 
 /// The header with the counts of a text's lines, up to the first line that is out of order or one too many.
-pub fn header_of(text: &[u8]) -> Header
+pub fn header_of(text: &[u8]) -> FileHeader
     ensures within { entry_total result ≤ length (meant text.now) }
     ensures counted { (items : List Item) → EachSpells (meant text.now) items →
         map section_of (take (entry_total result) items) ≡ outline_of result }
     ensures all { (items : List Item) → EachSpells (meant text.now) items →
         IsOutline (map section_of items) → length items ≡ entry_total result }
 {
-    let mut header = Header {
+    let mut header = FileHeader {
         types: 0,
         constants: 0,
         instructions: 0,
@@ -69,7 +69,7 @@ pub fn header_of(text: &[u8]) -> Header
 }
 
 /// Counts a line, or returns false if it is out of order or one too many.
-fn add(header: &mut Header, section: Section) -> bool
+fn add(header: &mut FileHeader, section: Section) -> bool
     ensures counted { IsTrue result → outline_of header.new
         ≡ outline_of header.old ++ section ∷ [] }
     ensures one { IsTrue result → entry_total header.new ≡ entry_total header.old + 1 }

@@ -10,7 +10,7 @@ use std::fmt::Write;
 
 /// The output lines of one instruction at a time.
 #[derive(Drop)]
-pub(crate) struct Lines {
+pub(crate) struct TraceLines {
     listing: Listing,
     /// The steps so far.
     steps: u64,
@@ -18,9 +18,9 @@ pub(crate) struct Lines {
     text: String,
 }
 
-impl Lines {
-    pub(crate) fn new(alloc: Global, client: &Client) -> Result<Lines, AllocError> {
-        Ok(Lines {
+impl TraceLines {
+    pub(crate) fn new(alloc: Global, client: &Client) -> Result<TraceLines, AllocError> {
+        Ok(TraceLines {
             listing: Listing::new(alloc, client)?,
             steps: 0,
             text: String::new(alloc),

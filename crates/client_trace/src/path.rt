@@ -8,7 +8,7 @@ const MOST_PARTS: usize = 8;
 
 /// The object at which a path begins.
 #[derive(Clone, Copy)]
-pub(crate) enum Root {
+pub(crate) enum PathStart {
     /// A named object: the constant's exact name, or the member of its family with this number.
     Named { constant: u8, number: i64 },
     /// The unique object of a type.
@@ -19,7 +19,7 @@ pub(crate) enum Root {
 
 /// A step from a value to a part of it.
 #[derive(Clone, Copy)]
-pub(crate) enum Part {
+pub(crate) enum Selector {
     /// The value with this index in a named array, from 0.
     Value(i64),
     /// The item of a vector or a list with this index, from 0.
@@ -35,24 +35,24 @@ pub(crate) enum Part {
 /// The path from an object to a value.
 #[derive(Clone, Copy)]
 pub(crate) struct Path {
-    root: Root,
+    root: PathStart,
     /// The last parts: part n is at index n modulo `MOST_PARTS`.
-    parts: [Part; MOST_PARTS],
+    parts: [Selector; MOST_PARTS],
     /// How many parts there are.
     len: usize,
 }
 
 impl Path {
-    pub(crate) fn new(root: Root) -> Path {
+    pub(crate) fn new(root: PathStart) -> Path {
         Path {
             root,
-            parts: [Part::Content; MOST_PARTS],
+            parts: [Selector::Content; MOST_PARTS],
             len: 0,
         }
     }
 
     /// The path to a part of the value.
-    pub(crate) fn part(mut self, part: Part) -> Path {
+    pub(crate) fn part(mut self, part: Selector) -> Path {
         self.parts[self.len % MOST_PARTS] = part;
         self.len = self.len.saturating_add(1);
         self
@@ -82,15 +82,15 @@ impl Path {
     }
 }
 
-impl Root {
+impl PathStart {
     fn add_to(self, text: &mut String, constants: &[Constant]) -> Result<(), AllocError> {
         match self {
-            Root::Named { constant, number } => {
+            PathStart::Named { constant, number } => {
                 let name = constants.get(usize::from(constant)).copied();
                 add_name(text, name.unwrap_or_default(), number)
             }
-            Root::Unique(type_id) => write!(text, "unique t{type_id}"),
-            Root::Owned(register) => write!(text, "r{register}.content"),
+            PathStart::Unique(type_id) => write!(text, "unique t{type_id}"),
+            PathStart::Owned(register) => write!(text, "r{register}.content"),
         }
     }
 }
@@ -112,14 +112,14 @@ fn add_name(text: &mut String, constant: Constant, number: i64) -> Result<(), Al
     }
 }
 
-impl fmt::Display for Part {
+impl fmt::Display for Selector {
     fn fmt<W: fmt::Write>(&self, f: &mut fmt::Formatter<W>) -> fmt::Result {
         let (before, number, after) = match *self {
-            Part::Value(index) => (".value ", index, ""),
-            Part::Item(index) => ("[", index, "]"),
-            Part::Key(key) => (".key ", key, ""),
-            Part::Field(index) => (".field ", i64::from(index), ""),
-            Part::Content => return f.write_str(".content"),
+            Selector::Value(index) => (".value ", index, ""),
+            Selector::Item(index) => ("[", index, "]"),
+            Selector::Key(key) => (".key ", key, ""),
+            Selector::Field(index) => (".field ", i64::from(index), ""),
+            Selector::Content => return f.write_str(".content"),
         };
         write!(f, "{before}{number}{after}")
     }

@@ -1,4 +1,4 @@
-use crate::path::{Part, Path, Root};
+use crate::path::{Path, PathStart, Selector};
 use client_code::{Client, Constants, Gives, Instruction, Operation, REGISTERS};
 use client_vm::{Fit, Segment, Stepper};
 use std::alloc::{AllocError, Global};
@@ -16,7 +16,7 @@ impl<'a> Paths<'a> {
     pub(crate) fn new(client: &Client<'a>) -> Paths<'a> {
         Paths {
             constants: client.constants(),
-            paths: [Path::new(Root::Owned(0)); COUNT],
+            paths: [Path::new(PathStart::Owned(0)); COUNT],
         }
     }
 
@@ -54,8 +54,8 @@ impl<'a> Paths<'a> {
             Gives::Copy => Some(whole),
             Gives::Named if i.operation == Operation::Find => Some(value(i, run)),
             Gives::Named => Some(named(i, run)),
-            Gives::Unique => Some(Path::new(Root::Unique(i.type_id()))),
-            Gives::Owned => Some(Path::new(Root::Owned(i.b))),
+            Gives::Unique => Some(Path::new(PathStart::Unique(i.type_id()))),
+            Gives::Owned => Some(Path::new(PathStart::Owned(i.b))),
             Gives::Part => part(i, run, segment).map(|part| whole.part(part)),
             Gives::Nothing | Gives::Int | Gives::Owner | Gives::Content | Gives::Forgotten => None,
         }
@@ -67,17 +67,17 @@ fn part<F: Fit>(
     i: Instruction,
     run: &Stepper<Global>,
     segment: &Segment<F, Global>,
-) -> Option<Part> {
+) -> Option<Selector> {
     match i.operation {
-        Operation::Content => Some(Part::Content),
-        Operation::Field => Some(Part::Field(i.number)),
-        Operation::At => Some(Part::Item(run.number(i.c))),
+        Operation::Content => Some(Selector::Content),
+        Operation::Field => Some(Selector::Field(i.number)),
+        Operation::At => Some(Selector::Item(run.number(i.c))),
         Operation::PushBack => {
             let len = segment.heap().count(run.place(i.b).at);
-            Some(Part::Item(i64::from(len)))
+            Some(Selector::Item(i64::from(len)))
         }
-        Operation::PushFront => Some(Part::Item(0)),
-        Operation::GetKey | Operation::PutKey => Some(Part::Key(run.number(i.c))),
+        Operation::PushFront => Some(Selector::Item(0)),
+        Operation::GetKey | Operation::PutKey => Some(Selector::Key(run.number(i.c))),
         // No other operation gives a part.
         _ => None,
     }
@@ -85,7 +85,7 @@ fn part<F: Fit>(
 
 /// The path to the object that an instruction names.
 fn named(i: Instruction, run: &Stepper<Global>) -> Path {
-    Path::new(Root::Named {
+    Path::new(PathStart::Named {
         constant: i.constant(),
         number: run.number(i.b),
     })
@@ -97,6 +97,6 @@ fn value(i: Instruction, run: &Stepper<Global>) -> Path {
     if i.c == Instruction::NONE {
         first
     } else {
-        first.part(Part::Value(run.number(i.c)))
+        first.part(Selector::Value(run.number(i.c)))
     }
 }

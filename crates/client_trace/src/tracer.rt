@@ -2,7 +2,7 @@ ghost use Rattle.std.specs.Prelude.{◌≡◌, ◌↔◌, true, false, IsErrOf};
 
 use crate::gathered::Gathered;
 use crate::known::Known;
-use crate::lines::Lines;
+use crate::lines::TraceLines;
 use crate::paths::Paths;
 use crate::untraced::Untraced;
 use client_code::Client;
@@ -45,7 +45,7 @@ struct Tracer<'a> {
     client: Client<'a>,
     known: Known,
     paths: Paths<'a>,
-    lines: Lines,
+    lines: TraceLines,
 }
 
 impl<'a> Tracer<'a> {
@@ -54,7 +54,7 @@ impl<'a> Tracer<'a> {
             client,
             known: Known::new(alloc, &client)?,
             paths: Paths::new(&client),
-            lines: Lines::new(alloc, &client)?,
+            lines: TraceLines::new(alloc, &client)?,
         })
     }
 

@@ -9,8 +9,8 @@ use Rattle.client_spec.specs.Typed.{Class, RegisterType, RegisterTypes, sharing}
 use Rattle.client_spec.specs.declared.table.Role.{Role}
 use Rattle.client_spec.specs.declared.table.Ends.{Ends}
 use Rattle.client_spec.specs.declared.table.Ends.TheVariants as ends
-use Rattle.client_verify.specs.declared.verifier.Part.{Part}
-use Rattle.client_verify.specs.declared.verifier.Part.TheVariants as part
+use Rattle.client_verify.specs.declared.verifier.PartState.{PartState}
+use Rattle.client_verify.specs.declared.verifier.PartState.TheVariants as part
 use Rattle.client_verify.specs.Packing.{class_by}
 use Rattle.client_verify.specs.Passing.{kept_with, steps_before}
 use Rattle.client_verify.specs.Verifiers.{open_part}
@@ -35,12 +35,12 @@ module _ {X Y : Type 0} (view : X → Y) where
       ∙ ap reverse (map-append view (take i xs) (x ∷ []))
       ∙ reverse-append (map view (take i xs)) (view x ∷ [])
 
-pub kept_in : (p : Part) (ks : RegisterTypes) (n : ℕ) → kept_with (open_part p ks n) ≡ ks
+pub kept_in : (p : PartState) (ks : RegisterTypes) (n : ℕ) → kept_with (open_part p ks n) ≡ ks
 kept_in part.Success ks n = refl
 kept_in (part.Else steps) ks n = refl
 kept_in (part.Body turns) ks n = refl
 
-pub steps_in : (p : Part) (ks : RegisterTypes) (n : ℕ) → steps_before (open_part p ks n) ≡ n
+pub steps_in : (p : PartState) (ks : RegisterTypes) (n : ℕ) → steps_before (open_part p ks n) ≡ n
 steps_in part.Success ks n = refl
 steps_in (part.Else steps) ks n = refl
 steps_in (part.Body turns) ks n = refl

@@ -13,7 +13,7 @@ use Rattle.client_spec.specs.declared.table.Operation.TheVariants as op
 use Rattle.client_spec.specs.declared.table.Kinds.TheVariants as kinds
 use Rattle.client_spec.specs.Operations.{row_of}
 use Rattle.client_verify.specs.Passing.{rule_at}
-use Rattle.client_verify.specs.Checking.{Step, is_integer, is_content, is_alike, content_of, emptied, applied}
+use Rattle.client_verify.specs.Checking.{RuleInput, is_integer, is_content, is_alike, content_of, emptied, applied}
 use Rattle.client_verify.proofs.Shapes.{unless_lost, following, led_first, from_first, in_turn, gives_same, opens_same, freezes_same}
 use Rattle.client_verify.proofs.Numbers.{AreNamed}
 use Rattle.client_verify.proofs.Owners.{owner_kept, owner_kept_but}
@@ -21,7 +21,7 @@ use Rattle.client_verify.proofs.Needs.{integer_same, optional_same, name_same, t
 use Rattle.client_verify.proofs.Forms.{i64_forms, str_forms, list_forms, own_forms, shared_forms, holder_forms, sequence_forms, item_forms, pop_forms, buffered_forms, map_forms, value_forms, sized_forms, struct_forms, owned_part, shared_part, content_part, sequence_part, list_part, value_part, field_part, item_part}
 
 module _ (types : Table) (constants : List Constant) (a b c t k : ℕ) (ks : RegisterTypes) where
-  abbrev step : Operation → ℤ → Step
+  abbrev step : Operation → ℤ → RuleInput
   step operation number = record { types = types; before = ks; row = row_of operation; a = a; b = b; c = c; number = number; type_id = t; constant = k }
 
   abbrev instruction : Operation → ℤ → Instruction
@@ -160,7 +160,7 @@ module _ (types : Table) (constants : List Constant) (a b c t k : ℕ) (ks : Reg
   same op.AddStr (negsuc n) right named = absurd right.number
 
 -- the columns of an operation give its rule
-pub rule_same : (s : Step) (constants : List Constant) (operation : Operation) → s.row ≡ row_of operation
+pub rule_same : (s : RuleInput) (constants : List Constant) (operation : Operation) → s.row ≡ row_of operation
     → IsInstruction s.types constants (row_of operation).role (record { operation = operation; a = s.a; b = s.b; c = s.c; number = s.number })
     → AreNamed (row_of operation).number s.number s.type_id s.constant
     → applied s ≡ rule_at s.types constants (record { operation = operation; a = s.a; b = s.b; c = s.c; number = s.number }) s.before

@@ -5,7 +5,7 @@
 use Rattle.std.proofs.Common.{◌≡◌, ℕ, zero, suc, [], ◌∷◌, refl, sym, ap, ◌∙◌, Bool, true, false, Option, Ok, Err}
 use Rattle.std.specs.Prelude.{not, if◌then◌else◌, slice_set}
 use Rattle.client_spec.specs.Typed.{Class, RegisterType, RegisterTypes, Reason, ◌>>=◌, Rule, known, is_owner, required, known_after, gives, opens, freezes}
-use Rattle.client_verify.specs.Checking.{Step, held, meets, meets_by, referred, is_inside, is_lost, given_by, ended_by, changed, changed_by, frozen_from, applied}
+use Rattle.client_verify.specs.Checking.{RuleInput, held, meets, meets_by, referred, is_inside, is_lost, given_by, ended_by, changed, changed_by, frozen_from, applied}
 
 four_in_turn : (b c inside lost : Bool) (r : RegisterTypes × RegisterTypes)
     → ((required b Reason.WrongOperand >>= λ _. required c Reason.WrongOperand >>= λ _. required inside Reason.PutIntoItself >>= λ _. required lost Reason.OwnerLost) >>= λ _. Ok r)
@@ -19,7 +19,7 @@ four_in_turn true true true lost r = refl
 abbrev pub unless_lost : Bool → RegisterTypes × RegisterTypes → Rule
 unless_lost lost r = required (not lost) Reason.OwnerLost >>= λ _. Ok r
 
-module _ (s : Step) where
+module _ (s : RuleInput) where
   -- the result, if register b has this class and this is known of it
   abbrev pub following : Option (Class × ℕ) → RegisterType → Rule
   following x h = do

@@ -7,11 +7,11 @@ use Rattle.std.specs.Prelude.{ℕ, Option}
 use Rattle.std.specs.Option.{option_map}
 use Rattle.client_spec.specs.Typed as typed
 use Rattle.client_verify.specs.declared.after.After.{After}
-use Rattle.client_verify.specs.Views.{known_of}
+use Rattle.client_verify.specs.Views.{register_type_of}
 use Rattle.client_verify.specs.Checking.{referred, ended_with, frozen_from, changed, changed_by}
 
-abbrev pub given_of : After → Option (ℕ × typed.RegisterType)
-given_of after = option_map (λ x. (x.0, known_of x.1)) after.given
+abbrev pub given_register : After → Option (ℕ × typed.RegisterType)
+given_register after = option_map (λ x. (x.0, register_type_of x.1)) after.given
 
 abbrev pub ended_after : After → typed.RegisterTypes → typed.RegisterTypes
 ended_after after ks =
@@ -19,10 +19,10 @@ ended_after after ks =
     (referred (typed.known ks after.b)) after.ends ks
 
 abbrev pub success_after : After → typed.RegisterTypes → typed.RegisterTypes
-success_after after ks = changed (given_of after) (frozen_from after.ends after.c ks)
+success_after after ks = changed (given_register after) (frozen_from after.ends after.c ks)
 
 abbrev pub otherwise_after : After → typed.RegisterTypes → typed.RegisterTypes
-otherwise_after after ks = changed_by after.role (given_of after) ks
+otherwise_after after ks = changed_by after.role (given_register after) ks
 
 abbrev pub known_by : typed.RegisterTypes → After → typed.RegisterTypes × typed.RegisterTypes
 known_by ks after = (

@@ -1,6 +1,7 @@
 -- The verifier's rule as the program computes it, from the columns of the instruction table. The
 -- proofs show that it agrees with Typed.
---     Step     what the rule reads: the row, the operands, and what is known before the
+--     RuleInput
+--              what the rule reads: the row, the operands, and what is known before the
 --              instruction
 --     meets, given, ended_in     whether a register contains what is needed, what a register gets,
 --                                what is known once references have ended
@@ -23,7 +24,7 @@ use Rattle.client_spec.specs.declared.table.Ends.TheVariants as ends
 
 -- an instruction with its row, the type and the constant that its number refers to, and what is
 -- known before it
-pub record Step : Type 0 where
+pub record RuleInput : Type 0 where
   pub types : Table
   pub before : RegisterTypes
   pub row : Row
@@ -250,7 +251,7 @@ frozen_from ends c ks = ks
 
 -- ---- the rule by the columns
 
-module _ (s : Step) where
+module _ (s : RuleInput) where
   abbrev pub held : RegisterType
   held = known s.before s.b
 

@@ -45,8 +45,8 @@ abbrev pub inside : RegisterTypes → Open → List Open → Progress
 inside ks part parts = record { known = ks; steps = 0; parts = with_part part parts }
 
 -- after an END; `steps` is the number of steps of the part that it ended
-abbrev pub following : RegisterTypes → (before steps : ℕ) → List Open → Progress
-following ks before steps parts =
+abbrev pub progress_after : RegisterTypes → (before steps : ℕ) → List Open → Progress
+progress_after ks before steps parts =
     record { known = ks; steps = at_most (before + steps); parts = parts }
 
 -- what is kept with an open part, and the steps before it
@@ -71,11 +71,11 @@ turned p [] = p
 
 -- after the innermost part
 abbrev pub closed : Progress → List Open → Checked Progress
-closed p (in_success otherwise before ∷ parts) = Ok (following p.known before p.steps parts)
+closed p (in_success otherwise before ∷ parts) = Ok (progress_after p.known before p.steps parts)
 closed p (in_else success steps before ∷ parts) =
-    joined success p.known >>= λ both. Ok (following both before (max p.steps steps) parts)
+    joined success p.known >>= λ both. Ok (progress_after both before (max p.steps steps) parts)
 closed p (in_body found turns before ∷ parts) = kept found p.known
-    >>= λ _. Ok (following found before (at_most (turns * at_most (p.steps + 1))) parts)
+    >>= λ _. Ok (progress_after found before (at_most (turns * at_most (p.steps + 1))) parts)
 closed p [] = Ok p
 
 module _ (types : Table) (constants : List Constant) where

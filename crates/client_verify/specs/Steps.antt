@@ -1,16 +1,16 @@
 -- The definitions' values for what the verifier's rule reads.
---     step_by rule                     the step of an instruction
---     types_of, before_of, instruction_in     the types, what is known before it, and the
+--     rule_input rule                  what the rule reads
+--     rule_types, before_of, instruction_in   the types, what is known before it, and the
 --                                             instruction
 use Rattle.seg_spec.specs.Types.{Table}
 use Rattle.client_code.specs.declared.instruction.Instruction.{Instruction}
 use Rattle.client_verify.specs.declared.registers.Registers.{Registers}
 use Rattle.client_verify.specs.declared.rule.Rule.{Rule}
 use Rattle.client_verify.specs.Views.{registers_of}
-use Rattle.client_verify.specs.Checking.{Step}
+use Rattle.client_verify.specs.Checking.{RuleInput}
 
-abbrev pub step_by : Rule → Step
-step_by rule = record {
+abbrev pub rule_input : Rule → RuleInput
+rule_input rule = record {
   types = rule.types.now;
   before = registers_of rule.before.now;
   row = rule.row;
@@ -22,8 +22,8 @@ step_by rule = record {
   constant = rule.constant;
 }
 
-abbrev pub types_of : Rule → Table
-types_of rule = rule.types.now
+abbrev pub rule_types : Rule → Table
+rule_types rule = rule.types.now
 
 abbrev pub before_of : Rule → Registers
 before_of rule = rule.before.now

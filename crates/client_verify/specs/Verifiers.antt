@@ -10,14 +10,14 @@ use Rattle.client_spec.specs.Grammar.{IsInstruction}
 use Rattle.client_code.specs.declared.instruction.Instruction.{Instruction}
 use Rattle.client_code.specs.Views.{instruction_of}
 use Rattle.client_verify.specs.declared.reason.Reason.{Reason}
-use Rattle.client_verify.specs.declared.verifier.Part.{Part}
-use Rattle.client_verify.specs.declared.verifier.Part.TheVariants as part
+use Rattle.client_verify.specs.declared.verifier.PartState.{PartState}
+use Rattle.client_verify.specs.declared.verifier.PartState.TheVariants as part
 use Rattle.client_verify.specs.declared.verifier.Open.{Open}
 use Rattle.client_verify.specs.declared.verifier.Verifier.{Verifier}
 use Rattle.client_verify.specs.Views.{registers_of, checked}
 use Rattle.client_verify.specs.Passing as passing
 
-abbrev pub open_part : Part → typed.RegisterTypes → (before : ℕ) → passing.Open
+abbrev pub open_part : PartState → typed.RegisterTypes → (before : ℕ) → passing.Open
 open_part part.Success ks before = passing.in_success ks before
 open_part (part.Else steps) ks before = passing.in_else ks steps before
 open_part (part.Body turns) ks before = passing.in_body ks turns before

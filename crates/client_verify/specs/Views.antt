@@ -1,5 +1,6 @@
 -- The definitions' values for values of the verifier.
---     class_of, known_of, reason_of     a class, what is known of a register, a reason
+--     class_of, register_type_of, reason_of
+--                                       a class, what is known of a register, a reason
 --     class_shown, known_shown          the same of a class and a register that aren't packed
 --     joined_to                         what is known at both ends, or that an owner is lost
 --     registers_of                      what is known of each register
@@ -20,8 +21,8 @@ use Rattle.client_verify.specs.Packing.{class_in, known_in}
 abbrev pub class_of : PackedClass → typed.Class
 class_of class = class_in class.bits
 
-abbrev pub known_of : PackedRegister → typed.RegisterType
-known_of register = known_in register.bits
+abbrev pub register_type_of : PackedRegister → typed.RegisterType
+register_type_of register = known_in register.bits
 
 abbrev pub class_shown : Class → typed.Class
 class_shown (class.Name k) = typed.Class.Name k
@@ -43,11 +44,11 @@ reason_of reason.PutIntoItself = typed.Reason.PutIntoItself
 reason_of reason.ChangedInLoop = typed.Reason.ChangedInLoop
 
 abbrev pub registers_of : Registers → typed.RegisterTypes
-registers_of registers = map known_of registers.types
+registers_of registers = map register_type_of registers.types
 
 abbrev pub checked : {X Y : Type 0} → (X → Y) → Result X Reason → typed.Checked Y
 checked f (Ok x) = Ok (f x)
 checked f (Err reason) = Err (reason_of reason)
 
 abbrev pub joined_to : PackedRegister × Bool → typed.Checked typed.RegisterType
-joined_to x = if x.1 then Err typed.Reason.OwnerLost else Ok (known_of x.0)
+joined_to x = if x.1 then Err typed.Reason.OwnerLost else Ok (register_type_of x.0)

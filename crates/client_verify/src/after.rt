@@ -20,7 +20,7 @@ pub struct After {
 }
 
 impl After {
-    ghost use Rattle.client_verify.specs.Views.{known_of, registers_of};
+    ghost use Rattle.client_verify.specs.Views.{register_type_of, registers_of};
     ghost use Rattle.client_verify.specs.Checking.{otherwise_by};
     ghost use Rattle.client_verify.specs.Changes.{ended_after, success_after, otherwise_after};
 
@@ -71,7 +71,7 @@ impl After {
 
     /// What the changed register has in the else part. For an opener this is the code.
     fn otherwise(&self, given: PackedRegister) -> PackedRegister
-        ensures { known_of result ≡ otherwise_by self.now.role (known_of given) }
+        ensures { register_type_of result ≡ otherwise_by self.now.role (register_type_of given) }
     {
         match self.role {
             Role::Opener => PackedRegister::int(),

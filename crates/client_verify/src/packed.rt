@@ -82,13 +82,13 @@ pub struct PackedRegister {
 impl PackedRegister {
     ghost use Rattle.std.specs.Option.{option_map};
     ghost use Rattle.seg_layout.specs.Forms.{form_of};
-    ghost use Rattle.client_verify.specs.Views.{class_of, known_of, known_shown, checked, joined_to};
+    ghost use Rattle.client_verify.specs.Views.{class_of, register_type_of, known_shown, checked, joined_to};
     ghost use Rattle.client_verify.specs.Checking.{referred, part_below, is_integer, is_copyable, owned_by, changeable_by};
 
     /// Nothing is known.
     #[inline]
     pub fn undefined() -> PackedRegister
-        ensures { known_of result ≡ typed.RegisterType.Undefined }
+        ensures { register_type_of result ≡ typed.RegisterType.Undefined }
     {
         PackedRegister { bits: 0 }
     }
@@ -96,7 +96,7 @@ impl PackedRegister {
     /// A number.
     #[inline]
     pub fn int() -> PackedRegister
-        ensures { known_of result ≡ typed.RegisterType.Int }
+        ensures { register_type_of result ≡ typed.RegisterType.Int }
     {
         PackedRegister {
             bits: u32::from(INT),
@@ -106,7 +106,7 @@ impl PackedRegister {
     /// An owned object of this type.
     #[inline]
     pub fn owner(type_id: TypeId) -> PackedRegister
-        ensures { known_of result ≡ typed.RegisterType.Owner type_id }
+        ensures { register_type_of result ≡ typed.RegisterType.Owner type_id }
     {
         PackedRegister {
             bits: u32::from_le_bytes([OWNER, type_id, 0, 0]),
@@ -116,7 +116,7 @@ impl PackedRegister {
     /// A reference to a value of this type.
     #[inline]
     pub fn reference(class: PackedClass, to: TypeId) -> PackedRegister
-        ensures { known_of result ≡ typed.RegisterType.Reference (class_of class) to }
+        ensures { register_type_of result ≡ typed.RegisterType.Reference (class_of class) to }
     {
         let [kind, number] = class.bits.to_le_bytes();
         PackedRegister {
@@ -127,7 +127,7 @@ impl PackedRegister {
     /// A reference to a value of this type in a frozen object that the class shares.
     #[inline]
     pub fn read_only(class: PackedClass, to: TypeId) -> PackedRegister
-        ensures { known_of result
+        ensures { register_type_of result
             ≡ typed.RegisterType.Reference (typed.Class.Frozen (class_of class)) to }
     {
         let [kind, number] = class.bits.to_le_bytes();
@@ -137,7 +137,7 @@ impl PackedRegister {
     }
 
     pub fn pack(known: RegisterType) -> PackedRegister
-        ensures { known_of result ≡ known_shown known }
+        ensures { register_type_of result ≡ known_shown known }
     {
         match known {
             RegisterType::Undefined => PackedRegister::undefined(),
@@ -149,7 +149,7 @@ impl PackedRegister {
     }
 
     pub fn unpacked(self) -> RegisterType
-        ensures { known_shown result ≡ known_of self }
+        ensures { known_shown result ≡ register_type_of self }
     {
         match self.kind() {
             INT => RegisterType::Int,
@@ -190,7 +190,7 @@ impl PackedRegister {
 
     #[inline]
     pub fn is_int(self) -> bool
-        ensures { result ≡ is_integer (known_of self) }
+        ensures { result ≡ is_integer (register_type_of self) }
     {
         self.kind() == INT
     }
@@ -198,7 +198,7 @@ impl PackedRegister {
     /// Whether it is a number or a reference.
     #[inline]
     pub fn is_copyable(self) -> bool
-        ensures { result ≡ is_copyable (known_of self) }
+        ensures { result ≡ is_copyable (register_type_of self) }
     {
         matches!(self.kind(), INT | REFERENCE | READ_ONLY)
     }
@@ -206,7 +206,7 @@ impl PackedRegister {
     /// Whether the register owns an object.
     #[inline]
     pub fn is_owner(self) -> bool
-        ensures { result ≡ typed.is_owner (known_of self) }
+        ensures { result ≡ typed.is_owner (register_type_of self) }
     {
         self.kind() == OWNER
     }
@@ -214,7 +214,7 @@ impl PackedRegister {
     /// The type of the object that it owns.
     #[inline]
     pub fn owned(self) -> Option<TypeId>
-        ensures { result ≡ owned_by (known_of self) }
+        ensures { result ≡ owned_by (register_type_of self) }
     {
         match self.kind() {
             OWNER => Some(self.type_id()),
@@ -225,7 +225,7 @@ impl PackedRegister {
     /// The class and the type of what a reference refers to, read-only or not.
     #[inline]
     pub fn referred(self) -> Option<(PackedClass, TypeId)>
-        ensures { option_map (λ x. (class_of x.0, x.1)) result ≡ referred (known_of self) }
+        ensures { option_map (λ x. (class_of x.0, x.1)) result ≡ referred (register_type_of self) }
     {
         match self.kind() {
             REFERENCE | READ_ONLY => Some((self.class(), self.type_id())),
@@ -236,7 +236,7 @@ impl PackedRegister {
     /// The type of the value that a reference refers to, unless it is read-only.
     #[inline]
     pub fn changeable(self) -> Option<TypeId>
-        ensures { result ≡ changeable_by (known_of self) }
+        ensures { result ≡ changeable_by (register_type_of self) }
     {
         match self.kind() {
             REFERENCE => Some(self.type_id()),
@@ -248,7 +248,7 @@ impl PackedRegister {
     /// `shared`.
     #[inline]
     pub fn part(self, of: &Type, part: TypeId) -> PackedRegister
-        ensures { known_of result ≡ part_below (form_of of.now) part (known_of self) }
+        ensures { register_type_of result ≡ part_below (form_of of.now) part (register_type_of self) }
     {
         match (self.kind(), of) {
             (REFERENCE, Type::Shared(_)) | (READ_ONLY, _) => {
@@ -263,7 +263,7 @@ impl PackedRegister {
     /// object that the class shares.
     #[inline]
     pub fn without(self, class: PackedClass) -> PackedRegister
-        ensures { known_of result ≡ typed.without_class (class_of class) (known_of self) }
+        ensures { register_type_of result ≡ typed.without_class (class_of class) (register_type_of self) }
     {
         if self.bits >> 16 == u32::from(class.bits) {
             PackedRegister::undefined()
@@ -276,7 +276,7 @@ impl PackedRegister {
     /// an object after one part only.
     #[inline]
     pub fn joined(self, other: PackedRegister) -> (PackedRegister, bool)
-        ensures { joined_to result ≡ typed.joined_one (known_of self) (known_of other) }
+        ensures { joined_to result ≡ typed.joined_one (register_type_of self) (register_type_of other) }
     {
         let same = self == other;
         let lost = !same & (self.is_owner() | other.is_owner());
@@ -291,7 +291,7 @@ impl PackedRegister {
     /// Tests at the `END` of a loop's body, where `after` is known, that what was known before the loop is still true.
     #[inline]
     pub fn keeps(self, after: PackedRegister) -> Result<(), Reason>
-        ensures { checked (λ x. x) result ≡ typed.kept_one (known_of self) (known_of after) }
+        ensures { checked (λ x. x) result ≡ typed.kept_one (register_type_of self) (register_type_of after) }
     {
         if self.bits == 0 {
             if after.is_owner() {

@@ -1,6 +1,6 @@
 ghost use Rattle.std.specs.Prelude.{◌≡◌, replicate, slice_set};
 ghost use Rattle.client_spec.specs.Typed as typed;
-ghost use Rattle.client_verify.specs.Views.{class_of, known_of, known_shown, registers_of, checked};
+ghost use Rattle.client_verify.specs.Views.{class_of, register_type_of, known_shown, registers_of, checked};
 ghost use Rattle.client_verify.specs.Checking.{referred, others, emptied};
 
 use crate::packed::{PackedClass, PackedRegister};
@@ -44,7 +44,7 @@ impl Registers {
     /// What `get` returns, packed.
     #[inline]
     pub fn packed(&self, register: u8) -> PackedRegister
-        ensures { known_of result ≡ typed.known (registers_of self.now) register }
+        ensures { register_type_of result ≡ typed.known (registers_of self.now) register }
     {
         let place = usize::from(register);
         if place < COUNT {
@@ -56,7 +56,8 @@ impl Registers {
 
     #[inline]
     pub fn set_packed(&mut self, register: u8, to: PackedRegister)
-        ensures { registers_of self.new ≡ slice_set (registers_of self.old) register (known_of to) }
+        ensures { registers_of self.new
+            ≡ slice_set (registers_of self.old) register (register_type_of to) }
     {
         let place = usize::from(register);
         if place < COUNT {

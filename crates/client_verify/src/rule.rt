@@ -37,15 +37,15 @@ impl<'a> Rule<'a> {
     ghost use Rattle.std.specs.Option.{option_map};
     ghost use Rattle.seg_spec.specs.Types.{form_at};
     ghost use Rattle.seg_layout.specs.Forms.{form_of};
-    ghost use Rattle.client_verify.specs.Views.{known_of};
+    ghost use Rattle.client_verify.specs.Views.{register_type_of};
     ghost use Rattle.client_verify.specs.Checking.{referred, field_at, part_of, is_kind, is_kind_at, is_inside, is_lost, shares, part_known, borrowed_from, held, part_held as part_in, meets as meets_in, given as given_in, checked_by, known_in_parts};
-    ghost use Rattle.client_verify.specs.Changes.{given_of, known_by};
-    ghost use Rattle.client_verify.specs.Steps.{types_of, before_of, instruction_in, step_by};
+    ghost use Rattle.client_verify.specs.Changes.{given_register, known_by};
+    ghost use Rattle.client_verify.specs.Steps.{rule_types, before_of, instruction_in, rule_input};
 
     /// The rule of an instruction before which this is known.
     #[inline(always)]
     pub fn new(types: &'a TypeTable, before: &'a Registers, instruction: Instruction) -> Rule<'a>
-        ensures types { types_of result ≡ types.now }
+        ensures types { rule_types result ≡ types.now }
         ensures before { before_of result ≡ before.now }
         ensures instruction { instruction_in result ≡ instruction }
     {
@@ -65,11 +65,11 @@ impl<'a> Rule<'a> {
     #[inline(always)]
     pub fn apply(&self) -> Result<After, Reason>
         ensures { (constants : List syntax.Constant) →
-            IsInstruction (types_of self.now) constants
+            IsInstruction (rule_types self.now) constants
             (row_of (instruction_in self.now).operation).role
             (instruction_of (instruction_in self.now)) →
             checked (known_by (registers_of (before_of self.now))) result
-            ≡ rule_at (types_of self.now) constants
+            ≡ rule_at (rule_types self.now) constants
             (instruction_of (instruction_in self.now)) (registers_of (before_of self.now)) }
     {
         let after = self.after();
@@ -80,9 +80,9 @@ impl<'a> Rule<'a> {
     /// What the instruction changes if it isn't rejected.
     #[inline(always)]
     fn after(&self) -> After
-        ensures given { given_of result ≡ given_in (step_by self.now) }
+        ensures given { given_register result ≡ given_in (rule_input self.now) }
         ensures known { known_by (registers_of self.now.before.now) result
-            ≡ known_in_parts (step_by self.now) }
+            ≡ known_in_parts (rule_input self.now) }
     {
         After {
             role: self.row.role,
@@ -99,7 +99,7 @@ impl<'a> Rule<'a> {
     #[inline(always)]
     fn check(&self, after: &After) -> Result<(), Reason>
         ensures { checked (λ x. x) result
-            ≡ checked_by (step_by self.now) (given_of after.now) }
+            ≡ checked_by (rule_input self.now) (given_register after.now) }
     {
         let Instruction { b, c, .. } = self.instruction;
         if !self.meets(self.row.needs_b, b) || !self.meets(self.row.needs_c, c) {
@@ -117,8 +117,8 @@ impl<'a> Rule<'a> {
     /// Whether the object of register c is to be put into a part of itself.
     #[inline]
     fn is_inside(&self) -> bool
-        ensures { result ≡ is_inside (step_by self.now).row.ends
-            (referred (held (step_by self.now))) self.now.instruction.c }
+        ensures { result ≡ is_inside (rule_input self.now).row.ends
+            (referred (held (rule_input self.now))) self.now.instruction.c }
     {
         match self.row.ends {
             Ends::Moved | Ends::Frozen => match self.held().referred() {
@@ -131,7 +131,7 @@ impl<'a> Rule<'a> {
 
     /// Whether the register that changes owns an object, which would be lost.
     fn loses_owner(&self, after: &After) -> bool
-        ensures { result ≡ is_lost (given_of after.now) (registers_of self.now.before.now) }
+        ensures { result ≡ is_lost (given_register after.now) (registers_of self.now.before.now) }
     {
         match after.given {
             Some((register, _)) => self.before.packed(register).is_owner(),
@@ -142,7 +142,7 @@ impl<'a> Rule<'a> {
     /// Whether a register contains what is needed.
     #[inline(always)]
     fn meets(&self, need: Need, register: u8) -> bool
-        ensures { result ≡ meets_in (step_by self.now) need register }
+        ensures { result ≡ meets_in (rule_input self.now) need register }
     {
         let before = self.before;
         match need {
@@ -172,7 +172,7 @@ impl<'a> Rule<'a> {
 
     /// Whether a type is a `shared` of the same type as the one that register b refers to.
     fn is_alike(&self, type_id: TypeId) -> bool
-        ensures { result ≡ shares (part_in (step_by self.now))
+        ensures { result ≡ shares (part_in (rule_input self.now))
             (form_at self.now.types.now type_id) }
     {
         match self.types.kind(type_id) {
@@ -248,14 +248,14 @@ impl<'a> Rule<'a> {
     /// What is known of register b.
     #[inline]
     fn held(&self) -> PackedRegister
-        ensures { known_of result ≡ held (step_by self.now) }
+        ensures { register_type_of result ≡ held (rule_input self.now) }
     {
         self.before.packed(self.instruction.b)
     }
 
     /// The type of a part of what register b refers to.
     fn part(&self) -> Option<TypeId>
-        ensures { result ≡ part_in (step_by self.now) }
+        ensures { result ≡ part_in (rule_input self.now) }
     {
         let (_, to) = self.held().referred()?;
         self.part_of(&self.types.kind(to)?)
@@ -264,7 +264,8 @@ impl<'a> Rule<'a> {
     /// The register that changes, and what it contains after success.
     #[inline(always)]
     fn given(&self) -> Option<(u8, PackedRegister)>
-        ensures { option_map (λ x. (x.0, known_of x.1)) result ≡ given_in (step_by self.now) }
+        ensures { option_map (λ x. (x.0, register_type_of x.1)) result
+            ≡ given_in (rule_input self.now) }
     {
         let Instruction { a, b, .. } = self.instruction;
         let given = match self.row.gives {
@@ -290,7 +291,8 @@ impl<'a> Rule<'a> {
 
     /// A reference to the object that register b owns.
     fn borrowed(&self) -> PackedRegister
-        ensures { known_of result ≡ borrowed_from self.now.instruction.b (held (step_by self.now)) }
+        ensures { register_type_of result
+            ≡ borrowed_from self.now.instruction.b (held (rule_input self.now)) }
     {
         match self.held().owned() {
             Some(owned) => {
@@ -302,8 +304,9 @@ impl<'a> Rule<'a> {
 
     /// A reference to a part of what register b refers to. A part of a text is a number.
     fn part_reference(&self) -> PackedRegister
-        ensures { known_of result ≡ part_known self.now.types.now self.now.instruction.number
-            (held (step_by self.now)) }
+        ensures { register_type_of result
+            ≡ part_known self.now.types.now self.now.instruction.number
+            (held (rule_input self.now)) }
     {
         let held = self.held();
         let Some((_, to)) = held.referred() else {

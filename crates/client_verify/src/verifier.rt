@@ -17,7 +17,7 @@ use seg_layout::TypeTable;
 
 /// The kind of an open part of the code.
 #[derive(Debug, Clone, Copy)]
-enum Part {
+enum PartState {
     Success,
     /// An else part, after a success part of so many steps.
     Else { steps: u64 },
@@ -28,7 +28,7 @@ enum Part {
 /// An open part, and what its end needs.
 #[derive(Debug, Clone, Copy)]
 struct Open {
-    part: Part,
+    part: PartState,
     // the steps of the code before the part
     steps: u64,
     // what is known where the else part begins, where the success part ended, or before the loop
@@ -38,7 +38,7 @@ struct Open {
 impl Default for Open {
     fn default() -> Open {
         Open {
-            part: Part::Success,
+            part: PartState::Success,
             steps: 0,
             registers: Registers::new(),
         }
@@ -127,7 +127,7 @@ impl<'a> Verifier<'a> {
         let after = Rule::new(self.types, &self.registers, instruction).apply()?;
         after.end(&mut self.registers);
         after.fail(&mut self.registers);
-        self.push(Part::Success);
+        self.push(PartState::Success);
         after.succeed(&mut self.registers);
         Ok(())
     }
@@ -138,12 +138,12 @@ impl<'a> Verifier<'a> {
     {
         Rule::new(self.types, &self.registers, instruction).apply()?;
         let turns = u64::from(instruction.number.unsigned_abs());
-        self.push(Part::Body { turns });
+        self.push(PartState::Body { turns });
         Ok(())
     }
 
     /// Opens a part after an instruction, which keeps what is known here. There is room, since a client's nesting has a limit.
-    fn push(&mut self, part: Part)
+    fn push(&mut self, part: PartState)
         ensures types { self.new.types.now ≡ self.old.types.now }
         ensures registers { self.new.registers ≡ self.old.registers }
         ensures inside { progress_of self.new
@@ -173,7 +173,7 @@ impl<'a> Verifier<'a> {
             let success = self.registers;
             self.registers = open.registers;
             open.registers = success;
-            open.part = Part::Else { steps: self.steps };
+            open.part = PartState::Else { steps: self.steps };
             self.steps = 0;
         }
     }
@@ -188,12 +188,12 @@ impl<'a> Verifier<'a> {
             return Ok(());
         };
         let inside = match open.part {
-            Part::Success => self.steps,
-            Part::Else { steps } => {
+            PartState::Success => self.steps,
+            PartState::Else { steps } => {
                 self.registers.join(&open.registers)?;
                 self.steps.max(steps)
             }
-            Part::Body { turns } => {
+            PartState::Body { turns } => {
                 open.registers.keeps(&self.registers)?;
                 self.registers = open.registers;
                 turns.saturating_mul(self.steps.saturating_add(1))

@@ -18,7 +18,7 @@ use Rattle.client_spec.specs.declared.table.Role.{Role}
 use Rattle.client_code.specs.declared.instruction.Instruction.{Instruction}
 use Rattle.client_program.specs.declared.jump.Jump.{Jump}
 use Rattle.client_sim.specs.Acting.{ActsAs, IsRefusedAs}
-use Rattle.client_sim.specs.Sharing.{SharesCell, FreezesObject, FindsNoRoom}
+use Rattle.client_sim.specs.Sharing.{SharesCell, FreezesObject, RefusesToFreeze}
 use Rattle.client_sim.proofs.Freezing.{world_frozen, freeze_acts, freeze_denied, freeze_used}
 use Rattle.client_sim.proofs.LeafPuts.{with_image}
 use Rattle.client_sim.proofs.Numbers.{with_number}
@@ -26,7 +26,7 @@ use Rattle.client_sim.proofs.Sharing.{share_acts}
 use Rattle.client_vm.proofs.ObjectLaws.{instruction_with, acts_by, refused_by}
 use Rattle.client_vm.specs.declared.machine.Machine.{Machine}
 use Rattle.client_vm.specs.Positions.{place_at}
-use Rattle.client_vm.specs.Worlds.{constants_in, world_of, GivesNumber, GivesUp, Acts, Opens}
+use Rattle.client_vm.specs.Worlds.{constants_in, world_of, GivesNumber, GivesUp, Acts, OpensPart}
 
 Err_inj : {A B : Type 0} {x y : B} → ◌≡◌ {A = Result A B} (Err x) (Err y) → x ≡ y
 Err_inj e = cc
@@ -59,14 +59,14 @@ module _ (allocator : ℕ) (i : Instruction) (old : Machine) (before after : Sto
     pub next : suc (word h.window.bytes next_word) ≤ 2 ^ 32
     pub used_up : suc (word h.window.bytes next_word) ≡ 2 ^ 32 → (result ≡ Err Code.NumbersUsedUp) × (after.window ≡ h.window)
     pub code : suc (word h.window.bytes next_word) < 2 ^ 32 → IsOkUnless result Code.BadAlloc
-    pub frozen : MatchResult result (λ done. FreezesObject allocator h.window.bytes after.window.bytes h.types p object) (λ code. FindsNoRoom allocator h.window.bytes after.window.bytes h.types p object)
+    pub frozen : MatchResult result (λ done. FreezesObject allocator h.window.bytes after.window.bytes h.types p object) (λ code. RefusesToFreeze allocator h.window.bytes after.window.bytes h.types p object)
 
   told : (result : Result (⊤) Code) (object : ℕ) → object ≡ slice_index_or old.positions i.c 0 → TellsFreezing result object heap (place_of to) → TellsFreezing result (slice_index_or old.positions i.c 0) before (place_at old i.b)
   told result object object_is call = subst (λ n. TellsFreezing result n before (place_at old i.b)) object_is (at_cell (TellsFreezing result object) call)
 
   -- register a has 1, and register c no longer owns anything
   pub frozen_opens : (object : ℕ) → object ≡ slice_index_or old.positions i.c 0 → TellsFreezing (Ok tt) object heap (place_of to) → (mid new : Machine) → GivesUp i.c old mid → GivesNumber i.a (pos 1) mid new
-      → Opens Operation.Freeze allocator i Jump.Next old new before after
+      → OpensPart Operation.Freeze allocator i Jump.Next old new before after
   frozen_opens object object_is call mid new gives_up gives is =
       let t = told (Ok tt) object object_is call in
       let w = λ (taken : Option (List ℕ)). world_of old before taken in
@@ -83,7 +83,7 @@ module _ (allocator : ℕ) (i : Instruction) (old : Machine) (before after : Sto
 
   -- register a has the error code: out of memory, or no number was left
   pub refused_opens : (why : Code) (object : ℕ) → object ≡ slice_index_or old.positions i.c 0 → TellsFreezing (Err why) object heap (place_of to) → (new : Machine) → GivesNumber i.a (pos (code_number why)) old new
-      → Opens Operation.Freeze allocator i Jump.Other old new before after
+      → OpensPart Operation.Freeze allocator i Jump.Other old new before after
   refused_opens why object object_is call new gives is =
       let t = told (Err why) object object_is call in
       let w = λ (taken : Option (List ℕ)). world_of old before taken in

@@ -18,7 +18,7 @@ use Rattle.client_sim.proofs.Printing.{took_more}
 use Rattle.client_output.specs.declared.report.Report.{Report}
 use Rattle.client_output.specs.declared.report.Ended.{Ended}
 use Rattle.client_output.specs.declared.report.Ended.TheVariants as ended
-use Rattle.client_vm.specs.Runs.{ending_of, given_of, left_of, IsReady, MayRun, HasRun}
+use Rattle.client_vm.specs.Runs.{ending_of, given_of, left_of, IsReadyToRun, MayRun, HasRun}
 use Rattle.client_vm.specs.Jobs.{Effect, job_at}
 use Rattle.client_vm.specs.Outcomes.{AreReports, HasOutcome}
 use Rattle.seg_spec.specs.Images.{upgraded}
@@ -61,7 +61,7 @@ module _ (allocator : ℕ) (clients : List Client) (moves : List Move) (input : 
     pub lefts : List Left
     pub rest : List Client
     pub accepted : AreAccepted table texts rest
-    pub ready : IsReady allocator [] now table moves
+    pub ready : IsReadyToRun allocator [] now table moves
     pub runs : (more : List Left) → GoOn failed rest (given_of [] moves left now) more → RunClients clients (given_of [] moves input old) (lefts ++ more)
     pub within : (more : List Left) → StayWithin rest more → StayWithin clients (lefts ++ more)
     pub reports_are : AreReports reports lefts
@@ -73,7 +73,7 @@ module _ (allocator : ℕ) (clients : List Client) (moves : List Move) (input : 
   took_nothing None = tt
   took_nothing (Some front) = ap Some (sym (append-nil front))
 
-  pub begins : (texts : List (List ℕ)) (table : Table) → AreAccepted table texts clients → IsReady allocator [] old table moves → Midway texts input old table taken [] false
+  pub begins : (texts : List (List ℕ)) (table : Table) → AreAccepted table texts clients → IsReadyToRun allocator [] old table moves → Midway texts input old table taken [] false
   begins texts table accepted ready = record {
     lefts = [];
     rest = clients;
@@ -188,7 +188,7 @@ opened_region window =
 
 -- an image as it is opened is ready
 opened_ready : (window : Placement) (table : Table) (moves : List Move) (allocator : ℕ) → IsImageOf window.bytes table → word window.bytes allocator_word ≡ allocator
-    → AreMoves (length (region_of window)) (length window.bytes) 0 moves → IsReady allocator [] (opened window) table moves
+    → AreMoves (length (region_of window)) (length window.bytes) 0 moves → IsReadyToRun allocator [] (opened window) table moves
 opened_ready window table moves allocator is named may = record {
   picture = is.picture;
   held = upgraded_held window.bytes is.picture is.held;
@@ -204,7 +204,7 @@ opened_ready window table moves allocator is named may = record {
 -- the clients ran on the image's bytes, from how they ran on the opened segment
 pub ran_on : (texts : List (List ℕ)) (moves : List Move) (input : List ℕ) (window : Placement) (effect : Effect) (table : Table) (allocator : ℕ)
     → IsImageOf window.bytes table → word window.bytes allocator_word ≡ allocator → (clients : List Client) → AreAccepted table texts clients
-    → ((clients : List Client) → AreAccepted table texts clients → IsReady allocator [] (opened window) table moves
+    → ((clients : List Client) → AreAccepted table texts clients → IsReadyToRun allocator [] (opened window) table moves
     → HaveRun clients moves input (opened window) effect.taken effect.saved effect.taken_then effect.reports (ending_of effect.ended))
     → HaveRunOn texts moves input window effect
 ran_on texts moves input window effect table allocator is named clients accepted runs = record {

@@ -1,5 +1,5 @@
 -- A client's run, one instruction at a time.
---     EndsAt stepper                   the stepper is at the end of the code
+--     IsAtEndOfCode stepper            the stepper is at the end of the code
 --     StepsOn allocator old new ..     the current line's instruction was performed; .. are the
 --                                      segment and the output before and after
 use Rattle.std.specs.Prelude.{◌≡◌, ℕ, List, Option, Some, slice_get}
@@ -17,8 +17,8 @@ use Rattle.client_vm.specs.Machines.{control_of}
 use Rattle.client_vm.specs.Passing.{Passes}
 use Rattle.client_vm.specs.Worlds.{DoesOn}
 
-abbrev pub EndsAt : {A : _} → Stepper A → Type 0
-EndsAt stepper = JumpIs (lines_in stepper.program.now) stepper.at 0
+abbrev pub IsAtEndOfCode : {A : _} → Stepper A → Type 0
+IsAtEndOfCode stepper = JumpIs (lines_in stepper.program.now) stepper.at 0
 
 -- the current line's instruction was performed, and the stepper is at the next line
 pub record StepsOn {A : _} (allocator : ℕ) (old new : Stepper A) (stepped : Stepped)

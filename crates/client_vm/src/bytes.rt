@@ -12,7 +12,7 @@ ghost use Rattle.client_vm.specs.Admitted.{IsWrong};
 ghost use Rattle.client_vm.specs.Moves.{moves_of};
 ghost use Rattle.client_vm.specs.Jobs.{job_at, job_of, effect_of};
 ghost use Rattle.client_vm.specs.Outcomes.{IsFaultOfCall, IsRefusedFor, HasOutcome};
-ghost use Rattle.client_vm.specs.Runs.{ending_of, IsReady};
+ghost use Rattle.client_vm.specs.Runs.{ending_of, IsReadyToRun};
 ghost use Rattle.client_vm.specs.Together.{ending_if, AdmittedRan, HaveRun, HaveRunOn};
 ghost use Rattle.client_verify.specs.Texts.{AreWrong, texts_of};
 ghost use Rattle.client_vm.specs.ReadyClients.{texts_in};
@@ -364,7 +364,7 @@ fn run_verified<F: Fit, A: Allocator, W: Sink>(
     requires room { length programs.items ≤ vec_capacity reports }
     ensures runs { (trees : List syntax.Client) →
         AreAccepted segment.types (texts_in programs.entry.items) trees →
-        IsReady F.allocator [] segment.window segment.types (moves_of moves.now) →
+        IsReadyToRun F.allocator [] segment.window segment.types (moves_of moves.now) →
         HaveRun trees (moves_of moves.now) input.now segment.window (W.taken out.old)
         result.image.items (W.taken out.new) result.reports.items (ending_of result.ended) }
     ensures ended { (result.ended ≡ Ended.OutputFailed) ↔ (W.has_failed out.new ≡ true) }
@@ -452,7 +452,7 @@ fn run_all<F: Fit, A: Allocator, B: Allocator, W: Sink>(
     ensures runs { reports.old.items ≡ [] → length programs.now ≤ vec_capacity reports.old →
         W.has_failed out.old ≡ false → (trees : List syntax.Client) →
         AreAccepted segment.old.types (texts_in programs.now) trees →
-        IsReady F.allocator [] segment.old.window segment.old.types (moves_of moves.now) →
+        IsReadyToRun F.allocator [] segment.old.window segment.old.types (moves_of moves.now) →
         HaveRun trees (moves_of moves.now) input.now segment.old.window (W.taken out.old)
         segment.new.window.bytes (W.taken out.new) reports.new.items
         (ending_if (W.has_failed out.new)) }

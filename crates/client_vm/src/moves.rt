@@ -1,7 +1,7 @@
 ghost use Rattle.std.specs.Prelude.{◌≡◌, ℕ, ◌+◌, ◌-◌, ◌%◌, ◌^◌, ◌<◌, ◌≤◌, ◌↔◌, length, IsTrue, MatchOption};
 ghost use Rattle.seg_spec.specs.Window.{region_of, IsPlace};
 ghost use Rattle.client_spec.specs.Clients.{AreMoves, IsFirstBadMove};
-ghost use Rattle.client_program.specs.Moving.{first_step, MakesNext, MakesDue, Waits};
+ghost use Rattle.client_program.specs.Moving.{first_step, MakesNext, MakesDue, CanPerformLines};
 ghost use Rattle.client_vm.specs.Moves.{moves_of};
 
 use seg_manager::{Fit, Segment, Window};
@@ -90,7 +90,7 @@ impl<'a> Moves<'a> {
             (moves_of self.new.rest.now) w.new }
         ensures waits { (room len : ℕ) →
             AreMoves room len steps (moves_of self.old.rest.now) →
-            Waits steps (moves_of self.new.rest.now) result }
+            CanPerformLines steps (moves_of self.new.rest.now) result }
     {
         if steps == self.due() && is_step {
             self.make(w);

@@ -16,10 +16,10 @@ use Rattle.client_vm.proofs.AcceptedLaws.{accepted_so}
 use Rattle.client_output.specs.declared.refused.Refused.{Refused}
 use Rattle.client_vm.specs.Admitted.{IsWrong}
 use Rattle.client_vm.proofs.Refusing.{if_wrong}
-use Rattle.lezgauri_c.specs.Prepared.{text_of}
+use Rattle.lezgauri_c.specs.Prepared.{client_bytes_of}
 use Rattle.lezgauri_c.proofs.OneClient.{only_wrong}
 
-module _ (ready : Ready Global) (client : Client) (spells : SpellsClient (text_of ready) client) (table : Table) where
+module _ (ready : Ready Global) (client : Client) (spells : SpellsClient (client_bytes_of ready) client) (table : Table) where
   pub verified_on : Agree table client.types → IsVerified table client
   verified_on agree =
       let few = ready.client.within in
@@ -33,11 +33,11 @@ module _ (ready : Ready Global) (client : Client) (spells : SpellsClient (text_o
 
   -- if the types don't agree, the fault is the first type that differs
   pub differs_on : (image : List ℕ) → IsImageOf image table → (k : ℕ) → IsFirstDifference table client.types k
-      → IsWrong image (text_of ready ∷ []) (record { client = Some 0; fault = fault.TypeMismatch k })
+      → IsWrong image (client_bytes_of ready ∷ []) (record { client = Some 0; fault = fault.TypeMismatch k })
   differs_on image is k first =
       let refused : Refused = record { client = Some 0; fault = fault.TypeMismatch k } in
       let result : Result (Unit {0}) Refused = Err refused in
-      if_wrong image (text_of ready ∷ []) table is result (only_wrong table (text_of ready) (fault.TypeMismatch k) (client, spells, first))
+      if_wrong image (client_bytes_of ready ∷ []) table is result (only_wrong table (client_bytes_of ready) (fault.TypeMismatch k) (client, spells, first))
 
 -- at most one client is kept
 pub one_kept : (x y : Ready Global) → Some x ≡ Some y → x ≡ y

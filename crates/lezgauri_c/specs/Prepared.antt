@@ -1,6 +1,6 @@
 -- A prepared client that C keeps, or none.
 --     in_hand prepared            the client, if there is one
---     text_of ready               its file
+--     client_bytes_of ready       its file
 --     IsReadyOn image text ready  it was verified against the types of an image
 --     HoldsClient image text prepared     C keeps such a client
 --     OfClient prepared P         if C keeps a client, P is true of its file
@@ -24,12 +24,12 @@ use Rattle.lezgauri_c.specs.declared.prepared.Prepared.{Prepared}
 abbrev pub in_hand : Prepared → Option (Ready Global)
 in_hand prepared = prepared.kept.value
 
-abbrev pub text_of : Ready Global → List ℕ
-text_of ready = bytes_of (client_in ready)
+abbrev pub client_bytes_of : Ready Global → List ℕ
+client_bytes_of ready = bytes_of (client_in ready)
 
 -- The client in a file, which an image's types accept. The types of a sound image are its table.
 pub record IsReadyOn (image text : List ℕ) (ready : Ready Global) : Type 0 where
-  pub text_is : text_of ready ≡ text
+  pub text_is : client_bytes_of ready ≡ text
   pub table : Table
   pub client : Client
   pub spells : SpellsClient text client
@@ -43,9 +43,9 @@ HoldsClient image text prepared =
 -- if C keeps a client, P is true of its file
 abbrev pub OfClient : Prepared → (List ℕ → Type 0) → Type 0
 OfClient prepared P = (ready : Ready Global) → in_hand prepared ≡ Some ready →
-    (client : Client) → SpellsClient (text_of ready) client → P (text_of ready)
+    (client : Client) → SpellsClient (client_bytes_of ready) client → P (client_bytes_of ready)
 
 abbrev pub ReadyRan : Ready Global → Table → List ℕ → Placement → Effect → Type 0
 ReadyRan ready types input window effect =
-    (client : Client) → SpellsClient (text_of ready) client → IsVerified types client →
-    HaveRunOn (text_of ready ∷ []) [] input window effect
+    (client : Client) → SpellsClient (client_bytes_of ready) client → IsVerified types client →
+    HaveRunOn (client_bytes_of ready ∷ []) [] input window effect

@@ -7,7 +7,7 @@ ghost use Rattle.client_verify.specs.Texts.{AreWrong};
 ghost use Rattle.client_output.specs.declared.report.Ended.{Ended};
 ghost use Rattle.client_vm.specs.Admitted.{IsWrong};
 ghost use Rattle.lezgauri_c.specs.Calls.{HasRunOn, IsWrongAs, IsRefusedAs};
-ghost use Rattle.lezgauri_c.specs.Prepared.{in_hand, text_of, IsReadyOn, HoldsClient, OfClient};
+ghost use Rattle.lezgauri_c.specs.Prepared.{in_hand, client_bytes_of, IsReadyOn, HoldsClient, OfClient};
 ghost use Rattle.lezgauri_c.specs.Told.{no_fault, status_number};
 
 use crate::accepting::ready;
@@ -147,7 +147,7 @@ fn boxed_ready(
     types: &TypeTable,
     client: &'static [u8],
 ) -> Result<Box<Ready<'static, Global>>, Refused>
-    ensures text { IfOk result (λ made. text_of made.value ≡ client.now) }
+    ensures text { IfOk result (λ made. client_bytes_of made.value ≡ client.now) }
     ensures accepted { IfOk result (λ made. (tree : syntax.Client) ×
         SpellsClient client.now tree × IsVerified types.now tree) }
     ensures wrong { IfErr result (AreWrong types.now (client.now ∷ [])) }

@@ -12,7 +12,7 @@ ghost use Rattle.client_vm.specs.Admitted.{IsWrong};
 ghost use Rattle.client_vm.specs.Outcomes.{HasOutcome};
 ghost use Rattle.client_vm.specs.Reports.{IsReportOf};
 ghost use Rattle.lezgauri_c.specs.Calls.{whole_job, effect_of_one};
-ghost use Rattle.lezgauri_c.specs.Prepared.{text_of, ReadyRan};
+ghost use Rattle.lezgauri_c.specs.Prepared.{client_bytes_of, ReadyRan};
 
 use crate::accepting::ready;
 use client_vm::{MAX_LEN, Ready, Refused, Report as Told, Sink, Window, header, run};
@@ -63,13 +63,13 @@ pub(crate) fn run_again<A: Allocator, W: Sink>(
     sink: &mut W,
 ) -> (Result<Told, Refused>, Vec<u8, A>)
     requires works { W.has_failed sink.old ≡ false }
-    ensures within { IfOk result.0 (IsReportOf (text_of client.now)) }
+    ensures within { IfOk result.0 (IsReportOf (client_bytes_of client.now)) }
     ensures outcome { OfTree (client_in client.now) (λ _. IfOk result.0 (λ told.
         IsSound image.items → HasOutcome
-        (whole_job image.items (text_of client.now ∷ []) input.now)
+        (whole_job image.items (client_bytes_of client.now ∷ []) input.now)
         (effect_of_one (W.taken sink.old) (W.taken sink.new) result.1.items told))) }
     ensures refused { OfTree (client_in client.now) (λ _. IfErr result.0 (λ refused.
-        IsSound image.items → IsWrong image.items (text_of client.now ∷ []) refused)) }
+        IsSound image.items → IsWrong image.items (client_bytes_of client.now ∷ []) refused)) }
     ensures mismatch { IfErr result.0 (λ refused. IsSound image.items →
         (k : ℕ) × (refused.fault ≡ Reason.TypeMismatch k)) }
     ensures kept { OnErr result.0 (result.1.items ≡ image.items) }
@@ -147,7 +147,7 @@ pub(crate) fn run_ready<A: Allocator, W: Sink>(
     sink: &mut W,
 ) -> (Told, Vec<u8, A>)
     requires works { W.has_failed sink.old ≡ false }
-    ensures within { IsReportOf (text_of client.now) result.0 }
+    ensures within { IsReportOf (client_bytes_of client.now) result.0 }
     ensures runs { IsImageOf window.bytes types → ReadyRan client.now types input.now window
         (effect_of_one (W.taken sink.old) (W.taken sink.new) result.1.items result.0) }
     ensures ended { (result.0.ended ≡ Ended.OutputFailed) ↔ (W.has_failed sink.new ≡ true) }
@@ -168,7 +168,7 @@ fn run_on<F: Fit, A: Allocator, W: Sink>(
     sink: &mut W,
 ) -> (Told, Vec<u8, A>)
     requires works { W.has_failed sink.old ≡ false }
-    ensures within { IsReportOf (text_of client.now) result.0 }
+    ensures within { IsReportOf (client_bytes_of client.now) result.0 }
     ensures runs { IsImageOf window.bytes types → word window.bytes allocator_word ≡ F.allocator →
         ReadyRan client.now types input.now window
         (effect_of_one (W.taken sink.old) (W.taken sink.new) result.1.items result.0) }

@@ -6,7 +6,7 @@ ghost use Rattle.seg_spec.specs.Heap.{Span, Tile, span, link_at, best_fit, by_si
 ghost use Rattle.seg_spec.specs.Window.{with_bytes, KeepsHost};
 ghost use Rattle.seg_spec.proofs.BytesLaws.{number-slice};
 ghost use Rattle.seg_spec.proofs.OrderSteps.{then_steps_up};
-ghost use Rattle.seg_rbtree.specs.Parts.{part};
+ghost use Rattle.seg_rbtree.specs.Parts.{byte_range};
 ghost use Rattle.seg_rbtree.specs.Roots.{root_word};
 ghost use Rattle.seg_block.specs.Blocks.{block_end, Covers, LiesIn, IsSized};
 ghost use Rattle.seg_block.specs.Tiling.{tile_of, halves, IsTiling, Retiles};
@@ -44,7 +44,7 @@ impl NodeOrder<u32> for BySize {
 
     ghost compare_key = { λ _ bytes x key. nat_cmp (node_units bytes x) key };
 
-    ghost read = { λ _ _ x. part (x - 16) 4 ∷ [] };
+    ghost read = { λ _ _ x. byte_range (x - 16) 4 ∷ [] };
 
     fn nodes(&self, view: View, node: NodeAt, other: NodeAt) -> Ordering {
         rank(view, node).cmp(&rank(view, other))

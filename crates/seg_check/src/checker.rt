@@ -13,7 +13,7 @@ ghost use Rattle.seg_check.specs.Stations.{KnowsNothing, KnowsHeap, FindsHeap, F
 use crate::claims::Claims;
 use crate::fault::ContentFault;
 use crate::header::check_header;
-use crate::image::Image;
+use crate::image::TypedImage;
 use seg_layout::{ENTRY, MAX_TYPES, Type, TypeId, TypeTable};
 use seg_ptr::{Window, header};
 use seg_raw::Fault;
@@ -80,7 +80,7 @@ fn check_heap<A: Allocator, B: Allocator + Copy>(
     ensures fault { HasFront w.now.bytes types.now → IfErr result (IsFaultOf w.now.bytes) }
 {
     let mut claims = no_claims(alloc, w, types)?;
-    let image = Image {
+    let image = TypedImage {
         w,
         bytes: w.view(),
         types,
@@ -105,7 +105,7 @@ fn no_claims<A: Allocator, B: Allocator + Copy>(
     Claims::new(alloc, w, shares(types))
 }
 
-impl<A: Allocator> Image<'_, A> {
+impl<A: Allocator> TypedImage<'_, A> {
     /// Checks the blocks of the heap, and the free structure.
     fn check_structure<B: Allocator>(&self, claims: &mut Claims<B>) -> Result<(), Fault>
         ensures { HasFront self.now.w.now.bytes self.now.types.now →

@@ -4,10 +4,10 @@ ghost use Rattle.seg_spec.specs.Sound.{times};
 ghost use Rattle.seg_block.specs.Tags.{word_of};
 ghost use Rattle.seg_spec.specs.Bytes.{word};
 ghost use Rattle.seg_spec.specs.Header.{next_word};
-ghost use Rattle.seg_check.specs.Marks.{Known, nothing_known, slots_in, IsUnit, IsMarked, IsCounted, KeepsOthers, KeepsNames, Adds};
-ghost use Rattle.seg_check.specs.Claiming.{Refuses, AreLive, CanClaim, ClaimsBlock};
-ghost use Rattle.seg_check.specs.Naming.{IsUnder, CanName, NamesBlock, IsNameable, ClaimsFrozen, number_at, slot_of, left_at, one_less};
-ghost use Rattle.seg_check.specs.Cells.{AreRight};
+ghost use Rattle.seg_check.specs.Marks.{Known, nothing_known, slots_in, IsUnit, IsMarked, AreBlocksCounted, KeepsOtherBlocks, KeepsNaming, AddsBlock};
+ghost use Rattle.seg_check.specs.Claiming.{Refutes, HaveLiveHeaders, CanClaim, ClaimsBlock};
+ghost use Rattle.seg_check.specs.Naming.{IsUnder, CanName, NamesBlock, IsNameable, ClaimsFrozen, frozen_number_at, slot_of, left_at, one_less};
+ghost use Rattle.seg_check.specs.Cells.{AreCountsRight};
 
 use crate::bytes::{frozen_number, has_payload};
 use crate::fault::ContentFault;
@@ -85,7 +85,7 @@ impl<A: Allocator> Claims<A> {
     /// them wraps.
     pub(crate) fn add(&mut self, block: BlockAt, is_live: bool)
         ensures added { IsUnit self.old.units block → times block self.old.unclaimed ≡ 0 →
-            times block self.old.free ≡ 0 → Adds self.old block is_live self.new }
+            times block self.old.free ≡ 0 → AddsBlock self.old block is_live self.new }
         ensures units { self.new.units ≡ self.old.units }
     {
         if is_live {
@@ -100,7 +100,7 @@ impl<A: Allocator> Claims<A> {
     fn set_mark(&mut self, block: BlockAt, new: Mark)
         ensures own { IsUnit self.old.units block → IsMarked self.new block new }
         ensures live { IsMarked self.old block Mark.Live → IsMarked self.new block new }
-        ensures others { KeepsOthers self.old self.new block }
+        ensures others { KeepsOtherBlocks self.old self.new block }
     {
         if let Some(unit) = self.unit_at(block) {
             self.marks[unit] = new;
@@ -156,10 +156,11 @@ impl<A: Allocator> Claims<A> {
         size: u64,
     ) -> Result<PayloadAt, ContentFault>
         ensures taken { self.new.taken ≡ self.old.taken }
-        ensures claimed { AreLive bytes.entry.bytes.now self.old.unclaimed → IfOk result
+        ensures claimed { HaveLiveHeaders bytes.entry.bytes.now self.old.unclaimed → IfOk result
             (ClaimsBlock bytes.entry.bytes.now self.old self.new pointer (word_of tag) size []) }
-        ensures refused { AreLive bytes.entry.bytes.now self.old.unclaimed → IfErr result (λ fault.
-            Refuses fault (CanClaim bytes.entry.bytes.now self.old pointer (word_of tag) size)) }
+        ensures refused { HaveLiveHeaders bytes.entry.bytes.now self.old.unclaimed →
+            IfErr result (λ fault.
+            Refutes fault (CanClaim bytes.entry.bytes.now self.old pointer (word_of tag) size)) }
     {
         let bad = ContentFault::BadPointer(pointer);
         let Some(start) = bytes.target(pointer as usize) else {
@@ -211,7 +212,7 @@ impl<A: Allocator> Claims<A> {
             IfOk result
             (NamesBlock bytes.entry.bytes.now self.old self.new cell (word_of tag) size) }
         ensures refused { IsNameable bytes.entry.bytes.now self.old →
-            IfErr result (λ fault. Refuses fault
+            IfErr result (λ fault. Refutes fault
             (CanName bytes.entry.bytes.now self.old cell (word_of tag) size)) }
     {
         let bad = ContentFault::BadPointer(cell);
@@ -291,11 +292,11 @@ impl<A: Allocator> Claims<A> {
         ensures next { IfSome result (λ _.
             (self.old.taken < 2 ^ 64) × (self.new.taken ≡ self.old.taken + 1)) }
         ensures unclaimed { self.new.unclaimed ≡ self.old.unclaimed }
-        ensures counted { IsCounted self.old → IsCounted self.new }
+        ensures counted { AreBlocksCounted self.old → AreBlocksCounted self.new }
         ensures turns { MatchOption result (self.old.turns ≡ [])
             (λ turn. self.old.turns
             ≡ record { turn = turn; below = self.new.naming.below } ∷ self.new.turns) }
-        ensures naming { KeepsNames self.old self.new }
+        ensures naming { KeepsNaming self.old self.new }
     {
         let next = self.queue.get(self.taken).copied()?;
         self.taken += 1;
@@ -307,8 +308,8 @@ impl<A: Allocator> Claims<A> {
     /// below `next`.
     pub(crate) fn check_counts(&self, bytes: View, next: u32) -> Result<(), ContentFault>
         ensures { next ≡ word bytes.entry.bytes.now next_word →
-            MatchResult result (λ _. AreRight bytes.entry.bytes.now self.now)
-            (λ fault. Refuses fault (AreRight bytes.entry.bytes.now self.now)) }
+            MatchResult result (λ _. AreCountsRight bytes.entry.bytes.now self.now)
+            (λ fault. Refutes fault (AreCountsRight bytes.entry.bytes.now self.now)) }
     {
         let mut block = HEAP_START;
         for mark in &self.marks {
@@ -324,7 +325,7 @@ impl<A: Allocator> Claims<A> {
     fn is_right(&self, bytes: View, block: BlockAt, next: u32) -> bool
         ensures { heap_start ≤ block → block + 20 < 2 ^ 32 → IsTrue result
             ↔ ((left_at self.now block ≡ Some 0)
-            × (number_at bytes.entry.bytes.now (block + 16) < next)) }
+            × (frozen_number_at bytes.entry.bytes.now (block + 16) < next)) }
     {
         let number = frozen_number(bytes, block.wrapping_add(UNIT));
         self.left(block) == Some(0) && number < next
@@ -332,7 +333,7 @@ impl<A: Allocator> Claims<A> {
 
     /// The lowest allocated block without an owner.
     pub(crate) fn first_unowned(&self) -> Option<BlockAt>
-        ensures { IsCounted self.now → MatchOption result (self.now.unclaimed ≡ [])
+        ensures { AreBlocksCounted self.now → MatchOption result (self.now.unclaimed ≡ [])
             (λ block. (1 ≤ times block self.now.unclaimed) ×
             ((h : ℕ) → 1 ≤ times h self.now.unclaimed → block ≤ h)) }
     {

@@ -6,7 +6,7 @@ ghost use Rattle.seg_check.specs.Marks.{KnowsTiles};
 ghost use Rattle.seg_check.specs.Walks.{is_above};
 
 use crate::claims::Claims;
-use crate::image::Image;
+use crate::image::TypedImage;
 use crate::walk::{Tree, Visit};
 use seg_block::{BlockAt, block_of, link, units};
 use seg_ptr::{Window, header};
@@ -15,7 +15,7 @@ use std::alloc::Allocator;
 /// The position of the pointer to the root.
 const FREE: u32 = header::FREE as u32;
 
-impl<A: Allocator> Image<'_, A> {
+impl<A: Allocator> TypedImage<'_, A> {
     /// Checks the tree of best fit: it has all free blocks, ordered by size and then by position, and none of them has
     /// a link. `Err` has the position of the pointer to the root.
     pub(crate) fn check_free_tree<B: Allocator>(&self, claims: &Claims<B>) -> Result<(), u32>

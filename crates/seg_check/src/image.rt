@@ -18,7 +18,7 @@ use std::alloc::Allocator;
 
 /// An image whose header and types are right.
 #[derive(Drop)]
-pub(crate) struct Image<'a, A: Allocator> {
+pub(crate) struct TypedImage<'a, A: Allocator> {
     pub(crate) w: &'a Window<A>,
     /// The bytes of the window.
     pub(crate) bytes: View<'a>,
@@ -26,7 +26,7 @@ pub(crate) struct Image<'a, A: Allocator> {
     ghost same: { bytes.bytes.now ≡ w.now.bytes },
 }
 
-impl<A: Allocator> Image<'_, A> {
+impl<A: Allocator> TypedImage<'_, A> {
     /// Checks the free structure of the image's allocator. `Err` has the position of the wrong pointer.
     pub(crate) fn check_free<B: Allocator>(
         &self,
@@ -48,16 +48,16 @@ impl<A: Allocator> Image<'_, A> {
 
     ghost use Rattle.std.specs.Prelude.{◌*◌, IfErr, IfOk};
     ghost use Rattle.seg_block.specs.Tags.{word_of};
-    ghost use Rattle.seg_check.specs.Claiming.{Refuses, AreLive, CanClaim, ClaimsBlock, turns_where, has_turns};
+    ghost use Rattle.seg_check.specs.Claiming.{Refutes, HaveLiveHeaders, CanClaim, ClaimsBlock, turns_where, has_turns};
 
     /// How a cell claims the blocks of its content.
-    pub(crate) fn owner(&self, content: &Content) -> Owner<'_>
+    pub(crate) fn owner(&self, content: &Content) -> Claimant<'_>
         ensures bytes { result.bytes.bytes.now ≡ self.now.w.now.bytes }
         ensures tag { result.tag ≡ content.now.tag }
         ensures entry_size { result.entry_size ≡ content.now.entry.size }
         ensures has_turns { result.has_turns ≡ has_turns self.now.types.now content.now.entry.held }
     {
-        Owner {
+        Claimant {
             bytes: self.bytes,
             tag: content.tag,
             entry_size: content.entry.size,
@@ -75,12 +75,12 @@ impl<A: Allocator> Image<'_, A> {
         count: u32,
     ) -> Result<PayloadAt, ContentFault>
         ensures taken { claims.new.taken ≡ claims.old.taken }
-        ensures claimed { AreLive self.now.w.now.bytes claims.old.unclaimed →
+        ensures claimed { HaveLiveHeaders self.now.w.now.bytes claims.old.unclaimed →
             IfOk result (λ start. ClaimsBlock self.now.w.now.bytes claims.old claims.new pointer
             (word_of content.now.tag) (count * content.now.entry.size)
             (turns_where (has_turns self.now.types.now content.now.entry.held) start count) start) }
-        ensures refused { AreLive self.now.w.now.bytes claims.old.unclaimed →
-            IfErr result (λ fault. Refuses fault (CanClaim self.now.w.now.bytes claims.old pointer
+        ensures refused { HaveLiveHeaders self.now.w.now.bytes claims.old.unclaimed →
+            IfErr result (λ fault. Refutes fault (CanClaim self.now.w.now.bytes claims.old pointer
             (word_of content.now.tag) (count * content.now.entry.size))) }
     {
         self.owner(content).claim(claims, pointer, count)
@@ -100,7 +100,7 @@ impl<A: Allocator> Image<'_, A> {
 /// How a cell claims the blocks that it points to. It has its own copy of what each claim reads, since a list claims
 /// each of its nodes.
 #[derive(Clone, Copy)]
-pub(crate) struct Owner<'a> {
+pub(crate) struct Claimant<'a> {
     bytes: View<'a>,
     tag: Tag,
     entry_size: u32,
@@ -108,10 +108,10 @@ pub(crate) struct Owner<'a> {
     has_turns: bool,
 }
 
-impl Owner<'_> {
+impl Claimant<'_> {
     ghost use Rattle.std.specs.Prelude.{◌*◌, IfErr, IfOk};
     ghost use Rattle.seg_block.specs.Tags.{word_of};
-    ghost use Rattle.seg_check.specs.Claiming.{Refuses, AreLive, CanClaim, ClaimsBlock, turns_where};
+    ghost use Rattle.seg_check.specs.Claiming.{Refutes, HaveLiveHeaders, CanClaim, ClaimsBlock, turns_where};
 
     /// Claims the block that a pointer points to, which must have room for `n` entries, and returns the position of its
     /// payload.
@@ -123,12 +123,12 @@ impl Owner<'_> {
         count: u32,
     ) -> Result<PayloadAt, ContentFault>
         ensures taken { claims.new.taken ≡ claims.old.taken }
-        ensures claimed { AreLive self.entry.bytes.bytes.now claims.old.unclaimed →
+        ensures claimed { HaveLiveHeaders self.entry.bytes.bytes.now claims.old.unclaimed →
             IfOk result (λ start. ClaimsBlock self.entry.bytes.bytes.now claims.old claims.new
             pointer (word_of self.entry.tag) (count * self.entry.entry_size)
             (turns_where self.entry.has_turns start count) start) }
-        ensures refused { AreLive self.entry.bytes.bytes.now claims.old.unclaimed →
-            IfErr result (λ fault. Refuses fault (CanClaim self.entry.bytes.bytes.now claims.old
+        ensures refused { HaveLiveHeaders self.entry.bytes.bytes.now claims.old.unclaimed →
+            IfErr result (λ fault. Refutes fault (CanClaim self.entry.bytes.bytes.now claims.old
             pointer (word_of self.entry.tag) (count * self.entry.entry_size))) }
     {
         let size = u64::from(count) * u64::from(self.entry_size);

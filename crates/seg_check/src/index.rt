@@ -7,14 +7,14 @@ ghost use Rattle.seg_spec.specs.Index.{Precedes, index_node_size};
 ghost use Rattle.seg_spec.specs.Shapes.{tree_words};
 ghost use Rattle.seg_spec.specs.Reads.{count_at};
 ghost use Rattle.seg_layout.specs.Forms.{has_cells};
-ghost use Rattle.seg_check.specs.Claiming.{Refuses, turns_where};
+ghost use Rattle.seg_check.specs.Claiming.{Refutes, turns_where};
 ghost use Rattle.seg_check.specs.Marks.{awaiting};
 ghost use Rattle.seg_check.specs.Resolving.{IsReady};
 ghost use Rattle.seg_check.specs.Roots.{StepsIndex, AdvancesRoots, CanResolveRoots, names_ahead, ClaimsNamed, CanClaimNamed, ClaimsTree, CanClaimTree};
 
 use crate::claims::Claims;
 use crate::fault::ContentFault;
-use crate::image::Image;
+use crate::image::TypedImage;
 use crate::marks::Turn;
 use crate::walk::{Tree, Visit};
 use seg_cells::Content;
@@ -27,7 +27,7 @@ use std::alloc::Allocator;
 /// The position of the pointer to the entries, or to the root node.
 const INDEX: u32 = header::INDEX as u32;
 
-impl<'w, A: Allocator> Image<'w, A> {
+impl<'w, A: Allocator> TypedImage<'w, A> {
     /// Checks the index, flat or a tree, and each entry with its object.
     pub(crate) fn check_index<B: Allocator>(
         &self,
@@ -109,7 +109,7 @@ impl<'w, A: Allocator> Image<'w, A> {
         ensures refused { tree.root ≡ index_cell →
             tree.nodes ≡ count_at self.now.w.now.bytes index_cell →
             IsReady self.now.w.now.bytes self.now.types.now claims.old →
-            IfErr result (λ fault. Refuses fault
+            IfErr result (λ fault. Refutes fault
             (CanClaimTree self.now.w.now.bytes claims.old.unclaimed)) }
     {
         let content = Content::index_node();
@@ -136,7 +136,7 @@ impl<'w, A: Allocator> Image<'w, A> {
             (names_ahead (at ∷ rest) before.now) (names_ahead rest name.now)) }
         ensures refused { (rest : List ℕ) →
             IsReady self.now.w.now.bytes self.now.types.now claims.old →
-            IfErr result (λ fault. Refuses fault
+            IfErr result (λ fault. Refutes fault
             (CanResolveRoots self.now.w.now.bytes self.now.types.now claims.old
             (names_ahead (at ∷ rest) before.now))) }
     {
@@ -167,7 +167,7 @@ impl<'w, A: Allocator> Image<'w, A> {
             at entry.now.count entry.now.name_len) }
         ensures refused { IsReady self.now.w.now.bytes self.now.types.now claims.old →
             entry.now.object ≡ target self.now.w.now.bytes at →
-            IfErr result (λ fault. Refuses fault (CanClaimNamed self.now.w.now.bytes
+            IfErr result (λ fault. Refutes fault (CanClaimNamed self.now.w.now.bytes
             self.now.types.now claims.old at entry.now.count entry.now.name_len)) }
     {
         let Some(type_id) = entry.type_id(self.w) else {

@@ -3,17 +3,17 @@ ghost use Rattle.seg_spec.specs.Pointer.{target};
 ghost use Rattle.seg_spec.specs.Types.{Form};
 ghost use Rattle.seg_cells.specs.Places.{object_at};
 ghost use Rattle.seg_check.specs.Resolving.{IsReady, Steps};
-ghost use Rattle.seg_check.specs.Cells.{NamesBy};
+ghost use Rattle.seg_check.specs.Cells.{CellsPointTo};
 
 use crate::claims::Claims;
 use crate::fault::ContentFault;
-use crate::image::Image;
+use crate::image::TypedImage;
 use seg_cells::{CellAt, Content, PREVIOUS};
 use seg_ptr::View;
 use seg_rbtree::NodeAt;
 use std::alloc::Allocator;
 
-impl<A: Allocator> Image<'_, A> {
+impl<A: Allocator> TypedImage<'_, A> {
     /// Checks a list: claims its nodes along the pointers to the next, and then checks that they are a ring, in which
     /// each node points to the previous one.
     pub(crate) fn check_list<B: Allocator>(
@@ -23,7 +23,7 @@ impl<A: Allocator> Image<'_, A> {
         cell: CellAt,
     ) -> Result<(), ContentFault>
         ensures taken { claims.new.taken ≡ claims.old.taken }
-        ensures steps { (T U : ℕ) → NamesBy self.now.types.now T (Form.list U) content.now →
+        ensures steps { (T U : ℕ) → CellsPointTo self.now.types.now T (Form.list U) content.now →
             IsReady self.now.w.now.bytes self.now.types.now claims.old →
             Steps self.now.w.now.bytes self.now.types.now claims.old claims.new
             (object_at cell T ∷ []) result }

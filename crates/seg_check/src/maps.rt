@@ -3,16 +3,16 @@ ghost use Rattle.seg_spec.specs.Bytes.{signed_long};
 ghost use Rattle.seg_spec.specs.Types.{Form};
 ghost use Rattle.seg_cells.specs.Places.{object_at};
 ghost use Rattle.seg_check.specs.Resolving.{IsReady, Steps};
-ghost use Rattle.seg_check.specs.Cells.{NamesBy};
+ghost use Rattle.seg_check.specs.Cells.{CellsPointTo};
 
 use crate::claims::Claims;
 use crate::fault::ContentFault;
-use crate::image::Image;
+use crate::image::TypedImage;
 use crate::walk::{Tree, Visit};
 use seg_cells::{CellAt, Content, KEY, ValueAt};
 use std::alloc::Allocator;
 
-impl<A: Allocator> Image<'_, A> {
+impl<A: Allocator> TypedImage<'_, A> {
     /// Checks a flat map: its buffer, and then the order of its keys.
     pub(crate) fn check_flat_map<B: Allocator>(
         &self,
@@ -21,7 +21,8 @@ impl<A: Allocator> Image<'_, A> {
         cell: CellAt,
     ) -> Result<(), ContentFault>
         ensures taken { claims.new.taken ≡ claims.old.taken }
-        ensures steps { (T U : ℕ) → NamesBy self.now.types.now T (Form.flat_map U) content.now →
+        ensures steps { (T U : ℕ) →
+            CellsPointTo self.now.types.now T (Form.flat_map U) content.now →
             IsReady self.now.w.now.bytes self.now.types.now claims.old →
             Steps self.now.w.now.bytes self.now.types.now claims.old claims.new
             (object_at cell T ∷ []) result }
@@ -45,7 +46,7 @@ impl<A: Allocator> Image<'_, A> {
         cell: CellAt,
     ) -> Result<(), ContentFault>
         ensures taken { claims.new.taken ≡ claims.old.taken }
-        ensures steps { (T U : ℕ) → NamesBy self.now.types.now T (Form.map U) content.now →
+        ensures steps { (T U : ℕ) → CellsPointTo self.now.types.now T (Form.map U) content.now →
             IsReady self.now.w.now.bytes self.now.types.now claims.old →
             Steps self.now.w.now.bytes self.now.types.now claims.old claims.new
             (object_at cell T ∷ []) result }

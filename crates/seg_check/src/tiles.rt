@@ -11,7 +11,7 @@ ghost use Rattle.seg_check.specs.Tiles.{AreLiveTags, Follows, KnowsGaps};
 
 use crate::claims::Claims;
 use crate::free_list::FreeList;
-use crate::image::Image;
+use crate::image::TypedImage;
 use seg_block::{HEAP_START, Header, Kind, Tag, UNIT};
 use seg_layout::{MAX_TYPES, Type, TypeTable};
 use seg_ptr::header;
@@ -32,7 +32,7 @@ const BEFORE_ALL: Header = Header {
     link: None,
 };
 
-impl<A: Allocator> Image<'_, A> {
+impl<A: Allocator> TypedImage<'_, A> {
     /// Checks the blocks, one after the other to the end of the image: each has at least two units and states the size
     /// of the block before; an allocated one has a tag that the types allow, and no link; no two free ones are
     /// adjacent. `Err` has the position of the first wrong header. Returns the check of sequential fit's list, for

@@ -3,13 +3,13 @@ ghost use Rattle.seg_check.specs.Roots.{StepsUniques};
 
 use crate::claims::Claims;
 use crate::fault::ContentFault;
-use crate::image::Image;
+use crate::image::TypedImage;
 use seg_cells::Content;
 use seg_entry::{unique, unique_word};
 use seg_layout::{MAX_TYPES, TypeId};
 use std::alloc::Allocator;
 
-impl<A: Allocator> Image<'_, A> {
+impl<A: Allocator> TypedImage<'_, A> {
     /// Checks the pointers to the unique objects, and claims them. No allocated block has an unused type, so the
     /// pointer of an unused type must be null.
     pub(crate) fn check_uniques<B: Allocator>(

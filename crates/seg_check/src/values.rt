@@ -6,19 +6,19 @@ ghost use Rattle.seg_spec.specs.Reads.{count_at};
 ghost use Rattle.seg_cells.specs.Places.{place_of, object_at};
 ghost use Rattle.seg_check.specs.Turns.{places_in, IsTurn, AreWaiting, HoldsEntries};
 ghost use Rattle.seg_check.specs.Resolving.{IsReady, Steps};
-ghost use Rattle.seg_check.specs.Cells.{counted_by, blocks_counted_by, NamesBy, HasItems, ResolvesTurns};
+ghost use Rattle.seg_check.specs.Cells.{counted_by, blocks_counted_by, CellsPointTo, IsStringOrVector, ResolvesTurns};
 
 use crate::bytes::frozen_number;
 use crate::claims::Claims;
 use crate::fault::ContentFault;
-use crate::image::Image;
+use crate::image::TypedImage;
 use crate::marks::Turn;
 use seg_block::{BlockAt, Kind, Tag, block_of, tag_word};
 use seg_cells::{CellAt, Content, Entry, Place, count};
 use seg_layout::{Type, TypeId};
 use std::alloc::Allocator;
 
-impl<A: Allocator> Image<'_, A> {
+impl<A: Allocator> TypedImage<'_, A> {
     /// Checks the values in the claimed blocks, and in the blocks that their cells claim.
     pub(crate) fn check_values<B: Allocator>(
         &self,
@@ -145,8 +145,8 @@ impl<A: Allocator> Image<'_, A> {
         cell: CellAt,
     ) -> Result<(), ContentFault>
         ensures taken { claims.new.taken ≡ claims.old.taken }
-        ensures steps { (T : ℕ) (form : Form) → HasItems form →
-            NamesBy self.now.types.now T form content.now →
+        ensures steps { (T : ℕ) (form : Form) → IsStringOrVector form →
+            CellsPointTo self.now.types.now T form content.now →
             IsReady self.now.w.now.bytes self.now.types.now claims.old →
             Steps self.now.w.now.bytes self.now.types.now claims.old claims.new
             (object_at cell T ∷ []) result }
@@ -165,7 +165,7 @@ impl<A: Allocator> Image<'_, A> {
         cell: CellAt,
     ) -> Result<(), ContentFault>
         ensures taken { claims.new.taken ≡ claims.old.taken }
-        ensures steps { (T U : ℕ) → NamesBy self.now.types.now T (Form.own U) content.now →
+        ensures steps { (T U : ℕ) → CellsPointTo self.now.types.now T (Form.own U) content.now →
             IsReady self.now.w.now.bytes self.now.types.now claims.old →
             Steps self.now.w.now.bytes self.now.types.now claims.old claims.new
             (object_at cell T ∷ []) result }
@@ -222,7 +222,7 @@ impl<A: Allocator> Image<'_, A> {
         }
     }
 
-    /// Like [`counted`](Image::counted), of a cell that counts the blocks it points to: `BadValue` if it points to one
+    /// Like [`counted`](TypedImage::counted), of a cell that counts the blocks it points to: `BadValue` if it points to one
     /// and counts none.
     pub(crate) fn counted_blocks(&self, cell: CellAt) -> Result<Option<u32>, ContentFault>
         ensures { result ≡ blocks_counted_by cell (target self.now.w.now.bytes cell)

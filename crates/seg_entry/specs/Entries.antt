@@ -1,7 +1,7 @@
 -- Entries of the index as bytes.
 --     zero_at bytes entry              the last byte of an entry
 --     entry_read bytes entry           the entry at a position
---     rest_of entry                    the second word of an entry
+--     second_word_of entry             the second word of an entry
 --     write_entry bytes at entry       the bytes with an entry at a position
 use Rattle.std.specs.Prelude.{ℕ, ◌+◌, ◌*◌, ◌^◌, List}
 use Rattle.seg_spec.specs.Bytes.{byte, set_word}
@@ -20,8 +20,9 @@ entry_read bytes entry = record {
   zero = zero_at bytes entry;
 }
 
-abbrev pub rest_of : NameEntry → ℕ
-rest_of entry = entry.count + 2 ^ 16 * entry.name_len + 2 ^ 24 * entry.zero
+abbrev pub second_word_of : NameEntry → ℕ
+second_word_of entry = entry.count + 2 ^ 16 * entry.name_len + 2 ^ 24 * entry.zero
 
 abbrev pub write_entry : List ℕ → ℕ → NameEntry → List ℕ
-write_entry bytes at entry = set_word (set_pointer bytes at entry.object) (at + 4) (rest_of entry)
+write_entry bytes at entry =
+    set_word (set_pointer bytes at entry.object) (at + 4) (second_word_of entry)

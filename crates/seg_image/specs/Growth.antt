@@ -1,5 +1,5 @@
 -- Growing an image.
---     Lengthens allocator old new picture extra      the image has more bytes at its end, and the same picture
+--     GrowsImage allocator old new picture extra     the image has more bytes at its end, and the same picture
 use Rattle.std.specs.Prelude.{◌≡◌, ℕ, ◌+◌, ◌-◌, ◌/◌, ◌≤◌, List, length, replicate}
 use Rattle.seg_spec.specs.Bytes.{slice}
 use Rattle.seg_spec.specs.Heap.{live, after_extend}
@@ -12,7 +12,7 @@ use Rattle.seg_space.specs.Sizes.{used_front}
 -- The segment has `extra` bytes more than these bytes, and the same picture. Each allocated block
 -- is kept. A single new unit is added to a block that ended at the end. The new bytes after the
 -- used front are 0.
-pub record Lengthens (allocator : ℕ) (old : List ℕ) (new : Stored) (picture : Picture)
+pub record GrowsImage (allocator : ℕ) (old : List ℕ) (new : Stored) (picture : Picture)
     (extra : ℕ) : Type 0 where
   pub segment : IsSegment allocator new picture
   pub length_is : length new.window.bytes ≡ length old + extra

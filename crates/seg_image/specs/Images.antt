@@ -1,7 +1,7 @@
 -- An open image in contracts.
 --     segment_of image       its segment: the window and the types
 --     allocator_of image     the number of its allocator
---     number_of kind         the number of an allocator
+--     allocator_number kind  the number of an allocator
 --     bytes_in image         its bytes
 --     types_of image         its types
 --     IsOpen image picture   its bytes contain this picture, with its types and its allocator
@@ -25,9 +25,9 @@ abbrev pub allocator_of : {A : Type 0} → Image A → ℕ
 allocator_of (on.Seq segment) = 0
 allocator_of (on.Best segment) = 1
 
-abbrev pub number_of : AllocatorKind → ℕ
-number_of kind.Seq = 0
-number_of kind.Best = 1
+abbrev pub allocator_number : AllocatorKind → ℕ
+allocator_number kind.Seq = 0
+allocator_number kind.Best = 1
 
 abbrev pub bytes_in : {A : Type 0} → Image A → List ℕ
 bytes_in image = (segment_of image).window.bytes

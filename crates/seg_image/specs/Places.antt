@@ -1,5 +1,5 @@
 -- The places that calls on an image take and return.
---     position_of result          the position of the place that a call returned
+--     found_position result       the position of the place that a call returned
 --     first_place T found         the place of the first value of an object that was found
 --     item_place table T i found  the place of the object's value at an index
 --     value_count found           the number of the object's values
@@ -23,9 +23,9 @@ use Rattle.seg_map.specs.EitherMap.{WhereMaps}
 use Rattle.seg_image.specs.declared.image.Image.{Image}
 use Rattle.seg_image.specs.Images.{allocator_of, bytes_in, types_of}
 
-abbrev pub position_of : Result Place Code → Result ℕ Code
-position_of (Ok place) = Ok place.at
-position_of (Err error) = Err error
+abbrev pub found_position : Result Place Code → Result ℕ Code
+found_position (Ok place) = Ok place.at
+found_position (Err error) = Err error
 
 -- ---- named objects
 

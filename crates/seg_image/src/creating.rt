@@ -1,7 +1,7 @@
 ghost use Rattle.std.specs.Prelude.{◌≡◌, ◌⊎◌, ◌≤◌, replicate, IfOk, IfErr};
 ghost use Rattle.seg_spec.specs.Faulty.{IsImageLength};
-ghost use Rattle.seg_space.specs.NewSegments.{IsNew};
-ghost use Rattle.seg_image.specs.Images.{segment_of, allocator_of, number_of};
+ghost use Rattle.seg_space.specs.NewSegments.{IsNewSegment};
+ghost use Rattle.seg_image.specs.Images.{segment_of, allocator_of, allocator_number};
 
 use crate::image::Image;
 use seg_bestfit::BestFit;
@@ -27,9 +27,10 @@ impl<A: Allocator> Image<A> {
         allocator: AllocatorKind,
         index: IndexKind,
     ) -> Result<Image<A>, Fault>
-        ensures empty { IfOk result (λ image. IsNew (number_of allocator) (segment_of image)
+        ensures empty { IfOk result (λ image.
+            IsNewSegment (allocator_number allocator) (segment_of image)
             (replicate size 0) 0 size index) }
-        ensures allocator { IfOk result (λ image. allocator_of image ≡ number_of allocator) }
+        ensures allocator { IfOk result (λ image. allocator_of image ≡ allocator_number allocator) }
         ensures refused { IfErr result (λ fault. (fault ≡ Fault.Memory)
             ⊎ ((fault ≡ Fault.BadSize) × ¬ IsImageLength size)) }
     {
@@ -46,7 +47,7 @@ fn empty<F: Fit, A: Allocator>(
     index: IndexKind,
 ) -> Result<Segment<F, A>, Fault>
     ensures empty { IfOk result
-        (λ segment. IsNew F.allocator segment (replicate size 0) 0 size index) }
+        (λ segment. IsNewSegment F.allocator segment (replicate size 0) 0 size index) }
     ensures refused { IfErr result (λ fault. (fault ≡ Fault.Memory)
         ⊎ ((fault ≡ Fault.BadSize) × ¬ IsImageLength size)) }
 {

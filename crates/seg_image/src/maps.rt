@@ -7,7 +7,7 @@ ghost use Rattle.seg_map.specs.EitherMap.{has_keys, IsMapOf, key_asks, KeepsTree
 ghost use Rattle.seg_map.specs.Maps.{FindsValue, PutsKey, RemovesKey, first_of, keys_above};
 ghost use Rattle.seg_image.specs.Images.{segment_of, allocator_of, bytes_in, types_of, ChangesBytes};
 ghost use Rattle.seg_spec.specs.Value.{Values, Map};
-ghost use Rattle.seg_image.specs.Places.{position_of, StandsIn, WhereMap};
+ghost use Rattle.seg_image.specs.Places.{found_position, StandsIn, WhereMap};
 
 use crate::image::{Image, on};
 use crate::places::placed;
@@ -25,10 +25,10 @@ impl<A: Allocator> Image<A> {
         ensures other { has_keys (form_at (types_of self.now) map.type_id) ≡ false →
             result ≡ Err Code.OtherType }
         ensures code { has_keys (form_at (types_of self.now) map.type_id) ≡ true →
-            IsOkUnless (position_of result) Code.Absent }
+            IsOkUnless (found_position result) Code.Absent }
         ensures finds { WhereMap self.now map
             (λ U keys vs blocks. FindsValue (bytes_in self.now) (types_of self.now) (place_of map)
-            U keys key (result_ok (position_of result))) }
+            U keys key (result_ok (found_position result))) }
     {
         let value = self.value_type(map)?;
         on!(self, segment => placed(get(segment.heap(), map, key), value))
@@ -43,13 +43,13 @@ impl<A: Allocator> Image<A> {
         ensures other { has_keys (form_at (types_of self.old) map.type_id) ≡ false →
             (result ≡ Err Code.OtherType) × (self.new ≡ self.old) }
         ensures code { has_keys (form_at (types_of self.old) map.type_id) ≡ true →
-            IsOkUnless (position_of result) Code.BadAlloc }
+            IsOkUnless (found_position result) Code.BadAlloc }
         ensures puts { WhereMap self.old map
             (λ U keys vs blocks. PutsKey (allocator_of self.old) (bytes_in self.old)
             (bytes_in self.new) (types_of self.old) (place_of map) U keys vs key blocks
             (key_asks (bytes_in self.old) (types_of self.old) map.at
             (form_at (types_of self.old) map.type_id)) (key_place keys key)
-            (position_of result)) }
+            (found_position result)) }
         ensures keeps { WhereMap self.old map
             (λ U keys vs blocks. KeepsTreePaths (form_at (types_of self.old) map.type_id)
             (bytes_in self.old) (bytes_in self.new) (types_of self.old) (place_of map)) }

@@ -3,11 +3,11 @@ ghost use Rattle.seg_spec.specs.Index.{root_named};
 ghost use Rattle.seg_spec.specs.Sound.{Picture};
 ghost use Rattle.seg_spec.specs.Spending.{object_asks};
 ghost use Rattle.seg_index.specs.Lists.{root_after};
-ghost use Rattle.seg_manager.specs.NamedObjects.{found_as, Says, IsMissing, IsCount, RefusesName, FindsOrMakesNamed, RefusesToFind};
+ghost use Rattle.seg_manager.specs.NamedObjects.{found_as, DescribesRoot, IsMissing, IsCount, RefusesName, FindsOrMakesNamed, RefusesToFind};
 ghost use Rattle.seg_manager.specs.NewNamed.{MakesNamed, FindsNoRoom};
 ghost use Rattle.seg_manager.specs.LeavingNamed.{LosesNamed};
 ghost use Rattle.seg_image.specs.Images.{segment_of, allocator_of, bytes_in, types_of, IsOpen, ChangesBytes};
-ghost use Rattle.seg_image.specs.Places.{position_of, first_place, item_place, value_count};
+ghost use Rattle.seg_image.specs.Places.{found_position, first_place, item_place, value_count};
 
 use crate::image::{Image, on};
 use crate::places::placed;
@@ -30,15 +30,15 @@ impl<A: Allocator> Image<A> {
             (result ≡ Err Code.OtherType) × (self.new ≡ self.old) }
         ensures tells { (picture : Picture) → IsOpen self.old picture →
             t < length (types_of self.old) →
-            MatchResult (position_of result)
+            MatchResult (found_position result)
             (λ _. IsMissing picture.names name.now × IsCount count)
             (RefusesName (segment_of self.old) (segment_of self.new) picture.names name.now
             count) }
         ensures makes { (picture : Picture) → (s : IsOpen self.old picture) →
-            IfOk (position_of result) (MakesNamed (allocator_of self.old) (segment_of self.old)
+            IfOk (found_position result) (MakesNamed (allocator_of self.old) (segment_of self.old)
             (segment_of self.new) picture s.held.index_blocks name.now t count) }
         ensures no_room { (picture : Picture) → IsOpen self.old picture →
-            position_of result ≡ Err Code.BadAlloc →
+            found_position result ≡ Err Code.BadAlloc →
             FindsNoRoom (allocator_of self.old) (segment_of self.old) (segment_of self.new)
             picture (object_asks (bytes_in self.old) (types_of self.old) t count name.now) }
     {
@@ -104,17 +104,17 @@ impl<A: Allocator> Image<A> {
             (result ≡ Err Code.OtherType) × (self.new ≡ self.old) }
         ensures tells { (picture : Picture) → IsOpen self.old picture →
             t < length (types_of self.old) →
-            MatchResult (position_of result)
+            MatchResult (found_position result)
             (FindsOrMakesNamed (segment_of self.old) (segment_of self.new) picture.names name.now
             t)
             (RefusesToFind (segment_of self.old) (segment_of self.new) picture.names name.now
             t) }
         ensures makes { (picture : Picture) → (s : IsOpen self.old picture) →
             root_named picture.names name.now ≡ None →
-            IfOk (position_of result) (MakesNamed (allocator_of self.old) (segment_of self.old)
+            IfOk (found_position result) (MakesNamed (allocator_of self.old) (segment_of self.old)
             (segment_of self.new) picture s.held.index_blocks name.now t 1) }
         ensures no_room { (picture : Picture) → IsOpen self.old picture →
-            position_of result ≡ Err Code.BadAlloc →
+            found_position result ≡ Err Code.BadAlloc →
             FindsNoRoom (allocator_of self.old) (segment_of self.old) (segment_of self.new)
             picture (object_asks (bytes_in self.old) (types_of self.old) t 1 name.now) }
     {
@@ -148,7 +148,7 @@ impl<A: Allocator> Image<A> {
         ensures { (picture : Picture) → IsOpen self.now picture →
             MatchOption result (slice_get picture.names 0 ≡ None)
             (λ it. IsSomeAnd (slice_get picture.names 0)
-            (Says it.name.now it.type_id it.count)) }
+            (DescribesRoot it.name.now it.type_id it.count)) }
     {
         on!(self, segment => first_name(segment))
     }
@@ -158,7 +158,7 @@ impl<A: Allocator> Image<A> {
         ensures { (picture : Picture) → IsOpen self.now picture →
             MatchOption result (root_after picture.names after.now ≡ None)
             (λ it. IsSomeAnd (root_after picture.names after.now)
-            (Says it.name.now it.type_id it.count)) }
+            (DescribesRoot it.name.now it.type_id it.count)) }
     {
         on!(self, segment => next_name(segment, after))
     }

@@ -11,7 +11,7 @@ ghost use Rattle.seg_manager.specs.Segments.{one_value};
 ghost use Rattle.seg_seq.specs.Sequences.{LacksRoom};
 ghost use Rattle.seg_image.specs.Images.{segment_of, allocator_of, bytes_in, types_of, ChangesBytes};
 ghost use Rattle.seg_image.specs.Owners.{PutsNew};
-ghost use Rattle.seg_image.specs.Places.{position_of, object_type, content_place, StandsIn};
+ghost use Rattle.seg_image.specs.Places.{found_position, object_type, content_place, StandsIn};
 
 use crate::image::{Image, on};
 use crate::places::placed;
@@ -43,7 +43,7 @@ impl<A: Allocator> Image<A> {
             object_type (form_at (types_of self.old) own.type_id) ≡ Some place.type_id) }
         ensures puts { (U : ℕ) (v : Value) (blocks : List ℕ) →
             form_at (types_of self.old) own.type_id ≡ Some (Form.own U) →
-            (s : StandsIn self.old own v blocks) → MatchResult (position_of result)
+            (s : StandsIn self.old own v blocks) → MatchResult (found_position result)
             (λ at. BesideShared (bytes_in self.old) (types_of self.old) (s.home ∷ blocks)
             (named_in v) (PutsNew (allocator_of self.old) (bytes_in self.old)
             (bytes_in self.new) (types_of self.old) (place_of own) U blocks at))

@@ -4,7 +4,7 @@ ghost use Rattle.seg_layout.specs.Forms.{form_of};
 ghost use Rattle.seg_seq.specs.Sequences.{item_type};
 ghost use Rattle.seg_map.specs.EitherMap.{has_keys, IsMapOf};
 ghost use Rattle.seg_image.specs.Images.{types_of};
-ghost use Rattle.seg_image.specs.Places.{position_of, object_type};
+ghost use Rattle.seg_image.specs.Places.{found_position, object_type};
 
 use crate::image::Image;
 use seg_layout::{Type, TypeId};
@@ -14,7 +14,7 @@ use std::alloc::Allocator;
 
 /// The place of a value of this type, from the position that a call returned.
 pub(crate) fn placed(position: Result<ValueAt, Code>, type_id: TypeId) -> Result<Place, Code>
-    ensures position { position_of result ≡ position }
+    ensures position { found_position result ≡ position }
     ensures of_type { IfOk result (λ place. place.type_id ≡ type_id) }
 {
     Ok(Place {

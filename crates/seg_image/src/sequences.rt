@@ -11,7 +11,7 @@ ghost use Rattle.seg_seq.specs.Kinds.{is_sequence, HasNumbers};
 ghost use Rattle.seg_seq.specs.Lists.{HasList, IsNoList, AddsItem, LosesItem};
 ghost use Rattle.seg_seq.specs.Sequences.{HasText, HasItems, item_type, Declines, HasNone, ComesToHold, LacksRoom, Rewrites, push_asks, PushesNumber, PushesBack, PopsBack, IsPast, ShowsItem};
 ghost use Rattle.seg_image.specs.Images.{segment_of, allocator_of, bytes_in, types_of, ChangesBytes};
-ghost use Rattle.seg_image.specs.Places.{position_of, is_counted, WhereMap};
+ghost use Rattle.seg_image.specs.Places.{found_position, is_counted, WhereMap};
 
 use crate::image::{Image, on};
 use crate::places::placed;
@@ -105,12 +105,12 @@ impl<A: Allocator> Image<A> {
             item_type (form_at (types_of self.now) place.type_id) ≡ Some item.type_id) }
         ensures vector { (U : ℕ) (vs : Values) (blocks : List ℕ) →
             HasItems (allocator_of self.now) (segment_of self.now) (place_of place) U vs blocks →
-            MatchResult (position_of result)
+            MatchResult (found_position result)
             (ShowsItem (segment_of self.now) (place_of place) U index)
             (IsPast index (count vs)) }
         ensures list { (U : ℕ) (vs : Values) (blocks : List ℕ) →
             HasList (allocator_of self.now) (segment_of self.now) (place_of place) U vs blocks →
-            MatchResult (position_of result)
+            MatchResult (found_position result)
             (ShowsItem (segment_of self.now) (place_of place) U index)
             (IsPast index (count vs)) }
         ensures other { item_type (form_at (types_of self.now) place.type_id) ≡ None →
@@ -128,14 +128,14 @@ impl<A: Allocator> Image<A> {
             item_type (form_at (types_of self.old) place.type_id) ≡ Some item.type_id) }
         ensures vector { (U : ℕ) (vs : Values) (blocks : List ℕ) →
             HasItems (allocator_of self.old) (segment_of self.old) (place_of place) U vs blocks →
-            MatchResult (position_of result)
+            MatchResult (found_position result)
             (PushesBack (allocator_of self.old) (segment_of self.old) (segment_of self.new)
             (place_of place) U vs blocks)
             (LacksRoom (allocator_of self.old) (segment_of self.old) (segment_of self.new)
             (push_asks (segment_of self.old) (place_of place) U)) }
         ensures list { (U : ℕ) (vs : Values) (blocks : List ℕ) →
             HasList (allocator_of self.old) (segment_of self.old) (place_of place) U vs blocks →
-            MatchResult (position_of result)
+            MatchResult (found_position result)
             (λ at. AddsItem (allocator_of self.old) (bytes_in self.old) (bytes_in self.new)
             (types_of self.old) (place_of place) U
             (append vs (cons (default_of (types_of self.old) U) nil)) blocks (count vs) at
@@ -177,17 +177,17 @@ impl<A: Allocator> Image<A> {
             item_type (form_at (types_of self.old) place.type_id) ≡ Some item.type_id) }
         ensures code { (U : ℕ) →
             form_at (types_of self.old) place.type_id ≡ Some (Form.list U) →
-            IsOkUnless (position_of result) Code.BadAlloc }
+            IsOkUnless (found_position result) Code.BadAlloc }
         ensures pushed { (U : ℕ) (vs : Values) (blocks : List ℕ) →
             HasList (allocator_of self.old) (segment_of self.old) (place_of place) U vs blocks →
-            MatchResult (position_of result)
+            MatchResult (found_position result)
             (λ at. AddsItem (allocator_of self.old) (bytes_in self.old) (bytes_in self.new)
             (types_of self.old) (place_of place) U
             (cons (default_of (types_of self.old) U) vs) blocks 0 at (λ i. Some (suc i)))
             (λ code. Refuses (allocator_of self.old) (bytes_in self.old) (bytes_in self.new)
             (block_for (8 + size (types_of self.old) U) ∷ [])) }
         ensures other { IsNoList (types_of self.old) place.type_id →
-            (position_of result ≡ Err Code.OtherType)
+            (found_position result ≡ Err Code.OtherType)
             × (bytes_in self.new ≡ bytes_in self.old) }
     {
         let item = self.item_type(place)?;

@@ -2,11 +2,11 @@ ghost use Rattle.std.specs.Prelude.{◌≡◌, ◌+◌, ◌≤◌, ◌⊎◌, �
 ghost use Rattle.seg_spec.specs.Heap.{IsHeap, live, gaps};
 ghost use Rattle.seg_spec.specs.Sound.{Picture};
 ghost use Rattle.seg_spec.specs.Window.{region_of};
-ghost use Rattle.seg_space.specs.Gaps.{bytes_of, largest_of, ZeroesGaps};
+ghost use Rattle.seg_space.specs.Gaps.{bytes_in_gaps, largest_of, ZeroesGaps};
 ghost use Rattle.seg_manager.specs.Segments.{IsSegment};
-ghost use Rattle.seg_space.specs.Sizes.{MayGrowTo, Shrinks};
+ghost use Rattle.seg_space.specs.Sizes.{MayGrowTo, ShrinksSegment};
 ghost use Rattle.seg_image.specs.Images.{segment_of, allocator_of, bytes_in, types_of, IsOpen, ChangesBytes};
-ghost use Rattle.seg_image.specs.Growth.{Lengthens};
+ghost use Rattle.seg_image.specs.Growth.{GrowsImage};
 
 use crate::image::{Image, on};
 use core::mem::replace_with;
@@ -19,7 +19,7 @@ impl<A: Allocator> Image<A> {
     /// The size of all free blocks of the heap in bytes, with their headers of 16 bytes.
     pub fn free_memory(&self) -> u32
         ensures { IsHeap (allocator_of self.now) (bytes_in self.now) →
-            result ≡ bytes_of (gaps (bytes_in self.now)) }
+            result ≡ bytes_in_gaps (gaps (bytes_in self.now)) }
     {
         on!(self, segment => seg_space::free_memory(segment))
     }
@@ -64,7 +64,7 @@ impl<A: Allocator> Image<A> {
             ⊎ ((fault ≡ Fault.Memory) × MayGrowTo extra (length (bytes_in self.old) + extra))) }
         ensures done { OnOk result (MayGrowTo extra (length (bytes_in self.old) + extra)) }
         ensures grows { (picture : Picture) → IsOpen self.old picture →
-            OnOk result (Lengthens (allocator_of self.old) (bytes_in self.old)
+            OnOk result (GrowsImage (allocator_of self.old) (bytes_in self.old)
             (segment_of self.new) picture extra) }
         ensures unchanged { OnErr result (bytes_in self.new ≡ bytes_in self.old) }
     {
@@ -77,8 +77,8 @@ impl<A: Allocator> Image<A> {
         ensures allocator { allocator_of self.new ≡ allocator_of self.old }
         ensures types { types_of self.new ≡ types_of self.old }
         ensures shrinks { (picture : Picture) → IsOpen self.old picture →
-            Shrinks (allocator_of self.old) (segment_of self.old) (segment_of self.new) picture
-            result }
+            ShrinksSegment (allocator_of self.old) (segment_of self.old) (segment_of self.new)
+            picture result }
     {
         on!(self, segment => seg_space::shrink_to_fit(segment))
     }
@@ -94,7 +94,7 @@ fn grow<F: Fit, A: Allocator>(segment: &mut Segment<F, A>, extra: u32) -> Result
         × MayGrowTo extra (length segment.old.window.bytes + extra))) }
     ensures done { OnOk result (MayGrowTo extra (length segment.old.window.bytes + extra)) }
     ensures grows { (picture : Picture) → IsSegment F.allocator segment.old picture →
-        OnOk result (Lengthens F.allocator segment.old.window.bytes segment.new picture extra) }
+        OnOk result (GrowsImage F.allocator segment.old.window.bytes segment.new picture extra) }
     ensures unchanged { OnErr result (segment.new.window.bytes ≡ segment.old.window.bytes) }
 {
     match seg_space::grow(segment, extra) {
@@ -110,7 +110,7 @@ fn grow_memory<F: Fit, A: Allocator>(segment: &mut Segment<F, A>, extra: u32) ->
     ensures size { IfOk result (λ size. size ≡ length segment.old.window.bytes + extra) }
     ensures fault { IsOkUnless result Fault.Memory }
     ensures grows { (picture : Picture) → IsSegment F.allocator segment.old picture →
-        OnOk result (Lengthens F.allocator segment.old.window.bytes segment.new picture extra) }
+        OnOk result (GrowsImage F.allocator segment.old.window.bytes segment.new picture extra) }
     ensures unchanged { OnErr result (segment.new.window.bytes ≡ segment.old.window.bytes) }
 {
     let size = segment.window().len() + extra;

@@ -2,7 +2,7 @@ ghost use Rattle.std.specs.Prelude.{◌≡◌, ◌<◌, ◌≤◌, false, length
 ghost use Rattle.seg_spec.specs.Sound.{Picture};
 ghost use Rattle.seg_manager.specs.Segments.{unique_at, MakesUnique, FindsOrMakes, RefusesUnique, LosesUnique};
 ghost use Rattle.seg_image.specs.Images.{segment_of, allocator_of, types_of, IsOpen, ChangesBytes};
-ghost use Rattle.seg_image.specs.Places.{position_of};
+ghost use Rattle.seg_image.specs.Places.{found_position};
 
 use crate::image::{Image, on};
 use crate::places::placed;
@@ -21,7 +21,7 @@ impl<A: Allocator> Image<A> {
         ensures unknown { length (types_of self.old) ≤ t →
             (result ≡ Err Code.OtherType) × (self.new ≡ self.old) }
         ensures makes { (picture : Picture) → IsOpen self.old picture →
-            t < length (types_of self.old) → MatchResult (position_of result)
+            t < length (types_of self.old) → MatchResult (found_position result)
             (MakesUnique (allocator_of self.old) (segment_of self.old) (segment_of self.new)
             picture t)
             (RefusesUnique (allocator_of self.old) (segment_of self.old) (segment_of self.new)
@@ -37,7 +37,7 @@ impl<A: Allocator> Image<A> {
         ensures of_type { IfOk result (λ place. place.type_id ≡ t) }
         ensures unknown { length (types_of self.now) ≤ t → result ≡ Err Code.OtherType }
         ensures finds { (picture : Picture) → IsOpen self.now picture →
-            t < length (types_of self.now) → MatchResult (position_of result)
+            t < length (types_of self.now) → MatchResult (found_position result)
             (λ at. unique_at picture t ≡ Some at)
             (λ code. (code ≡ Code.Absent) × (unique_at picture t ≡ None)) }
     {
@@ -53,7 +53,7 @@ impl<A: Allocator> Image<A> {
         ensures unknown { length (types_of self.old) ≤ t →
             (result ≡ Err Code.OtherType) × (self.new ≡ self.old) }
         ensures makes { (picture : Picture) → IsOpen self.old picture →
-            t < length (types_of self.old) → MatchResult (position_of result)
+            t < length (types_of self.old) → MatchResult (found_position result)
             (FindsOrMakes (allocator_of self.old) (segment_of self.old) (segment_of self.new)
             picture t)
             (λ code. (code ≡ Code.BadAlloc) × RefusesUnique (allocator_of self.old)

@@ -18,7 +18,7 @@ use Rattle.seg_spec.proofs.PointerLaws.{target-set_same, target-same}
 use Rattle.seg_value.specs.Names.{IsSameEntry}
 use Rattle.seg_entry.specs.Names.{type_at, name_after, name_of, name_at}
 use Rattle.seg_entry.proofs.NamedTags.{is_named, in_block}
-use Rattle.seg_entry.specs.Entries.{entry_read, rest_of, write_entry}
+use Rattle.seg_entry.specs.Entries.{entry_read, second_word_of, write_entry}
 use Rattle.seg_index.specs.Lists.{entry_of, IsNamed}
 use Rattle.seg_entry.specs.declared.entry.NameEntry.{NameEntry}
 
@@ -71,7 +71,7 @@ write_entry-changes old at entry =
     let mid = set_pointer old at entry.object in
     ChangesOnly-trans old mid (write_entry old at entry) at 8
     (ChangesOnly-wider old mid at 4 at 8 (omega arith) (omega arith) (set_number-changes 4 old at (distance at entry.object)))
-    (ChangesOnly-wider mid (write_entry old at entry) (at + 4) 4 at 8 (omega arith) (omega arith) (set_number-changes 4 mid (at + 4) (rest_of entry)))
+    (ChangesOnly-wider mid (write_entry old at entry) (at + 4) 4 at 8 (omega arith) (omega arith) (set_number-changes 4 mid (at + 4) (second_word_of entry)))
 
 module _ (old : List ℕ) (at : ℕ) (root : Root) (within : IsWithin old at 8) (low : root.at < 2 ^ 32) (apart : root.at ≢ at + 1)
     (is_name : IsName root.name) (no_words : root.words ≡ []) (some : 1 ≤ count root.values) (few : count root.values ≤ 65535) where
@@ -79,7 +79,7 @@ module _ (old : List ℕ) (at : ℕ) (root : Root) (within : IsWithin old at 8) 
   mid = set_pointer old at (Some root.at)
 
   abbrev rest : ℕ
-  rest = rest_of (entry_of root)
+  rest = second_word_of (entry_of root)
 
   mid_fits : at + 4 + 4 ≤ length mid
   mid_fits = let e = length-set_number 4 old at (distance at (Some root.at)) in omega (arith, within.fits)

@@ -1,6 +1,6 @@
 ghost use Rattle.std.specs.Prelude.{◌≡◌, ℕ, ◌<◌, ◌≤◌, ◌==◌, ◌↔◌, ◌%◌, ◌*◌, ◌+◌, ◌++◌, [], map, sum_by, length, slice_get, IsOk, IfOk, IfErr, IfSome, IsTrue};
 ghost use Rattle.arrayvec.specs.ArrayVec.{array_vec_len};
-ghost use Rattle.seg_spec.specs.Types.{Table, Agree, IsFirstDifference, longer, fields_of, fields_from, pointers, IsTable, form_at, entry_at, AreOfVersion, size, Spells, IsWrong, IsFirstWrong};
+ghost use Rattle.seg_spec.specs.Types.{Table, Agree, IsFirstDifference, longer, fields_of, fields_from, pointers, IsTable, form_at, entry_at, AreOfVersion, size, Spells, IsWrongEntry, IsFirstWrong};
 ghost use Rattle.seg_layout.specs.Forms.{cell_of, form_of, map_option, has_cells};
 ghost use Rattle.seg_layout.specs.Reading.{IsReading};
 
@@ -58,7 +58,7 @@ impl TypeTable {
 
     /// Reads a table as `read` does, with the types that images of this version may have.
     fn read_version(bytes: &[u8], version: u32) -> Result<TypeTable, Fault>
-        ensures right { IsOk result ↔ ((k : ℕ) → IsWrong version bytes.now k → ⊥) }
+        ensures right { IsOk result ↔ ((k : ℕ) → IsWrongEntry version bytes.now k → ⊥) }
         ensures table { IfOk result (λ table.
             IsTable table × AreOfVersion version table × Spells bytes.now table) }
         ensures wrong { IfErr result (λ fault.

@@ -1,7 +1,8 @@
 -- The named objects of a segment.
 --     found_of root            the position of a root's first value, and the number of its values
 --     found_as T root          the result of a search for an object of a type, by its name's root
---     Says name T n root       the name of a root, its type, and the number of its values
+--     DescribesRoot name T n root
+--                              the name of a root, its type, and the number of its values
 --     IsMissing names name     the name is allowed, and no root has it
 --     IsCount n                an object may have n values
 --     RefusesName              no object was made, for the reason in the code
@@ -23,8 +24,8 @@ abbrev pub found_as : ℕ → Option Root → Result Found Code
 found_as T None = Err code.Absent
 found_as T (Some root) = if root.type == T then Ok (found_of root) else Err code.OtherType
 
-abbrev pub Says : List ℕ → ℕ → ℕ → Root → Type 0
-Says name T n root = (name ≡ root.name) × (T ≡ root.type) × (n ≡ count root.values)
+abbrev pub DescribesRoot : List ℕ → ℕ → ℕ → Root → Type 0
+DescribesRoot name T n root = (name ≡ root.name) × (T ≡ root.type) × (n ≡ count root.values)
 
 -- ---- whether an object may be made
 

@@ -2,7 +2,7 @@
 
 ghost use Rattle.std.specs.Prelude.{ℕ, List};
 ghost use Rattle.seg_rbtree.specs.Following.{LeadsInside};
-ghost use Rattle.seg_manager.specs.Cursors.{IsInside};
+ghost use Rattle.seg_manager.specs.Cursors.{IsCursorInside};
 
 use seg_rbtree::Path;
 
@@ -15,7 +15,7 @@ pub(crate) struct Cursor {
 
 impl Cursor {
     pub(crate) fn new() -> Cursor
-        ensures { (bytes : List ℕ) → IsInside bytes result }
+        ensures { (bytes : List ℕ) → IsCursorInside bytes result }
     {
         Cursor {
             way: Path::new(0),
@@ -26,14 +26,15 @@ impl Cursor {
     /// Drops the path, which may be out of date from here on.
     // This is a single write, since it happens each time the heap is borrowed to be changed.
     pub(crate) fn lose(&mut self)
-        ensures { (bytes : List ℕ) → IsInside bytes self.new }
+        ensures { (bytes : List ℕ) → IsCursorInside bytes self.new }
     {
         self.is_kept = false;
     }
 
     /// Keeps the path from here on: the present one, or the path to the root if it was dropped.
     pub(crate) fn keep(&mut self)
-        ensures { (bytes : List ℕ) → IsInside bytes self.old → LeadsInside bytes self.new.way }
+        ensures { (bytes : List ℕ) → IsCursorInside bytes self.old →
+            LeadsInside bytes self.new.way }
     {
         if !self.is_kept {
             self.way.rewind();

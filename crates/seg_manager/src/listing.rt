@@ -3,7 +3,7 @@ ghost use Rattle.seg_spec.specs.Index.{Root};
 ghost use Rattle.seg_spec.specs.Sound.{Picture};
 ghost use Rattle.seg_index.specs.Lists.{IsNamed, entry_of, root_after};
 ghost use Rattle.seg_manager.specs.Segments.{IsSegment};
-ghost use Rattle.seg_manager.specs.NamedObjects.{Says};
+ghost use Rattle.seg_manager.specs.NamedObjects.{DescribesRoot};
 
 use crate::Segment;
 use seg_index::{NameEntry, name_count};
@@ -31,7 +31,7 @@ pub fn first_name<F: Fit, A: Allocator>(segment: &Segment<F, A>) -> Option<Named
     ensures { (picture : Picture) → IsSegment F.allocator segment.now picture →
         MatchOption result (slice_get picture.names 0 ≡ None)
         (λ it. IsSomeAnd (slice_get picture.names 0)
-        (Says it.name.now it.type_id it.count)) }
+        (DescribesRoot it.name.now it.type_id it.count)) }
 {
     read_entry(segment, seg_index::first_name(segment.heap())?)
 }
@@ -44,7 +44,7 @@ pub fn next_name<'s, F: Fit, A: Allocator>(
     ensures { (picture : Picture) → IsSegment F.allocator segment.now picture →
         MatchOption result (root_after picture.names after.now ≡ None)
         (λ it. IsSomeAnd (root_after picture.names after.now)
-        (Says it.name.now it.type_id it.count)) }
+        (DescribesRoot it.name.now it.type_id it.count)) }
 {
     read_entry(segment, seg_index::next_name(segment.heap(), after)?)
 }
@@ -53,7 +53,7 @@ pub fn next_name<'s, F: Fit, A: Allocator>(
 fn read_entry<F: Fit, A: Allocator>(segment: &Segment<F, A>, entry: NameEntry) -> Option<Named<'_>>
     ensures { (root : Root) → IsNamed segment.now.window.bytes segment.now.types root →
         root.type < 32 → entry ≡ entry_of root →
-        IsSomeAnd result (λ it. Says it.name.now it.type_id it.count root) }
+        IsSomeAnd result (λ it. DescribesRoot it.name.now it.type_id it.count root) }
 {
     Some(Named {
         name: entry.name(segment.window(), segment.types()),

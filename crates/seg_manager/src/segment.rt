@@ -24,13 +24,13 @@ pub struct Segment<F: Fit, A: Allocator> {
 
 impl<F: Fit, A: Allocator> Model for Segment<F, A> {
     ghost use Rattle.seg_value.specs.Stored.{Stored};
-    ghost use Rattle.seg_manager.specs.Cursors.{IsInside};
+    ghost use Rattle.seg_manager.specs.Cursors.{IsCursorInside};
 
     ghost Value = { Stored };
 
     ghost view = { λ segment. segment.heap };
 
-    ghost invariant = { λ segment. IsInside segment.heap.window.bytes segment.cursor };
+    ghost invariant = { λ segment. IsCursorInside segment.heap.window.bytes segment.cursor };
 }
 
 impl<F: Fit, A: Allocator> Segment<F, A> {

@@ -10,17 +10,17 @@ use Rattle.seg_cells.specs.declared.content.Content.{Content}
 use Rattle.seg_cells.specs.declared.content.Shape.{Shape}
 use Rattle.seg_cells.specs.declared.content.Shape.TheVariants as shape
 use Rattle.seg_raw.specs.declared.code.Code.TheVariants as code
-use Rattle.seg_map.specs.declared.map.Kind.TheVariants as kind
-use Rattle.seg_map.specs.EitherMap.{KindOf, IsMapOf, has_keys, key_asks, KeepsTreePaths, KeepsKeysBut}
+use Rattle.seg_map.specs.declared.map.MapKind.TheVariants as kind
+use Rattle.seg_map.specs.EitherMap.{MapKindOf, IsMapOf, has_keys, key_asks, KeepsTreePaths, KeepsKeysBut}
 use Rattle.seg_map.specs.Trees.{NamesTree}
 use Rattle.seg_map.specs.Maps.{FindsValue, PutsKey, RemovesKey}
 use Rattle.seg_spec.specs.Items.{key_place}
 use Rattle.seg_spec.specs.Value.{Values}
 use Rattle.seg_spec.specs.Reads.{Place}
-use Rattle.seg_map.specs.declared.map.Kind as map
+use Rattle.seg_map.specs.declared.map.MapKind as map
 
 module _ (table : Table) (T : ℕ) where
-  pub no_kind : (o : Option Form) → ContentOf table T o None → KindOf table T o (Err code.OtherType)
+  pub no_kind : (o : Option Form) → ContentOf table T o None → MapKindOf table T o (Err code.OtherType)
   no_kind None of = refl
   no_kind (Some Form.i64) of = refl
   no_kind (Some (Form.struct Us)) of = refl
@@ -36,7 +36,7 @@ module _ (table : Table) (T : ℕ) where
     no_shape : (s t : Shape) → c.shape ≡ s → c.shape ≡ t → s ≡ t
     no_shape s t e f = sym e ∙ f
 
-    pub flat_kind : (o : Option Form) → ContentOf table T o (Some c) → c.shape ≡ shape.Buffer → c.entry.before ≡ 8 → KindOf table T o (Ok (kind.Flat c))
+    pub flat_kind : (o : Option Form) → ContentOf table T o (Some c) → c.shape ≡ shape.Buffer → c.entry.before ≡ 8 → MapKindOf table T o (Ok (kind.Flat c))
     flat_kind None of is keys = absurd of
     flat_kind (Some Form.i64) of is keys = absurd of
     flat_kind (Some (Form.struct Us)) of is keys = absurd of
@@ -48,7 +48,7 @@ module _ (table : Table) (T : ℕ) where
     flat_kind (Some (Form.own U)) of is keys = let e = no_shape shape.Object shape.Buffer of.shape_is is in absurd (cc)
     flat_kind (Some (Form.shared U)) of is keys = absurd of
 
-    pub tree_kind : (o : Option Form) → ContentOf table T o (Some c) → c.shape ≡ shape.Tree → KindOf table T o (Ok (kind.Tree c))
+    pub tree_kind : (o : Option Form) → ContentOf table T o (Some c) → c.shape ≡ shape.Tree → MapKindOf table T o (Ok (kind.Tree c))
     tree_kind None of is = absurd of
     tree_kind (Some Form.i64) of is = absurd of
     tree_kind (Some (Form.struct Us)) of is = absurd of
@@ -60,7 +60,7 @@ module _ (table : Table) (T : ℕ) where
     tree_kind (Some (Form.own U)) of is = let e = no_shape shape.Object shape.Tree of.shape_is is in absurd (cc)
     tree_kind (Some (Form.shared U)) of is = absurd of
 
-    pub other_kind : (o : Option Form) → ContentOf table T o (Some c) → (c.shape ≡ shape.Buffer → c.entry.before ≡ 8 → ⊥) → (c.shape ≡ shape.Tree → ⊥) → KindOf table T o (Err code.OtherType)
+    pub other_kind : (o : Option Form) → ContentOf table T o (Some c) → (c.shape ≡ shape.Buffer → c.entry.before ≡ 8 → ⊥) → (c.shape ≡ shape.Tree → ⊥) → MapKindOf table T o (Err code.OtherType)
     other_kind None of no_flat no_tree = refl
     other_kind (Some Form.i64) of no_flat no_tree = refl
     other_kind (Some (Form.struct Us)) of no_flat no_tree = refl
@@ -89,7 +89,7 @@ found_none table T f o r x of e is = subst (ContentOf table T f) (content_none o
 -- ---- the two kinds
 
 -- a flat kind means a flat map's form, and a tree kind a tree map's form
-pub as_flat : (table : Table) (T : ℕ) (o : Option Form) (c : Content) (U : ℕ) → KindOf table T o (Ok (kind.Flat c)) → IsMapOf o U → (o ≡ Some (Form.flat_map U)) × IsContent table shape.Buffer (tag_of block.buffer T) 8 U c
+pub as_flat : (table : Table) (T : ℕ) (o : Option Form) (c : Content) (U : ℕ) → MapKindOf table T o (Ok (kind.Flat c)) → IsMapOf o U → (o ≡ Some (Form.flat_map U)) × IsContent table shape.Buffer (tag_of block.buffer T) 8 U c
 as_flat table T None c U k m = absurd k
 as_flat table T (Some Form.i64) c U k m = absurd k
 as_flat table T (Some Form.str) c U k m = absurd k
@@ -101,7 +101,7 @@ as_flat table T (Some (Form.shared V)) c U k m = absurd k
 as_flat table T (Some (Form.struct Us)) c U k m = absurd k
 as_flat table T (Some (Form.flat_map V)) c U k m = (ap (λ W. Some (Form.flat_map W)) m, subst (λ W. IsContent table shape.Buffer (tag_of block.buffer T) 8 W c) m k)
 
-pub as_tree : (table : Table) (T : ℕ) (o : Option Form) (c : Content) (U : ℕ) → KindOf table T o (Ok (kind.Tree c)) → IsMapOf o U → (o ≡ Some (Form.map U)) × NamesTree table T U c
+pub as_tree : (table : Table) (T : ℕ) (o : Option Form) (c : Content) (U : ℕ) → MapKindOf table T o (Ok (kind.Tree c)) → IsMapOf o U → (o ≡ Some (Form.map U)) × NamesTree table T U c
 as_tree table T None c U k m = absurd k
 as_tree table T (Some Form.i64) c U k m = absurd k
 as_tree table T (Some Form.str) c U k m = absurd k
@@ -114,7 +114,7 @@ as_tree table T (Some (Form.struct Us)) c U k m = absurd k
 as_tree table T (Some (Form.map V)) c U k m = (ap (λ W. Some (Form.map W)) m, subst (λ W. NamesTree table T W c) m k)
 
 -- exactly the forms with keys have a kind
-pub kind_keys : (table : Table) (T : ℕ) (o : Option Form) (k : map.Kind) → KindOf table T o (Ok k) → has_keys o ≡ true
+pub kind_keys : (table : Table) (T : ℕ) (o : Option Form) (k : map.MapKind) → MapKindOf table T o (Ok k) → has_keys o ≡ true
 kind_keys table T None k h = absurd h
 kind_keys table T (Some Form.i64) k h = absurd h
 kind_keys table T (Some Form.str) k h = absurd h
@@ -131,7 +131,7 @@ pub record NoKind (o : Option Form) (error : Code) : Type 0 where
   pub code_is : error ≡ code.OtherType
   pub no_map : (U : ℕ) → IsMapOf o U → ⊥
 
-pub kind_none : (table : Table) (T : ℕ) (o : Option Form) (e : Code) → KindOf table T o (Err e) → NoKind o e
+pub kind_none : (table : Table) (T : ℕ) (o : Option Form) (e : Code) → MapKindOf table T o (Err e) → NoKind o e
 kind_none table T None e h = record { keys = refl; code_is = h; no_map = λ U m. m }
 kind_none table T (Some Form.i64) e h = record { keys = refl; code_is = h; no_map = λ U m. m }
 kind_none table T (Some Form.str) e h = record { keys = refl; code_is = h; no_map = λ U m. m }

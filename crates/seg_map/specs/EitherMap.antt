@@ -3,7 +3,7 @@
 --     IsMapOf form U                   values of this form are maps to values of type U
 --     WhereMaps allocator bytes table map claim     the claim is true of a place that is a map
 --     key_asks bytes table at form     the requests for one more key
---     KindOf table T form result       the kind of the maps of a type
+--     MapKindOf table T form result    the kind of the maps of a type
 --     KeepsTreePaths form old new table map         paths into a tree map still reach the same places
 --     KeepsKeysBut form old new table map key       paths through other keys are kept: through all of them in a tree,
 --                                                   through lower ones in a flat map
@@ -20,8 +20,8 @@ use Rattle.seg_value.specs.Entries.{flat_asks}
 use Rattle.seg_cells.specs.declared.content.Shape.TheVariants as shape
 use Rattle.seg_raw.specs.declared.code.Code.{Code}
 use Rattle.seg_raw.specs.declared.code.Code.TheVariants as code
-use Rattle.seg_map.specs.declared.map.Kind as map
-use Rattle.seg_map.specs.declared.map.Kind.TheVariants as kind
+use Rattle.seg_map.specs.declared.map.MapKind as map
+use Rattle.seg_map.specs.declared.map.MapKind.TheVariants as kind
 use Rattle.seg_map.specs.Maps.{KeepsLowerKeys}
 use Rattle.seg_map.specs.Trees.{VALUE, NamesTree, KeepsOtherKeys}
 
@@ -49,14 +49,14 @@ key_asks bytes table at (Some (Form.map U)) = block_for (VALUE + size table U) �
 key_asks bytes table at form = []
 
 -- the kind of the maps of a type; `OtherType` if the type's values aren't maps
-abbrev pub KindOf : Table → ℕ → Option Form → Result map.Kind Code → Type 0
-KindOf table T (Some (Form.flat_map U)) (Ok (kind.Flat content)) =
+abbrev pub MapKindOf : Table → ℕ → Option Form → Result map.MapKind Code → Type 0
+MapKindOf table T (Some (Form.flat_map U)) (Ok (kind.Flat content)) =
     IsContent table shape.Buffer (tag_of Kind.buffer T) 8 U content
-KindOf table T (Some (Form.map U)) (Ok (kind.Tree content)) = NamesTree table T U content
-KindOf table T (Some (Form.flat_map U)) _ = ⊥
-KindOf table T (Some (Form.map U)) _ = ⊥
-KindOf table T form (Ok content) = ⊥
-KindOf table T form (Err error) = error ≡ code.OtherType
+MapKindOf table T (Some (Form.map U)) (Ok (kind.Tree content)) = NamesTree table T U content
+MapKindOf table T (Some (Form.flat_map U)) _ = ⊥
+MapKindOf table T (Some (Form.map U)) _ = ⊥
+MapKindOf table T form (Ok content) = ⊥
+MapKindOf table T form (Err error) = error ≡ code.OtherType
 
 abbrev pub KeepsTreePaths : Option Form → List ℕ → List ℕ → Table → Place → Type 0
 KeepsTreePaths (Some (Form.map U)) old new table map = KeepsPathsInside old new table map

@@ -18,28 +18,28 @@ use seg_value::{Content, Fit, Heap, KEY, Place, Shape, ValueAt};
 use std::alloc::Allocator;
 
 /// The two kinds of maps, with the layout of what the map's cell points to.
-enum Kind {
+enum MapKind {
     Flat(Content),
     Tree(Content),
 }
 
-impl Kind {
-    ghost use Rattle.seg_map.specs.EitherMap.{KindOf};
+impl MapKind {
+    ghost use Rattle.seg_map.specs.EitherMap.{MapKindOf};
 
     /// The kind of the map at a place. `OtherType` if the place isn't a map.
-    fn of<F: Fit, A: Allocator>(heap: &Heap<F, A>, map: Place) -> Result<Kind, Code>
-        ensures { KindOf heap.now.types map.type_id (form_at heap.now.types map.type_id) result }
+    fn of<F: Fit, A: Allocator>(heap: &Heap<F, A>, map: Place) -> Result<MapKind, Code>
+        ensures { MapKindOf heap.now.types map.type_id (form_at heap.now.types map.type_id) result }
     {
         let content = heap.content(map.type_id).ok_or(Code::OtherType)?;
         match content.shape {
             Shape::Buffer => {
                 if content.entry.before == KEY {
-                    Ok(Kind::Flat(content))
+                    Ok(MapKind::Flat(content))
                 } else {
                     Err(Code::OtherType)
                 }
             }
-            Shape::Tree => Ok(Kind::Tree(content)),
+            Shape::Tree => Ok(MapKind::Tree(content)),
             Shape::Ring | Shape::Object => Err(Code::OtherType),
         }
     }
@@ -54,8 +54,8 @@ pub fn len<F: Fit, A: Allocator>(heap: &Heap<F, A>, map: Place) -> Result<u32, C
     ensures keys { WhereMaps F.allocator heap.now.window.bytes heap.now.types (place_of map)
         (λ U keys vs blocks. result ≡ Ok (length keys)) }
 {
-    match Kind::of(heap, map)? {
-        Kind::Flat(_) | Kind::Tree(_) => Ok(heap.count(map.at)),
+    match MapKind::of(heap, map)? {
+        MapKind::Flat(_) | MapKind::Tree(_) => Ok(heap.count(map.at)),
     }
 }
 
@@ -69,9 +69,9 @@ pub fn get<F: Fit, A: Allocator>(heap: &Heap<F, A>, map: Place, key: i64) -> Res
         (λ U keys vs blocks. FindsValue heap.now.window.bytes heap.now.types (place_of map)
         U keys key (result_ok result)) }
 {
-    match Kind::of(heap, map)? {
-        Kind::Flat(content) => flat::get(heap, content.entry, map.at, key),
-        Kind::Tree(content) => tree::get(heap, content.entry, map.at, key),
+    match MapKind::of(heap, map)? {
+        MapKind::Flat(content) => flat::get(heap, content.entry, map.at, key),
+        MapKind::Tree(content) => tree::get(heap, content.entry, map.at, key),
     }
     .ok_or(Code::Absent)
 }
@@ -98,9 +98,9 @@ pub fn put<F: Fit, A: Allocator>(
         (λ U keys vs blocks. KeepsTreePaths (form_at heap.old.types map.type_id)
         heap.old.window.bytes heap.new.window.bytes heap.old.types (place_of map)) }
 {
-    match Kind::of(heap, map)? {
-        Kind::Flat(content) => flat::put(heap, &content, map.at, key),
-        Kind::Tree(content) => tree::put(heap, &content, map.at, key),
+    match MapKind::of(heap, map)? {
+        MapKind::Flat(content) => flat::put(heap, &content, map.at, key),
+        MapKind::Tree(content) => tree::put(heap, &content, map.at, key),
     }
 }
 
@@ -118,12 +118,12 @@ pub fn remove<F: Fit, A: Allocator>(heap: &mut Heap<F, A>, map: Place, key: i64)
         s.home blocks (KeepsKeysBut (form_at heap.old.types map.type_id) heap.old.window.bytes
         heap.new.window.bytes heap.old.types (place_of map) key) (key_place keys key) result }
 {
-    let Ok(kind) = Kind::of(heap, map) else {
+    let Ok(kind) = MapKind::of(heap, map) else {
         return false;
     };
     match kind {
-        Kind::Flat(content) => flat::remove(heap, &content, map.at, key),
-        Kind::Tree(content) => tree::remove(heap, &content, map.at, key),
+        MapKind::Flat(content) => flat::remove(heap, &content, map.at, key),
+        MapKind::Tree(content) => tree::remove(heap, &content, map.at, key),
     }
 }
 
@@ -155,9 +155,9 @@ pub fn first_key_by<F: Fit, A: Allocator>(
     ensures inside { LeadsInside heap.now.window.bytes cursor.old
         → LeadsInside heap.now.window.bytes cursor.new }
 {
-    match Kind::of(heap, map)? {
-        Kind::Flat(content) => flat::first_key(heap, content.entry, map.at),
-        Kind::Tree(_) => tree::first_key(heap, cursor, map.at),
+    match MapKind::of(heap, map)? {
+        MapKind::Flat(content) => flat::first_key(heap, content.entry, map.at),
+        MapKind::Tree(_) => tree::first_key(heap, cursor, map.at),
     }
     .ok_or(Code::Null)
 }
@@ -197,9 +197,9 @@ pub fn next_key_by<F: Fit, A: Allocator>(
     ensures inside { LeadsInside heap.now.window.bytes cursor.old
         → LeadsInside heap.now.window.bytes cursor.new }
 {
-    match Kind::of(heap, map)? {
-        Kind::Flat(content) => flat::next_key(heap, content.entry, map.at, after),
-        Kind::Tree(_) => tree::next_key(heap, cursor, map.at, after),
+    match MapKind::of(heap, map)? {
+        MapKind::Flat(content) => flat::next_key(heap, content.entry, map.at, after),
+        MapKind::Tree(_) => tree::next_key(heap, cursor, map.at, after),
     }
     .ok_or(Code::Null)
 }

@@ -15,7 +15,7 @@ ghost use Rattle.seg_spec.specs.Types.{Form, form_at, size};
 ghost use Rattle.seg_spec.specs.Value.{Values, Map};
 ghost use Rattle.seg_spec.specs.Demand.{block_for};
 ghost use Rattle.seg_spec.specs.Items.{key_place};
-ghost use Rattle.seg_rbtree.specs.Parts.{part};
+ghost use Rattle.seg_rbtree.specs.Parts.{byte_range};
 ghost use Rattle.seg_rbtree.specs.Roots.{root_word};
 ghost use Rattle.seg_rbtree.specs.Following.{LeadsInside};
 ghost use Rattle.seg_rbtree.proofs.Keys.{equal_to_one};
@@ -40,7 +40,7 @@ impl NodeOrder<i64> for ByKey {
 
     ghost compare_key = { λ _ bytes x key. int_cmp (signed_long bytes ((x + 16) % 2 ^ 32)) key };
 
-    ghost read = { λ _ _ x. part ((x + 16) % 2 ^ 32) 8 ∷ [] };
+    ghost read = { λ _ _ x. byte_range ((x + 16) % 2 ^ 32) 8 ∷ [] };
 
     fn nodes(&self, view: View, node: NodeAt, other: NodeAt) -> Ordering {
         key_of(view, node).cmp(&key_of(view, other))

@@ -18,7 +18,7 @@ use Rattle.seg_rbtree.specs.declared.step.Step.{Step}
 use Rattle.seg_rbtree.specs.Ways.{Layer, branch, grow, plug, place, step_of, steps_of, last_word, turn_of, LeadBy, EndsAt, LeadsTo, IsWayIn, before, following, nodes_before, nodes_after, after_root}
 use Rattle.seg_rbtree.specs.Paths.{node_at}
 use Rattle.seg_rbtree.specs.Removing.{layer_at, AreLeft, Descends}
-use Rattle.seg_rbtree.specs.Following.{IsPartAt, AreRight, Climbs, GoesOn}
+use Rattle.seg_rbtree.specs.Following.{IsPartAt, AlwaysGoesRight, Climbs, GoesToNextNode}
 use Rattle.seg_rbtree.proofs.Branches.{branch-parts, tree-down}
 use Rattle.seg_rbtree.proofs.Lengthening.{snoc_parts}
 use Rattle.seg_rbtree.proofs.Orders.{ascend-parts, ascend-down}
@@ -34,10 +34,10 @@ pub record IsClimbing (layers : List Layer) (items : List Step) : Type 0 where
   pub lower : List Layer
   pub upper : List Layer
   pub layers_are : layers ≡ lower ++ upper
-  pub rightward : AreRight lower
+  pub rightward : AlwaysGoesRight lower
   pub steps_are : items ≡ steps_of upper
 
-right_on : (lower : List Layer) (layer : Layer) → AreRight lower → layer.side ≡ Right → AreRight (lower ++ layer ∷ [])
+right_on : (lower : List Layer) (layer : Layer) → AlwaysGoesRight lower → layer.side ≡ Right → AlwaysGoesRight (lower ++ layer ∷ [])
 right_on [] layer r e = (e, tt)
 right_on (l ∷ lower) layer r e = (r.0, right_on lower layer r.1 e)
 
@@ -79,22 +79,22 @@ climbed layers old path step e l s = go s.upper s.layers_are (sym e ∙ s.steps_
           steps_are = parts.0;
         }
 
-pub climbed_all : (layers : List Layer) (items : List Step) → items ≡ [] → IsClimbing layers items → AreRight layers
+pub climbed_all : (layers : List Layer) (items : List Step) → items ≡ [] → IsClimbing layers items → AlwaysGoesRight layers
 climbed_all layers items e s = go s.upper s.layers_are (sym e ∙ s.steps_are)
   where
-    go : (upper : List Layer) → layers ≡ s.lower ++ upper → [] ≡ steps_of upper → AreRight layers
-    go [] is same = subst AreRight (sym (is ∙ append-nil s.lower)) s.rightward
+    go : (upper : List Layer) → layers ≡ s.lower ++ upper → [] ≡ steps_of upper → AlwaysGoesRight layers
+    go [] is same = subst AlwaysGoesRight (sym (is ∙ append-nil s.lower)) s.rightward
     go (layer ∷ upper) is same = absurd (empty (steps_of upper) (step_of layer) (sym same))
 
 -- ---- the nodes after a place
 
 -- layers whose places are on their right sides have no nodes after the place
-following_on : (lower upper : List Layer) → AreRight lower → following (lower ++ upper) ≡ following upper
+following_on : (lower upper : List Layer) → AlwaysGoesRight lower → following (lower ++ upper) ≡ following upper
 unfolding following nodes_after
 following_on [] upper r = refl
 following_on (l ∷ lower) upper r = ap (λ side. nodes_after side l.other l.at ++ following (lower ++ upper)) r.0 ∙ following_on lower upper r.1
 
-pub following_none : (layers : List Layer) → AreRight layers → following layers ≡ []
+pub following_none : (layers : List Layer) → AlwaysGoesRight layers → following layers ≡ []
 unfolding following
 following_none layers r = ap following (sym (append-nil layers)) ∙ following_on layers [] r
 
@@ -121,7 +121,7 @@ module _ (bytes : List ℕ) (path new : Path) (layers : List Layer) (part : Tree
       let word : last_word new.root new.steps.items ≡ place path.root above = ap (last_word new.root) e ∙ last_word-steps new.root above ∙ ap (λ root. place root above) same in
       subst (λ w. IsTree bytes (target bytes w) rest) (sym word) (tree-down bytes path.root rest above (subst (λ t. IsTree bytes (target bytes path.root) t) (sym is) s.whole.is_tree))
 
-  pub goes_down : (colour : Colour) (node : ℕ) (left right : Tree) (result : Option ℕ) → part ≡ fork left node colour right → Descends new (layer_at Right node colour left ∷ layers) right result → GoesOn bytes layers part new result
+  pub goes_down : (colour : Colour) (node : ℕ) (left right : Tree) (result : Option ℕ) → part ≡ fork left node colour right → Descends new (layer_at Right node colour left ∷ layers) right result → GoesToNextNode bytes layers part new result
   goes_down colour node left right result is d =
       let above = d.lower ++ layer_at Right node colour left ∷ layers in
       let rest = fork leaf d.next d.tint d.only in
@@ -135,7 +135,7 @@ module _ (bytes : List ℕ) (path new : Path) (layers : List Layer) (part : Tree
         stands = subst (λ o. MatchOption o (new.steps.items ≡ []) (λ n. node_at bytes new ≡ Some n)) (sym d.result_is) there;
       }
 
-  climbs_to : (node : ℕ) → after_root part ≡ [] → Climbs layers new node → GoesOn bytes layers part new (Some node)
+  climbs_to : (node : ℕ) → after_root part ≡ [] → Climbs layers new node → GoesToNextNode bytes layers part new (Some node)
   climbs_to node none k =
       let rest = grow k.layer (plug part k.lower) in
       let whole : plug rest k.upper ≡ plug part layers = sym (plug_on part k.lower (k.layer ∷ k.upper)) ∙ ap (plug part) (sym k.layers_are) in
@@ -145,7 +145,7 @@ module _ (bytes : List ℕ) (path new : Path) (layers : List Layer) (part : Tree
       ∙ first_following k.layer k.upper k.leftward ∙ ap Some k.node_is in
       record { next_is = sym first; way = record { layers = k.upper; rest = rest; shape_is = whole; steps_are = k.steps_are }; stands = named ∙ ap Some k.node_is }
 
-  pub goes_up : (result : Option ℕ) → after_root part ≡ [] → MatchOption result (AreRight layers × (new.steps.items ≡ [])) (Climbs layers new) → GoesOn bytes layers part new result
+  pub goes_up : (result : Option ℕ) → after_root part ≡ [] → MatchOption result (AlwaysGoesRight layers × (new.steps.items ≡ [])) (Climbs layers new) → GoesToNextNode bytes layers part new result
   goes_up None none k =
       let first : slice_get (after_root part ++ following layers) 0 ≡ None = ap (λ ns. slice_get (ns ++ following layers) 0) none ∙ ap (λ ns. slice_get ns 0) (following_none layers k.0) in
       record { next_is = sym first; way = record { layers = []; rest = plug part layers; shape_is = refl; steps_are = k.1 }; stands = k.1 }
@@ -254,7 +254,7 @@ module _ (order : ℕ → ℕ → Ordering) (p : ℕ → Bool) (turn : ℕ → O
   -- the next node from the end of such a path is the first with the property
   pub goes_past : (bytes : List ℕ) (new : Path) (shape : Tree) (layers : List Layer) (rest : Tree) (result : Option ℕ) → Ascend order (nodes_of shape) → plug rest layers ≡ shape → LeadBy turn layers
       → (Ascend order (nodes_of rest) → option_or (first_where p (nodes_of rest)) (slice_get (following layers) 0) ≡ slice_get (after_root rest ++ following layers) 0)
-      → GoesOn bytes layers rest new result → result ≡ first_where p (nodes_of shape)
+      → GoesToNextNode bytes layers rest new result → result ≡ first_where p (nodes_of shape)
   goes_past bytes new shape layers rest result a is leads at_end on =
       let b = subst (λ x. Ascend order (nodes_of x)) (sym is) a in
       on.next_is ∙ sym (at_end (ascend-down order rest layers b)) ∙ sym (along layers rest b leads) ∙ ap (λ x. first_where p (nodes_of x)) is
@@ -321,13 +321,13 @@ module _ (compare : ℕ → Ordering) (order : ℕ → ℕ → Ordering) (keyed 
 
   -- the next node from the end of a path to a key is the first node above the key
   pub goes_above : (bytes : List ℕ) (path new : Path) (shape : Tree) (result : Option ℕ) → IsSearchTree bytes path.root shape → Ascend order (nodes_of shape) → (way : LeadsTo turn shape path)
-      → (IsPartAt bytes path way.layers way.rest → GoesOn bytes way.layers way.rest new result) → result ≡ first_where past (nodes_of shape)
+      → (IsPartAt bytes path way.layers way.rest → GoesToNextNode bytes way.layers way.rest new result) → result ≡ first_where past (nodes_of shape)
   goes_above bytes path new shape result t a way on =
       goes_past order past turn up lefts rights bytes new shape way.layers way.rest result a way.shape_is way.leads (at_end way.rest (following way.layers) way.ends)
       (on (part_there bytes path shape way.layers way.rest way.shape_is way.steps_are t))
 
 -- a path that continues is still in the tree
-pub goes_inside : (bytes : List ℕ) (path new : Path) (result : Option ℕ) → new.root ≡ path.root → ((layers : List Layer) (part : Tree) → IsPartAt bytes path layers part → GoesOn bytes layers part new result)
+pub goes_inside : (bytes : List ℕ) (path new : Path) (result : Option ℕ) → new.root ≡ path.root → ((layers : List Layer) (part : Tree) → IsPartAt bytes path layers part → GoesToNextNode bytes layers part new result)
     → ((shape : Tree) → IsSearchTree bytes path.root shape → IsWayIn shape path) → (shape : Tree) → IsSearchTree bytes new.root shape → IsWayIn shape new
 goes_inside bytes path new result same on inside shape t =
     let u : IsSearchTree bytes path.root shape = subst (λ root. IsSearchTree bytes root shape) same t in

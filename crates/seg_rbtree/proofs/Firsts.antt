@@ -11,7 +11,7 @@ use Rattle.seg_spec.specs.Search.{rank_of, reaches, Ascend, first_where, IsSearc
 use Rattle.seg_rbtree.specs.declared.path.Path.{Path}
 use Rattle.seg_rbtree.specs.Ways.{Layer, plug, steps_of, EndsAt, LeadsTo, following, after_root}
 use Rattle.seg_rbtree.specs.Paths.{before_first, node_at}
-use Rattle.seg_rbtree.specs.Following.{AreRight, Climbs, GoesOn}
+use Rattle.seg_rbtree.specs.Following.{AlwaysGoesRight, Climbs, GoesToNextNode}
 use Rattle.seg_rbtree.proofs.Climbing.{goes_up, goes_past, leads_by, part_there}
 use Rattle.seg_rbtree.proofs.Removed.{itself}
 use Rattle.seg_rbtree.proofs.Searching.{reaches_up}
@@ -60,7 +60,7 @@ pub record IsLedToFirst (compare : ℕ → Ordering) (order : ℕ → ℕ → Or
 
 -- the path that continues to the next node ends there
 leads_on : (order : ℕ → ℕ → Ordering) → IsTotalOrder order → (bytes : List ℕ) (path : Path) (layers : List Layer) (rest : Tree) (result : Option ℕ) → IsSearchTree bytes path.root (plug rest layers)
-    → Ascend order (nodes_of (plug rest layers)) → GoesOn bytes layers rest path result → IfSome result (λ node. LeadsTo (order node) (plug rest layers) path × (node_at bytes path ≡ Some node))
+    → Ascend order (nodes_of (plug rest layers)) → GoesToNextNode bytes layers rest path result → IfSome result (λ node. LeadsTo (order node) (plug rest layers) path × (node_at bytes path ≡ Some node))
 leads_on order total bytes path layers rest None t a on = tt
 leads_on order total bytes path layers rest (Some node) t a on =
     (leads_by order (order node) node (λ y l. l) (λ x l. total.antisymm node x ∙ ap ordering_reverse l) (itself order total node) bytes path (plug rest layers) t a on.way on.stands, on.stands)
@@ -68,7 +68,7 @@ leads_on order total bytes path layers rest (Some node) t a on =
 -- the path that goes up from the empty place before a node ends at the node
 pub led_to_first : (compare : ℕ → Ordering) (order : ℕ → ℕ → Ordering) → ((x y : ℕ) → order x y ≡ Less → rank_of (compare x) ≤ rank_of (compare y)) → IsTotalOrder order → (bytes : List ℕ) (path new : Path) (shape : Tree) (result : Option ℕ)
     → new.root ≡ path.root → IsSearchTree bytes path.root shape → Ascend order (nodes_of shape) → LeadsTo (turn compare) shape path
-    → ((layers : List Layer) → path.steps.items ≡ steps_of layers → MatchOption result (AreRight layers × (new.steps.items ≡ [])) (Climbs layers new)) → IsLedToFirst compare order bytes shape new result
+    → ((layers : List Layer) → path.steps.items ≡ steps_of layers → MatchOption result (AlwaysGoesRight layers × (new.steps.items ≡ [])) (Climbs layers new)) → IsLedToFirst compare order bytes shape new result
 led_to_first compare order keyed total bytes path new shape result same t a way climbs =
     let s = part_there bytes path shape way.layers way.rest way.shape_is way.steps_are t in
     let on = goes_up bytes path new way.layers way.rest same s result (ends_empty compare way.rest way.ends) (climbs way.layers way.steps_are) in

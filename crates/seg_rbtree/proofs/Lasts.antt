@@ -12,7 +12,7 @@ use Rattle.seg_rbtree.specs.declared.node.Side.{Side}
 use Rattle.seg_rbtree.specs.declared.node.Side.TheVariants.{Left, Right}
 use Rattle.seg_rbtree.specs.declared.path.Path.{Path}
 use Rattle.seg_rbtree.specs.declared.step.Step.{Step}
-use Rattle.seg_rbtree.specs.Following.{AreRight}
+use Rattle.seg_rbtree.specs.Following.{AlwaysGoesRight}
 use Rattle.seg_rbtree.specs.Paths.{node_at, IsLast}
 use Rattle.seg_rbtree.specs.Ways.{Layer, step_of, steps_of, LeadsTo, before, following, nodes_after}
 use Rattle.seg_rbtree.proofs.Apartness.{each_join}
@@ -52,7 +52,7 @@ none_behind order total xs node (y ∷ ys) a last =
 -- ---- steps to the right
 
 -- if all steps go right, the layers have their places on their right sides
-right_steps : (layers : List Layer) → AllByRecursion (λ (s : Step). s.side ≡ Right) (steps_of layers) → AreRight layers
+right_steps : (layers : List Layer) → AllByRecursion (λ (s : Step). s.side ≡ Right) (steps_of layers) → AlwaysGoesRight layers
 right_steps [] a = tt
 right_steps (l ∷ ls) a = ((each_right _ (steps_of ls) (step_of l ∷ []) a).0, right_steps ls (each_left _ (steps_of ls) (step_of l ∷ []) a))
 

@@ -5,7 +5,7 @@ use Rattle.seg_spec.specs.Shapes.{Colour, black, red, Tree, fork, nodes_of, IsTr
 use Rattle.seg_rbtree.specs.declared.node.Side.{Side}
 use Rattle.seg_rbtree.specs.declared.node.Side.TheVariants.{Left, Right}
 use Rattle.seg_rbtree.specs.declared.node.Colour.TheVariants.{Black, Red}
-use Rattle.seg_rbtree.specs.Nodes.{side_word, opposite, with_colour, rotated, raised_up, raised, straightened}
+use Rattle.seg_rbtree.specs.Nodes.{side_word, opposite, with_colour, rotated, raised_up, rotated_and_coloured, straightened}
 use Rattle.seg_rbtree.specs.Ways.{branch}
 use Rattle.seg_rbtree.specs.Changes.{StandApart}
 use Rattle.seg_rbtree.specs.Turns.{Turns}
@@ -49,7 +49,7 @@ module _ (bytes : List ℕ) (at : ℕ) (side : Side) (node up : ℕ) (colour upp
 
   -- the node moves down to a side and becomes red, and its child on the other side moves up and
   -- becomes black
-  pub turns-raised : IsTree bytes (target bytes at) before → StandApart (length bytes) at (nodes_of before) → Turns bytes (raised bytes at node side) at before after
+  pub turns-raised : IsTree bytes (target bytes at) before → StandApart (length bytes) at (nodes_of before) → Turns bytes (rotated_and_coloured bytes at node side) at before after
   turns-raised h apart =
       let low = branch-parts bytes (target bytes at) side node colour x (branch side up upper m d) h in
       let high = branch-parts bytes (target bytes (side_word node (opposite side))) side up upper m d low.far_hangs in
@@ -66,7 +66,7 @@ pub record Straightens (old new : List ℕ) (at : ℕ) (before : Tree) (height :
 -- both red nodes are on the same side
 straight_on : (bytes : List ℕ) (at : ℕ) (way : Side) (g p : ℕ) (lower sibling uncle : Tree) (h : ℕ) → IsTree bytes (target bytes at) (branch way g black (branch way p red lower sibling) uncle)
     → StandApart (length bytes) at (nodes_of (branch way g black (branch way p red lower sibling) uncle)) → IsBalanced lower h → IsBlack sibling → IsBalanced sibling h → IsBlack uncle → IsBalanced uncle h
-    → Straightens bytes (raised bytes at g (opposite way)) at (branch way g black (branch way p red lower sibling) uncle) h
+    → Straightens bytes (rotated_and_coloured bytes at g (opposite way)) at (branch way g black (branch way p red lower sibling) uncle) h
 straight_on bytes at way g p lower sibling uncle h t apart bl ks bs ku bu =
     let before = branch way g black (branch way p red lower sibling) uncle in
     let side = opposite way in
@@ -76,7 +76,7 @@ straight_on bytes at way g p lower sibling uncle h t apart bl ks bs ku bu =
     let after = branch side p black (branch side g red uncle sibling) lower in
     record {
       after = after;
-      turns = turns-room bytes (raised bytes at g side) at other before after (ap nodes_of (sym e)) up;
+      turns = turns-room bytes (rotated_and_coloured bytes at g side) at other before after (ap nodes_of (sym e)) up;
       nodes_are = nodes-rotated side g p black red red black uncle sibling lower ∙ ap nodes_of (sym e);
       black_root = black-branch side p (branch side g red uncle sibling) lower;
       balanced = balanced-black side p (branch side g red uncle sibling) lower h (balanced-red side g uncle sibling h ku ks bu bs) bl;
@@ -86,7 +86,7 @@ straight_on bytes at way g p lower sibling uncle h t apart bl ks bs ku bu =
 turned_back : (bytes : List ℕ) (at : ℕ) (way : Side) (g p n : ℕ) (m d sibling uncle : Tree) (h : ℕ) → IsTree bytes (target bytes at) (branch way g black (branch (opposite way) p red (branch way n red m d) sibling) uncle)
     → StandApart (length bytes) at (nodes_of (branch way g black (branch (opposite way) p red (branch way n red m d) sibling) uncle)) → IsBalanced (branch way n red m d) h → IsBlack sibling → IsBalanced sibling h → IsBlack uncle
     → IsBalanced uncle h
-    → Straightens bytes (raised (rotated bytes (side_word g way) p way) at g (opposite way)) at (branch way g black (branch (opposite way) p red (branch way n red m d) sibling) uncle) h
+    → Straightens bytes (rotated_and_coloured (rotated bytes (side_word g way) p way) at g (opposite way)) at (branch way g black (branch (opposite way) p red (branch way n red m d) sibling) uncle) h
 turned_back bytes at way g p n m d sibling uncle h t apart bl ks bs ku bu =
     let low = branch way p red sibling (branch way n red m d) in
     let high = branch way n red (branch way p red sibling m) d in
@@ -105,7 +105,7 @@ turned_back bytes at way g p n m d sibling uncle h t apart bl ks bs ku bu =
     let apart_middle : StandApart (length new) at (nodes_of middle) = subst (λ k. StandApart k at (nodes_of middle)) (sym one.kept.length_kept) (subst (StandApart (length bytes) at) (sym same) apart_before) in
     let q = red-parts way n m d h bl in
     let rest = straight_on new at way g n (branch way p red sibling m) d uncle h one.hangs apart_middle (balanced-red way p sibling m h ks q.near_black bs q.near_balanced) q.far_black q.far_balanced ku bu in
-    let last = raised new at g (opposite way) in
+    let last = rotated_and_coloured new at g (opposite way) in
     record {
       after = rest.after;
       turns = turns-room bytes last at before first rest.after (ap nodes_of (sym e)) (turns-then bytes new last at before middle rest.after one (turns-room new last at middle before rest.after same rest.turns));

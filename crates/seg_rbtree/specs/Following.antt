@@ -1,9 +1,10 @@
 -- From a place in a tree to the next node in order.
 --     IsPartAt bytes path layers part      a subtree of a search tree is at the end of a path
 --     LeadsInside bytes path               the path is valid in each search tree at its root
---     AreRight layers                      the path always goes right
+--     AlwaysGoesRight layers               the path always goes right
 --     Climbs layers path node              the path goes up to the nearest node from which it went left
---     GoesOn bytes layers part path next   the path goes to the first node after a place
+--     GoesToNextNode bytes layers part path next
+--                                          the path goes to the first node after a place
 use Rattle.std.specs.Prelude.{◌≡◌, ℕ, List, [], ◌∷◌, ◌++◌, slice_get, Option, Some, MatchOption}
 use Rattle.std.specs.List.{AllByRecursion}
 use Rattle.seg_spec.specs.Shapes.{Tree}
@@ -22,8 +23,8 @@ pub record IsPartAt (bytes : List ℕ) (path : Path) (layers : List Layer) (part
 abbrev pub LeadsInside : List ℕ → Path → Type 0
 LeadsInside bytes path = (shape : Tree) → IsSearchTree bytes path.root shape → IsWayIn shape path
 
-abbrev pub AreRight : List Layer → Type 0
-AreRight layers = AllByRecursion (λ layer. layer.side ≡ Right) layers
+abbrev pub AlwaysGoesRight : List Layer → Type 0
+AlwaysGoesRight layers = AllByRecursion (λ layer. layer.side ≡ Right) layers
 
 -- the path goes up to the node of the nearest layer whose place is on its left side
 pub record Climbs (layers : List Layer) (path : Path) (node : ℕ) : Type 0 where
@@ -31,14 +32,14 @@ pub record Climbs (layers : List Layer) (path : Path) (node : ℕ) : Type 0 wher
   pub layer : Layer
   pub upper : List Layer
   pub layers_are : layers ≡ lower ++ layer ∷ upper
-  pub rightward : AreRight lower
+  pub rightward : AlwaysGoesRight lower
   pub leftward : layer.side ≡ Left
   pub node_is : layer.at ≡ node
   pub steps_are : path.steps.items ≡ steps_of upper
 
 -- From the place of a subtree below layers, a path goes to the first node after it: after the
 -- subtree's root, or after the empty place. If no node is after it, the path goes to the root.
-pub record GoesOn (bytes : List ℕ) (layers : List Layer) (part : Tree) (path : Path)
+pub record GoesToNextNode (bytes : List ℕ) (layers : List Layer) (part : Tree) (path : Path)
     (next : Option ℕ) : Type 0 where
   pub next_is : next ≡ slice_get (after_root part ++ following layers) 0
   pub way : IsWayIn (plug part layers) path

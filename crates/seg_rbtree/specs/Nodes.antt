@@ -5,7 +5,8 @@
 --     with_child, with_colour, with_new_node      the bytes with a child, a colour, or a red node without children
 --     rotated bytes word node side          the bytes after a rotation of the node at a pointer word with its child on
 --                                           the other side
---     raised bytes word node side           the same, with the node red and the child black
+--     rotated_and_coloured bytes word node side
+--                                           the same, with the node red and the child black
 --     straightened bytes word grandparent way parent turn      the bytes after two red nodes in a row below a black one
 --                                           were repaired
 use Rattle.std.specs.Prelude.{ℕ, Bool, true, false, ◌+◌, ◌==◌, if◌then◌else◌, List, Option, None, Some}
@@ -70,8 +71,8 @@ raised_up bytes node None = bytes
 raised_up bytes node (Some up) = with_colour (with_colour bytes up Black) node Red
 
 -- the bytes after a rotation: the node that moved down is red, and the child that moved up is black
-abbrev pub raised : List ℕ → ℕ → ℕ → Side → List ℕ
-raised bytes word node side =
+abbrev pub rotated_and_coloured : List ℕ → ℕ → ℕ → Side → List ℕ
+rotated_and_coloured bytes word node side =
     raised_up (rotated bytes word node side) node (target bytes (side_word node (opposite side)))
 
 abbrev pub is_same : Side → Side → Bool
@@ -89,4 +90,5 @@ turned_out bytes grandparent way parent turn =
 -- the bytes after the middle one of three nodes moved up to the pointer word
 abbrev pub straightened : List ℕ → ℕ → ℕ → Side → ℕ → Side → List ℕ
 straightened bytes word grandparent way parent turn =
-    raised (turned_out bytes grandparent way parent turn) word grandparent (opposite way)
+    rotated_and_coloured (turned_out bytes grandparent way parent turn) word grandparent
+    (opposite way)

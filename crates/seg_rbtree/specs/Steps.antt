@@ -1,12 +1,12 @@
 -- A step of a path in a tree, and its word.
---     Step                  a node, and the side on which the path continues
+--     NodeAndSide           a node, and the side on which the path continues
 --     bit_of side           the side as the lowest bit of the word
 --     side_of word          the side in the word
 use Rattle.std.specs.Prelude.{ℕ, ◌%◌, ◌==◌, if◌then◌else◌}
 use Rattle.seg_rbtree.specs.declared.node.Side.{Side}
 use Rattle.seg_rbtree.specs.declared.node.Side.TheVariants.{Left, Right}
 
-pub record Step : Type 0 where
+pub record NodeAndSide : Type 0 where
   pub node : ℕ
   pub side : Side
 

@@ -2,7 +2,7 @@ ghost use Rattle.std.specs.Prelude.{◌≡◌, ℕ, ◌+◌, ◌<◌, ◌^◌, L
 ghost use Rattle.seg_spec.specs.Shapes.{nodes_of};
 ghost use Rattle.seg_spec.specs.Window.{with_bytes, KeepsHost};
 ghost use Rattle.seg_rbtree.specs.Changes.{StandApart, IsNew, with_node, Leaves};
-ghost use Rattle.seg_rbtree.specs.Nodes.{with_colour, raised, straightened};
+ghost use Rattle.seg_rbtree.specs.Nodes.{with_colour, rotated_and_coloured, straightened};
 ghost use Rattle.seg_rbtree.specs.Rising.{IsRising, Settles};
 ghost use Rattle.seg_rbtree.specs.Paths.{WhereOrdered, AddsAt};
 ghost use Rattle.seg_rbtree.specs.Roots.{root_word};
@@ -116,7 +116,7 @@ fn straighten<A: Allocator>(w: &mut Window<A>, word: usize, grandparent: Step, p
 /// Moves the node at a pointer word down to a side and makes it red, and moves its child on the other side up and makes
 /// it black.
 fn raise<A: Allocator>(w: &mut Window<A>, word: usize, node: NodeAt, side: Side)
-    ensures { w.new ≡ with_bytes w.old (raised w.old.bytes word node side) }
+    ensures { w.new ≡ with_bytes w.old (rotated_and_coloured w.old.bytes word node side) }
 {
     if let Some(up) = rotate(w, word, node, side) {
         paint(w, up, Colour::Black);

@@ -8,7 +8,7 @@ ghost use Rattle.seg_rbtree.specs.Nodes.{side_word};
 ghost use Rattle.seg_rbtree.specs.Ways.{place, steps_of};
 ghost use Rattle.seg_rbtree.specs.Paths.{WhereOrdered, IsLastAt, TellsLast, node_at};
 ghost use Rattle.seg_rbtree.specs.Removing.{layer_at, Descends};
-ghost use Rattle.seg_rbtree.specs.Following.{IsPartAt, LeadsInside, AreRight, Climbs, GoesOn};
+ghost use Rattle.seg_rbtree.specs.Following.{IsPartAt, LeadsInside, AlwaysGoesRight, Climbs, GoesToNextNode};
 ghost use Rattle.seg_rbtree.specs.Roots.{root_word, path_root};
 
 use crate::node::{Side, child, child_in};
@@ -117,7 +117,7 @@ impl Path {
     fn go_on(&mut self, view: View) -> Option<NodeAt>
         ensures root { path_root self.new ≡ path_root self.old }
         ensures on { (layers : _) (part : _) → IsPartAt view.entry.bytes.now self.old layers part
-            → GoesOn view.entry.bytes.now layers part self.new result }
+            → GoesToNextNode view.entry.bytes.now layers part self.new result }
     {
         match self.node_in(view) {
             Some(node) => self.go_on_from(view, node),
@@ -131,7 +131,7 @@ impl Path {
         ensures root { path_root self.new ≡ path_root self.old }
         ensures on { node_at view.entry.bytes.now self.old ≡ Some node
             → (layers : _) (part : _) → IsPartAt view.entry.bytes.now self.old layers part
-            → GoesOn view.entry.bytes.now layers part self.new result }
+            → GoesToNextNode view.entry.bytes.now layers part self.new result }
     {
         match child_in(view, node, Side::Right) {
             Some(right) => descend_right(view, self, node, right),
@@ -144,7 +144,7 @@ impl Path {
     pub(crate) fn climb(&mut self) -> Option<NodeAt>
         ensures root { path_root self.new ≡ path_root self.old }
         ensures climbs { (layers : _) → self.old.steps.items ≡ steps_of layers
-            → MatchOption result (AreRight layers × (self.new.steps.items ≡ []))
+            → MatchOption result (AlwaysGoesRight layers × (self.new.steps.items ≡ []))
             (Climbs layers self.new) }
     {
         while let Some(step) = self.pop() {

@@ -6,7 +6,7 @@ ghost use Rattle.std.specs.declared.cmp.Ordering.TheVariants.{Less, Equal};
 ghost use Rattle.seg_spec.specs.Apart.{Separate};
 ghost use Rattle.seg_spec.specs.Bytes.{IsSame};
 ghost use Rattle.seg_spec.specs.Search.{rank_of};
-ghost use Rattle.seg_rbtree.specs.Parts.{Part};
+ghost use Rattle.seg_rbtree.specs.Parts.{ByteRange};
 ghost use Rattle.seg_rbtree.specs.Paths.{sought_by};
 
 use seg_ptr::{NodeAt, View};
@@ -25,7 +25,7 @@ pub trait NodeOrder<K: Copy> {
     ghost compare_key: { Self → List ℕ → ℕ → K → Ordering };
 
     // The bytes that the order reads of a node.
-    ghost read: { Self → List ℕ → ℕ → List Part };
+    ghost read: { Self → List ℕ → ℕ → List ByteRange };
 
     // The premise of `apart` for a node. An order that follows a node's pointers needs one.
     ghost placed: { Self → List ℕ → ℕ → Type 0 } = { λ _ _ _. ⊤ };

@@ -13,7 +13,7 @@ pub(crate) struct Step {
 
 impl Model for Step {
     ghost use Rattle.std.specs.Prelude.{◌+◌, ◌*◌, ◌/◌};
-    ghost use Rattle.seg_rbtree.specs.Steps.{Step as NodeAndSide, bit_of, side_of};
+    ghost use Rattle.seg_rbtree.specs.Steps.{NodeAndSide, bit_of, side_of};
 
     ghost Value = { NodeAndSide };
 

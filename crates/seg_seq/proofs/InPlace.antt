@@ -30,7 +30,7 @@ use Rattle.seg_cells.specs.declared.content.Content.{Content}
 use Rattle.seg_cells.specs.declared.content.Shape.TheVariants as shape
 use Rattle.seg_cells.specs.declared.entry.Held.TheVariants as held
 use Rattle.seg_value.proofs.Buffers.{of_form, has_room}
-use Rattle.seg_seq.specs.Buffers.{IsShort, LacksEntry, HasEntry}
+use Rattle.seg_seq.specs.Buffers.{LacksEntryRoom, LacksEntry, HasEntry}
 use Rattle.seg_seq.specs.declared.room.Room.{Room}
 use Rattle.seg_seq.specs.Sequences.{HasText, HasItems, IsFull, LacksByte, PushesItem}
 use Rattle.seg_seq.proofs.ItemAdded.{count_few}
@@ -82,7 +82,7 @@ module _ (allocator : ℕ) (old : Stored) (cell T U : ℕ) (vs : Values) (blocks
 
   -- the next entry would end after the block's units, or after the segment, which contains the
   -- block
-  is_short : (p : ℕ) → target old.window.bytes cell ≡ Some p → IsShort old.window.bytes cell (size old.types U) p → IsFull old (object_at cell T) U
+  is_short : (p : ℕ) → target old.window.bytes cell ≡ Some p → LacksEntryRoom old.window.bytes cell (size old.types U) p → IsFull old (object_at cell T) U
   is_short p e short =
       let r = reached p e in
       let units : units_named old.window.bytes cell ≡ units_at old.window.bytes (block_of p) = rw e refl in
@@ -163,7 +163,7 @@ module _ (allocator : ℕ) (old : Stored) (place : Place) (xs blocks : List ℕ)
   text_reached : (p : ℕ) → target old.window.bytes place.at ≡ Some p → Reaches allocator old.window.bytes old.types place Form.str (Text xs) blocks t.form_is refl t.stands p
   text_reached = reaches allocator old.window.bytes old.types place Form.str (Text xs) blocks t.form_is refl t.stands
 
-  text_short : (p : ℕ) → target old.window.bytes place.at ≡ Some p → IsShort old.window.bytes place.at 1 p → LacksByte old place
+  text_short : (p : ℕ) → target old.window.bytes place.at ≡ Some p → LacksEntryRoom old.window.bytes place.at 1 p → LacksByte old place
   text_short p e short =
       let r = text_reached p e in
       let units : units_named old.window.bytes place.at ≡ units_at old.window.bytes (block_of p) = rw e refl in

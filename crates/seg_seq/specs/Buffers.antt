@@ -13,8 +13,8 @@ abbrev pub NamesNone : List ℕ → ℕ → Type 0
 NamesNone bytes cell = (target bytes cell ≡ None) ⊎ (length bytes < cell + 8)
 
 -- the buffer at `start` has no room for one more entry, or the entry would end after the segment
-abbrev pub IsShort : List ℕ → ℕ → ℕ → ℕ → Type 0
-IsShort bytes cell size start =
+abbrev pub LacksEntryRoom : List ℕ → ℕ → ℕ → ℕ → Type 0
+LacksEntryRoom bytes cell size start =
     (16 * units_named bytes cell < (count_at bytes cell + 1) * size + 16)
     ⊎ (length bytes < start + (count_at bytes cell + 1) * size)
 
@@ -22,7 +22,7 @@ IsShort bytes cell size start =
 pub record NamesShort (bytes : List ℕ) (cell size : ℕ) : Type 0 where
   pub start : ℕ
   pub start_is : target bytes cell ≡ Some start
-  pub short : 16 ≤ start → IsShort bytes cell size start
+  pub short : 16 ≤ start → LacksEntryRoom bytes cell size start
 
 abbrev pub LacksEntry : List ℕ → ℕ → ℕ → Type 0
 LacksEntry bytes cell size = NamesNone bytes cell ⊎ NamesShort bytes cell size

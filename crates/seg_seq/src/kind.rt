@@ -11,14 +11,14 @@ use std::alloc::Allocator;
 
 /// The kinds of sequences.
 #[derive(Debug, Clone, Copy, PartialEq, Eq)]
-pub(crate) enum Kind {
+pub(crate) enum SequenceKind {
     Text,
     Vector,
     List,
 }
 
-impl Kind {
-    ghost use Rattle.seg_seq.specs.Kinds.{KindOf};
+impl SequenceKind {
+    ghost use Rattle.seg_seq.specs.Kinds.{SequenceKindOf};
 
     /// The kind of the sequence at a place, and the layout of what its cell points to. `OtherType` if the place isn't a
     /// sequence.
@@ -26,14 +26,14 @@ impl Kind {
     pub(crate) fn of<F: Fit, A: Allocator>(
         heap: &Heap<F, A>,
         sequence: Place,
-    ) -> Result<(Kind, Content), Code>
-        ensures { KindOf heap.now.types sequence.type_id (form_at heap.now.types sequence.type_id)
-            result }
+    ) -> Result<(SequenceKind, Content), Code>
+        ensures { SequenceKindOf heap.now.types sequence.type_id
+            (form_at heap.now.types sequence.type_id) result }
     {
         let content = heap.content(sequence.type_id).ok_or(Code::OtherType)?;
         let kind = match content.shape {
-            Shape::Buffer => Kind::of_buffer(content.entry)?,
-            Shape::Ring => Kind::List,
+            Shape::Buffer => SequenceKind::of_buffer(content.entry)?,
+            Shape::Ring => SequenceKind::List,
             Shape::Tree | Shape::Object => return Err(Code::OtherType),
         };
         Ok((kind, content))
@@ -42,16 +42,16 @@ impl Kind {
     /// The kind of the sequences whose buffers have these entries. `None` for a flat map, which has keys before its
     /// values.
     #[inline(always)]
-    fn of_buffer(entry: Entry) -> Result<Kind, Code>
+    fn of_buffer(entry: Entry) -> Result<SequenceKind, Code>
         ensures { (table : Table) (T : ℕ) (form : Option Form) (content : Named) →
             ContentOf table T form (Some content) → content.shape ≡ shape.Buffer →
             content.entry ≡ entry →
-            MatchResult result (λ kind. KindOf table T form (Ok (kind, content)))
-            (λ code. KindOf table T form (Err code)) }
+            MatchResult result (λ kind. SequenceKindOf table T form (Ok (kind, content)))
+            (λ code. SequenceKindOf table T form (Err code)) }
     {
         match entry.held {
-            Held::Bytes => Ok(Kind::Text),
-            Held::Value(_) if entry.before == 0 => Ok(Kind::Vector),
+            Held::Bytes => Ok(SequenceKind::Text),
+            Held::Value(_) if entry.before == 0 => Ok(SequenceKind::Vector),
             Held::Value(_) | Held::Pointer => Err(Code::OtherType),
         }
     }

@@ -13,7 +13,7 @@ ghost use Rattle.seg_seq.specs.Rings.{around};
 ghost use Rattle.seg_seq.specs.declared.ring.Way.TheVariants as way;
 ghost use Rattle.seg_seq.specs.Lists.{IsList, HasList, IsNoList, AddsItem, LosesItem};
 
-use crate::kind::Kind;
+use crate::kind::SequenceKind;
 use crate::ring::{Way, insert, neighbour, remove};
 use seg_block::Fit;
 use seg_ptr::NodeAt;
@@ -61,7 +61,7 @@ pub fn push_front<F: Fit, A: Allocator>(heap: &mut Heap<F, A>, list: Place) -> R
         (λ code. Refuses F.allocator heap.old.window.bytes heap.new.window.bytes
         (block_for (8 + size heap.old.types U) ∷ [])) }
 {
-    let (Kind::List, content) = Kind::of(heap, list)? else {
+    let (SequenceKind::List, content) = SequenceKind::of(heap, list)? else {
         return Err(Code::OtherType);
     };
     let item = push_node(heap, &content, list.at)?;
@@ -109,7 +109,7 @@ pub fn pop_front<F: Fit, A: Allocator>(heap: &mut Heap<F, A>, list: Place) -> Re
         LosesItem heap.old.window.bytes heap.new.window.bytes heap.old.types
         (place_of list) (cons v vs) 0 vs it.stands.home blocks }
 {
-    let (Kind::List, content) = Kind::of(heap, list)? else {
+    let (SequenceKind::List, content) = SequenceKind::of(heap, list)? else {
         return Err(Code::OtherType);
     };
     let first = heap.window().target(list.at as usize).ok_or(Code::Null)?;

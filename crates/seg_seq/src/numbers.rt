@@ -8,7 +8,7 @@ ghost use Rattle.seg_value.specs.Buffers.{NamesBuffer};
 ghost use Rattle.seg_seq.specs.Kinds.{HasNumbers};
 ghost use Rattle.seg_seq.specs.Sequences.{HasItems, LacksRoom, PushesItem, PushesNumber, push_asks};
 
-use crate::kind::Kind;
+use crate::kind::SequenceKind;
 use crate::pushing::push_number_in_place;
 use crate::sequence::count_entry;
 use seg_block::Fit;
@@ -66,10 +66,10 @@ impl Numbers {
         ensures vector { PushesNumber F.allocator heap.old heap.new (place_of self.vector) number
             result }
     {
-        let (kind, content) = Kind::of(heap, self.vector)?;
+        let (kind, content) = SequenceKind::of(heap, self.vector)?;
         match kind {
-            Kind::Vector => push_number(heap, &content, self.vector.at, number),
-            Kind::Text | Kind::List => Err(Code::OtherType),
+            SequenceKind::Vector => push_number(heap, &content, self.vector.at, number),
+            SequenceKind::Text | SequenceKind::List => Err(Code::OtherType),
         }
     }
 }

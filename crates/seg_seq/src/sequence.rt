@@ -11,7 +11,7 @@ ghost use Rattle.seg_seq.specs.Kinds.{is_sequence};
 ghost use Rattle.seg_seq.specs.Lists.{HasList, AddsItem, LosesItem};
 ghost use Rattle.seg_seq.specs.Sequences.{HasText, HasItems, item_type, Declines, HasNone, ComesToHold, LacksRoom, push_asks, CountsItem, PushesBack, PopsBack, IsPast, ShowsByte, ShowsItem};
 
-use crate::kind::Kind;
+use crate::kind::SequenceKind;
 use crate::list::{item_of, push_node, remove_node};
 use crate::ring::{Way, neighbour, node_at};
 use seg_block::Fit;
@@ -32,7 +32,7 @@ pub fn len<F: Fit, A: Allocator>(heap: &Heap<F, A>, sequence: Place) -> Result<u
     ensures counted { is_sequence (form_at heap.now.types sequence.type_id) ≡ true →
         result ≡ Ok (count_at heap.now.window.bytes sequence.at) }
 {
-    Kind::of(heap, sequence)?;
+    SequenceKind::of(heap, sequence)?;
     Ok(heap.count(sequence.at))
 }
 
@@ -61,13 +61,15 @@ pub fn at<F: Fit, A: Allocator>(
         MatchResult result (λ at. index < count_at heap.now.window.bytes sequence.at)
         (IsPast index (count_at heap.now.window.bytes sequence.at)) }
 {
-    let (kind, content) = Kind::of(heap, sequence)?;
+    let (kind, content) = SequenceKind::of(heap, sequence)?;
     if index >= heap.count(sequence.at) {
         return Err(Code::OutOfRange);
     }
     match kind {
-        Kind::Text | Kind::Vector => Ok(content.entry.value_at(heap.start(sequence.at), index)),
-        Kind::List => Ok(item_of(node_at(heap, sequence.at, index))),
+        SequenceKind::Text | SequenceKind::Vector => Ok(
+            content.entry.value_at(heap.start(sequence.at), index),
+        ),
+        SequenceKind::List => Ok(item_of(node_at(heap, sequence.at, index))),
     }
 }
 
@@ -94,11 +96,11 @@ pub fn push_back<F: Fit, A: Allocator>(
     ensures other { item_type (form_at heap.old.types sequence.type_id) ≡ None →
         Declines Code.OtherType heap.old heap.new result }
 {
-    let (kind, content) = Kind::of(heap, sequence)?;
+    let (kind, content) = SequenceKind::of(heap, sequence)?;
     match kind {
-        Kind::Text => Err(Code::OtherType),
-        Kind::Vector => push_entry(heap, &content, sequence.at),
-        Kind::List => push_node(heap, &content, sequence.at),
+        SequenceKind::Text => Err(Code::OtherType),
+        SequenceKind::Vector => push_entry(heap, &content, sequence.at),
+        SequenceKind::List => push_node(heap, &content, sequence.at),
     }
 }
 
@@ -178,13 +180,13 @@ pub fn pop_back<F: Fit, A: Allocator>(heap: &mut Heap<F, A>, sequence: Place) ->
         MatchResult result (λ done. 1 ≤ count_at heap.old.window.bytes sequence.at)
         (HasNone heap.old heap.new (count_at heap.old.window.bytes sequence.at)) }
 {
-    let (kind, content) = Kind::of(heap, sequence)?;
+    let (kind, content) = SequenceKind::of(heap, sequence)?;
     let last = heap.count(sequence.at).checked_sub(1).ok_or(Code::Null)?;
     match kind {
-        Kind::Text | Kind::Vector => {
+        SequenceKind::Text | SequenceKind::Vector => {
             pop_entry(heap, &content, sequence.at, last);
         }
-        Kind::List => {
+        SequenceKind::List => {
             let node = neighbour(heap, heap.start(sequence.at), Way::Backward);
             remove_node(heap, &content, sequence.at, node);
         }

@@ -5,7 +5,7 @@ ghost use Rattle.seg_spec.specs.Window.{KeepsHost};
 ghost use Rattle.seg_cells.specs.Places.{place_of};
 ghost use Rattle.seg_seq.specs.Sequences.{HasText, Declines, LacksRoom, LacksByte, ComesToHold, Rewrites, ExtendsText, text_asks};
 
-use crate::kind::Kind;
+use crate::kind::SequenceKind;
 use crate::room::Room;
 use seg_block::Fit;
 use seg_layout::Type;
@@ -181,7 +181,7 @@ fn make_room<F: Fit, A: Allocator>(
     ensures other { form_at heap.old.types text.type_id ≢ Some Form.str →
         Declines Code.OtherType heap.old heap.new result }
 {
-    let (Kind::Text, content) = Kind::of(heap, text)? else {
+    let (SequenceKind::Text, content) = SequenceKind::of(heap, text)? else {
         return Err(Code::OtherType);
     };
     let added = u32::try_from(added).map_err(|_| Code::BadAlloc)?;

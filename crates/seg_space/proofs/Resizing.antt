@@ -24,7 +24,7 @@ use Rattle.seg_spec.proofs.SliceLaws.{IsSame-part, slice-slice, region-placed}
 use Rattle.seg_spec.specs.Window.{Placement, region_of, with_bytes}
 use Rattle.seg_value.specs.Stored.{Stored}
 use Rattle.seg_manager.specs.Segments.{IsSegment}
-use Rattle.seg_space.specs.Sizes.{used_front, Grows, Shrinks}
+use Rattle.seg_space.specs.Sizes.{used_front, Grows, ShrinksSegment}
 use Rattle.seg_space.proofs.ZeroedGaps.{free_before}
 use Rattle.seg_spec.proofs.CountedKept.{counted_still}
 
@@ -422,7 +422,7 @@ module _ (allocator : ℕ) (old new : Stored) (picture : Picture) (is : IsSegmen
   resized_cut : Resized old.window.bytes new.window.bytes
   resized_cut = rw bytes_are (was_cut old.window.bytes mid.bytes n picture is.held cuts')
 
-  pub shrunk_to : (result : ℕ) → result ≡ len → Shrinks allocator old new picture result
+  pub shrunk_to : (result : ℕ) → result ≡ len → ShrinksSegment allocator old new picture result
   shrunk_to result result_is = record {
     segment = record {
       held = resized_held old.window.bytes new.window.bytes picture is.held resized_cut;

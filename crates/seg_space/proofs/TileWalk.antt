@@ -7,7 +7,7 @@ use Rattle.seg_spec.proofs.TileLaws.{Fill-le}
 use Rattle.seg_spec.proofs.FreeLaws.{gaps-free}
 use Rattle.seg_block.specs.declared.block.Block.{Block}
 use Rattle.seg_block.specs.Blocks.{IsSized, Covers}
-use Rattle.seg_space.specs.Gaps.{bytes_of, largest_of}
+use Rattle.seg_space.specs.Gaps.{bytes_in_gaps, largest_of}
 
 -- these tiles fill the bytes from a position on
 pub record Rest (bytes : List ℕ) (at : ℕ) (ts : List Tile) : Type 0 where
@@ -65,7 +65,7 @@ rest_none bytes at (t ∷ ts) r le = absurd (let more = Fill-le ts (at + 16 * t.
 pub record Counted (bytes : List ℕ) (at total largest : ℕ) : Type 0 where
   pub others : List Tile
   pub rest : Rest bytes at others
-  pub total_is : total + bytes_of (free_of others) ≡ bytes_of (free_of (tiles bytes))
+  pub total_is : total + bytes_in_gaps (free_of others) ≡ bytes_in_gaps (free_of (tiles bytes))
   pub largest_is : max largest (largest_of (free_of others)) ≡ largest_of (free_of (tiles bytes))
   pub few : total ≤ at
 
@@ -94,7 +94,7 @@ module _ (bytes : List ℕ) (at total largest units : ℕ) (k : Counted bytes at
       let t = k.total_is in
       let l = k.largest_is in
       let few = k.few in
-      let more : bytes_of (free_of k.others) ≡ 16 * it.tile.units + bytes_of (free_of it.others) = ap bytes_of same in
+      let more : bytes_in_gaps (free_of k.others) ≡ 16 * it.tile.units + bytes_in_gaps (free_of it.others) = ap bytes_in_gaps same in
       let larger : largest_of (free_of k.others) ≡ max (16 * it.tile.units) (largest_of (free_of it.others)) = ap largest_of same in
       let units_are = it.units_is in
       record { others = it.others; rest = it.rest; total_is = omega arith; largest_is = omega arith; few = omega arith }
@@ -104,7 +104,7 @@ pub counted_at : (bytes : List ℕ) (at at' total total' largest largest' : ℕ)
 counted_at bytes at at' total total' largest largest' p t l k = rw (p, t, l) k
 
 pub counted_all : (allocator : ℕ) (bytes : List ℕ) (at total largest : ℕ) (o : Option Block) → IsHeap allocator bytes → Counted bytes at total largest → o ≡ None
-    → ((g : Span) → at ≡ g.at → IsSized bytes g → IsSomeAnd o (λ f. Covers f g)) → (total ≡ bytes_of (gaps bytes)) × (largest ≡ largest_of (gaps bytes))
+    → ((g : Span) → at ≡ g.at → IsSized bytes g → IsSomeAnd o (λ f. Covers f g)) → (total ≡ bytes_in_gaps (gaps bytes)) × (largest ≡ largest_of (gaps bytes))
 counted_all allocator bytes at total largest o heap k e read =
     let none = reads_none bytes at k.others o k.rest e read in
     let all = gaps-free bytes allocator heap in

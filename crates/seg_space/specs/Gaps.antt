@@ -1,5 +1,6 @@
 -- The free memory of a heap. Its free blocks are called gaps.
---     bytes_of gaps, largest_of gaps      the size of all gaps and of the largest in bytes, with headers
+--     bytes_in_gaps gaps, largest_of gaps
+--                                         the size of all gaps and of the largest in bytes, with headers
 --     spare_start, spare_size             the bytes of a gap outside its header that the allocator doesn't use
 --     IsZeroed, LiesBeside, ZeroesGaps    these bytes are 0; bytes outside them; a call that zeroes them
 use Rattle.std.specs.Prelude.{◌≡◌, ℕ, ◌+◌, ◌-◌, ◌*◌, max, List, [], ◌∷◌, length, replicate}
@@ -11,9 +12,9 @@ use Rattle.seg_spec.specs.Sound.{Picture}
 use Rattle.seg_value.specs.Stored.{Stored}
 use Rattle.seg_manager.specs.Segments.{IsSegment}
 
-abbrev pub bytes_of : List Span → ℕ
-bytes_of [] = 0
-bytes_of (g ∷ gs) = 16 * g.units + bytes_of gs
+abbrev pub bytes_in_gaps : List Span → ℕ
+bytes_in_gaps [] = 0
+bytes_in_gaps (g ∷ gs) = 16 * g.units + bytes_in_gaps gs
 
 -- the size of the largest gap in bytes, or 0 if there is no gap
 abbrev pub largest_of : List Span → ℕ

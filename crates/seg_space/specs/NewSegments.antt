@@ -1,7 +1,7 @@
 -- A new segment.
 --     nothing                             the empty picture
 --     word_of_kind index                  the image's word for a kind of index
---     IsNew allocator s region base len index
+--     IsNewSegment allocator s region base len index
 --                                         an empty segment at a base of a region
 use Rattle.std.specs.Prelude.{◌≡◌, ℕ, ◌+◌, take, drop, List, [], length}
 use Rattle.seg_spec.specs.Bytes.{word}
@@ -23,7 +23,7 @@ word_of_kind kind.Tree = 1
 
 -- An empty segment of this length, at a base of a region. The region is kept around it. Its version
 -- is the one that may have frozen objects.
-pub record IsNew (allocator : ℕ) (s : Stored) (region : List ℕ) (base len : ℕ)
+pub record IsNewSegment (allocator : ℕ) (s : Stored) (region : List ℕ) (base len : ℕ)
     (index : IndexKind) : Type 0 where
   pub segment : IsSegment allocator s nothing
   pub version_is : word s.window.bytes version_word ≡ sharing_version

@@ -2,7 +2,8 @@
 --     MayGrowTo extra len                        a segment may have `len` bytes after it grows by `extra`
 --     used_front allocator extra                 the number of these bytes that a header may use
 --     Grows allocator old new picture extra      the segment has more bytes at its end, and the same picture
---     Shrinks allocator old new picture size     the gap at the end was cut, and the picture is the same
+--     ShrinksSegment allocator old new picture size
+--                                                the gap at the end was cut, and the picture is the same
 use Rattle.std.specs.Prelude.{◌≡◌, ℕ, ◌+◌, ◌-◌, ◌*◌, ◌/◌, ◌%◌, ◌≤◌, ◌==◌, if◌then◌else◌, length, drop, replicate}
 use Rattle.seg_spec.specs.Bytes.{slice}
 use Rattle.seg_spec.specs.Heap.{live, gaps, after_extend, units_to_cut}
@@ -38,7 +39,8 @@ pub record Grows (allocator : ℕ) (old new : Stored) (picture : Picture) (extra
 
 -- The picture, the allocated blocks and their bytes are kept. The host gets the bytes that were
 -- cut.
-pub record Shrinks (allocator : ℕ) (old new : Stored) (picture : Picture) (size : ℕ) : Type 0 where
+pub record ShrinksSegment (allocator : ℕ) (old new : Stored) (picture : Picture) (size : ℕ) :
+    Type 0 where
   pub segment : IsSegment allocator new picture
   pub result_is : size ≡ length new.window.bytes
   pub length_is : length new.window.bytes

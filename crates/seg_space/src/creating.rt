@@ -7,7 +7,7 @@ ghost use Rattle.seg_spec.specs.Header.{version_word, allocator_word, index_kind
 ghost use Rattle.seg_spec.specs.Heap.{live};
 ghost use Rattle.seg_spec.specs.Sound.{IsHeld};
 ghost use Rattle.seg_spec.specs.Window.{IsPlace, KeepsHost};
-ghost use Rattle.seg_space.specs.NewSegments.{nothing, word_of_kind, IsNew};
+ghost use Rattle.seg_space.specs.NewSegments.{nothing, word_of_kind, IsNewSegment};
 
 use seg_block::{Fit, UNIT};
 use seg_index::set_unique;
@@ -26,7 +26,7 @@ pub fn create<F: Fit, A: Allocator>(
     index: IndexKind,
 ) -> Result<Segment<F, A>, (Fault, Region<A>)>
     ensures empty { IfOk result
-        (λ segment. IsNew F.allocator segment region base size index) }
+        (λ segment. IsNewSegment F.allocator segment region base size index) }
     ensures placed { IsOk result ↔ (IsImageLength size × IsPlace (length region) base size) }
     ensures size { IfErr result (λ refused. (refused.0 ≡ Fault.BadSize × ¬ IsImageLength size)
         ⊎ (refused.0 ≡ Fault.Misplaced × IsImageLength size)) }

@@ -4,7 +4,7 @@ ghost use Rattle.std.specs.Prelude.{◌≡◌, ◌+◌, ◌≤◌, ◌⊎◌, �
 ghost use Rattle.seg_spec.specs.Sound.{Picture};
 ghost use Rattle.seg_spec.specs.Window.{region_of};
 ghost use Rattle.seg_manager.specs.Segments.{IsSegment};
-ghost use Rattle.seg_space.specs.Sizes.{MayGrowTo, used_front, Grows, Shrinks};
+ghost use Rattle.seg_space.specs.Sizes.{MayGrowTo, used_front, Grows, ShrinksSegment};
 
 use seg_block::{Fit, UNIT};
 use seg_manager::{Fault, Segment, is_size};
@@ -65,7 +65,7 @@ pub fn grow<F: Fit, A: Allocator>(segment: &mut Segment<F, A>, extra: u32) -> Re
 pub fn shrink_to_fit<F: Fit, A: Allocator>(segment: &mut Segment<F, A>) -> u32
     ensures types { segment.new.types ≡ segment.old.types }
     ensures shrinks { (picture : Picture) → IsSegment F.allocator segment.old picture →
-        Shrinks F.allocator segment.old segment.new picture result }
+        ShrinksSegment F.allocator segment.old segment.new picture result }
 {
     let w = segment.heap_mut().window_mut();
     let cut = F::cut_end(w);

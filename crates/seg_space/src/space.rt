@@ -5,7 +5,7 @@ ghost use Rattle.seg_spec.specs.Bytes.{put};
 ghost use Rattle.seg_spec.specs.Heap.{IsHeap, span, live, gaps};
 ghost use Rattle.seg_spec.specs.Sound.{Picture};
 ghost use Rattle.seg_spec.specs.Window.{with_bytes, KeepsHost};
-ghost use Rattle.seg_space.specs.Gaps.{bytes_of, largest_of, spare_start, spare_size, ZeroesGaps};
+ghost use Rattle.seg_space.specs.Gaps.{bytes_in_gaps, largest_of, spare_start, spare_size, ZeroesGaps};
 ghost use Rattle.seg_manager.specs.Segments.{IsSegment};
 
 use seg_block::{Block, Fit, HEAP_START, UNIT, block_at, is_live};
@@ -22,7 +22,7 @@ struct Gaps {
 impl Gaps {
     fn of<A: Allocator>(w: &Window<A>) -> Gaps
         ensures total { (allocator : ℕ) → IsHeap allocator w.now.bytes →
-            result.total ≡ bytes_of (gaps w.now.bytes) }
+            result.total ≡ bytes_in_gaps (gaps w.now.bytes) }
         ensures largest { (allocator : ℕ) → IsHeap allocator w.now.bytes →
             result.largest ≡ largest_of (gaps w.now.bytes) }
     {
@@ -57,7 +57,7 @@ fn end_of(block: Block) -> u32
 /// The size of all free blocks in bytes, with their headers.
 pub fn free_memory<F: Fit, A: Allocator>(segment: &Segment<F, A>) -> u32
     ensures { IsHeap F.allocator segment.now.window.bytes →
-        result ≡ bytes_of (gaps segment.now.window.bytes) }
+        result ≡ bytes_in_gaps (gaps segment.now.window.bytes) }
 {
     Gaps::of(segment.window()).total
 }

@@ -17,35 +17,35 @@ use support_data::Limited;
 
 /// How a segment stores its free blocks and its names.
 #[derive(Debug, Clone, Copy, PartialEq, Eq)]
-pub struct Kind {
+pub struct SegmentKind {
     pub is_best_fit: bool,
     pub index: IndexKind,
 }
 
-pub const SEQ_FLAT: Kind = Kind {
+pub const SEQ_FLAT: SegmentKind = SegmentKind {
     is_best_fit: false,
     index: IndexKind::Flat,
 };
 
-pub const SEQ_TREE: Kind = Kind {
+pub const SEQ_TREE: SegmentKind = SegmentKind {
     is_best_fit: false,
     index: IndexKind::Tree,
 };
 
-pub const BEST_FLAT: Kind = Kind {
+pub const BEST_FLAT: SegmentKind = SegmentKind {
     is_best_fit: true,
     index: IndexKind::Flat,
 };
 
-pub const BEST_TREE: Kind = Kind {
+pub const BEST_TREE: SegmentKind = SegmentKind {
     is_best_fit: true,
     index: IndexKind::Tree,
 };
 
-pub const KINDS: [Kind; 4] = [SEQ_FLAT, SEQ_TREE, BEST_FLAT, BEST_TREE];
+pub const KINDS: [SegmentKind; 4] = [SEQ_FLAT, SEQ_TREE, BEST_FLAT, BEST_TREE];
 
 /// The image of an empty segment.
-pub fn empty(alloc: Global, size: u32, kind: Kind) -> Result<Vec<u8>, Fail> {
+pub fn empty(alloc: Global, size: u32, kind: SegmentKind) -> Result<Vec<u8>, Fail> {
     if kind.is_best_fit {
         empty_on::<BestFit>(alloc, size, kind.index)
     } else {
@@ -198,7 +198,7 @@ pub fn run_on(alloc: Global, image: &[u8], texts: &[&str]) -> Result<Ran, Fail> 
 }
 
 /// Runs the clients with these texts on an empty segment.
-pub fn run_anew(alloc: Global, size: u32, kind: Kind, texts: &[&str]) -> Result<Ran, Fail> {
+pub fn run_anew(alloc: Global, size: u32, kind: SegmentKind, texts: &[&str]) -> Result<Ran, Fail> {
     run_on(alloc, empty(alloc, size, kind)?.as_slice(), texts)
 }
 

@@ -17,7 +17,7 @@ use Rattle.seg_spec.specs.Shared.{names_in, names_each}
 use Rattle.seg_spec.specs.Counting.{AreCounted}
 use Rattle.seg_spec.specs.Images.{IsSound, upgraded}
 use Rattle.seg_spec.specs.Sound.{HoldsRoot, holds_no_root, holds_more_roots, IsLaidOut, IsHeld, times, positions}
-use Rattle.seg_spec.specs.Fixtures.{counter, sharing, sharing_table, sharing_cell, sharing_number, sharing_picture}
+use Rattle.seg_spec.specs.Fixtures.{counter, sharing_image, sharing_table, sharing_cell, sharing_number, sharing_picture}
 use Rattle.seg_spec.proofs.Upgrading.{any_type, upgraded_sound}
 use Rattle.test_definitions.proofs.Evaluating.{live_evaluated, heap_evaluated, uniques_evaluated}
 use Rattle.test_definitions.proofs.SoundImages.{counter_sound}
@@ -50,22 +50,22 @@ all_types table = record { each = λ T form e. any_type form }
 some_number : (a b : ℕ) → Some a ≡ Some b → a ≡ b
 some_number a b e = cc
 
-first_cell : Holds sharing sharing_table (record { at = 720; type = 1 }) sharing_cell []
-unfolding sharing slice number number_of target
+first_cell : Holds sharing_image sharing_table (record { at = 720; type = 1 }) sharing_cell []
+unfolding sharing_image slice number number_of target
 first_cell = holds {place = record { at = 720; type = 1 }} (Form.shared 0) _ nil [] refl
     (record { payload = λ p e. subst IsPayload (some_number 816 p e) (record { low = lit≤ tt; aligned = refl }); counted = refl; opened_is = refl }) holds_none refl refl
 
-second_cell : Holds sharing sharing_table (record { at = 728; type = 1 }) sharing_cell []
-unfolding sharing slice number number_of target
+second_cell : Holds sharing_image sharing_table (record { at = 728; type = 1 }) sharing_cell []
+unfolding sharing_image slice number number_of target
 second_cell = holds {place = record { at = 728; type = 1 }} (Form.shared 0) _ nil [] refl
     (record { payload = λ p e. subst IsPayload (some_number 816 p e) (record { low = lit≤ tt; aligned = refl }); counted = refl; opened_is = refl }) holds_none refl refl
 
-the_number : Holds sharing sharing_table (record { at = 824; type = 0 }) (Int (pos 41)) []
-unfolding sharing slice number number_of signed
+the_number : Holds sharing_image sharing_table (record { at = 824; type = 0 }) (Int (pos 41)) []
+unfolding sharing_image slice number number_of signed
 the_number = holds Form.i64 _ nil [] refl refl holds_none refl refl
 
-cells_hold : HoldsRoot sharing sharing_table (plain_root (112 ∷ []) 720 1 (cons sharing_cell (cons sharing_cell nil))) (704 ∷ [])
-unfolding sharing slice number number_of size
+cells_hold : HoldsRoot sharing_image sharing_table (plain_root (112 ∷ []) 720 1 (cons sharing_cell (cons sharing_cell nil))) (704 ∷ [])
+unfolding sharing_image slice number number_of size
 cells_hold = record {
   before = lit≤ tt;
   block = record { after_header = lit≤ tt; live = refl; has_tag = refl; room = lit≤ tt };
@@ -76,8 +76,8 @@ cells_hold = record {
   blocks_are = refl;
 }
 
-number_holds : HoldsRoot sharing sharing_table (root_of_frozen sharing_number) (800 ∷ [])
-unfolding sharing slice number number_of size
+number_holds : HoldsRoot sharing_image sharing_table (root_of_frozen sharing_number) (800 ∷ [])
+unfolding sharing_image slice number number_of size
 number_holds = record {
   before = lit≤ tt;
   block = record { after_header = lit≤ tt; live = refl; has_tag = refl; room = lit≤ tt };
@@ -90,12 +90,12 @@ number_holds = record {
 
 -- ---- the image
 
-sharing_fill : Fill heap_start sharing_tiles (length sharing)
-unfolding sharing
+sharing_fill : Fill heap_start sharing_tiles (length sharing_image)
+unfolding sharing_image
 sharing_fill = (refl, lit≤ tt, (refl, lit≤ tt, (refl, lit≤ tt, refl)))
 
-sharing_headers : AreHeaders sharing 0 sharing_tiles
-unfolding sharing slice number number_of
+sharing_headers : AreHeaders sharing_image 0 sharing_tiles
+unfolding sharing_image slice number number_of
 sharing_headers = (
   record { units_is = refl; live_is = refl; before_is = refl; tag_is = λ e. cc },
   (
@@ -104,8 +104,8 @@ sharing_headers = (
   ),
 )
 
-sharing_laid_out : IsLaidOut sharing sharing_picture (752 ∷ [])
-unfolding sharing slice number number_of target size
+sharing_laid_out : IsLaidOut sharing_image sharing_picture (752 ∷ [])
+unfolding sharing_image slice number number_of target size
 sharing_laid_out = record {
   header = record {
     not_small = lit≤ tt;
@@ -121,8 +121,8 @@ sharing_laid_out = record {
   types = refl;
   is_table = sharing_table-valid;
   of_version = all_types sharing_table;
-  heap = heap_evaluated sharing sharing_tiles sharing_fill sharing_headers 0 ((λ e. refl), ((λ e. refl), ((λ e. refl), tt))) refl (lit≤ tt);
-  blocks = subst (λ bs. AllByRecursion (λ b. IsOwnable sharing sharing_table b.at) bs) (sym (live_evaluated sharing sharing_tiles sharing_fill sharing_headers)) (
+  heap = heap_evaluated sharing_image sharing_tiles sharing_fill sharing_headers 0 ((λ e. refl), ((λ e. refl), ((λ e. refl), tt))) refl (lit≤ tt);
+  blocks = subst (λ bs. AllByRecursion (λ b. IsOwnable sharing_image sharing_table b.at) bs) (sym (live_evaluated sharing_image sharing_tiles sharing_fill sharing_headers)) (
     record { kind = Kind.named; type = 1; allowed = lit< tt; tag_is = refl; link_is = refl },
     (
       record { kind = Kind.index_buffer; type = 0; allowed = refl; tag_is = refl; link_is = refl },
@@ -152,17 +152,17 @@ sharing_laid_out = record {
     ascending = tt;
     blocks_are = refl;
   };
-  uniques = uniques_evaluated sharing [] (search parts 40) tt;
+  uniques = uniques_evaluated sharing_image [] (search parts 40) tt;
   plain = tt;
 }
 
-pub sharing_held : IsHeld sharing sharing_picture
+pub sharing_held : IsHeld sharing_image sharing_picture
 sharing_held = record {
   index_blocks = 752 ∷ [];
   laid_out = sharing_laid_out;
   root_blocks = 704 ∷ 800 ∷ [];
   roots = holds_more_roots {blocks = 704 ∷ []} cells_hold (holds_more_roots {blocks = 800 ∷ []} number_holds holds_no_root);
-  owners = λ h. subst (λ bs. times h (positions bs) ≡ times h (752 ∷ 704 ∷ 800 ∷ [])) (sym (live_evaluated sharing sharing_tiles sharing_fill sharing_headers)) (omega arith);
+  owners = λ h. subst (λ bs. times h (positions bs) ≡ times h (752 ∷ 704 ∷ 800 ∷ [])) (sym (live_evaluated sharing_image sharing_tiles sharing_fill sharing_headers)) (omega arith);
 }
 
 -- the number counts both cells
@@ -180,8 +180,8 @@ sharing_counted = record {
   falling = (tt, tt);
 }
 
-pub sharing_sound : IsSound sharing
-unfolding sharing slice number number_of
+pub sharing_sound : IsSound sharing_image
+unfolding sharing_image slice number number_of
 sharing_sound = record { picture = sharing_picture; held = sharing_held; counted = sharing_counted; none_loose = refl }
 
 -- ---- an image of version 1 as it is opened

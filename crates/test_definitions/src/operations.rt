@@ -6,7 +6,7 @@ ghost use Rattle.seg_spec.specs.Value.{Int, Text, Seq, Map, Empty, Full, Struct,
 ghost use Rattle.client_spec.specs.declared.table.Operation.{Operation};
 ghost use Rattle.client_spec.specs.Machine.{Origin, Register, extend};
 ghost use Rattle.client_spec.specs.Answer.{success, is_zero, already_exists, bad_alloc, absent, other_type, out_of_range, null_or_none, path_from};
-ghost use Rattle.client_spec.specs.Fixtures.{x, y, no_names, with_items, holding, with_cells, with_numbers, two_items, two_fields, row, register_after, value_after, output_after, input_after};
+ghost use Rattle.client_spec.specs.Fixtures.{x, y, no_names, with_items, holding, with_shared_cells, with_numbers, two_items, two_fields, row, register_after, value_after, output_after, input_after};
 
 /// Numbers: constants, copies, sums that wrap at 64 bits, and comparisons. A register that owns an object is not overwritten.
 #[tactic(auto, unfolding(client_spec::specs::Effect::effect, seg_spec::specs::Value::default_of))]
@@ -498,35 +498,39 @@ pub fn maps()
 #[tactic(auto, unfolding(client_spec::specs::Effect::effect, seg_spec::specs::Value::default_of))]
 pub fn frozen_objects()
     ensures freeze { value_after x (row Operation.Freeze 0 1 3 (pos 0) true
-        (with_cells (Full (Int (pos 5))) Empty)) ≡ Some (success, Some (Full (Int (pos 9)))) }
+        (with_shared_cells (Full (Int (pos 5))) Empty))
+        ≡ Some (success, Some (Full (Int (pos 9)))) }
     ensures freeze_gives { register_after 0
-        (row Operation.Freeze 0 1 3 (pos 0) true (with_cells Empty Empty))
+        (row Operation.Freeze 0 1 3 (pos 0) true (with_shared_cells Empty Empty))
         ≡ Some (success, Register.Int (pos 1)) }
     ensures freeze_takes { register_after 3
-        (row Operation.Freeze 0 1 3 (pos 0) true (with_cells Empty Empty))
+        (row Operation.Freeze 0 1 3 (pos 0) true (with_shared_cells Empty Empty))
         ≡ Some (success, Register.Undefined) }
     ensures freeze_without_room { register_after 0
-        (row Operation.Freeze 0 1 3 (pos 0) false (with_cells Empty Empty))
+        (row Operation.Freeze 0 1 3 (pos 0) false (with_shared_cells Empty Empty))
         ≡ Some (bad_alloc, Register.Int (pos 2)) }
     ensures owned_without_room { register_after 3
-        (row Operation.Freeze 0 1 3 (pos 0) false (with_cells Empty Empty))
+        (row Operation.Freeze 0 1 3 (pos 0) false (with_shared_cells Empty Empty))
         ≡ Some (bad_alloc, Register.Owner (Int (pos 9)) 0) }
     ensures kept_without_room { value_after x (row Operation.Freeze 0 1 3 (pos 0) false
-        (with_cells (Full (Int (pos 5))) Empty)) ≡ Some (bad_alloc, Some (Full (Int (pos 5)))) }
+        (with_shared_cells (Full (Int (pos 5))) Empty))
+        ≡ Some (bad_alloc, Some (Full (Int (pos 5)))) }
     ensures freeze_into_an_own { row Operation.Freeze 0 1 3 (pos 0) true
         (holding 6 Empty (pos 3)) ≡ None }
     ensures freeze_of_a_number { row Operation.Freeze 0 1 0 (pos 0) true
-        (with_cells Empty Empty) ≡ None }
+        (with_shared_cells Empty Empty) ≡ None }
     ensures share { value_after y (row Operation.Share 0 2 1 (pos 0) true
-        (with_cells (Full (Int (pos 5))) Empty)) ≡ Some (success, Some (Full (Int (pos 5)))) }
+        (with_shared_cells (Full (Int (pos 5))) Empty))
+        ≡ Some (success, Some (Full (Int (pos 5)))) }
     ensures share_of_nothing { value_after y (row Operation.Share 0 2 1 (pos 0) true
-        (with_cells Empty (Full (Int (pos 5))))) ≡ Some (success, Some Empty) }
+        (with_shared_cells Empty (Full (Int (pos 5))))) ≡ Some (success, Some Empty) }
     ensures shared_is_kept { value_after x (row Operation.Share 0 2 1 (pos 0) true
-        (with_cells (Full (Int (pos 5))) Empty)) ≡ Some (success, Some (Full (Int (pos 5)))) }
+        (with_shared_cells (Full (Int (pos 5))) Empty))
+        ≡ Some (success, Some (Full (Int (pos 5)))) }
     ensures content { register_after 0 (row Operation.Content 0 1 0 (pos 0) true
-        (with_cells (Full (Int (pos 5))) Empty))
+        (with_shared_cells (Full (Int (pos 5))) Empty))
         ≡ Some (success, Register.Reference (extend x Selector.content)) }
     ensures no_content { register_after 0
-        (row Operation.Content 0 1 0 (pos 0) true (with_cells Empty Empty))
+        (row Operation.Content 0 1 0 (pos 0) true (with_shared_cells Empty Empty))
         ≡ Some (null_or_none, Register.Int (pos 6)) }
 {}

@@ -1,7 +1,7 @@
 //! Instructions with an else part, on the model.
 
 use crate::abstract_run::{AbstractRun, Register};
-use crate::model::{Content, Object, Objects, Shape};
+use crate::model::{Object, Objects, Shape, ValueContent};
 use client_code::{Instruction, Operation};
 use std::ops::Bound;
 use std::test::Fail;
@@ -175,7 +175,7 @@ impl AbstractRun<'_> {
             return Err(Fail::from("no sequence"));
         };
         let answer = self.with_room(objects, item)?;
-        if let (Ok(Register::Value(value)), Some(Content::Items(items))) = (
+        if let (Ok(Register::Value(value)), Some(ValueContent::Items(items))) = (
             answer,
             objects.content(container),
         ) {
@@ -193,13 +193,13 @@ impl AbstractRun<'_> {
         let Shape::Keyed(item) = objects.shape(map) else {
             return Err(Fail::from("no map"));
         };
-        if let Some(Content::Keyed(entries)) = objects.content(map) {
+        if let Some(ValueContent::Keyed(entries)) = objects.content(map) {
             if let Some(value) = entries.get(&key) {
                 return Ok(Ok(Register::Value(*value)));
             }
         }
         let answer = self.with_room(objects, item)?;
-        if let (Ok(Register::Value(value)), Some(Content::Keyed(entries))) = (
+        if let (Ok(Register::Value(value)), Some(ValueContent::Keyed(entries))) = (
             answer,
             objects.content(map),
         ) {
@@ -219,7 +219,7 @@ impl AbstractRun<'_> {
             return Ok(Err(NO_ROOM));
         }
         objects.next_number = objects.next_number.wrapping_add(1);
-        let Some(Content::Held(held)) = objects.content(self.value(i.b)) else {
+        let Some(ValueContent::Held(held)) = objects.content(self.value(i.b)) else {
             return Err(Fail::from("no cell"));
         };
         *held = Some(self.value(i.c));
@@ -232,7 +232,7 @@ impl AbstractRun<'_> {
     fn content(&mut self, objects: &mut Objects, i: Instruction) -> Result<Answer, Fail> {
         let cell = self.value(i.b);
         let is_shared = matches!(objects.shape(cell), Shape::Shared(_));
-        let Some(Content::Held(held)) = objects.content(cell) else {
+        let Some(ValueContent::Held(held)) = objects.content(cell) else {
             return Err(Fail::from("no cell"));
         };
         self.sharing.read |= is_shared && held.is_some();
@@ -242,10 +242,10 @@ impl AbstractRun<'_> {
     /// Performs an opener on the contents of register b's value.
     fn on_content(&self, objects: &mut Objects, i: Instruction) -> Result<Answer, Fail> {
         match objects.content(self.value(i.b)) {
-            Some(Content::Text(text)) => self.on_text(text, i),
-            Some(Content::Items(items)) => Ok(self.on_items(items, i)),
-            Some(Content::Held(held)) => Ok(take(held)),
-            Some(Content::Keyed(entries)) => {
+            Some(ValueContent::Text(text)) => self.on_text(text, i),
+            Some(ValueContent::Items(items)) => Ok(self.on_items(items, i)),
+            Some(ValueContent::Held(held)) => Ok(take(held)),
+            Some(ValueContent::Keyed(entries)) => {
                 let key = self.number(i.c);
                 Ok(match i.operation {
                     Operation::GetKey => entries

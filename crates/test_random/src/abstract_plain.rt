@@ -1,7 +1,7 @@
 //! Instructions without parts, on the model.
 
 use crate::abstract_run::{AbstractRun, Register};
-use crate::model::{Content, Objects};
+use crate::model::{Objects, ValueContent};
 use client_code::{Instruction, Operation};
 use std::test::Fail;
 
@@ -40,7 +40,7 @@ impl AbstractRun<'_> {
 
     fn print_text(&mut self, objects: &mut Objects, i: Instruction) -> Result<(), Fail> {
         match objects.content(self.value(i.b)) {
-            Some(Content::Text(text)) => self.print(text.as_slice()),
+            Some(ValueContent::Text(text)) => self.print(text.as_slice()),
             _ => Err(Fail::from("no text")),
         }
     }
@@ -58,14 +58,14 @@ impl AbstractRun<'_> {
 
     /// Gives register b's cell a copy of the object of register c's cell.
     fn share(&mut self, objects: &mut Objects, i: Instruction) -> Result<(), Fail> {
-        let Some(Content::Held(named)) = objects.content(self.value(i.c)) else {
+        let Some(ValueContent::Held(named)) = objects.content(self.value(i.c)) else {
             return Err(Fail::from("no cell"));
         };
         let shared = match *named {
             Some(object) => Some(objects.copy(object)?),
             None => None,
         };
-        let Some(Content::Held(held)) = objects.content(self.value(i.b)) else {
+        let Some(ValueContent::Held(held)) = objects.content(self.value(i.b)) else {
             return Err(Fail::from("no cell"));
         };
         *held = shared;
@@ -82,25 +82,25 @@ impl AbstractRun<'_> {
             return Ok(());
         }
         match (i.operation, objects.content(value)) {
-            (Operation::Load, Some(Content::Number(number))) => {
+            (Operation::Load, Some(ValueContent::Number(number))) => {
                 let number = *number;
                 self.give(i, number);
             }
-            (Operation::Store, Some(Content::Number(number))) => *number = self.number(i.c),
-            (Operation::Field, Some(Content::Fields(fields))) => {
+            (Operation::Store, Some(ValueContent::Number(number))) => *number = self.number(i.c),
+            (Operation::Field, Some(ValueContent::Fields(fields))) => {
                 let field = usize::try_from(i.number)
                     .ok()
                     .and_then(|index| fields.get(index).copied())
                     .unwrap_or(usize::MAX);
                 self.set(i.a, Register::Value(field));
             }
-            (Operation::Put, Some(Content::Held(held))) => {
+            (Operation::Put, Some(ValueContent::Held(held))) => {
                 if let Register::Value(object) = c {
                     *held = Some(object);
                 }
                 self.set(i.c, Register::Undefined);
             }
-            (Operation::DeleteKey, Some(Content::Keyed(entries))) => {
+            (Operation::DeleteKey, Some(ValueContent::Keyed(entries))) => {
                 let removed = entries.remove(&self.number(i.c)).is_some();
                 self.give(i, i64::from(removed));
             }
@@ -115,12 +115,12 @@ impl AbstractRun<'_> {
 }
 
 /// The length of a text or a container.
-pub(crate) fn length(content: &Content) -> i64 {
+pub(crate) fn length(content: &ValueContent) -> i64 {
     let len = match content {
-        Content::Text(text) => text.len(),
-        Content::Items(items) => items.len(),
-        Content::Keyed(entries) => entries.len(),
-        Content::Number(_) | Content::Held(_) | Content::Fields(_) => 0,
+        ValueContent::Text(text) => text.len(),
+        ValueContent::Items(items) => items.len(),
+        ValueContent::Keyed(entries) => entries.len(),
+        ValueContent::Number(_) | ValueContent::Held(_) | ValueContent::Fields(_) => 0,
     };
     len as i64
 }

@@ -35,7 +35,7 @@ pub(crate) struct Sharing {
 
 /// An open part of the code.
 #[derive(Debug, Clone, Copy)]
-enum Part {
+enum EnteredPart {
     Opener,
     Loop { start: u32, turns: i32 },
 }
@@ -46,7 +46,7 @@ pub(crate) struct AbstractRun<'a> {
     pub(crate) alloc: Global,
     pub(crate) client: Client<'a>,
     registers: [Register; 16],
-    parts: Vec<Part>,
+    parts: Vec<EnteredPart>,
     at: u32,
     pub(crate) steps: u64,
     pub(crate) sharing: Sharing,
@@ -176,7 +176,7 @@ impl<'a> AbstractRun<'a> {
     fn open_part(&mut self, objects: &mut Objects, i: Instruction) -> Result<(), Fail> {
         self.count_step();
         let opens = self.open(objects, i)?;
-        self.parts.push(Part::Opener)?;
+        self.parts.push(EnteredPart::Opener)?;
         let at = if opens {
             self.at
         } else {
@@ -188,7 +188,7 @@ impl<'a> AbstractRun<'a> {
 
     fn enter(&mut self, i: Instruction) -> Result<(), Fail> {
         self.count_step();
-        self.parts.push(Part::Loop {
+        self.parts.push(EnteredPart::Loop {
             start: self.at,
             turns: i.number,
         })?;
@@ -206,14 +206,14 @@ impl<'a> AbstractRun<'a> {
 
     /// Ends a part. A loop has another iteration if its number isn't 0.
     fn end(&mut self) -> Result<(), Fail> {
-        if let Some(Part::Loop { start, turns }) = self.parts.pop() {
+        if let Some(EnteredPart::Loop { start, turns }) = self.parts.pop() {
             let test = self
                 .client
                 .instruction(start)
                 .map_or(0, |i| self.number(i.b));
             if test != 0 && turns > 0 {
                 self.count_step();
-                self.parts.push(Part::Loop {
+                self.parts.push(EnteredPart::Loop {
                     start,
                     turns: turns.wrapping_sub(1),
                 })?;

@@ -96,7 +96,7 @@ enum Access {
 
 /// An open part, the register and type of the value that it works on, and the class of references to that value.
 #[derive(Debug, Clone, Copy)]
-struct Part {
+struct OpenPart {
     close: Close,
     register: usize,
     t: Option<usize>,
@@ -109,7 +109,7 @@ struct Part {
 pub(crate) struct Generator {
     version: Version,
     text: String,
-    parts: Vec<Part>,
+    parts: Vec<OpenPart>,
     random: Random,
     classes: u32,
 }
@@ -220,7 +220,7 @@ impl Generator {
     }
 
     /// The innermost open shared cell for objects of a type, if it can be changed.
-    fn cell_for(&self, t: usize) -> Option<Part> {
+    fn cell_for(&self, t: usize) -> Option<OpenPart> {
         let mut cell = None;
         for part in &self.parts {
             let is_cell = part.t.is_some_and(|of| shape_of(of) == Shape::Shared(t));
@@ -233,7 +233,7 @@ impl Generator {
 
     /// Opens the success part of an opener that makes or finds an object.
     fn open(&mut self, close: Close, t: Option<usize>, class: u32) -> Result<(), AllocError> {
-        self.enter(Part {
+        self.enter(OpenPart {
             close,
             register: self.next_register(),
             t,
@@ -243,9 +243,9 @@ impl Generator {
     }
 
     /// Opens the success part of an opener that makes or finds something inside the value of a part.
-    fn open_inside(&mut self, part: Part, t: usize) -> Result<(), AllocError> {
+    fn open_inside(&mut self, part: OpenPart, t: usize) -> Result<(), AllocError> {
         let register = self.next_register();
-        self.enter(Part {
+        self.enter(OpenPart {
             close: Close::Opener(register),
             register,
             t: Some(t),
@@ -254,7 +254,7 @@ impl Generator {
     }
 
     /// Enters a success part, which first prints a mark.
-    fn enter(&mut self, part: Part) -> Result<(), AllocError> {
+    fn enter(&mut self, part: OpenPart) -> Result<(), AllocError> {
         self.text.push_str("OUTC k3\n")?;
         self.parts.push(part)?;
         Ok(())
@@ -305,7 +305,7 @@ impl Generator {
     }
 
     fn enter_plain(&mut self, close: Close) -> Result<(), AllocError> {
-        self.parts.push(Part {
+        self.parts.push(OpenPart {
             close,
             register: 0,
             t: None,
@@ -438,7 +438,7 @@ impl Generator {
         self.open(Close::Owner { register: a, t }, None, class)?;
         let register = self.next_register();
         write!(self.text, "REF r{register} r{a}\n")?;
-        self.parts.push(Part {
+        self.parts.push(OpenPart {
             close: Close::Nothing,
             register,
             t: Some(t),
@@ -449,7 +449,7 @@ impl Generator {
     }
 
     /// Writes a statement on the value of a part.
-    fn on_value(&mut self, part: Part, t: usize) -> Result<(), AllocError> {
+    fn on_value(&mut self, part: OpenPart, t: usize) -> Result<(), AllocError> {
         let b = part.register;
         if self.random.below(24) == 0 {
             self.end_others(part.class, b);
@@ -467,7 +467,7 @@ impl Generator {
     }
 
     /// Writes a statement that only reads the value of a part.
-    fn read(&mut self, part: Part, t: usize) -> Result<(), AllocError> {
+    fn read(&mut self, part: OpenPart, t: usize) -> Result<(), AllocError> {
         match shape_of(t) {
             Shape::Number => self.load(part.register),
             Shape::Text => self.read_text(part.register),
@@ -524,7 +524,7 @@ impl Generator {
         write!(self.text, "LEN r15 r{b}\nOUTI r15\n")
     }
 
-    fn on_sequence(&mut self, part: Part, t: usize, item: usize) -> Result<(), AllocError> {
+    fn on_sequence(&mut self, part: OpenPart, t: usize, item: usize) -> Result<(), AllocError> {
         let (a, b) = (self.next_register(), part.register);
         let is_list = !VECTORS.contains(&t);
         match self.random.below(9) {
@@ -556,7 +556,7 @@ impl Generator {
         self.text.push_str("ELSE\nOUTI r15\nEND\n")
     }
 
-    fn read_sequence(&mut self, part: Part, item: usize) -> Result<(), AllocError> {
+    fn read_sequence(&mut self, part: OpenPart, item: usize) -> Result<(), AllocError> {
         let (a, b, n) = (self.next_register(), part.register, self.number());
         match self.random.below(3) {
             0 => self.len(b),
@@ -567,14 +567,14 @@ impl Generator {
         }
     }
 
-    fn shorter(&mut self, part: Part, operation: &str) -> Result<(), AllocError> {
+    fn shorter(&mut self, part: OpenPart, operation: &str) -> Result<(), AllocError> {
         let b = part.register;
         self.end_others(part.class, b);
         write!(self.text, "{operation} r15 r{b}\n")?;
         self.print_given()
     }
 
-    fn on_map(&mut self, part: Part, t: usize, item: usize) -> Result<(), AllocError> {
+    fn on_map(&mut self, part: OpenPart, t: usize, item: usize) -> Result<(), AllocError> {
         let (a, b, n) = (self.next_register(), part.register, self.number());
         match self.random.below(9) {
             0..=2 => {
@@ -592,7 +592,7 @@ impl Generator {
         }
     }
 
-    fn read_map(&mut self, part: Part, item: usize) -> Result<(), AllocError> {
+    fn read_map(&mut self, part: OpenPart, item: usize) -> Result<(), AllocError> {
         let (a, b, n) = (self.next_register(), part.register, self.number());
         match self.random.below(4) {
             0 => self.len(b),
@@ -612,7 +612,7 @@ impl Generator {
         self.print_given()
     }
 
-    fn on_own(&mut self, part: Part, held: usize) -> Result<(), AllocError> {
+    fn on_own(&mut self, part: OpenPart, held: usize) -> Result<(), AllocError> {
         let (a, b) = (self.next_register(), part.register);
         match self.random.below(4) {
             0 => self.content(part, held, Access::Change),
@@ -632,15 +632,15 @@ impl Generator {
     }
 
     /// Opens a part with the object of an own or a shared cell, which may be changed or only read.
-    fn content(&mut self, part: Part, held: usize, access: Access) -> Result<(), AllocError> {
+    fn content(&mut self, part: OpenPart, held: usize, access: Access) -> Result<(), AllocError> {
         let (a, b) = (self.next_register(), part.register);
         write!(self.text, "CONTENT r{a} r{b}\n")?;
-        self.open_inside(Part { access, ..part }, held)?;
+        self.open_inside(OpenPart { access, ..part }, held)?;
         self.print_value(held)
     }
 
     /// Writes a statement on a shared cell. A new object is frozen into the cell at the end of its part.
-    fn on_shared(&mut self, part: Part, t: usize, held: usize) -> Result<(), AllocError> {
+    fn on_shared(&mut self, part: OpenPart, t: usize, held: usize) -> Result<(), AllocError> {
         match self.random.below(8) {
             0 | 1 => self.content(part, held, Access::Read),
             2 | 3 => self.share(part, t),
@@ -650,7 +650,7 @@ impl Generator {
 
     /// Shares the object of one of two cells with the other: the cell of the part, and another cell of its type, which is open or
     /// is found first.
-    fn share(&mut self, part: Part, t: usize) -> Result<(), AllocError> {
+    fn share(&mut self, part: OpenPart, t: usize) -> Result<(), AllocError> {
         let other = match self.cell_around(t) {
             Some(other) => other,
             None => self.other_cell(part, t)?,
@@ -666,7 +666,7 @@ impl Generator {
     }
 
     /// Opens a part with another cell of a type: the named one, if the cell of the part is the unique one.
-    fn other_cell(&mut self, part: Part, t: usize) -> Result<Part, AllocError> {
+    fn other_cell(&mut self, part: OpenPart, t: usize) -> Result<OpenPart, AllocError> {
         if part.class == unique_class(CELL_TYPE) {
             self.named_cell()?;
         } else {
@@ -676,7 +676,7 @@ impl Generator {
     }
 
     /// The closest part around the innermost one with a value of this type.
-    fn cell_around(&self, t: usize) -> Option<Part> {
+    fn cell_around(&self, t: usize) -> Option<OpenPart> {
         let mut cell = None;
         let (_innermost, around) = self.parts.as_slice().split_last()?;
         for part in around {
@@ -687,11 +687,11 @@ impl Generator {
         cell
     }
 
-    fn field(&mut self, part: Part, fields: &[usize]) -> Result<(), AllocError> {
+    fn field(&mut self, part: OpenPart, fields: &[usize]) -> Result<(), AllocError> {
         let index = self.random.below(u32::try_from(fields.len()).unwrap_or(1)) as usize;
         let (a, b) = (self.next_register(), part.register);
         write!(self.text, "FIELD r{a} r{b} {index}\n")?;
-        self.parts.push(Part {
+        self.parts.push(OpenPart {
             close: Close::Nothing,
             register: a,
             t: fields.get(index).copied(),

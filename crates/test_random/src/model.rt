@@ -44,7 +44,7 @@ pub(crate) fn shape_of(t: usize) -> Shape {
 
 /// The contents of a value.
 #[derive(Debug, Clone, Drop)]
-pub(crate) enum Content {
+pub(crate) enum ValueContent {
     Number(i64),
     Text(Vec<u8>),
     Items(Vec<usize>),
@@ -58,7 +58,7 @@ pub(crate) enum Content {
 #[derive(Debug, Clone, Drop)]
 pub(crate) struct Value {
     pub(crate) t: usize,
-    pub(crate) content: Content,
+    pub(crate) content: ValueContent,
 }
 
 /// A named object: its type and its values.
@@ -94,7 +94,7 @@ impl Objects {
         self.values.get(value)
     }
 
-    pub(crate) fn content(&mut self, value: usize) -> Option<&mut Content> {
+    pub(crate) fn content(&mut self, value: usize) -> Option<&mut ValueContent> {
         Some(&mut self.values.get_mut(value)?.content)
     }
 
@@ -123,7 +123,7 @@ impl Objects {
         Ok(())
     }
 
-    fn default_of(&mut self, t: usize) -> Result<Content, AllocError> {
+    fn default_of(&mut self, t: usize) -> Result<ValueContent, AllocError> {
         match shape_of(t) {
             Shape::Struct(fields) => {
                 let mut values = Vec::new(self.alloc);
@@ -132,7 +132,7 @@ impl Objects {
                     values.push(self.values.len())?;
                     self.values.push(Value { t: *field, content })?;
                 }
-                Ok(Content::Fields(values))
+                Ok(ValueContent::Fields(values))
             }
             _ => Ok(simple_default(self.alloc, t)),
         }
@@ -146,7 +146,7 @@ impl Objects {
             let Some(slot) = self.content(copy) else {
                 break;
             };
-            let mut content = mem::replace(slot, Content::Held(None));
+            let mut content = mem::replace(slot, ValueContent::Held(None));
             self.copy_parts(&mut content)?;
             if let Some(slot) = self.content(copy) {
                 *slot = content;
@@ -166,12 +166,12 @@ impl Objects {
     }
 
     /// Makes contents refer to copies of their parts.
-    fn copy_parts(&mut self, content: &mut Content) -> Result<(), AllocError> {
+    fn copy_parts(&mut self, content: &mut ValueContent) -> Result<(), AllocError> {
         match content {
-            Content::Number(_) | Content::Text(_) | Content::Held(None) => Ok(()),
-            Content::Items(parts) | Content::Fields(parts) => self.copy_each(parts),
-            Content::Keyed(entries) => self.copy_entries(entries),
-            Content::Held(Some(part)) => {
+            ValueContent::Number(_) | ValueContent::Text(_) | ValueContent::Held(None) => Ok(()),
+            ValueContent::Items(parts) | ValueContent::Fields(parts) => self.copy_each(parts),
+            ValueContent::Keyed(entries) => self.copy_entries(entries),
+            ValueContent::Held(Some(part)) => {
                 *part = self.copy_alone(*part)?;
                 Ok(())
             }
@@ -203,12 +203,12 @@ impl Objects {
 }
 
 /// The default of a type that isn't a struct.
-fn simple_default(alloc: Global, t: usize) -> Content {
+fn simple_default(alloc: Global, t: usize) -> ValueContent {
     match shape_of(t) {
-        Shape::Number | Shape::Struct(_) => Content::Number(0),
-        Shape::Text => Content::Text(Vec::new(alloc)),
-        Shape::Sequence(_) => Content::Items(Vec::new(alloc)),
-        Shape::Keyed(_) => Content::Keyed(BTreeMap::new(alloc)),
-        Shape::Own(_) | Shape::Shared(_) => Content::Held(None),
+        Shape::Number | Shape::Struct(_) => ValueContent::Number(0),
+        Shape::Text => ValueContent::Text(Vec::new(alloc)),
+        Shape::Sequence(_) => ValueContent::Items(Vec::new(alloc)),
+        Shape::Keyed(_) => ValueContent::Keyed(BTreeMap::new(alloc)),
+        Shape::Own(_) | Shape::Shared(_) => ValueContent::Held(None),
     }
 }

@@ -8,7 +8,7 @@ use std::io::Eprint;
 use std::test::Fail;
 use support_data::write_words;
 use support_runs::{
-    KINDS, Kind, PLAIN, Setting, client, empty, run_files, statistics_of, verified,
+    KINDS, PLAIN, SegmentKind, Setting, client, empty, run_files, statistics_of, verified,
 };
 
 const INPUT: &[u8] = b"the input of a client";
@@ -131,7 +131,7 @@ fn agree(alloc: Global, objects: &Objects, image: &[u8]) -> Result<(), Fail> {
 #[derive(Debug, Clone, Copy)]
 struct Case {
     seed: u32,
-    kind: Kind,
+    kind: SegmentKind,
     size: u32,
     client: u32,
 }
@@ -161,7 +161,7 @@ struct Pair {
 
 impl Pair {
     /// An empty segment and an empty model. The next frozen object gets this number.
-    fn new(alloc: Global, kind: Kind, size: u32, next_number: u32) -> Result<Pair, Fail> {
+    fn new(alloc: Global, kind: SegmentKind, size: u32, next_number: u32) -> Result<Pair, Fail> {
         let mut image = empty(alloc, size, kind)?;
         write_words(image.as_mut_slice(), NEXT_NUMBER, &[next_number]);
         Ok(Pair {

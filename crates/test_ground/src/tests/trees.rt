@@ -3,7 +3,7 @@ ghost use Rattle.std.proofs.Common.{inr, arith};
 ghost use Rattle.std.specs.Ordering.{nat_cmp};
 ghost use Rattle.std.specs.Cmp.{on_total, nat_cmp_total};
 ghost use Rattle.seg_spec.specs.Bytes.{word};
-ghost use Rattle.seg_rbtree.specs.Parts.{part};
+ghost use Rattle.seg_rbtree.specs.Parts.{byte_range};
 ghost use Rattle.seg_rbtree.proofs.Keys.{equal_to_one};
 ghost use Rattle.seg_spec.proofs.BytesLaws.{number-slice};
 ghost use Rattle.seg_spec.proofs.OrderSteps.{steps_up};
@@ -33,7 +33,7 @@ impl NodeOrder<u32> for ByNumber {
 
     ghost compare_key = { λ _ bytes x key. nat_cmp (word bytes (x + 16)) key };
 
-    ghost read = { λ _ _ x. part (x + 16) 4 ∷ [] };
+    ghost read = { λ _ _ x. byte_range (x + 16) 4 ∷ [] };
 
     fn nodes(&self, view: View, node: u32, other: u32) -> Ordering {
         number(view, node).cmp(&number(view, other))

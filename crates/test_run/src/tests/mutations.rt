@@ -8,7 +8,7 @@ use std::alloc::Global;
 use std::process::Abort;
 use std::test::Fail;
 use support_data::{front, sharing, write_words};
-use support_runs::{KINDS, Kind, opened, run_anew, window};
+use support_runs::{KINDS, SegmentKind, opened, run_anew, window};
 
 /// How a byte is changed: one bit, all bits, every second bit.
 const CHANGES: [u8; 11] = [1, 2, 4, 8, 16, 32, 64, 128, 0xff, 0x55, 0xaa];
@@ -89,7 +89,7 @@ fn is_refused(rt: &(impl Abort + AllocGlobal), cut: &[u8]) -> Result<bool, Fail>
 
 /// Changes each byte of an image with values of every kind, in several ways, and cuts the image at each length. Each result is
 /// refused, or all its objects can be found and destroyed.
-fn changed_images(rt: &(impl Abort + AllocGlobal), kind: Kind) -> Result<(), Fail> {
+fn changed_images(rt: &(impl Abort + AllocGlobal), kind: SegmentKind) -> Result<(), Fail> {
     let mut image = run_anew(rt.alloc(), 2048, kind, &[MAKE_EACH_KIND])?.image;
     assert!(rt; use_image(rt, image.as_slice())?);
     assert!(rt; try_changes(rt, &mut image)? > 0);

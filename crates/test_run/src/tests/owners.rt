@@ -3,7 +3,7 @@ use client_vm::Ended;
 use std::alloc::Global;
 use std::test::Fail;
 use support_data::chain;
-use support_runs::{KINDS, Kind, PLAIN, Ran, Setting, empty, run_in, statistics_of};
+use support_runs::{KINDS, PLAIN, Ran, SegmentKind, Setting, empty, run_in, statistics_of};
 
 /// A chain of 20,000 objects, each of which owns the one before, is made and destroyed.
 #[test]
@@ -87,7 +87,7 @@ fn has_failed(ran: &Ran) -> bool {
 }
 
 /// How many bytes are free after a failed output, if a register owned an object, which is destroyed then.
-fn free_at_failure(alloc: Global, kind: Kind) -> Result<Option<u32>, Fail> {
+fn free_at_failure(alloc: Global, kind: SegmentKind) -> Result<Option<u32>, Fail> {
     let image = empty(alloc, 1024, kind)?;
     let setting = Setting { limit: 2, ..PLAIN };
     let texts = [PRINT_WHILE_OWNING, PRINT_WHILE_OWNING];

@@ -18,10 +18,10 @@ use std::alloc::Global;
 use std::str;
 use std::test::Fail;
 use support_data::statements;
-use support_runs::{Kind, PLAIN, Ran, Setting, client, empty, run_files, statistics_of};
+use support_runs::{PLAIN, Ran, SegmentKind, Setting, client, empty, run_files, statistics_of};
 
 /// Performs the statements of a text on each of these kinds of segments.
-pub(crate) fn plays(alloc: Global, kinds: &[Kind], text: &str) -> Result<(), Fail> {
+pub(crate) fn plays(alloc: Global, kinds: &[SegmentKind], text: &str) -> Result<(), Fail> {
     for kind in kinds {
         let mut play = Play {
             alloc,
@@ -38,7 +38,7 @@ pub(crate) fn plays(alloc: Global, kinds: &[Kind], text: &str) -> Result<(), Fai
 #[derive(Drop)]
 struct Play<'a> {
     alloc: Global,
-    kind: Kind,
+    kind: SegmentKind,
     clients: Vec<(&'a str, Vec<u8>)>,
     image: Vec<u8>,
 }

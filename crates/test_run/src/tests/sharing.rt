@@ -11,7 +11,7 @@ use std::process::Abort;
 use std::test::Fail;
 use support_data::{NOTICE, PUBLISH, write_words};
 use support_runs::{
-    KINDS, Kind, PLAIN, Ran, SEQ_FLAT, Setting, client, empty, outcome_of, run_anew, run_in,
+    KINDS, PLAIN, Ran, SEQ_FLAT, SegmentKind, Setting, client, empty, outcome_of, run_anew, run_in,
     run_on, verified, window,
 };
 
@@ -578,7 +578,7 @@ fn what_is_frozen_is_read_in_each_way(rt: HostRuntime) -> Result<(), Fail> {
 }
 
 /// Tests that a client that only reads changes nothing.
-fn reading_changes_nothing(rt: &(impl Abort + AllocGlobal), kind: Kind) -> Result<(), Fail> {
+fn reading_changes_nothing(rt: &(impl Abort + AllocGlobal), kind: SegmentKind) -> Result<(), Fail> {
     let frozen = run_anew(rt.alloc(), 4096, kind, &[FREEZE_EACH_KIND])?;
     let read = run_on(rt.alloc(), frozen.image.as_slice(), &[READ_EACH_KIND])?;
     assert_eq!(rt; read.image.as_slice(), frozen.image.as_slice());

@@ -2,7 +2,7 @@ use crate::tests::plays::plays;
 use client_vm::Ended;
 use std::process::Abort;
 use std::test::Fail;
-use support_runs::{KINDS, Kind, SEQ_FLAT, run_anew, statistics_of};
+use support_runs::{KINDS, SEQ_FLAT, SegmentKind, run_anew, statistics_of};
 
 /// Makes an object of each kind, requests memory by each instruction, and prints each code.
 pub(crate) const MAKE_EACH_KIND: &str = "type i64
@@ -165,7 +165,7 @@ fn codes(rt: &impl Abort, out: &[u8]) -> usize {
 fn leaves_nothing(
     rt: &(impl Abort + AllocGlobal),
     texts: &[&str],
-    kind: Kind,
+    kind: SegmentKind,
     units: u32,
 ) -> Result<usize, Fail> {
     let ran = run_anew(rt.alloc(), units.saturating_mul(16), kind, texts)?;

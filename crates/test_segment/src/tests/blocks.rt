@@ -1,6 +1,6 @@
 //! The checker on blocks and free structures.
 
-use crate::tests::image::{Image, checks};
+use crate::tests::image::{ImageBuilder, checks};
 use std::alloc::Global;
 use std::test::Fail;
 
@@ -17,16 +17,16 @@ const COMB: &str = "
     896 gap 2";
 
 /// `COMB` with the free list of sequential fit.
-fn listed(alloc: Global) -> Result<Image, Fail> {
-    let mut image = Image::of(alloc, COMB)?;
+fn listed(alloc: Global) -> Result<ImageBuilder, Fail> {
+    let mut image = ImageBuilder::of(alloc, COMB)?;
     image.follow(alloc, "24->752 748->816 812->896 892->null")?;
     Ok(image)
 }
 
 /// `COMB` with the free tree of best fit. Its root is the free block at 880; below are the lower one of the same size, and the
 /// larger one.
-fn grown(alloc: Global) -> Result<Image, Fail> {
-    let mut image = Image::of(alloc, COMB)?;
+fn grown(alloc: Global) -> Result<ImageBuilder, Fail> {
+    let mut image = ImageBuilder::of(alloc, COMB)?;
     image.follow(
         alloc,
         "16=1 24->896

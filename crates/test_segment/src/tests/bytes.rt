@@ -1,6 +1,6 @@
 //! The checker on small images: with each byte changed to each other value, and cut at each length.
 
-use crate::tests::image::Image;
+use crate::tests::image::ImageBuilder;
 use seg_manager::Fault;
 use std::alloc::Global;
 use std::ops::Range;
@@ -59,7 +59,7 @@ impl Answers {
 /// Changes each of these bytes to each other value, and tests that exactly the harmless changes are accepted.
 fn change_each<F: Fn(usize, u8) -> bool>(
     rt: &(impl Abort + AllocGlobal),
-    image: &mut Image,
+    image: &mut ImageBuilder,
     bytes: Range<usize>,
     is_harmless: F,
 ) -> Answers
@@ -110,7 +110,7 @@ fn is_harmless_in_the_greeting(at: usize, byte: u8) -> bool {
 
 #[test]
 fn finds_each_changed_byte_of_the_counter(rt: HostRuntime) -> Result<(), Fail> {
-    let mut image = Image::of(rt.alloc(), COUNTER)?;
+    let mut image = ImageBuilder::of(rt.alloc(), COUNTER)?;
     assert_eq!(rt; image.w.len(), 784);
     let answers = change_each(&rt, &mut image, 0..784, is_harmless_in_the_counter);
     let wanted = Answers {
@@ -131,7 +131,7 @@ fn finds_each_changed_byte_of_the_counter(rt: HostRuntime) -> Result<(), Fail> {
 /// types and the unique objects, between the first 64 bytes and the heap, are left out.
 #[test]
 fn finds_changed_bytes_of_the_counter_in_version_2(rt: HostRuntime) -> Result<(), Fail> {
-    let mut image = Image::of(rt.alloc(), COUNTER)?;
+    let mut image = ImageBuilder::of(rt.alloc(), COUNTER)?;
     image.follow(rt.alloc(), "8=2")?;
     let is_harmless = |at, byte| (28..32).contains(&at) || is_harmless_in_the_counter(at, byte);
     let front = change_each(&rt, &mut image, 0..64, is_harmless);
@@ -145,7 +145,7 @@ fn finds_changed_bytes_of_the_counter_in_version_2(rt: HostRuntime) -> Result<()
 
 #[test]
 fn finds_each_changed_byte_of_the_greeting(rt: HostRuntime) -> Result<(), Fail> {
-    let mut image = Image::of(rt.alloc(), GREETING)?;
+    let mut image = ImageBuilder::of(rt.alloc(), GREETING)?;
     assert_eq!(rt; image.w.len(), 816);
     let answers = change_each(&rt, &mut image, 0..816, is_harmless_in_the_greeting);
     // version, allocator, types, letters, lengths, and bytes that aren't used
@@ -154,7 +154,7 @@ fn finds_each_changed_byte_of_the_greeting(rt: HostRuntime) -> Result<(), Fail> 
 }
 
 fn refuse_cuts(alloc: Global, text: &str) -> Result<(), Fail> {
-    let mut image = Image::of(alloc, text)?;
+    let mut image = ImageBuilder::of(alloc, text)?;
     image.follow(alloc, "=> sound")?;
     for len in 0..image.w.len() {
         if fault_of_cut(alloc, &mut image, len)? != Some(Fault::BadHeader) {
@@ -164,7 +164,7 @@ fn refuse_cuts(alloc: Global, text: &str) -> Result<(), Fail> {
     Ok(())
 }
 
-fn fault_of_cut(alloc: Global, image: &mut Image, len: u32) -> Result<Option<Fault>, Fail> {
+fn fault_of_cut(alloc: Global, image: &mut ImageBuilder, len: u32) -> Result<Option<Fault>, Fail> {
     image.w.resize(len)?;
     Ok(image.fault(alloc))
 }
@@ -175,14 +175,14 @@ fn refuses_each_cut(rt: HostRuntime) -> Result<(), Fail> {
     refuse_cuts(rt.alloc(), GREETING)
 }
 
-fn has(image: &Image, at: usize, bytes: &[u8]) -> bool {
+fn has(image: &ImageBuilder, at: usize, bytes: &[u8]) -> bool {
     image.w.slice(at, bytes.len()) == bytes
 }
 
 /// The image of the examples is the counter.
 #[test]
 fn reads_the_counter(rt: HostRuntime) -> Result<(), Fail> {
-    let mut image = Image::of(rt.alloc(), COUNTER)?;
+    let mut image = ImageBuilder::of(rt.alloc(), COUNTER)?;
     assert!(rt; has(&image, 0, b"SEGIMAGE") && has(&image, 12, b"\x31\0\0\0"));
     assert!(rt; has(&image, 24, b"\x01\0\0\0") && has(&image, 32, b"\xd0\x02\0\0\x01\0\0\0"));
     assert!(rt; has(&image, 736, b"\x03\0\0\x80\x02\0\0\0\x05\0\0\0\x01\0\0\0"));
@@ -197,7 +197,7 @@ fn reads_the_counter(rt: HostRuntime) -> Result<(), Fail> {
 
 #[test]
 fn finds_wrong_pointers_to_a_text(rt: HostRuntime) -> Result<(), Fail> {
-    let mut image = Image::of(rt.alloc(), GREETING)?;
+    let mut image = ImageBuilder::of(rt.alloc(), GREETING)?;
     assert!(rt; has(&image, 720, b"\x50\0\0\0\x02\0\0\0"));
     image.follow(rt.alloc(), "720=0 | 720=1 | 720=0x7fffffff => pointer 720")
 }

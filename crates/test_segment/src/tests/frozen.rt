@@ -1,6 +1,6 @@
 //! The checker on frozen objects and shared cells.
 
-use crate::tests::image::{Image, checks};
+use crate::tests::image::{ImageBuilder, checks};
 use std::test::Fail;
 
 /// A unique cell, and the frozen number 7 that it shares: a count, a number, and the value.
@@ -15,7 +15,7 @@ const ONE: &str = "
 
 #[test]
 fn finds_faults_of_a_frozen_object(rt: HostRuntime) -> Result<(), Fail> {
-    Image::of(rt.alloc(), ONE)?.follow(
+    ImageBuilder::of(rt.alloc(), ONE)?.follow(
         rt.alloc(),
         "=> sound
         760:-1 => sound ; another value
@@ -31,7 +31,7 @@ fn finds_faults_of_a_frozen_object(rt: HostRuntime) -> Result<(), Fail> {
 
 #[test]
 fn finds_faults_of_a_cell_that_shares(rt: HostRuntime) -> Result<(), Fail> {
-    Image::of(rt.alloc(), ONE)?.follow(
+    ImageBuilder::of(rt.alloc(), ONE)?.follow(
         rt.alloc(),
         "724=0 | 724=2 | 724=0xffffffff => value 720
         720->null 724=2 => value 720
@@ -122,7 +122,7 @@ const PAIRS: &str = "
 
 #[test]
 fn finds_frozen_objects_that_name_later_ones(rt: HostRuntime) -> Result<(), Fail> {
-    Image::of(rt.alloc(), PAIRS)?.follow(
+    ImageBuilder::of(rt.alloc(), PAIRS)?.follow(
         rt.alloc(),
         "=> sound
         804=1 | 756=0 | 756=0 804=1 | 804=0xffffffff => value 768
@@ -142,7 +142,7 @@ fn finds_frozen_objects_that_name_later_ones(rt: HostRuntime) -> Result<(), Fail
 /// Cells outside frozen objects may share objects with any number.
 #[test]
 fn cells_may_name_objects_of_any_number(rt: HostRuntime) -> Result<(), Fail> {
-    Image::of(rt.alloc(), PAIRS)?.follow(
+    ImageBuilder::of(rt.alloc(), PAIRS)?.follow(
         rt.alloc(),
         "768->null 772=0 800=1 720->800 752=0 => unowned 736
         720->800 800=1 768->null 772=0 756=0 804=1 => unowned 736",
@@ -215,7 +215,7 @@ fn numbers_fall_through_lists_and_maps(rt: HostRuntime) -> Result<(), Fail> {
 /// Only version 2 has shared cells, frozen objects, and a number for the next frozen object.
 #[test]
 fn only_version_2_has_frozen_objects(rt: HostRuntime) -> Result<(), Fail> {
-    Image::of(rt.alloc(), ONE)?.follow(
+    ImageBuilder::of(rt.alloc(), ONE)?.follow(
         rt.alloc(),
         "8=1 => header
         8=0 | 8=3 | 8=0x102 | 8=0xffffffff => header
@@ -236,7 +236,7 @@ fn only_version_2_has_frozen_objects(rt: HostRuntime) -> Result<(), Fail> {
 /// A type of shared cells has one part, which may be the type itself.
 #[test]
 fn finds_faults_of_the_types_of_cells_that_share(rt: HostRuntime) -> Result<(), Fail> {
-    Image::of(rt.alloc(), ONE)?.follow(
+    ImageBuilder::of(rt.alloc(), ONE)?.follow(
         rt.alloc(),
         "80=0x0009 | 80=0x0209 | 80=0x020109 | 80=0x01000109 | 80=0x010a => type 1
         80=0x010109 => pointer 720

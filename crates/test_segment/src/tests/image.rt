@@ -46,7 +46,7 @@ const ROOM: u32 = 4096;
 
 /// An image that is built block by block.
 #[derive(Drop)]
-pub(crate) struct Image {
+pub(crate) struct ImageBuilder {
     pub(crate) w: Window<Global>,
     types: usize,
     /// The units of the last block. 0 if there is no block yet.
@@ -55,20 +55,20 @@ pub(crate) struct Image {
 
 /// Tests that the image of a text has the faults that the text states.
 pub(crate) fn checks(alloc: Global, text: &str) -> Result<(), Fail> {
-    let _ = Image::of(alloc, text)?;
+    let _ = ImageBuilder::of(alloc, text)?;
     Ok(())
 }
 
-impl Image {
+impl ImageBuilder {
     /// The image of a text, after a test of the faults that the text states.
-    pub(crate) fn of(alloc: Global, text: &str) -> Result<Image, Fail> {
-        let mut image = Image::empty(alloc)?;
+    pub(crate) fn of(alloc: Global, text: &str) -> Result<ImageBuilder, Fail> {
+        let mut image = ImageBuilder::empty(alloc)?;
         image.follow(alloc, text)?;
         Ok(image)
     }
 
     /// An image with a header but without types, names, unique objects and blocks.
-    fn empty(alloc: Global) -> Result<Image, Fail> {
+    fn empty(alloc: Global) -> Result<ImageBuilder, Fail> {
         let mut w = window(alloc, ROOM, HEAP)?;
         w.copy_in(0, b"SEGIMAGE");
         for at in [8, 24, 32] {
@@ -77,7 +77,7 @@ impl Image {
         for t in 0..32 {
             w.put32(UNIQUES + 4 * t, 1);
         }
-        Ok(Image {
+        Ok(ImageBuilder {
             w,
             types: 0,
             before: 0,

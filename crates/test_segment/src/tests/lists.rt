@@ -1,6 +1,6 @@
 //! The checker on lists.
 
-use crate::tests::image::{Image, checks};
+use crate::tests::image::{ImageBuilder, checks};
 use std::test::Fail;
 
 /// A unique list of three numbers: its cell is at 720.
@@ -18,7 +18,7 @@ const LIST: &str = "
 
 #[test]
 fn claims_the_nodes_of_a_list(rt: HostRuntime) -> Result<(), Fail> {
-    Image::of(rt.alloc(), LIST)?.follow(
+    ImageBuilder::of(rt.alloc(), LIST)?.follow(
         rt.alloc(),
         "=> sound
         760=7 764=0x80000000 => sound ; another number
@@ -33,7 +33,7 @@ fn claims_the_nodes_of_a_list(rt: HostRuntime) -> Result<(), Fail> {
 
 #[test]
 fn finds_what_is_no_ring(rt: HostRuntime) -> Result<(), Fail> {
-    Image::of(rt.alloc(), LIST)?.follow(
+    ImageBuilder::of(rt.alloc(), LIST)?.follow(
         rt.alloc(),
         "724=2 | 724=1 | 724=0 => value 720 ; fewer nodes, and none beside a pointer
         816->null | 816->784 => value 720 ; the last one's next

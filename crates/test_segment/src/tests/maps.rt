@@ -1,6 +1,6 @@
 //! The checker on maps and flat maps.
 
-use crate::tests::image::{Image, checks};
+use crate::tests::image::{ImageBuilder, checks};
 use std::test::Fail;
 
 /// A unique map with the keys -9, 0 and 9: its cell is at 720, the root at 800. A node has its key at offset 16.
@@ -18,7 +18,7 @@ const MAP: &str = "
 
 #[test]
 fn claims_the_nodes_of_a_map(rt: HostRuntime) -> Result<(), Fail> {
-    Image::of(rt.alloc(), MAP)?.follow(
+    ImageBuilder::of(rt.alloc(), MAP)?.follow(
         rt.alloc(),
         "=> sound
         720->null | 720->720 => pointer 720
@@ -36,7 +36,7 @@ fn claims_the_nodes_of_a_map(rt: HostRuntime) -> Result<(), Fail> {
 
 #[test]
 fn finds_what_is_no_tree(rt: HostRuntime) -> Result<(), Fail> {
-    Image::of(rt.alloc(), MAP)?.follow(
+    ImageBuilder::of(rt.alloc(), MAP)?.follow(
         rt.alloc(),
         "760=0 856=0 => sound
         724=0 | 724=2 | 724=4 => value 720 ; the number of nodes
@@ -52,7 +52,7 @@ fn finds_what_is_no_tree(rt: HostRuntime) -> Result<(), Fail> {
 
 #[test]
 fn finds_keys_of_a_map_out_of_order(rt: HostRuntime) -> Result<(), Fail> {
-    Image::of(rt.alloc(), MAP)?.follow(
+    ImageBuilder::of(rt.alloc(), MAP)?.follow(
         rt.alloc(),
         "768:0 | 768:5 | 816:9 | 816:-10 | 864:0 | 864:-9223372036854775808 => value 720
         768:-9223372036854775808 864:9223372036854775807 => sound",
@@ -87,7 +87,7 @@ const FLAT_MAP: &str = "
 
 #[test]
 fn finds_faults_of_a_flat_map(rt: HostRuntime) -> Result<(), Fail> {
-    Image::of(rt.alloc(), FLAT_MAP)?.follow(
+    ImageBuilder::of(rt.alloc(), FLAT_MAP)?.follow(
         rt.alloc(),
         "=> sound
         724=2 | 724=0 => sound
@@ -101,7 +101,7 @@ fn finds_faults_of_a_flat_map(rt: HostRuntime) -> Result<(), Fail> {
 /// The bytes after the counted keys may have any values.
 #[test]
 fn reads_only_the_keys_that_count(rt: HostRuntime) -> Result<(), Fail> {
-    Image::of(rt.alloc(), FLAT_MAP)?.follow(
+    ImageBuilder::of(rt.alloc(), FLAT_MAP)?.follow(
         rt.alloc(),
         "784:-7 => value 720
         784:-7 724=2 => sound",

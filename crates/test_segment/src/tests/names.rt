@@ -1,6 +1,6 @@
 //! The checker on the index of names, flat and a tree.
 
-use crate::tests::image::{Image, checks};
+use crate::tests::image::{ImageBuilder, checks};
 use std::alloc::Global;
 use std::test::Fail;
 
@@ -17,8 +17,8 @@ const FLAT: &str = "
     888->752 892=1,2
     896->784 900=1,63";
 
-fn flat(alloc: Global) -> Result<Image, Fail> {
-    let mut image = Image::of(alloc, FLAT)?;
+fn flat(alloc: Global) -> Result<ImageBuilder, Fail> {
+    let mut image = ImageBuilder::of(alloc, FLAT)?;
     image.w.copy_in(792, &[b'b'; 63]);
     Ok(image)
 }
@@ -85,7 +85,7 @@ const TREE: &str = "
 
 #[test]
 fn finds_faults_of_the_tree_of_entries(rt: HostRuntime) -> Result<(), Fail> {
-    Image::of(rt.alloc(), TREE)?.follow(
+    ImageBuilder::of(rt.alloc(), TREE)?.follow(
         rt.alloc(),
         "=> sound
         824=0 920=0 => sound
@@ -102,7 +102,7 @@ fn finds_faults_of_the_tree_of_entries(rt: HostRuntime) -> Result<(), Fail> {
 
 #[test]
 fn claims_the_nodes_before_it_looks_at_the_tree(rt: HostRuntime) -> Result<(), Fail> {
-    Image::of(rt.alloc(), TREE)?.follow(
+    ImageBuilder::of(rt.alloc(), TREE)?.follow(
         rt.alloc(),
         "868->816 => twice 800
         864->864 | 816->864 => twice 848
@@ -115,7 +115,7 @@ fn claims_the_nodes_before_it_looks_at_the_tree(rt: HostRuntime) -> Result<(), F
 
 #[test]
 fn reads_the_entries_of_a_tree_in_order(rt: HostRuntime) -> Result<(), Fail> {
-    Image::of(rt.alloc(), TREE)?.follow(
+    ImageBuilder::of(rt.alloc(), TREE)?.follow(
         rt.alloc(),
         "836=0,1 884=0 => index 832
         884=1,0 932=0 => index 880

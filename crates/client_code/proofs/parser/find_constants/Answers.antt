@@ -4,7 +4,7 @@ use Rattle.std.proofs.lemmas.List.{map_push, length_push}
 use Rattle.std.specs.Prelude.{All}
 use Rattle.client_spec.specs.Grammar.{Differ}
 use Rattle.client_spec.proofs.OneClient.{constant_front}
-use Rattle.client_code.specs.Views.{constant_of, kind_of}
+use Rattle.client_code.specs.Views.{constant_of, constant_kind_of}
 use Rattle.client_code.proofs.Constants.{begins, one_more, none_more, kind_by}
 use Rattle.client_code.proofs.parser.find_constants.Goals as goal
 
@@ -32,7 +32,7 @@ loop-i-preserved c =
         (let n = so_far.1 in omega arith),
         one_more c.args.file.now c.args.at c.loop-i.next c.in-Some.following cs constant so_far.2 found.spelled found.right found.place
             ((c.differs_from.ensures cs c.loop-i.next so_far.1 so_far.2).0 c.if-not-differs_from.false),
-        map_push kind_of cs constant ∙ ap (λ ks. ks ++ kind_of constant ∷ []) so_far.3 ∙ ap (λ k. c.loop-i.kinds.items ++ k ∷ []) (kind_by c.in-Some.constant.kind c.in-Some.constant.bytes.now) ∙ sym kinds,
+        map_push constant_kind_of cs constant ∙ ap (λ ks. ks ++ constant_kind_of constant ∷ []) so_far.3 ∙ ap (λ k. c.loop-i.kinds.items ++ k ∷ []) (kind_by c.in-Some.constant.kind c.in-Some.constant.bytes.now) ∙ sym kinds,
       );
     }
 

@@ -10,7 +10,7 @@ use Rattle.client_verify.specs.declared.verified.Verified.{Verified}
 use Rattle.client_vm.specs.Admitted.{IsWrong}
 use Rattle.client_vm.proofs.TogetherLaws.{has_outcome}
 use Rattle.lezgauri_c.specs.Calls.{effect_of_one}
-use Rattle.lezgauri_c.specs.Prepared.{text_of}
+use Rattle.lezgauri_c.specs.Prepared.{client_bytes_of}
 use Rattle.lezgauri_c.proofs.OneClient.{can_move, image_of, has_types}
 use Rattle.lezgauri_c.proofs.ReadyLaws.{verified_on, differs_on}
 use Rattle.lezgauri_c.proofs.run_in_place.run_again.Goals as goal
@@ -30,7 +30,7 @@ returns-in-Err-agrees-clause-refused g c tree spells sound =
     let same = subst (λ (v : Verified). SpellsClient (bytes_of (client_of v)) tree) (sym c.verified.ensures) spells in
     let differs = c.in-Err-agrees.ensures.differs in
     let first = subst (λ (t : Table). IsFirstDifference types t differs.0) (c.types.ensures tree same) differs.2 in
-    subst (λ (f : Fault). IsWrong image (text_of client ∷ []) (record { client = Some 0; fault = f })) (sym differs.1) (differs_on client tree spells types image is differs.0 first)
+    subst (λ (f : Fault). IsWrong image (client_bytes_of client ∷ []) (record { client = Some 0; fault = f })) (sym differs.1) (differs_on client tree spells types image is differs.0 first)
 
 pub returns-in-Err-agrees-clause-mismatch : goal.returns-in-Err-agrees-clause-mismatch
 returns-in-Err-agrees-clause-mismatch g c sound = (c.in-Err-agrees.ensures.differs.0, c.in-Err-agrees.ensures.differs.1)
@@ -48,4 +48,4 @@ returns-in-Ok-agrees-clause-outcome g c tree spells sound =
     let same = subst (λ (v : Verified). SpellsClient (bytes_of (client_of v)) tree) (sym c.verified.ensures) spells in
     let agree = subst (λ (t : Table). Agree types t) (c.types.ensures tree same) (c.agrees.ensures.agree.0 (subst (λ r. IsOk r) (sym c.in-Ok-agrees.is) refl)) in
     let ran = c.run_ready-image.ensures.runs here tree spells (verified_on client tree spells types agree) in
-    has_outcome (text_of client ∷ []) [] input window effect ran image (length image) 0 c.in-Ok.ensures.bytes (ap length c.in-Ok.ensures.region) c.in-Ok.ensures.base (can_move image sound)
+    has_outcome (client_bytes_of client ∷ []) [] input window effect ran image (length image) 0 c.in-Ok.ensures.bytes (ap length c.in-Ok.ensures.region) c.in-Ok.ensures.base (can_move image sound)

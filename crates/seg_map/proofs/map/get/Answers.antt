@@ -3,7 +3,7 @@ use Rattle.std.proofs.lemmas.Int.{to_z-of_z}
 use Rattle.seg_spec.specs.Types.{form_at}
 use Rattle.seg_cells.specs.Places.{place_of}
 use Rattle.seg_raw.specs.declared.code.Code.TheVariants as code
-use Rattle.seg_map.specs.EitherMap.{KindOf}
+use Rattle.seg_map.specs.EitherMap.{MapKindOf}
 use Rattle.seg_map.proofs.MapKinds.{as_flat, as_tree, kind_keys, kind_none, only_code, found_by}
 use Rattle.seg_map.proofs.map.get.Goals as goal
 use Rattle.seg_map.proofs.map.get.Goals.{in-Flat, in-Tree}
@@ -17,11 +17,11 @@ returns g c =
       code = λ keys. only_code c.match-branch-2.ok_or c.ok_or.result code.Absent c.ok_or.ensures.value;
       finds = λ U keys vs blocks m s. elim c.match-branch-2.branch [
         | in-Flat w ↦
-            let a = as_flat table T (form_at table T) w.in-Flat.content U (subst (λ k. KindOf table T (form_at table T) (Ok k)) w.in-Flat.is c.in_ok-content.ensures) m in
+            let a = as_flat table T (form_at table T) w.in-Flat.content U (subst (λ k. MapKindOf table T (form_at table T) (Ok k)) w.in-Flat.is c.in_ok-content.ensures) m in
             found_by c.args.heap.now.window.bytes table (place_of c.args.map) U keys c.args.key _ (to_z-of_z w64 c.args.key c.ranges.key) c.match-branch-2.ok_or w.get.result w.ok_or-is c.ok_or.result code.Absent
             c.ok_or.ensures.value (w.get.ensures T U keys vs blocks a.0 s a.1.entry_is)
         | in-Tree w ↦
-            let a = as_tree table T (form_at table T) w.in-Tree.content U (subst (λ k. KindOf table T (form_at table T) (Ok k)) w.in-Tree.is c.in_ok-content.ensures) m in
+            let a = as_tree table T (form_at table T) w.in-Tree.content U (subst (λ k. MapKindOf table T (form_at table T) (Ok k)) w.in-Tree.is c.in_ok-content.ensures) m in
             found_by c.args.heap.now.window.bytes table (place_of c.args.map) U keys c.args.key _ (to_z-of_z w64 c.args.key c.ranges.key) c.match-branch-2.ok_or w.get-in-Tree.result w.ok_or-is c.ok_or.result code.Absent
             c.ok_or.ensures.value (w.get-in-Tree.ensures T U keys vs blocks a.0 s a.1.entry_is)
       ];

@@ -3,7 +3,7 @@ use Rattle.std.proofs.lemmas.Int.{to_z-of_z}
 use Rattle.seg_spec.specs.Types.{form_at}
 use Rattle.seg_map.specs.Maps.{first_of, keys_above}
 use Rattle.seg_raw.specs.declared.code.Code.TheVariants as code
-use Rattle.seg_map.specs.EitherMap.{KindOf}
+use Rattle.seg_map.specs.EitherMap.{MapKindOf}
 use Rattle.seg_map.proofs.MapKinds.{as_flat, as_tree, kind_keys, kind_none, ok_again, only_code}
 use Rattle.seg_map.proofs.map.next_key_by.Goals as goal
 use Rattle.seg_map.proofs.map.next_key_by.Goals.{in-Flat, in-Tree}
@@ -26,10 +26,10 @@ returns-clause-next g c =
     let T = c.args.map.type_id in
     λ inside U keys vs blocks m s. ok_again c.match-branch-2.ok_or c.ok_or.result code.Null c.ok_or.ensures.value ∙ elim c.match-branch-2.branch [
       | in-Flat w ↦
-          let a = as_flat table T (form_at table T) w.in-Flat.content U (subst (λ k. KindOf table T (form_at table T) (Ok k)) w.in-Flat.is c.in_ok-content.ensures) m in
+          let a = as_flat table T (form_at table T) w.in-Flat.content U (subst (λ k. MapKindOf table T (form_at table T) (Ok k)) w.in-Flat.is c.in_ok-content.ensures) m in
           w.ok_or-is ∙ w.next_key.ensures T U keys vs blocks a.0 s a.1.entry_is ∙ ap (λ k. first_of (keys_above keys k)) (to_z-of_z w64 c.args.after c.ranges.after)
       | in-Tree w ↦
-          let a = as_tree table T (form_at table T) w.in-Tree.field-0 U (subst (λ k. KindOf table T (form_at table T) (Ok k)) w.in-Tree.is c.in_ok-content.ensures) m in
+          let a = as_tree table T (form_at table T) w.in-Tree.field-0 U (subst (λ k. MapKindOf table T (form_at table T) (Ok k)) w.in-Tree.is c.in_ok-content.ensures) m in
           w.ok_or-is ∙ w.next_key-in-Tree.ensures.next inside T U keys vs blocks a.0 s ∙ ap (λ k. first_of (keys_above keys k)) (to_z-of_z w64 c.args.after c.ranges.after)
     ]
 

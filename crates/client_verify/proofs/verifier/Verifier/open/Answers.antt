@@ -11,7 +11,7 @@ use Rattle.client_verify.specs.declared.registers.Registers.{Registers}
 use Rattle.client_verify.specs.Passing.{Progress, in_success, inside, at_most, rule_at}
 use Rattle.client_verify.specs.Views.{registers_of}
 use Rattle.client_verify.specs.Steps.{before_of, instruction_in}
-use Rattle.client_verify.specs.Changes.{given_of, known_by, ended_after, success_after, otherwise_after}
+use Rattle.client_verify.specs.Changes.{given_register, known_by, ended_after, success_after, otherwise_after}
 use Rattle.client_verify.specs.Verifiers.{progress_of}
 use Rattle.client_verify.proofs.Parts.{success_again}
 use Rattle.client_verify.proofs.verifier.Verifier.open.Goals as goal
@@ -33,7 +33,7 @@ returns-clause-passes c constants right =
     let ended = ended_after after (registers_of registers) in
     let otherwise = c.fail.ensures ∙ ap (otherwise_after after) c.end.ensures in
     let success = c.succeed.ensures ∙ ap (λ r. success_after after (registers_of r)) c.push.ensures.registers ∙ ap (success_after after) otherwise
-    ∙ success_again (given_of after) after.role after.ends after.c ended in
+    ∙ success_again (given_register after) after.role after.ends after.c ended in
     let gives : Gives types registers c.args.instruction after =
     subst (λ i. Gives types registers i after) c.new.ensures.instruction
     (subst (λ b. Gives types b (instruction_in rule) after) c.new.ensures.before

@@ -2,7 +2,7 @@ use Rattle.std.proofs.Common.{ℕ, Result, sym, ap, subst}
 use Rattle.seg_raw.specs.declared.code.Code.{Code}
 use Rattle.seg_value.specs.Stored.{Stored}
 use Rattle.client_spec.specs.declared.table.Operation.{Operation}
-use Rattle.client_vm.specs.Worlds.{RefersOr, Opens}
+use Rattle.client_vm.specs.Worlds.{RefersOr, OpensPart}
 use Rattle.client_vm.proofs.ObjectLaws.{named_same}
 use Rattle.client_vm.proofs.MakingLaws.{make_opens, make_uncounted, any_name, any_named}
 use Rattle.client_vm.proofs.machine.Machine.make.Goals.{in-Ok, in-Err}
@@ -22,7 +22,7 @@ returns-clause-does g c =
       | in-Ok w ↦
           let made = w.construct-at in
           let named = named_same old i w.name.result.items w.as_slice.result.now w.as_slice.ensures.value w.name.ensures.named in
-          subst (λ (after : Stored). Opens Operation.Make allocator i jump old new before after) (sym w.segment-is)
+          subst (λ (after : Stored). OpensPart Operation.Make allocator i jump old new before after) (sym w.segment-is)
           (make_opens allocator i jump old new before made.new.self made.ensures.types T w.as_slice.result.now named names w.in-Ok.count made.result w.name.ensures.fits w.in-Ok.ensures
           (record { tells = made.ensures.tells; makes = made.ensures.makes; no_room = made.ensures.no_room })
           (subst (λ (at : Result ℕ Code). RefersOr i.a at T jump old new) w.at-is c.try_refer.ensures.refers))

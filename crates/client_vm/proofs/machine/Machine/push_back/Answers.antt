@@ -8,7 +8,7 @@ use Rattle.seg_value.proofs.Stores.{same_stored}
 use Rattle.seg_seq.specs.Sequences.{HasItems, PushesBack}
 use Rattle.client_spec.specs.declared.table.Operation.{Operation}
 use Rattle.client_program.specs.declared.jump.Jump.TheVariants.{Next}
-use Rattle.client_vm.specs.Worlds.{Opens, held_in}
+use Rattle.client_vm.specs.Worlds.{OpensPart, held_in}
 use Rattle.client_vm.proofs.ItemLaws.{TellsPush, place_at, push_back_opens}
 use Rattle.client_vm.proofs.machine.Machine.push_back.Goals as goal
 
@@ -26,7 +26,7 @@ typed T U V types f e = let same : held_in (Some (Form.vec U)) ≡ Some V = sym 
 pub returns-in_default-clause-does : goal.returns-in_default-clause-does
 returns-in_default-clause-does g c =
     let stays = same_stored c.push_in_place.new.heap c.heap_mut.result.now (c.in_default.ensures.none refl) c.in_default.ensures.types ∙ c.heap_mut.ensures.value in
-    subst (λ (s : Stored). Opens Operation.PushBack g.F.Fit.allocator c.args.i.now c.push_asking.result c.args.self.now c.push_asking.new.self s c.push_asking.new.segment) stays c.push_asking.ensures.does
+    subst (λ (s : Stored). OpensPart Operation.PushBack g.F.Fit.allocator c.args.i.now c.push_asking.result c.args.self.now c.push_asking.new.self s c.push_asking.new.segment) stays c.push_asking.ensures.does
 
 pub returns-clause-does : goal.returns-clause-does
 returns-clause-does g c =

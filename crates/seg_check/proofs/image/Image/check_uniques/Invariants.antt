@@ -1,7 +1,0 @@
-use Rattle.seg_check.specs.Resolving.{IsReady}
-use Rattle.seg_check.specs.Roots.{uniques_ahead, AdvancesRoots}
-use Rattle.seg_check.proofs.UniqueSteps.{from_type}
-use Rattle.seg_check.proofs.image.Image.check_uniques.Given as goal
-
-abbrev pub invariant-loop-t : goal.invariant-loop-t
-invariant-loop-t g l = IsReady l.self.w.now.bytes l.self.types.now l.fn.claims → AdvancesRoots l.self.w.now.bytes l.self.types.now l.fn.claims l.claims uniques_ahead (from_type l.t)

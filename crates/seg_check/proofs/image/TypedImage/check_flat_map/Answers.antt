@@ -1,0 +1,77 @@
+use Rattle.std.proofs.Common.{◌≡◌, ◌+◌, ◌++◌, ◌∷◌, [], Ok, Err, sym, ap, ◌∙◌, subst, arith, ℤ, w64}
+use Rattle.std.proofs.lemmas.Int.{to_z-of_z}
+use Rattle.std.proofs.lemmas.Result.{err_from_is_err_and}
+use Rattle.seg_spec.specs.Bytes.{signed_long}
+use Rattle.seg_spec.specs.Pointer.{target}
+use Rattle.seg_spec.specs.Types.{size}
+use Rattle.seg_spec.specs.Reads.{count_at, keys_at, spaced}
+use Rattle.seg_cells.specs.Places.{object_at}
+use Rattle.seg_check.specs.Keys.{HasKeys}
+use Rattle.seg_check.specs.Resolving.{Steps}
+use Rattle.seg_check.proofs.StepLaws.{steps_refused}
+use Rattle.seg_check.proofs.OpenLaws.{ready_live}
+use Rattle.seg_check.proofs.BufferLaws.{counted_none, counted_some, counted_names}
+use Rattle.seg_check.proofs.AscendLaws.{keys_more}
+use Rattle.seg_check.proofs.FlatMapLaws.{flat_nothing, flat_counted, flat_can, flat_steps, flat_key}
+use Rattle.seg_check.proofs.image.TypedImage.check_flat_map.Goals as goal
+
+pub returns-in_err-count-clause-steps : goal.returns-in_err-count-clause-steps
+returns-in_err-count-clause-steps g c = λ T U by ready.
+    let bytes = c.args.self.now.w.now.bytes in
+    let table = c.args.self.now.types.now in
+    let old = c.args.claims.now in
+    let at = c.args.cell in
+    let e = c.in_err-count.field-0.0 in
+    let failed = err_from_is_err_and c.from_residual.result c.from_residual.ensures.1 in
+    let same : failed.0 ≡ e = failed.2 in
+    subst (λ r. Steps bytes table old old (object_at at T ∷ []) r) (sym (failed.1 ∙ ap Err same)) (flat_counted bytes table at T U c.args.content.now by old e (sym c.counted.ensures ∙ c.in_err-count.was))
+
+pub returns-in_default-clause-steps : goal.returns-in_default-clause-steps
+returns-in_default-clause-steps g c = λ T U by ready.
+    let bytes = c.args.self.now.w.now.bytes in
+    let at = c.args.cell in
+    let none = counted_none at (count_at bytes at) (target bytes at) (sym c.counted.ensures ∙ c.in_ok-count.was ∙ ap Ok c.in_default.is) in
+    flat_nothing bytes c.args.self.now.types.now at T U c.args.content.now by c.args.claims.now none.0 none.1
+
+pub returns-in_err-start-clause-steps : goal.returns-in_err-start-clause-steps
+returns-in_err-start-clause-steps g c = λ T U by ready.
+    let bytes = c.args.self.now.w.now.bytes in
+    let table = c.args.self.now.types.now in
+    let old = c.args.claims.now in
+    let at = c.args.cell in
+    let e = c.in_err-start.field-0.0 in
+    let failed = err_from_is_err_and c.from_residual-in_err-start.result c.from_residual-in_err-start.ensures.1 in
+    let same : failed.0 ≡ e = failed.2 in
+    let counts = sym c.counted.ensures ∙ c.in_ok-count.was ∙ ap Ok c.in-Some.is in
+    let names = counted_names at (count_at bytes at) c.in-Some.count (target bytes at) counts in
+    let n_is = counted_some at (count_at bytes at) c.in-Some.count (target bytes at) counts in
+    steps_refused bytes table old c.claim_entries.new.claims (object_at at T ∷ []) c.from_residual-in_err-start.result e _ (failed.1 ∙ ap Err same)
+    (flat_can bytes table at T U c.args.content.now by old c.in-Some.count names.0 names.1 n_is)
+    (c.in_err-start.ensures.refused (ready_live bytes table old ready))
+
+pub loop-index-preserved : goal.loop-index-preserved
+loop-index-preserved g c = λ T U by ready.
+    let bytes = c.args.self.now.w.now.bytes in
+    let table = c.args.self.now.types.now in
+    let old = c.args.claims.now in
+    let i = c.loop-index.index in
+    let p = c.in_ok-start.start in
+    let at = flat_key bytes table c.args.cell T U c.args.content.now by old c.claim_entries.new.claims c.in-Some.count p i c.value_at.result ready (c.in_ok-start.ensures.claimed
+    (ready_live bytes table old ready)) c.loop-index-test.true c.value_at.ensures in
+    let same = to_z-of_z w64 c.key.result (record { sfits = c.key.type_inv }) in
+    let key = same ∙ c.key.ensures at.0 ∙ ap (signed_long bytes) at.1 in
+    let more = c.add.ensures (keys_at bytes (spaced p (8 + size table U) i)) (c.loop-index.invariant T U by ready) in
+    subst (λ ks. HasKeys c.add.new.self ks) (sym (keys_more bytes p (8 + size table U) i)) (subst (λ (k : ℤ). HasKeys c.add.new.self (keys_at bytes (spaced p (8 + size table U) i) ++ k ∷ [])) key more)
+
+pub returns-clause-steps : goal.returns-clause-steps
+returns-clause-steps g c = λ T U by ready.
+    let bytes = c.args.self.now.w.now.bytes in
+    let table = c.args.self.now.types.now in
+    let old = c.args.claims.now in
+    let at = c.args.cell in
+    let p = c.in_ok-start.start in
+    let counts = sym c.counted.ensures ∙ c.in_ok-count.was ∙ ap Ok c.in-Some.is in
+    let n_is = counted_some at (count_at bytes at) c.in-Some.count (target bytes at) counts in
+    let all : c.loop-index.index ≡ c.in-Some.count = omega (arith, c.loop-index-test.false, c.loop-index.auto.index-end) in
+    let has = subst (λ n. HasKeys c.loop-index.keys (keys_at bytes (spaced p (8 + size table U) n))) all (c.loop-index.invariant T U by ready) in
+    flat_steps bytes table at T U c.args.content.now by old c.claim_entries.new.claims c.in-Some.count p c.check.result ready n_is (c.in_ok-start.ensures.claimed (ready_live bytes table old ready)) (c.check.ensures _ has)

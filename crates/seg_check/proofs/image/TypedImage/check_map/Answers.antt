@@ -1,0 +1,162 @@
+use Rattle.std.proofs.Common.{◌≡◌, ℕ, ◌+◌, ◌<◌, ◌++◌, ◌∷◌, List, [], length, map, Ok, Err, Some, None, refl, sym, ap, ◌∙◌, subst, ℤ, w64}
+use Rattle.std.specs.Prelude.{IfErr, IfOk}
+use Rattle.std.proofs.lemmas.Int.{to_z-of_z}
+use Rattle.std.proofs.lemmas.Result.{err_from_is_err_and}
+use Rattle.seg_spec.specs.Bytes.{signed_long}
+use Rattle.seg_spec.specs.Shapes.{tree_words}
+use Rattle.seg_spec.specs.Window.{Placement}
+use Rattle.seg_spec.specs.Pointer.{target}
+use Rattle.seg_spec.specs.Reads.{count_at, keys_at}
+use Rattle.seg_cells.specs.Places.{object_at}
+use Rattle.seg_check.specs.declared.fault.ContentFault.TheVariants.{BadValue}
+use Rattle.seg_check.specs.declared.walk.Visit.TheVariants.{Enter, Pass}
+use Rattle.seg_check.specs.Keys.{HasKeys}
+use Rattle.seg_check.specs.Walks.{Completes, IsSteady, Proceeds}
+use Rattle.seg_check.specs.Resolving.{CanResolve, Steps}
+use Rattle.seg_check.proofs.StepLaws.{steps_refused}
+use Rattle.seg_check.proofs.BufferLaws.{blocks_none, blocks_some}
+use Rattle.seg_check.proofs.Followed.{Followed, follow_start, steps_on}
+use Rattle.seg_check.proofs.MapLaws.{traced_start, tree_nothing, tree_counted, traced_refused, traced_can, traced_steps, traced_enter, traced_pass, traced_live, node_claimed, node_can, node_key, ok_was, err_was}
+use Rattle.seg_check.proofs.image.TypedImage.check_map.Goals as goal
+
+pub returns-in_err-count-clause-steps : goal.returns-in_err-count-clause-steps
+returns-in_err-count-clause-steps g c = λ T U by ready.
+    let bytes = c.args.self.now.w.now.bytes in
+    let table = c.args.self.now.types.now in
+    let old = c.args.claims.now in
+    let at = c.args.cell in
+    let e = c.in_err-count.field-0.0 in
+    let failed = err_from_is_err_and c.from_residual.result c.from_residual.ensures.1 in
+    let same : failed.0 ≡ e = failed.2 in
+    subst (λ r. Steps bytes table old old (object_at at T ∷ []) r) (sym (failed.1 ∙ ap Err same)) (tree_counted bytes table old ready at T U by.form_is e (sym c.counted_blocks.ensures ∙ c.in_err-count.was))
+
+pub returns-in_default-clause-steps : goal.returns-in_default-clause-steps
+returns-in_default-clause-steps g c = λ T U by ready.
+    let bytes = c.args.self.now.w.now.bytes in
+    let at = c.args.cell in
+    let none = blocks_none at (count_at bytes at) (target bytes at) (sym c.counted_blocks.ensures ∙ c.in_ok-count.was ∙ ap Ok c.in_default.is) in
+    tree_nothing bytes c.args.self.now.types.now c.args.claims.now ready at T U by.form_is none.0 none.1
+
+pub loop-visit-init : goal.loop-visit-init
+loop-visit-init g c = record {
+  taken = refl;
+  same = c.walk-walk.ensures.window;
+  traced = (λ T U by ready.
+      let bytes = c.args.self.now.w.now.bytes in
+      let at = c.args.cell in
+      let w = c.walk-walk.ensures in
+      let stage = c.walk-walk.result.stage in
+      let turns = c.walk-walk.result.turns in
+      let n_is = blocks_some at (count_at bytes at) c.in-Some.count (target bytes at) (sym c.counted_blocks.ensures ∙ c.in_ok-count.was ∙ ap Ok c.in-Some.is) in
+      traced_start bytes c.args.self.now.types.now c.args.claims.now ready at T U by.form_is stage turns c.new-keys.result
+      (subst (λ n. Followed bytes at n stage turns [] []) n_is.0 (follow_start bytes at _ stage turns w.steady w.turns w.starts)) c.new-keys.ensures);
+}
+
+pub returns-in_err-visit-clause-steps : goal.returns-in_err-visit-clause-steps
+returns-in_err-visit-clause-steps g c = λ T U by ready.
+    let bytes = c.args.self.now.w.now.bytes in
+    let table = c.args.self.now.types.now in
+    let old = c.args.claims.now in
+    let at = c.args.cell in
+    let walk = c.loop-visit.walk in
+    let t = c.loop-visit.invariant.traced T U by ready in
+    let e = c.in_err-visit.field-0.0 in
+    let failed = err_from_is_err_and c.from_residual-in_err-visit.result c.from_residual-in_err-visit.ensures.1 in
+    let same : failed.0 ≡ e = failed.2 in
+    let was = err_was c.next.result c.map_err.result _ e c.in_err-visit.was c.map_err.ensures.cases in
+    let refused = subst (λ (q : Placement). IsSteady q.bytes walk.stage walk.turns → IfErr c.next.result (λ _. (height : ℕ) (rest entering : List ℕ) → Completes q.bytes height walk.stage rest entering → height < 30
+    → length rest + length entering < walk.turns → ⊥)) c.loop-visit.invariant.same c.next.ensures.refused t.followed.steady in
+    let never = subst (λ r. IfErr r (λ _. (height : ℕ) (rest entering : List ℕ) → Completes bytes height walk.stage rest entering → height < 30 → length rest + length entering < walk.turns → ⊥)) was.1 refused in
+    let fault : e ≡ BadValue was.0 = was.2 in
+    steps_refused bytes table old c.loop-visit.claims (object_at at T ∷ []) c.from_residual-in_err-visit.result (BadValue was.0) (CanResolve bytes table old (object_at at T ∷ [])) (failed.1 ∙ ap Err (same ∙ fault))
+    (λ r. r)
+    (traced_refused bytes table old ready at T U by.form_is c.loop-visit.claims walk.stage walk.turns c.loop-visit.keys t never)
+
+pub loop-visit-preserved-in_ok-claim_entries-in-Enter :
+    goal.loop-visit-preserved-in_ok-claim_entries-in-Enter
+loop-visit-preserved-in_ok-claim_entries-in-Enter g c = record {
+  taken = c.in_ok-claim_entries-in-Enter.ensures.taken ∙ c.loop-visit.invariant.taken;
+  same = c.next.ensures.window ∙ c.loop-visit.invariant.same;
+  traced = (λ T U by ready.
+      let bytes = c.args.self.now.w.now.bytes in
+      let table = c.args.self.now.types.now in
+      let old = c.args.claims.now in
+      let mid = c.loop-visit.claims in
+      let at = c.args.cell in
+      let walk = c.loop-visit.walk in
+      let new = c.next.new.self in
+      let t = c.loop-visit.invariant.traced T U by ready in
+      let visit = c.in_ok-visit.field-0 in
+      let was = ok_was c.next.result c.map_err.result _ visit c.in_ok-visit.was c.map_err.ensures.cases in
+      let is : visit ≡ Some (Enter c.in-Enter.pointer) = c.in-Some-2.is ∙ ap Some c.in-Enter.is in
+      let stepped = steps_on bytes walk.w.now new.w.now c.args.self.now.w.now walk.stage new.stage walk.turns new.turns c.next.result (Enter c.in-Enter.pointer) (was ∙ ap Ok is) refl c.next.ensures.window
+      c.loop-visit.invariant.same t.followed.steady c.next.ensures.fewer c.next.ensures.steady c.next.ensures.goes_on in
+      traced_enter bytes table old ready at T U by.form_is mid walk.stage walk.turns c.loop-visit.keys t new.stage new.turns stepped.0 stepped.1 c.claim_entries.new.claims c.in-Enter.pointer
+      c.in_ok-claim_entries-in-Enter.field-0 stepped.2
+      (node_claimed bytes table T U c.args.content.now by mid c.claim_entries.new.claims c.in-Enter.pointer c.in_ok-claim_entries-in-Enter.field-0
+      (c.in_ok-claim_entries-in-Enter.ensures.claimed (traced_live bytes table old ready at T U by.form_is mid walk.stage walk.turns c.loop-visit.keys t))));
+}
+
+pub returns-in_err-claim_entries-in-Enter-clause-steps :
+    goal.returns-in_err-claim_entries-in-Enter-clause-steps
+returns-in_err-claim_entries-in-Enter-clause-steps g c = λ T U by ready.
+    let bytes = c.args.self.now.w.now.bytes in
+    let table = c.args.self.now.types.now in
+    let old = c.args.claims.now in
+    let mid = c.loop-visit.claims in
+    let at = c.args.cell in
+    let walk = c.loop-visit.walk in
+    let new = c.next.new.self in
+    let t = c.loop-visit.invariant.traced T U by ready in
+    let visit = c.in_ok-visit.field-0 in
+    let e = c.in_err-claim_entries-in-Enter.field-0.0 in
+    let failed = err_from_is_err_and c.from_residual-in_err-claim_entries-in-Enter.result c.from_residual-in_err-claim_entries-in-Enter.ensures.1 in
+    let same : failed.0 ≡ e = failed.2 in
+    let was = ok_was c.next.result c.map_err.result _ visit c.in_ok-visit.was c.map_err.ensures.cases in
+    let is : visit ≡ Some (Enter c.in-Enter.pointer) = c.in-Some-2.is ∙ ap Some c.in-Enter.is in
+    let stepped = steps_on bytes walk.w.now new.w.now c.args.self.now.w.now walk.stage new.stage walk.turns new.turns c.next.result (Enter c.in-Enter.pointer) (was ∙ ap Ok is) refl c.next.ensures.window
+    c.loop-visit.invariant.same t.followed.steady c.next.ensures.fewer c.next.ensures.steady c.next.ensures.goes_on in
+    steps_refused bytes table old c.claim_entries.new.claims (object_at at T ∷ []) c.from_residual-in_err-claim_entries-in-Enter.result e _ (failed.1 ∙ ap Err same)
+    (λ r. node_can bytes table T U c.args.content.now by mid c.in-Enter.pointer
+    (traced_can bytes table old ready at T U by.form_is mid walk.stage walk.turns c.loop-visit.keys t new.stage c.in-Enter.pointer stepped.2 r))
+    (c.in_err-claim_entries-in-Enter.ensures.refused (traced_live bytes table old ready at T U by.form_is mid walk.stage walk.turns c.loop-visit.keys t))
+
+pub loop-visit-preserved : goal.loop-visit-preserved
+loop-visit-preserved g c = record {
+  taken = c.loop-visit.invariant.taken;
+  same = c.next.ensures.window ∙ c.loop-visit.invariant.same;
+  traced = (λ T U by ready.
+      let bytes = c.args.self.now.w.now.bytes in
+      let table = c.args.self.now.types.now in
+      let old = c.args.claims.now in
+      let mid = c.loop-visit.claims in
+      let at = c.args.cell in
+      let walk = c.loop-visit.walk in
+      let new = c.next.new.self in
+      let node = c.in-Pass.node in
+      let t = c.loop-visit.invariant.traced T U by ready in
+      let visit = c.in_ok-visit.field-0 in
+      let was = ok_was c.next.result c.map_err.result _ visit c.in_ok-visit.was c.map_err.ensures.cases in
+      let is : visit ≡ Some (Pass node) = c.in-Some-2.is ∙ ap Some c.in-Pass.is in
+      let stepped = steps_on bytes walk.w.now new.w.now c.args.self.now.w.now walk.stage new.stage walk.turns new.turns c.next.result (Pass node) (was ∙ ap Ok is) refl c.next.ensures.window
+      c.loop-visit.invariant.same t.followed.steady c.next.ensures.fewer c.next.ensures.steady c.next.ensures.goes_on in
+      traced_pass bytes table old ready at T U by.form_is mid walk.stage walk.turns c.loop-visit.keys t new.stage new.turns stepped.0 stepped.1 node c.add.new.self stepped.2
+      (λ low has.
+      let stands = node_key bytes table T U c.args.content.now by node c.value_at.result low c.value_at.ensures in
+      let same = to_z-of_z w64 c.key.result (record { sfits = c.key.type_inv }) in
+      let key = same ∙ c.key.ensures stands.0 ∙ ap (signed_long bytes) stands.1 in
+      let ks = keys_at bytes (map (λ p. p + tree_words) t.passed) in
+      subst (λ (k : ℤ). HasKeys c.add.new.self (ks ++ k ∷ [])) key (c.add.ensures ks has)));
+}
+
+pub returns-clause-steps : goal.returns-clause-steps
+returns-clause-steps g c = λ T U by ready.
+    let bytes = c.args.self.now.w.now.bytes in
+    let walk = c.loop-visit.walk in
+    let new = c.next.new.self in
+    let t = c.loop-visit.invariant.traced T U by ready in
+    let visit = c.in_ok-visit.field-0 in
+    let was = ok_was c.next.result c.map_err.result _ visit c.in_ok-visit.was c.map_err.ensures.cases in
+    let goes_on = subst (λ (q : Placement). IsSteady q.bytes walk.stage walk.turns → IfOk c.next.result (Proceeds q.bytes walk.stage new.stage)) c.loop-visit.invariant.same c.next.ensures.goes_on t.followed.steady in
+    let step : Proceeds bytes walk.stage new.stage None = subst (λ r. IfOk r (Proceeds bytes walk.stage new.stage)) (was ∙ ap Ok c.in_default-2.is) goes_on in
+    traced_steps bytes c.args.self.now.types.now c.args.claims.now ready c.args.cell T U by.form_is c.loop-visit.claims walk.stage walk.turns c.loop-visit.keys t new.stage c.check.result step c.check.ensures

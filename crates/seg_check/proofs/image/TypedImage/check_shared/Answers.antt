@@ -1,0 +1,141 @@
+use Rattle.std.proofs.Common.{◌≡◌, ℕ, ◌+◌, ◌^◌, ◌<◌, true, false, List, ◌∷◌, [], Ok, Err, Option, Some, None, refl, sym, ap, ◌∙◌, subst, arith}
+use Rattle.std.specs.Option.{is_some}
+use Rattle.std.proofs.lemmas.Result.{err_from_is_err_and}
+use Rattle.seg_spec.specs.Pointer.{target}
+use Rattle.seg_spec.specs.Types.{Form, Table, form_at, size}
+use Rattle.seg_spec.specs.Block.{Kind, tag_of, block_of}
+use Rattle.seg_spec.specs.Frozen.{frozen_words}
+use Rattle.seg_spec.specs.Reads.{count_at}
+use Rattle.seg_block.specs.Tags.{word_of}
+use Rattle.seg_cells.specs.Places.{object_at}
+use Rattle.seg_check.specs.Marks.{Known}
+use Rattle.seg_check.specs.Naming.{IsUnder, IsNameable, CanName, NamesBlock, frozen_number_at}
+use Rattle.seg_check.specs.Resolving.{IsReady, Steps}
+use Rattle.seg_check.proofs.StepLaws.{steps_refused}
+use Rattle.seg_check.proofs.BufferLaws.{blocks_none, blocks_some, blocks_names}
+use Rattle.seg_check.proofs.SharedLaws.{nameable, shared_counted, shared_many, shared_named, shared_can, shared_nothing, advance_shared}
+use Rattle.seg_check.proofs.image.TypedImage.check_shared.Goals as goal
+
+true_false : {X : Type 0} → true ≡ false → X
+true_false e = cc
+
+pub returns-then-count-gt1-clause-steps : goal.returns-then-count-gt1-clause-steps
+returns-then-count-gt1-clause-steps g c = λ T f ready r.
+    shared_many c.args.self.now.w.now.bytes c.args.self.now.types.now c.args.cell T c.args.held f c.args.claims.now (omega (arith, c.if-count-gt1.true, c.count.ensures)) r
+
+pub returns-in_err-counted_blocks-clause-steps : goal.returns-in_err-counted_blocks-clause-steps
+returns-in_err-counted_blocks-clause-steps g c = λ T f ready.
+    let bytes = c.args.self.now.w.now.bytes in
+    let table = c.args.self.now.types.now in
+    let old = c.args.claims.now in
+    let at = c.args.cell in
+    let e = c.in_err-counted_blocks.field-0.0 in
+    let failed = err_from_is_err_and c.from_residual.result c.from_residual.ensures.1 in
+    let same : failed.0 ≡ e = failed.2 in
+    subst (λ r. Steps bytes table old old (object_at at T ∷ []) r) (sym (failed.1 ∙ ap Err same))
+    (shared_counted bytes table at T c.args.held f old e (sym c.counted_blocks.ensures ∙ c.in_err-counted_blocks.was))
+
+is_empty : {X : Type 0} (o : Option X) → is_some o ≡ false → o ≡ None
+is_empty None e = refl
+is_empty (Some x) e = cc
+
+is_full : {X : Type 0} (o : Option X) → is_some o ≡ true → (x : X) × (o ≡ Some x)
+is_full None e = cc
+is_full (Some x) e = (x, refl)
+
+pub returns-then-is_none-clause-steps : goal.returns-then-is_none-clause-steps
+returns-then-is_none-clause-steps g c = λ T f ready.
+    let bytes = c.args.self.now.w.now.bytes in
+    let at = c.args.cell in
+    let none = blocks_none at (count_at bytes at) (target bytes at) (sym c.counted_blocks.ensures ∙ c.in_ok-counted_blocks.was ∙ ap Ok (is_empty c.in_ok-counted_blocks.field-0 c.if-is_none.ensures)) in
+    shared_nothing bytes c.args.self.now.types.now at T c.args.held f c.args.claims.now none.0 none.1
+
+-- the cell's pointer isn't null
+module _ (bytes view : List ℕ) (table : Table) (same : view ≡ bytes) (at T U : ℕ) (f : form_at table T ≡ Some (Form.shared U)) (old new : Known) (ready : IsReady bytes table old) (tag room : ℕ) (tag_is : tag ≡ tag_of Kind.frozen U)
+    (size_is : room ≡ frozen_words + size table U) where
+  can_name_as : CanName bytes old at (tag_of Kind.frozen U) (frozen_words + size table U) → CanName view old at tag room
+  can_name_as k = subst (λ b. CanName b old at tag room) (sym same) (subst (λ t. CanName bytes old at t room) (sym tag_is) (subst (CanName bytes old at (tag_of Kind.frozen U)) (sym size_is) k))
+
+  names_as : (start : ℕ) → NamesBlock view old new at tag room start → NamesBlock bytes old new at (tag_of Kind.frozen U) (frozen_words + size table U) start
+  names_as start n = subst (λ s. NamesBlock bytes old new at (tag_of Kind.frozen U) s start) size_is (subst (λ t. NamesBlock bytes old new at t room start) tag_is (subst (λ b. NamesBlock b old new at tag room start) same n))
+
+  nameable_as : IsNameable view old
+  nameable_as = subst (λ b. IsNameable b old) (sym same) (nameable bytes table at T U f old ready)
+
+pub returns-in_err-object-clause-steps : goal.returns-in_err-object-clause-steps
+returns-in_err-object-clause-steps g c = λ T f ready.
+    let bytes = c.args.self.now.w.now.bytes in
+    let table = c.args.self.now.types.now in
+    let old = c.args.claims.now in
+    let new = c.name.new.self in
+    let at = c.args.cell in
+    let U = c.args.held in
+    let is = c.frozen-content.ensures in
+    let same = c.args.self.now.same in
+    let size_is : c.from-size.result ≡ frozen_words + size table U = c.from-size.ensures ∙ is.entry_is.size_is in
+    let e = c.in_err-object.field-0.0 in
+    let failed = err_from_is_err_and c.from_residual-in_err-object.result c.from_residual-in_err-object.ensures.1 in
+    let equal : failed.0 ≡ e = failed.2 in
+    let some = is_full c.in_ok-counted_blocks.field-0 c.if-is_none.ensures in
+    let counts = sym c.counted_blocks.ensures ∙ c.in_ok-counted_blocks.was ∙ ap Ok some.1 in
+    let names = blocks_names at (count_at bytes at) some.0 (target bytes at) counts in
+    steps_refused bytes table old new (object_at at T ∷ []) c.from_residual-in_err-object.result e _ (failed.1 ∙ ap Err equal)
+    (λ r. can_name_as bytes c.args.self.now.bytes.bytes.now table same at T U f old new ready (word_of c.frozen-content.result.tag) c.from-size.result is.tag_is size_is (shared_can bytes table at T U f old ready names.0 names.1 r))
+    (c.in_err-object.ensures.refused (nameable_as bytes c.args.self.now.bytes.bytes.now table same at T U f old new ready (word_of c.frozen-content.result.tag) c.from-size.result is.tag_is size_is))
+
+-- the cell was counted for the object
+module _ (bytes view : List ℕ) (table : Table) (same : view ≡ bytes) (at T U : ℕ) (f : form_at table T ≡ Some (Form.shared U)) (old new : Known) (ready : IsReady bytes table old) (start number : ℕ)
+    (n : NamesBlock bytes old new at (tag_of Kind.frozen U) (frozen_words + size table U) start) (number_is : start + 4 < 2 ^ 32 → number ≡ frozen_number_at view start) where
+  numbered : number ≡ frozen_number_at bytes start
+  numbered =
+      let b = (nameable bytes table at T U f old ready).live (block_of start) n.there in
+      let inside = b.inside in
+      let large = b.size in
+      let small = ready.small in
+      let high = n.is_block.after_header in
+      number_is (omega arith) ∙ ap (λ bs. frozen_number_at bs start) same
+
+  under : IsUnder new.naming.below number → IsUnder old.naming.below (frozen_number_at bytes start)
+  under u = subst (λ b. IsUnder b (frozen_number_at bytes start)) n.below_kept (subst (IsUnder new.naming.below) numbered u)
+
+  over : IsUnder old.naming.below (frozen_number_at bytes start) → IsUnder new.naming.below number
+  over u = subst (IsUnder new.naming.below) (sym numbered) (subst (λ b. IsUnder b (frozen_number_at bytes start)) (sym n.below_kept) u)
+
+pub returns-then-may_name-clause-steps : goal.returns-then-may_name-clause-steps
+returns-then-may_name-clause-steps g c = λ T f ready.
+    let bytes = c.args.self.now.w.now.bytes in
+    let view = c.args.self.now.bytes.bytes.now in
+    let table = c.args.self.now.types.now in
+    let old = c.args.claims.now in
+    let new = c.name.new.self in
+    let at = c.args.cell in
+    let U = c.args.held in
+    let is = c.frozen-content.ensures in
+    let same = c.args.self.now.same in
+    let size_is : c.from-size.result ≡ frozen_words + size table U = c.from-size.ensures ∙ is.entry_is.size_is in
+    let tag = word_of c.frozen-content.result.tag in
+    let some = is_full c.in_ok-counted_blocks.field-0 c.if-is_none.ensures in
+    let counts = blocks_some at (count_at bytes at) some.0 (target bytes at) (sym c.counted_blocks.ensures ∙ c.in_ok-counted_blocks.was ∙ ap Ok some.1) in
+    let one : count_at bytes at ≡ 1 = omega (arith, counts.1, c.if-count-gt1.false, c.count.ensures) in
+    let n = names_as bytes view table same at T U f old new ready tag c.from-size.result is.tag_is size_is c.in_ok-object.object
+    (c.in_ok-object.ensures.named (nameable_as bytes view table same at T U f old new ready tag c.from-size.result is.tag_is size_is)) in
+    advance_shared bytes table at T U f old new ready c.in_ok-object.object n one
+    (under bytes view table same at T U f old new ready c.in_ok-object.object c.frozen_number.result n c.frozen_number.ensures (c.may_name.ensures.0 c.if-may_name.true))
+
+pub returns-else-may_name-clause-steps : goal.returns-else-may_name-clause-steps
+returns-else-may_name-clause-steps g c = λ T f ready r.
+    let bytes = c.args.self.now.w.now.bytes in
+    let view = c.args.self.now.bytes.bytes.now in
+    let table = c.args.self.now.types.now in
+    let old = c.args.claims.now in
+    let new = c.name.new.self in
+    let at = c.args.cell in
+    let U = c.args.held in
+    let is = c.frozen-content.ensures in
+    let same = c.args.self.now.same in
+    let size_is : c.from-size.result ≡ frozen_words + size table U = c.from-size.ensures ∙ is.entry_is.size_is in
+    let tag = word_of c.frozen-content.result.tag in
+    let n = names_as bytes view table same at T U f old new ready tag c.from-size.result is.tag_is size_is c.in_ok-object.object
+    (c.in_ok-object.ensures.named (nameable_as bytes view table same at T U f old new ready tag c.from-size.result is.tag_is size_is)) in
+    let named = shared_named bytes table at T U f old c.in_ok-object.object n.names r in
+    true_false (sym (c.may_name.ensures.1 (over bytes view table same at T U f old new ready c.in_ok-object.object c.frozen_number.result n c.frozen_number.ensures named.under)) ∙ c.if-may_name.false)
