@@ -40,12 +40,11 @@ def section(title):
 
 
 def is_named(path, said):
-    """Whether a section names a file: by its path, or by its name without the suffix in a line with its folder."""
-    folder, _, file = path.removeprefix("crates/").rpartition("/")
-    stem = file.rpartition(".")[0]
-    if f"{folder}/{file}" in said:
-        return True
-    return any(f"`{folder}`" in line and f"`{stem}`" in line for line in said.splitlines())
+    """Whether a section names a file: by its path, or without its ending in a row that names a folder around it."""
+    file = path.removeprefix("crates/")
+    parts = file.rpartition(".")[0].split("/")
+    splits = [("/".join(parts[:i]), "/".join(parts[i:])) for i in range(1, len(parts))]
+    return file in said or any(f"`{folder}`" in row and f"`{rest}`" in row for row in said.splitlines() for folder, rest in splits)
 
 
 def sources():

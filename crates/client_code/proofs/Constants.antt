@@ -7,7 +7,7 @@ use Rattle.std.proofs.lemmas.List.{length-append, flat_map_more, get_or_append_l
 use Rattle.std.proofs.lemmas.List.Elements.{All-push}
 use Rattle.client_spec.specs.Syntax.{Constant}
 use Rattle.client_spec.specs.Grammar.{constant_bytes, IsConstant, Differ}
-use Rattle.client_spec.proofs.OneClient.{constant_front}
+use Rattle.client_spec.proofs.Spelling.OneClientLaws.{constant_front}
 use Rattle.client_code.specs.declared.constant.ConstantKind.{ConstantKind}
 use Rattle.client_code.specs.declared.constant.ConstantKind.TheVariants as kind
 use Rattle.client_code.specs.Views.{constant_by, constant_kind_of}

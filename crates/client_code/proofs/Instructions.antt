@@ -9,13 +9,13 @@ use Rattle.seg_spec.specs.Types.{Table}
 use Rattle.client_spec.specs.declared.table.Operation.{Operation}
 use Rattle.client_spec.specs.Syntax.{Constant, Instruction, Statements}
 use Rattle.client_spec.specs.Grammar.{mark, listing, instruction_bytes, IsInstruction}
-use Rattle.client_spec.proofs.Listed.{all_listed, all_two}
-use Rattle.client_spec.proofs.FileVersions.{is_version}
-use Rattle.client_spec.proofs.OneClient.{IsWord, instruction_front, mark_word}
+use Rattle.client_spec.proofs.Spelling.ListingLaws.{all_listed, all_two}
+use Rattle.client_spec.proofs.Spelling.FileVersionLaws.{is_version}
+use Rattle.client_spec.proofs.Spelling.OneClientLaws.{IsWord, instruction_front, mark_word}
 use Rattle.client_code.specs.declared.nesting.Part.{Part}
 use Rattle.client_code.specs.Parts.{passed, passed_all}
 use Rattle.client_code.specs.Files.{IsCodeAt}
-use Rattle.client_code.proofs.Nested.{role_of, roles, Right, code_of, code_closes, passed_more}
+use Rattle.client_code.proofs.ListingTreeLaws.{role_of, roles, Right, code_of, code_closes, passed_more}
 use Rattle.client_code.proofs.Constants.{fronts}
 
 -- the instructions up to the k-th, and the parts that are open after them

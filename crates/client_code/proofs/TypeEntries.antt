@@ -5,8 +5,8 @@ use Rattle.std.proofs.lemmas.Bool.{cases_lt}
 use Rattle.std.proofs.lemmas.List.{length-append}
 use Rattle.seg_spec.specs.Bytes.{slice}
 use Rattle.seg_spec.specs.Types.{Table, IsTable, Spells, IsUsed, form_bytes}
-use Rattle.seg_spec.proofs.EntryLaws.{length-table, kind_at, no_kind_at}
-use Rattle.client_spec.proofs.OneClient.{all_long}
+use Rattle.seg_spec.proofs.Tables.TableEntryLaws.{length-table, kind_at, no_kind_at}
+use Rattle.client_spec.proofs.Spelling.OneClientLaws.{all_long}
 use Rattle.client_code.specs.Files.{AreTypes}
 
 fits_in : (xs ys : List ℕ) (n : ℕ) → n ≡ length (xs ++ ys) → length xs ≤ n

@@ -6,16 +6,16 @@ use Rattle.std.proofs.lemmas.List.{length-append, drop-drop, take-append-drop, t
 use Rattle.seg_spec.specs.Bytes.{slice, spelled, spelling, number}
 use Rattle.seg_spec.specs.Types.{Table, form_bytes}
 use Rattle.seg_spec.proofs.BytesLaws.{number_in, length-slice, length-spelling, spelled-spelling}
-use Rattle.seg_spec.proofs.EntryLaws.{length-table, one_table}
+use Rattle.seg_spec.proofs.Tables.TableEntryLaws.{length-table, one_table}
 use Rattle.client_spec.specs.Syntax.{Constant, Statements, Client}
 use Rattle.client_spec.specs.Grammar.{word_bytes, file_version, constant_bytes, instruction_bytes, listing, SpellsClient}
 use Rattle.client_spec.specs.Syntax.{Instruction}
 use Rattle.client_spec.specs.Pieces.{pieces_of}
-use Rattle.client_spec.proofs.OneClient.{constant_front, instruction_front, IsWord, words, all_long, spelling_is, following}
-use Rattle.client_spec.proofs.FileVersions.{is_version}
+use Rattle.client_spec.proofs.Spelling.OneClientLaws.{constant_front, instruction_front, IsWord, words, all_long, spelling_is, following}
+use Rattle.client_spec.proofs.Spelling.FileVersionLaws.{is_version}
 use Rattle.std.specs.Int.{w32}
 use Rattle.std.specs.Option.{option_map}
-use Rattle.client_spec.proofs.Values.{Some_inj}
+use Rattle.client_spec.proofs.TypedStates.ValueLaws.{Some_inj}
 use Rattle.client_code.specs.declared.instruction.Instruction as program
 use Rattle.client_code.specs.Views.{instruction_of}
 use Rattle.client_code.specs.Operands.{HasOperands}

@@ -28,24 +28,24 @@ use Rattle.client_spec.specs.Typed.{name_needed, text_needed, required, form_nee
 use Rattle.client_spec.specs.Typed as typed
 use Rattle.client_spec.specs.Meaning.{IsAsKnown}
 use Rattle.client_spec.specs.Bare.{bare}
-use Rattle.client_spec.proofs.Values.{bind_some}
-use Rattle.client_spec.proofs.Classes.{OneEach}
-use Rattle.client_spec.proofs.FirstRows.{bind_ok, Goes, const_goes, add_goes, sub_goes, mul_goes, lt_goes, eq_goes, branch_goes, outi_goes, find_goes, load_goes, store_goes}
-use Rattle.client_spec.proofs.ObjectRows.{mov_goes, outs_goes, outc_goes, getb_goes, count_row, kill_goes, ufind_goes, ukill_goes, drop_goes, ref_goes, forget_goes, make_goes, findor_goes, umake_goes, ufindor_goes, new_goes}
-use Rattle.client_spec.proofs.PlaceRows.{put_goes, take_goes, content_goes, clear_goes, field_goes, len_goes, at_goes, push_goes, pushf_goes, pop_goes}
-use Rattle.client_spec.proofs.PlaceRows.{popf_goes, sets_goes, adds_goes, addb_goes, shrink_goes, getk_goes, putk_goes, delk_goes, firstk_goes, nextk_goes}
-use Rattle.client_spec.proofs.Sides.{Alike, alike_known, alike_bind, alike_gives, alike_combines, alike_found}
-use Rattle.client_spec.proofs.Bare.{known_bare, bare_others, copy_bare, class_bare, item_bare, some_form, IsBare, BareThere, Bares, FrozenFrom, from_set, from_ended}
-use Rattle.client_spec.proofs.Bare as bare
-use Rattle.client_spec.proofs.CellsKept.{Keeps, Spared, StillRead, spelled}
-use Rattle.client_spec.proofs.CellsKept as kept
-use Rattle.client_spec.proofs.Following.{Fine}
-use Rattle.client_spec.proofs.Following as follow
-use Rattle.client_spec.proofs.UnfoldedRows.{RowSame, const_same, mov_same, add_same, sub_same, mul_same, less_same, equal_same, branch_same, while_same, else_same, end_same}
-use Rattle.client_spec.proofs.UnfoldedRows.{out_number_same, out_text_same, out_constant_same, byte_same, make_same, find_same, find_or_make_same, count_row_same, kill_same}
-use Rattle.client_spec.proofs.UnfoldedRows.{make_unique_same, find_unique_same, find_or_make_unique_same, kill_unique_same, new_same, drop_same, ref_same}
-use Rattle.client_spec.proofs.UnfoldedPlaces.{put_same, take_same, content_same, freeze_same, share_same, clear_same, forget_same, load_same, store_same, field_same, len_same, at_same, push_back_same, push_front_same}
-use Rattle.client_spec.proofs.UnfoldedPlaces.{pop_back_same, pop_front_same, set_text_same, add_text_same, add_byte_same, shrink_same, get_key_same, put_key_same, delete_key_same, first_key_same, next_key_same}
+use Rattle.client_spec.proofs.TypedStates.ValueLaws.{bind_some}
+use Rattle.client_spec.proofs.TypedStates.ClassLaws.{OneEach}
+use Rattle.client_spec.proofs.Rows.RuleRowLaws.{bind_ok, Goes, const_goes, add_goes, sub_goes, mul_goes, lt_goes, eq_goes, branch_goes, outi_goes, find_goes, load_goes, store_goes}
+use Rattle.client_spec.proofs.Rows.ObjectRowLaws.{mov_goes, outs_goes, outc_goes, getb_goes, count_row, kill_goes, ufind_goes, ukill_goes, drop_goes, ref_goes, forget_goes, make_goes, findor_goes, umake_goes, ufindor_goes, new_goes}
+use Rattle.client_spec.proofs.Rows.PlaceRowLaws.{put_goes, take_goes, content_goes, clear_goes, field_goes, len_goes, at_goes, push_goes, pushf_goes, pop_goes}
+use Rattle.client_spec.proofs.Rows.PlaceRowLaws.{popf_goes, sets_goes, adds_goes, addb_goes, shrink_goes, getk_goes, putk_goes, delk_goes, firstk_goes, nextk_goes}
+use Rattle.client_spec.proofs.Rows.ElsePartLaws.{Alike, alike_known, alike_bind, alike_gives, alike_combines, alike_found}
+use Rattle.client_spec.proofs.Rows.BareLaws.{known_bare, bare_others, copy_bare, class_bare, item_bare, some_form, IsBare, BareThere, Bares, FrozenFrom, from_set, from_ended}
+use Rattle.client_spec.proofs.Rows.BareLaws as bare
+use Rattle.client_spec.proofs.Rows.SharedCellLaws.{Keeps, Spared, StillRead, spelled}
+use Rattle.client_spec.proofs.Rows.SharedCellLaws as kept
+use Rattle.client_spec.proofs.Rows.RowFrameLaws.{Fine}
+use Rattle.client_spec.proofs.Rows.RowFrameLaws as follow
+use Rattle.client_spec.proofs.Unfolded.UnfoldedRowLaws.{RowSame, const_same, mov_same, add_same, sub_same, mul_same, less_same, equal_same, branch_same, while_same, else_same, end_same}
+use Rattle.client_spec.proofs.Unfolded.UnfoldedRowLaws.{out_number_same, out_text_same, out_constant_same, byte_same, make_same, find_same, find_or_make_same, count_row_same, kill_same}
+use Rattle.client_spec.proofs.Unfolded.UnfoldedRowLaws.{make_unique_same, find_unique_same, find_or_make_unique_same, kill_unique_same, new_same, drop_same, ref_same}
+use Rattle.client_spec.proofs.Unfolded.UnfoldedPlaceLaws.{put_same, take_same, content_same, freeze_same, share_same, clear_same, forget_same, load_same, store_same, field_same, len_same, at_same, push_back_same, push_front_same}
+use Rattle.client_spec.proofs.Unfolded.UnfoldedPlaceLaws.{pop_back_same, pop_front_same, set_text_same, add_text_same, add_byte_same, shrink_same, get_key_same, put_key_same, delete_key_same, first_key_same, next_key_same}
 
 -- the role of an instruction without parts
 abbrev IsPlain : Role → Type 0

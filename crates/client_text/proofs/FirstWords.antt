@@ -6,7 +6,7 @@ use Rattle.std.proofs.lemmas.Bool.Decides.{Decides-eqb}
 use Rattle.client_spec.specs.declared.table.Operation.{Operation}
 use Rattle.client_spec.specs.Operations.{mnemonic}
 use Rattle.client_spec.specs.Text.{Item, type_item, constant_item, instruction_item, Words, words_of, SpellsItem}
-use Rattle.client_spec.proofs.OneText.{first_word, first_in, first_is}
+use Rattle.client_spec.proofs.Spelling.OneTextLaws.{first_word, first_in, first_is}
 use Rattle.client_text.specs.declared.outline.Section.TheVariants as section
 use Rattle.client_text.specs.Outlines.{section_of}
 

@@ -10,8 +10,8 @@ use Rattle.client_spec.specs.declared.table.Operation.{Operation}
 use Rattle.client_spec.specs.Syntax.{Constant}
 use Rattle.client_spec.specs.Operations.{mnemonic}
 use Rattle.client_spec.specs.Text.{Item, type_item, constant_item, instruction_item, type_word, type_words, instruction_words, Words, words_of, SpellsItem, SpellsText}
-use Rattle.client_spec.proofs.TextWords.{tail_of, front, not_type, not_name, not_family, not_text}
-use Rattle.client_spec.proofs.TableRows.{same_by_word}
+use Rattle.client_spec.proofs.Spelling.TextWordLaws.{tail_of, front, not_type, not_name, not_family, not_text}
+use Rattle.client_spec.proofs.Spelling.OperationTableLaws.{same_by_word}
 use Rattle.client_text.specs.Items.{IsWords, IsWritten, IsInSomeClient}
 
 pub other_word : (word slice text : List ℕ) (r : Bool) → r ≡ lib.Pointwise.pointwise nat_eq word slice → slice ≡ text → r ≡ false → word ≢ text

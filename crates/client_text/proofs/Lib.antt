@@ -1,14 +1,14 @@
-pub mod Spacing
+pub mod CanonicalLineLaws
 pub mod Outcomes
 pub mod Numerals
 pub mod LineWords
-pub mod Unescaping
+pub mod EscapeLaws
 pub mod ItemWords
 pub mod TextLines
 pub mod Sections
 pub mod SpelledLines
 pub mod ValidItems
 pub mod WrittenFiles
-pub mod Assembling
+pub mod AssemblyLaws
 pub mod FirstWords
 pub mod WordGroups

@@ -6,7 +6,7 @@ use Rattle.std.proofs.lemmas.List.{at_drop_more, take_all, length-drop, nil_from
 use Rattle.std.proofs.Math.ListN.{drop_of_length-le}
 use Rattle.std.proofs.lemmas.List.Elements.{All-head, All-tail}
 use Rattle.client_spec.specs.Text.{Words, words_of, words_from, type_word}
-use Rattle.client_spec.proofs.TextWords.{tail_of}
+use Rattle.client_spec.proofs.Spelling.TextWordLaws.{tail_of}
 use Rattle.client_text.specs.Texts.{before_space}
 
 same_test : (x y : Bool) → beq x y ≡ (if x then y else not y)

@@ -1,6 +1,6 @@
 -- The sections of a client's lines, in order.
 use Rattle.std.proofs.Common.{◌≡◌, ◌⊎◌, ℕ, zero, suc, ◌<◌, ◌≤◌, List, ◌∷◌, ◌++◌, replicate, refl, sym, ◌∙◌, arith, inl, inr, append_assoc}
-use Rattle.client_spec.proofs.TextWords.{tail_of}
+use Rattle.client_spec.proofs.Spelling.TextWordLaws.{tail_of}
 use Rattle.client_text.specs.declared.outline.Section.{Section}
 use Rattle.client_text.specs.declared.outline.Section.TheVariants as section
 use Rattle.client_text.specs.Outlines.{outlined, IsOutline}

@@ -10,9 +10,9 @@ use Rattle.client_spec.specs.Syntax.{Instruction, Client}
 use Rattle.client_spec.specs.declared.table.Role.{Role}
 use Rattle.client_spec.specs.Grammar.{mark, listing, IsClient, IsInstruction}
 use Rattle.client_spec.specs.Text.{Item, type_item, constant_item, instruction_item, items_of, SpellsItem, EachSpells, SpellsInText}
-use Rattle.client_spec.proofs.Listed.{all_listed}
-use Rattle.client_spec.proofs.OneClient.{mark_word}
-use Rattle.client_spec.proofs.Readable.{wider}
+use Rattle.client_spec.proofs.Spelling.ListingLaws.{all_listed}
+use Rattle.client_spec.proofs.Spelling.OneClientLaws.{mark_word}
+use Rattle.client_spec.proofs.Spelling.ReadablePieceLaws.{wider}
 use Rattle.client_text.specs.Items.{IsWritten, IsInSomeClient}
 use Rattle.client_text.specs.declared.outline.Section.{Section}
 use Rattle.client_text.specs.declared.outline.Section.TheVariants as section

@@ -13,7 +13,7 @@ use Rattle.client_spec.specs.Syntax.{Constant, Instruction}
 use Rattle.client_spec.specs.Operations.{mnemonic, row_of}
 use Rattle.client_spec.specs.Grammar.{IsNumber}
 use Rattle.client_spec.specs.Text.{Words, operand_words, number_words, instruction_words, type_word, constant_word}
-use Rattle.client_spec.proofs.TextWords.{tail_of}
+use Rattle.client_spec.proofs.Spelling.TextWordLaws.{tail_of}
 
 -- if one of two calls that succeed together returns None, the other's reason applies
 pub none_given : {A B : Type 0} (r : Option A) (s : Option B) (P Q : Type 0) → is_some s ≡ is_some r → IfNone r P → (P → Q) → IfNone s Q

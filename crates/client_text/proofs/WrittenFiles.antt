@@ -9,7 +9,7 @@ use Rattle.seg_spec.specs.Types.{Form, Table, version_of, form_bytes}
 use Rattle.client_spec.specs.Syntax.{Constant, Instruction}
 use Rattle.client_spec.specs.Grammar.{file_version, constant_bytes, instruction_bytes}
 use Rattle.client_spec.specs.Text.{Item, type_item, constant_item, instruction_item, SpellsItem, EachSpells}
-use Rattle.client_spec.proofs.TextWords.{tail_of}
+use Rattle.client_spec.proofs.Spelling.TextWordLaws.{tail_of}
 use Rattle.client_text.specs.declared.outline.Section.{Section}
 use Rattle.client_text.specs.declared.outline.Section.TheVariants as section
 use Rattle.client_text.specs.Headers.{header_bytes}

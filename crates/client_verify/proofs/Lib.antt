@@ -6,7 +6,7 @@ pub mod Needs
 pub mod Shapes
 pub mod Numbers
 pub mod Rules
-pub mod Counting
-pub mod Walking
-pub mod Accepting
+pub mod StepCountLaws
+pub mod CodeWalkLaws
+pub mod VerifierStateLaws
 pub mod TextsLaws

@@ -2,16 +2,16 @@ mod Versions
 mod MovesLaws
 mod NumberLaws
 mod OpenerLaws
-mod WritingLaws
+mod TextLaws
 mod PartLaws
 mod ObjectLaws
-mod SharingLaws
-mod MakingLaws
+mod SharedObjectLaws
+mod NamedObjectLaws
 mod OwnerLaws
 mod ItemLaws
 mod NamedLaws
 mod PositionLaws
-mod OwningLaws
+mod OwnMoveLaws
 mod IndexLaws
 mod CourseLaws
 mod UnnamedLaws
@@ -20,7 +20,7 @@ mod PassLaws
 mod ProgramLaws
 pub mod AcceptedLaws
 mod RunLaws
-pub mod Elsewhere
+pub mod ImagePlaceLaws
 pub mod ReportLaws
-pub mod Refusing
+pub mod RefusalLaws
 pub mod TogetherLaws

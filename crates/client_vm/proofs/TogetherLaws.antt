@@ -14,7 +14,7 @@ use Rattle.client_spec.specs.Run.{Ending, finished, stopped, stuck}
 use Rattle.client_spec.specs.OnImages.{Move, Given, Left}
 use Rattle.client_spec.specs.Clients.{AreMoves, AreAccepted, GoesOn, RunClients, StayWithin, outputs, image_after, ending_after}
 use Rattle.client_sim.specs.Writes.{Took}
-use Rattle.client_sim.proofs.Printing.{took_more}
+use Rattle.client_sim.proofs.Instructions.PrintLaws.{took_more}
 use Rattle.client_output.specs.declared.report.Report.{Report}
 use Rattle.client_output.specs.declared.report.Ended.{Ended}
 use Rattle.client_output.specs.declared.report.Ended.TheVariants as ended
@@ -22,7 +22,7 @@ use Rattle.client_vm.specs.Runs.{ending_of, given_of, left_of, IsReadyToRun, May
 use Rattle.client_vm.specs.Jobs.{Effect, job_at}
 use Rattle.client_vm.specs.Outcomes.{AreReports, HasOutcome}
 use Rattle.seg_spec.specs.Images.{upgraded}
-use Rattle.seg_spec.proofs.Upgrading.{upgrade_changes, same_word, upgraded_version, upgraded_held, upgraded_counted}
+use Rattle.seg_spec.proofs.Images.UpgradeLaws.{upgrade_changes, same_word, upgraded_version, upgraded_held, upgraded_counted}
 use Rattle.client_vm.specs.Together.{opened, ending_if, HaveRun, HaveRunOn}
 
 -- ---- the result with one more client

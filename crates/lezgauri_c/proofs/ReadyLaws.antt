@@ -15,7 +15,7 @@ use Rattle.client_vm.specs.declared.ready.Ready.{Ready}
 use Rattle.client_vm.proofs.AcceptedLaws.{accepted_so}
 use Rattle.client_output.specs.declared.refused.Refused.{Refused}
 use Rattle.client_vm.specs.Admitted.{IsWrong}
-use Rattle.client_vm.proofs.Refusing.{if_wrong}
+use Rattle.client_vm.proofs.RefusalLaws.{if_wrong}
 use Rattle.lezgauri_c.specs.Prepared.{client_bytes_of}
 use Rattle.lezgauri_c.proofs.OneClient.{only_wrong}
 

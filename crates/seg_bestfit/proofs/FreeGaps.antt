@@ -6,10 +6,10 @@ use Rattle.std.proofs.lemmas.List.{length-map}
 use Rattle.seg_spec.specs.Apart.{Separate}
 use Rattle.seg_spec.specs.Heap.{Span, end_of, is_smaller, insert_by_size, by_size, AreBySize}
 use Rattle.seg_spec.specs.Sound.{times, positions}
-use Rattle.seg_spec.proofs.Frame.{each_map, each_weaker, each_both, each_right}
-use Rattle.seg_spec.proofs.FreeLaws.{AreRisingSpans, by_size-in_order}
-use Rattle.seg_spec.proofs.HeapFrame.{each_by_size}
-use Rattle.seg_spec.proofs.LiveLaws.{times-same, times-other, none_there}
+use Rattle.seg_spec.proofs.Values.PlaceFrameLaws.{each_map, each_weaker, each_both, each_right}
+use Rattle.seg_spec.proofs.Heap.GapOrderLaws.{AreRisingSpans, by_size-in_order}
+use Rattle.seg_spec.proofs.Heap.HeapFrameLaws.{each_by_size}
+use Rattle.seg_spec.proofs.Heap.LiveBlockLaws.{times-same, times-other, none_there}
 use Rattle.seg_block.specs.FreeBlocks.{AreFreeBlocks}
 use Rattle.seg_rbtree.specs.Changes.{NodesApart, StandApart}
 use Rattle.seg_bestfit.proofs.SizeOrder.{node_of, HasSize}

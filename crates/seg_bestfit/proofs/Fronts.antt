@@ -4,12 +4,12 @@ use Rattle.seg_spec.specs.Bytes.{word, set_word, Agrees, IsSame}
 use Rattle.seg_spec.specs.Pointer.{distance, set_pointer}
 use Rattle.seg_spec.specs.Heap.{Span, Tile, IsHeader, units_before, link_at, Fill, AreHeaders, free_of, by_size, AreBySize, first_fit, best_fit, heap_start, IsFreeTree}
 use Rattle.seg_spec.proofs.BytesLaws.{number-set_same, number-set_other, length-set_number, Agrees-set_number, Agrees-trans}
-use Rattle.seg_spec.proofs.FreeLaws.{by_size-middle, best_fit-first}
-use Rattle.seg_spec.proofs.HeapFrame.{each_by_size}
-use Rattle.seg_spec.proofs.HeaderLaws.{AreHeaders-after}
+use Rattle.seg_spec.proofs.Heap.GapOrderLaws.{by_size-middle, best_fit-first}
+use Rattle.seg_spec.proofs.Heap.HeapFrameLaws.{each_by_size}
+use Rattle.seg_spec.proofs.Heap.HeaderLaws.{AreHeaders-after}
 use Rattle.seg_spec.proofs.PointerLaws.{target-set_same, target-same}
 use Rattle.seg_spec.proofs.SliceLaws.{IsSame-agrees}
-use Rattle.seg_spec.proofs.TileLaws.{Fill-le, AreHeaders-back, units_after, free_of-append}
+use Rattle.seg_spec.proofs.Heap.TileLaws.{Fill-le, AreHeaders-back, units_after, free_of-append}
 use Rattle.seg_block.specs.FreeBlocks.{AreFreeBlocks}
 use Rattle.seg_block.specs.Sizes.{size_word, set_size}
 use Rattle.seg_block.specs.Tiling.{tile, IsTiling, Retiles, Replaces}
@@ -17,15 +17,15 @@ use Rattle.seg_block.proofs.FreeKept.{KeepsGaps, KeepsGaps-append, free_kept}
 use Rattle.seg_block.proofs.FreeTiles.{free_blocks}
 use Rattle.seg_block.proofs.Heaps.{target-agrees}
 use Rattle.seg_block.proofs.SizeLaws.{IsHeader-set_size, Agrees-set_size, length-set_size}
-use Rattle.seg_block.proofs.Tiled.{around, replaces}
+use Rattle.seg_block.proofs.TileReplacementLaws.{around, replaces}
 use Rattle.seg_rbtree.specs.declared.path.Path.{Path}
 use Rattle.seg_rbtree.specs.Paths.{RenamesAt}
 use Rattle.seg_bestfit.specs.FreeTree.{KeepsPlace, LeadsToGap, KeepsBesideNodes, JoinsTree}
 use Rattle.seg_bestfit.proofs.FreeGaps.{each_pick, free_rising, sorted_by_size, others_elsewhere}
-use Rattle.seg_bestfit.proofs.Listing.{room_of}
-use Rattle.seg_bestfit.proofs.Replacing.{replaced}
+use Rattle.seg_bestfit.proofs.TreeChangeLaws.{room_of}
+use Rattle.seg_bestfit.proofs.GapReplacementLaws.{replaced}
 use Rattle.seg_bestfit.proofs.SizeOrder.{rest_keeps}
-use Rattle.seg_bestfit.proofs.Taking.{blocks_around, tree_around}
+use Rattle.seg_bestfit.proofs.GapAllocationLaws.{blocks_around, tree_around}
 use Rattle.seg_bestfit.proofs.TreeFrame.{link_kept, retiles_before}
 
 module _ (old : List ℕ) (xs ys : List Tile) (at n u r : ℕ) (was : IsTiling 1 old (xs ++ tile at n false ∷ ys)) (whole : n ≡ u + r) (front_large : 2 ≤ u) (rest_large : 2 ≤ r) where

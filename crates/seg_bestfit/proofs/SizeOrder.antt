@@ -9,9 +9,9 @@ use Rattle.std.specs.Ordering.{nat_cmp, ordering_then, is_lt}
 use Rattle.std.specs.declared.cmp.Ordering.TheVariants.{Less, Equal, Greater}
 use Rattle.seg_spec.specs.Heap.{Span, units_at, is_smaller, insert_by_size, AreBySize, first_fit}
 use Rattle.seg_spec.specs.Search.{reaches, Ascend, first_where}
-use Rattle.seg_spec.proofs.Frame.{each_map, each_both, each_weaker}
-use Rattle.seg_spec.proofs.FreeLaws.{IsBefore, smaller_is, not_smaller_is, is_smaller_if, not_smaller_if}
-use Rattle.seg_spec.proofs.PickLaws.{first_small}
+use Rattle.seg_spec.proofs.Values.PlaceFrameLaws.{each_map, each_both, each_weaker}
+use Rattle.seg_spec.proofs.Heap.GapOrderLaws.{IsBefore, smaller_is, not_smaller_is, is_smaller_if, not_smaller_if}
+use Rattle.seg_spec.proofs.Heap.GapPickLaws.{first_small}
 use Rattle.seg_rbtree.specs.Changes.{IsNew, with_node, without_node, renamed}
 use Rattle.seg_bestfit.specs.FreeTree.{by_units, KeepsPlace}
 

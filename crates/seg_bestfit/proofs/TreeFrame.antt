@@ -7,10 +7,10 @@ use Rattle.seg_spec.specs.Header.{free_word, back_start, back_size}
 use Rattle.seg_spec.specs.Apart.{Separate}
 use Rattle.seg_spec.specs.Bytes.{Agrees, IsSame}
 use Rattle.seg_spec.specs.Heap.{Span, Tile, span_of, end_of, link_at, Fill, AreHeaders, live_of, free_of, heap_start, IsFreeTree}
-use Rattle.seg_spec.proofs.Frame.{word-same, target-same, each_weaker}
+use Rattle.seg_spec.proofs.Values.PlaceFrameLaws.{word-same, target-same, each_weaker}
 use Rattle.seg_spec.proofs.SliceLaws.{IsSame-part, Agrees-same_slice}
-use Rattle.seg_spec.proofs.TileLaws.{Fill-le, Fill-append, free_of-append}
-use Rattle.seg_spec.proofs.HeaderLaws.{IsHeader-same}
+use Rattle.seg_spec.proofs.Heap.TileLaws.{Fill-le, Fill-append, free_of-append}
+use Rattle.seg_spec.proofs.Heap.HeaderLaws.{IsHeader-same}
 use Rattle.seg_block.specs.Tiling.{IsTiled, Spares, Replaces, Retiles}
 use Rattle.seg_block.proofs.Heaps.{Spares-trans, Spares-without}
 use Rattle.seg_block.proofs.LiveTiles.{cons_cases, live_within}

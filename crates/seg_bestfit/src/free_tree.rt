@@ -5,7 +5,7 @@ ghost use Rattle.std.specs.Cmp.{on_total, then_total, nat_cmp_total};
 ghost use Rattle.seg_spec.specs.Heap.{Span, Tile, span, link_at, best_fit, by_size, free_of, IsFreeTree};
 ghost use Rattle.seg_spec.specs.Window.{with_bytes, KeepsHost};
 ghost use Rattle.seg_spec.proofs.BytesLaws.{number-slice};
-ghost use Rattle.seg_spec.proofs.OrderSteps.{then_steps_up};
+ghost use Rattle.seg_spec.proofs.OrderLaws.{then_steps_up};
 ghost use Rattle.seg_rbtree.specs.Parts.{byte_range};
 ghost use Rattle.seg_rbtree.specs.Roots.{root_word};
 ghost use Rattle.seg_block.specs.Blocks.{block_end, Covers, LiesIn, IsSized};

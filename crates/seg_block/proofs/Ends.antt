@@ -2,7 +2,7 @@
 use Rattle.std.proofs.Common.{◌≡◌, ℕ, ◌+◌, ◌*◌, ◌%◌, ◌<◌, ◌≤◌, List, [], ◌∷◌, ◌++◌, length, refl, sym, ap, ◌∙◌, subst, arith}
 use Rattle.std.proofs.lemmas.List.{append_assoc}
 use Rattle.seg_spec.specs.Heap.{Span, Tile, Fill, AreHeaders}
-use Rattle.seg_spec.proofs.TileLaws.{Fill-le}
+use Rattle.seg_spec.proofs.Heap.TileLaws.{Fill-le}
 use Rattle.seg_block.specs.Blocks.{IsSized, HasEnd}
 
 -- the walk has reached the first of the remaining tiles

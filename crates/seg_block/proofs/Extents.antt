@@ -8,15 +8,15 @@ use Rattle.seg_spec.specs.Bytes.{slice, word, set_word, Agrees, IsSame}
 use Rattle.seg_spec.specs.Heap.{Span, Tile, span_of, end_of, IsLive, Fill, AreHeaders, AreApart, HoldsGaps, live_of, free_of, heap_start, tiles, live, IsHeap, Gives, Extends, without, without_end, after_extend}
 use Rattle.seg_spec.proofs.BytesLaws.{part, number-part, slice-part, number-set_same, number-set_other, number-agrees, Agrees-within, Agrees-trans, Agrees-set_number, length-set_number}
 use Rattle.seg_spec.proofs.SliceLaws.{IsSame-agrees, IsSame-trans}
-use Rattle.seg_spec.proofs.TileLaws.{Fill-le, Fill-append, AreApart-append, AreApart-front, AreApart-back, units_after, live_of-append, free_of-append}
-use Rattle.seg_spec.proofs.HeaderLaws.{IsHeader-same}
+use Rattle.seg_spec.proofs.Heap.TileLaws.{Fill-le, Fill-append, AreApart-append, AreApart-front, AreApart-back, units_after, live_of-append, free_of-append}
+use Rattle.seg_spec.proofs.Heap.HeaderLaws.{IsHeader-same}
 use Rattle.seg_block.specs.Extents.{Enlarges}
 use Rattle.seg_block.specs.Sizes.{set_size}
 use Rattle.seg_block.specs.Tiling.{tile, IsTiling}
 use Rattle.seg_block.specs.Blocks.{HasEnd}
 use Rattle.seg_block.proofs.SizeLaws.{set_size-headers, Agrees-set_size, length-set_size}
 use Rattle.seg_block.proofs.LiveTiles.{live_within}
-use Rattle.seg_block.proofs.Tiled.{around}
+use Rattle.seg_block.proofs.TileReplacementLaws.{around}
 use Rattle.seg_block.proofs.LiveBlocks.{without-other}
 use Rattle.seg_block.proofs.Heaps.{tiling_of_heap, heap_of_tiling, IsTiledHeap}
 use Rattle.seg_block.proofs.FreeKept.{HoldsGaps-kept, free_kept}

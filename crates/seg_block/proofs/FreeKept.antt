@@ -5,9 +5,9 @@ use Rattle.seg_spec.specs.Bytes.{Agrees, IsSame}
 use Rattle.seg_spec.specs.Pointer.{target}
 use Rattle.seg_spec.specs.Heap.{Span, Tile, span_of, Fill, free_of, Links, by_size, HoldsGaps, heap_start}
 use Rattle.seg_spec.proofs.SliceLaws.{IsSame-part, IsSame-agrees}
-use Rattle.seg_spec.proofs.TileLaws.{Fill-le, free_of-append}
-use Rattle.seg_spec.proofs.Frame.{target-same, each_both, IsTree-same}
-use Rattle.seg_spec.proofs.HeapFrame.{each_by_size}
+use Rattle.seg_spec.proofs.Heap.TileLaws.{Fill-le, free_of-append}
+use Rattle.seg_spec.proofs.Values.PlaceFrameLaws.{target-same, each_both, IsTree-same}
+use Rattle.seg_spec.proofs.Heap.HeapFrameLaws.{each_by_size}
 
 -- the link and the first unit of the payload of each gap
 abbrev pub KeepsGaps : List ℕ → List ℕ → List Span → Type 0

@@ -3,12 +3,12 @@ use Rattle.std.proofs.Common.{◌≡◌, ◌≢◌, ℕ, ◌+◌, ◌-◌, ◌*�
 use Rattle.std.proofs.lemmas.Bool.{cases_lt}
 use Rattle.seg_spec.specs.Bytes.{Agrees}
 use Rattle.seg_spec.specs.Heap.{Span, Tile, span_of, link_at, Fill, AreHeaders, free_of, heap_start, tiles, gaps, IsHeap, pick, granted, Takes}
-use Rattle.seg_spec.proofs.TileLaws.{Fill-le}
+use Rattle.seg_spec.proofs.Heap.TileLaws.{Fill-le}
 use Rattle.seg_block.specs.FreeBlocks.{AreFreeBlocks}
 use Rattle.seg_block.specs.Tiling.{tile, IsTiled, IsTiling, Retiles}
 use Rattle.seg_block.proofs.Heaps.{gaps_of_heap, tiling_of_heap}
-use Rattle.seg_block.proofs.Resized.{granted_all, granted_part}
-use Rattle.seg_block.proofs.Taken.{takes, takes_whole, takes_front}
+use Rattle.seg_block.proofs.ResizedBlockLaws.{granted_all, granted_part}
+use Rattle.seg_block.proofs.GapAllocationLaws.{takes, takes_whole, takes_front}
 
 -- ---- the free blocks
 

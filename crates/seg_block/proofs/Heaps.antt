@@ -8,7 +8,7 @@ use Rattle.seg_spec.specs.Bytes.{Agrees}
 use Rattle.seg_spec.specs.Pointer.{target}
 use Rattle.seg_spec.proofs.BytesLaws.{number-agrees, Agrees-same, Agrees-trans}
 use Rattle.seg_spec.proofs.PointerLaws.{target-same}
-use Rattle.seg_spec.proofs.TileLaws.{Fill-le, tiles-unique, gaps_between-live_of, live_of-append}
+use Rattle.seg_spec.proofs.Heap.TileLaws.{Fill-le, tiles-unique, gaps_between-live_of, live_of-append}
 use Rattle.seg_block.specs.Tiling.{IsTiling, Spares}
 
 -- ---- between the two views

@@ -4,11 +4,11 @@ use Rattle.std.specs.Prelude.{Contains}
 use Rattle.std.proofs.lemmas.Bool.Decides.{nat_tests}
 use Rattle.seg_spec.specs.Heap.{Span, Tile, span_of, end_of, Fill, AreApart, live_of, heap_start, tiles, live, IsHeap, without, Gives}
 use Rattle.seg_spec.proofs.BytesLaws.{Agrees-within}
-use Rattle.seg_spec.proofs.TileLaws.{Fill-le, live_of-append, AreApart-front, AreApart-back}
+use Rattle.seg_spec.proofs.Heap.TileLaws.{Fill-le, live_of-append, AreApart-front, AreApart-back}
 use Rattle.seg_block.specs.Tiling.{tile, IsTiling, Spares}
 use Rattle.seg_block.proofs.LiveTiles.{cons_cases}
 use Rattle.seg_block.specs.Blocks.{IsSized}
-use Rattle.seg_block.proofs.Tiled.{around}
+use Rattle.seg_block.proofs.TileReplacementLaws.{around}
 use Rattle.seg_block.proofs.Neighbours.{IsSized-tile}
 use Rattle.seg_block.proofs.Heaps.{tiling_of_heap, heap_of_tiling, IsTiledHeap}
 

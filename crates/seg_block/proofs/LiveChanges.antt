@@ -3,8 +3,8 @@ use Rattle.std.proofs.Common.{◌≡◌, ℕ, ◌+◌, ◌*◌, ◌≤◌, true,
 use Rattle.seg_spec.specs.Heap.{Tile}
 use Rattle.seg_block.specs.Sizes.{set_size, set_split}
 use Rattle.seg_block.specs.Tiling.{tile, IsTiling, Retiles}
-use Rattle.seg_block.proofs.Joining.{join-front, join-back, join-kept, join-replaces}
-use Rattle.seg_block.proofs.Splitting.{parts, split-kept, split-replaces}
+use Rattle.seg_block.proofs.TileJoinLaws.{join-front, join-back, join-kept, join-replaces}
+use Rattle.seg_block.proofs.TileSplitLaws.{parts, split-kept, split-replaces}
 use Rattle.seg_block.proofs.FreeKept.{between_kept}
 
 pub join-retiles : {allocator : ℕ} (old : List ℕ) (xs ys : List Tile) (at u v : ℕ) → IsTiling allocator old (xs ++ (tile at u true ∷ tile (at + 16 * u) v true ∷ ys))

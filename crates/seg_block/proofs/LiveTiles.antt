@@ -2,7 +2,7 @@
 use Rattle.std.proofs.Common.{◌≡◌, ℕ, zero, suc, ◌+◌, ◌*◌, ◌≤◌, true, false, List, [], ◌∷◌, cond, subst, arith, inl, inr, ◌⊎◌, ⊎_elim}
 use Rattle.std.specs.Prelude.{Contains}
 use Rattle.seg_spec.specs.Heap.{Span, Tile, span_of, end_of, Fill, live_of}
-use Rattle.seg_spec.proofs.TileLaws.{Fill-le}
+use Rattle.seg_spec.proofs.Heap.TileLaws.{Fill-le}
 
 -- an item of a list is the first or one of the others
 pub cons_cases : (x b : Span) (xs : List Span) → Contains (x ∷ xs) b → (x ≡ b) ⊎ Contains xs b

@@ -3,11 +3,11 @@ use Rattle.std.proofs.Common.{◌≡◌, ℕ, ◌+◌, ◌*◌, ◌≤◌, Bool,
 use Rattle.std.specs.Prelude.{IfSome}
 use Rattle.std.proofs.lemmas.List.{append_assoc}
 use Rattle.seg_spec.specs.Heap.{Tile, units_before, is_live_at, heap_start}
-use Rattle.seg_spec.proofs.TileLaws.{Fill-le, Fill-back, AreHeaders-back}
+use Rattle.seg_spec.proofs.Heap.TileLaws.{Fill-le, Fill-back, AreHeaders-back}
 use Rattle.seg_block.specs.declared.block.Block.{Block}
 use Rattle.seg_block.specs.Blocks.{LiesIn, IsSized, IsReadFree}
 use Rattle.seg_block.specs.Tiling.{tile, IsTiled}
-use Rattle.seg_block.proofs.Tiled.{around, aligned_end, header_of}
+use Rattle.seg_block.proofs.TileReplacementLaws.{around, aligned_end, header_of}
 
 -- each tile is a block whose size is in its header
 pub IsSized-tile : (bytes : List ℕ) (xs ys : List Tile) (at u : ℕ) (live : Bool) → IsTiled bytes (xs ++ tile at u live ∷ ys) → IsSized bytes (record { at = at; units = u })

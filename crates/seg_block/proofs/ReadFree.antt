@@ -1,7 +1,7 @@
 -- What a neighbour that was read implies for the tiles.
 use Rattle.std.proofs.Common.{◌≡◌, Bool, true, false, List, [], ◌∷◌, ◌++◌, Some, None, refl, ap, inl, inr, ◌⊎◌, ⊎_elim}
 use Rattle.seg_spec.specs.Heap.{Tile}
-use Rattle.seg_spec.proofs.TileLaws.{live_after}
+use Rattle.seg_spec.proofs.Heap.TileLaws.{live_after}
 use Rattle.seg_block.specs.declared.block.Block.{Block}
 use Rattle.seg_block.specs.Blocks.{IsReadFree}
 

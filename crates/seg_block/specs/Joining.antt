@@ -1,7 +1,7 @@
 -- An allocated block that is freed and merged with the gap before it.
 use Rattle.std.specs.Prelude.{◌≡◌, ℕ, true, false, List, ◌∷◌, ◌++◌}
 use Rattle.seg_spec.specs.Heap.{Tile, AreApart, live_of}
-use Rattle.seg_spec.proofs.TileLaws.{live_after}
+use Rattle.seg_spec.proofs.Heap.TileLaws.{live_after}
 use Rattle.seg_block.specs.Tiling.{tile, IsTiling, Spares}
 
 -- The allocated tile after xs is now free, merged with the gap before it if there is one. It begins

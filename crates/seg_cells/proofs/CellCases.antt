@@ -7,11 +7,11 @@ use Rattle.seg_spec.specs.Types.{Form, Table, form_at, size, IsTable, fields_of,
 use Rattle.seg_spec.specs.Reads.{count_at}
 use Rattle.seg_spec.specs.Cells.{IsWithin, ChangesCells, IsDefaulted, IsFurther, further}
 use Rattle.seg_spec.proofs.BytesLaws.{number-set_same, number-set_other}
-use Rattle.seg_spec.proofs.TypesLaws.{size_large}
+use Rattle.seg_spec.proofs.Tables.TypeSizeLaws.{size_large}
 use Rattle.seg_spec.proofs.SliceLaws.{slice-slice, slice-put_same}
-use Rattle.seg_spec.proofs.Writing.{set_number-changes}
-use Rattle.seg_spec.proofs.CellLaws.{IsOne}
-use Rattle.seg_spec.proofs.CellSteps.{ChangesOnly-wider, defaulted_local, further_local, none_changed, i64_changed, one_changed, none_written, i64_written, length_fields}
+use Rattle.seg_spec.proofs.Images.RootWriteLaws.{set_number-changes}
+use Rattle.seg_spec.proofs.Values.CellLaws.{IsOne}
+use Rattle.seg_spec.proofs.Values.CellChangeLaws.{ChangesOnly-wider, defaulted_local, further_local, none_changed, i64_changed, one_changed, none_written, i64_written, length_fields}
 use Rattle.seg_layout.specs.Forms.{has_cells}
 use Rattle.seg_cells.specs.Cells.{cells_of}
 use Rattle.seg_cells.specs.declared.cells.Cells.TheVariants as cells

@@ -6,10 +6,10 @@ use Rattle.seg_spec.specs.Bytes.{word, set_word, slice, put, ChangesOnly}
 use Rattle.seg_spec.specs.Cells.{IsWithin, further}
 use Rattle.seg_spec.proofs.BytesLaws.{length-slice, number-slice, number-set_same, number-set_other}
 use Rattle.seg_spec.proofs.SliceLaws.{slice-slice, slice-put_same, put-changes, IsSame-trans}
-use Rattle.seg_spec.proofs.Frame.{word-same}
-use Rattle.seg_spec.proofs.Writing.{set_number-changes}
-use Rattle.seg_spec.proofs.CellSteps.{ChangesOnly-trans, ChangesOnly-wider, ChangesOnly-none}
-use Rattle.seg_spec.proofs.Shifting.{pointer_moved}
+use Rattle.seg_spec.proofs.Values.PlaceFrameLaws.{word-same}
+use Rattle.seg_spec.proofs.Images.RootWriteLaws.{set_number-changes}
+use Rattle.seg_spec.proofs.Values.CellChangeLaws.{ChangesOnly-trans, ChangesOnly-wider, ChangesOnly-none}
+use Rattle.seg_spec.proofs.Values.CellShiftLaws.{pointer_moved}
 use Rattle.seg_cells.specs.Pointers.{pointer_at, PointsAgain, MovesPointers}
 use Rattle.seg_cells.proofs.CellCases.{further_small}
 

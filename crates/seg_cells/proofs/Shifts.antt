@@ -6,9 +6,9 @@ use Rattle.seg_spec.specs.Value.{Values}
 use Rattle.seg_spec.specs.Heap.{IsHeap, live, heap_start}
 use Rattle.seg_spec.specs.Sound.{positions}
 use Rattle.seg_spec.specs.Owning.{StandsBeside}
-use Rattle.seg_spec.proofs.LiveLaws.{there, LiesIn, live-lie}
-use Rattle.seg_spec.proofs.CellSteps.{size_aligned}
-use Rattle.seg_spec.proofs.Shifting.{shift_changes, shifted}
+use Rattle.seg_spec.proofs.Heap.LiveBlockLaws.{there, LiesIn, live-lie}
+use Rattle.seg_spec.proofs.Values.CellChangeLaws.{size_aligned}
+use Rattle.seg_spec.proofs.Values.CellShiftLaws.{shift_changes, shifted}
 use Rattle.seg_spec.specs.Reads.{spaced, places_of, items, HoldsEach}
 use Rattle.seg_spec.specs.Cells.{ChangesEach, IsFurther, Shifts, IsWithin}
 use Rattle.seg_spec.proofs.BytesLaws.{length-put}

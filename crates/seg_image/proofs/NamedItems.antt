@@ -10,7 +10,7 @@ use Rattle.seg_spec.specs.Index.{Root, root_named}
 use Rattle.seg_spec.specs.Sound.{Picture, positions}
 use Rattle.seg_spec.specs.Types.{Table, size}
 use Rattle.seg_spec.specs.Value.{count}
-use Rattle.seg_spec.proofs.LiveLaws.{LiesIn, there, live-lie}
+use Rattle.seg_spec.proofs.Heap.LiveBlockLaws.{LiesIn, there, live-lie}
 use Rattle.seg_value.specs.Stored.{Stored}
 use Rattle.seg_raw.specs.declared.code.Code.TheVariants as code
 use Rattle.seg_manager.specs.declared.names.Found.{Found}

@@ -13,11 +13,11 @@ use Rattle.seg_spec.specs.Demand.{need, block_for, after_asks}
 use Rattle.seg_spec.specs.Clearing.{SharedBeside, BesideShared}
 use Rattle.seg_spec.specs.Frozen.{Frozen, blocks_by}
 use Rattle.seg_spec.specs.Shared.{named_in}
-use Rattle.seg_spec.proofs.Composing.{around_twice, around_kept}
-use Rattle.seg_spec.proofs.LiveLaws.{LiesIn, there, live-lie, times-other, times-more, times-append}
-use Rattle.seg_spec.proofs.FrozenBlocks.{hold_kept, frozen_twice, frozen_kept, left_fewer}
-use Rattle.seg_spec.proofs.OneRequest.{counts_one}
-use Rattle.seg_spec.proofs.Standing.{each_live_at, live_at, stands_still, still_home}
+use Rattle.seg_spec.proofs.Heap.BlockFrameLaws.{around_twice, around_kept}
+use Rattle.seg_spec.proofs.Heap.LiveBlockLaws.{LiesIn, there, live-lie, times-other, times-more, times-append}
+use Rattle.seg_spec.proofs.Frozen.FrozenBlockLaws.{hold_kept, frozen_twice, frozen_kept, left_fewer}
+use Rattle.seg_spec.proofs.Heap.RequestLaws.{counts_one}
+use Rattle.seg_spec.proofs.Values.CallPlaceLaws.{each_live_at, live_at, stands_still, still_home}
 use Rattle.seg_value.specs.Contents.{GivesBlock}
 use Rattle.seg_cells.specs.Places.{object_at}
 use Rattle.seg_value.specs.Places.{SetsOwn}

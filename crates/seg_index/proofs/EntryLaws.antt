@@ -8,12 +8,12 @@ use Rattle.std.specs.List.{AllByRecursion}
 use Rattle.seg_spec.specs.Types.{Table, IsTable}
 use Rattle.seg_spec.specs.Heap.{live, tag_at}
 use Rattle.seg_spec.specs.Block.{Kind, tag_of, block_of, AllowsType, IsOwnable}
-use Rattle.seg_spec.proofs.Standing.{live_at}
+use Rattle.seg_spec.proofs.Values.CallPlaceLaws.{live_at}
 use Rattle.seg_spec.specs.Cells.{IsWithin}
 use Rattle.seg_spec.proofs.BytesLaws.{number-set_other, number-slice, length-set_number}
 use Rattle.seg_spec.proofs.SliceLaws.{slice-slice, slice-put_same}
-use Rattle.seg_spec.proofs.Writing.{set_number-changes}
-use Rattle.seg_spec.proofs.CellSteps.{ChangesOnly-trans, ChangesOnly-wider}
+use Rattle.seg_spec.proofs.Images.RootWriteLaws.{set_number-changes}
+use Rattle.seg_spec.proofs.Values.CellChangeLaws.{ChangesOnly-trans, ChangesOnly-wider}
 use Rattle.seg_spec.proofs.PointerLaws.{target-set_same, target-same}
 use Rattle.seg_value.specs.Names.{IsSameEntry}
 use Rattle.seg_entry.specs.Names.{type_at, name_after, name_of, name_at}

@@ -15,9 +15,9 @@ use Rattle.seg_spec.specs.Index.{Root, OpensIndex, IsEntry, ListsNames}
 use Rattle.seg_spec.specs.Sound.{times, positions}
 use Rattle.seg_spec.specs.Spending.{EntryBlocks, entry_asks, spent}
 use Rattle.seg_spec.proofs.SliceLaws.{IsSame-part, IsSame-trans}
-use Rattle.seg_spec.proofs.Frame.{word-same}
-use Rattle.seg_spec.proofs.LiveLaws.{times-same, times-other}
-use Rattle.seg_spec.proofs.Composing.{kept_twice}
+use Rattle.seg_spec.proofs.Values.PlaceFrameLaws.{word-same}
+use Rattle.seg_spec.proofs.Heap.LiveBlockLaws.{times-same, times-other}
+use Rattle.seg_spec.proofs.Heap.BlockFrameLaws.{kept_twice}
 use Rattle.seg_value.specs.Names.{FindsNames, ChangesIndex, AddsName, OpensName, ClosesName, EmptiesIndex}
 use Rattle.seg_entry.specs.Entries.{write_entry}
 use Rattle.seg_index.specs.Lists.{entry_of, PartedNames, FindsNamesOf, MayEnter, ChangesNames, EntersName, LeavesName}

@@ -15,11 +15,11 @@ use Rattle.seg_spec.specs.Block.{block_of}
 use Rattle.seg_spec.specs.Reads.{count_at, named, start, spaced}
 use Rattle.seg_spec.specs.Index.{Root, Index, OpensIndex, OpensFlat, IsEntry, AreEntries}
 use Rattle.seg_spec.specs.Sound.{times, positions}
-use Rattle.seg_spec.proofs.Leading.{each_at}
-use Rattle.seg_spec.proofs.LiveLaws.{there, LiesIn, live-lie}
+use Rattle.seg_spec.proofs.Values.PathFrameLaws.{each_at}
+use Rattle.seg_spec.proofs.Heap.LiveBlockLaws.{there, LiesIn, live-lie}
 use Rattle.seg_cells.specs.Search.{IsBetween}
 use Rattle.seg_value.specs.Names.{FindsNames}
-use Rattle.seg_value.proofs.Named.{name_block, name_room}
+use Rattle.seg_value.proofs.IndexEntryLaws.{name_block, name_room}
 use Rattle.seg_entry.specs.Names.{name_at}
 use Rattle.seg_entry.specs.Entries.{entry_read}
 use Rattle.seg_index.specs.Lists.{entry_of, root_after, PartedNames, IsNamed, FindsNamesOf}

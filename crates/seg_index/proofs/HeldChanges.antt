@@ -12,11 +12,11 @@ use Rattle.seg_spec.specs.Index.{Root}
 use Rattle.seg_spec.specs.Sound.{Picture, HoldsRoot, HoldsRoots, holds_no_root, HasHeader, IsLaidOut, IsHeld, times, positions, frozen_roots}
 use Rattle.seg_spec.specs.Roots.{RootsComeApart}
 use Rattle.seg_spec.proofs.SliceLaws.{IsSame-part}
-use Rattle.seg_spec.proofs.Composing.{kept_twice}
-use Rattle.seg_spec.proofs.Frame.{word-same}
-use Rattle.seg_spec.proofs.LiveLaws.{each_there, times-append, live-once}
-use Rattle.seg_spec.proofs.RootFrame.{HoldsRoot-kept, ListsUniques-kept}
-use Rattle.seg_spec.proofs.RootLaws.{roots_come_apart, HoldsRoots-one, IsLaidOut-kept}
+use Rattle.seg_spec.proofs.Heap.BlockFrameLaws.{kept_twice}
+use Rattle.seg_spec.proofs.Values.PlaceFrameLaws.{word-same}
+use Rattle.seg_spec.proofs.Heap.LiveBlockLaws.{each_there, times-append, live-once}
+use Rattle.seg_spec.proofs.Images.RootFrameLaws.{HoldsRoot-kept, ListsUniques-kept}
+use Rattle.seg_spec.proofs.Images.RootLaws.{roots_come_apart, HoldsRoots-one, IsLaidOut-kept}
 use Rattle.seg_index.specs.Lists.{FindsNamesOf, ChangesNames, EntersName}
 
 -- the picture with other names

@@ -9,9 +9,9 @@ use Rattle.seg_spec.specs.Heap.{live}
 use Rattle.seg_spec.specs.Block.{Kind, tag_of, block_of, IsBlock}
 use Rattle.seg_spec.specs.Index.{Root, IsName, AreEntries}
 use Rattle.seg_spec.specs.Sound.{Picture, frozen_roots, kind_with, HoldsRoots, holds_more_roots, IsHeld, times, positions}
-use Rattle.seg_spec.proofs.LiveLaws.{live-once, times-append, times-same}
+use Rattle.seg_spec.proofs.Heap.LiveBlockLaws.{live-once, times-append, times-same}
 use Rattle.seg_index.specs.Lists.{IsNamed, FindsNamesOf}
-use Rattle.seg_spec.proofs.PlainRoots.{plain_of}
+use Rattle.seg_spec.proofs.Images.PlainRootLaws.{plain_of}
 
 -- ---- lists
 

@@ -3,10 +3,10 @@ pub mod RootOrder
 pub mod FlatEntries
 pub mod FlatChanges
 pub mod TreeLists
-pub mod Relinked
+pub mod TreeWriteLaws
 pub mod TreeChanges
 pub mod TreeRemoves
-pub mod Kept
+pub mod IndexFrameLaws
 pub mod TreeEnters
 pub mod LookUps
 pub mod HeldNames

@@ -11,9 +11,9 @@ use Rattle.seg_spec.specs.Shapes.{Tree, nodes_of, IsTree, IsRedBlack}
 use Rattle.seg_spec.specs.Reads.{count_at}
 use Rattle.seg_spec.specs.Index.{Root, Index, OpensIndex, OpensTreeIndex, AreEntries, ListsNames}
 use Rattle.seg_spec.specs.Sound.{times}
-use Rattle.seg_spec.proofs.Frame.{each_right}
-use Rattle.seg_spec.proofs.LiveLaws.{times-append}
-use Rattle.seg_spec.proofs.RootFrame.{IsEntry-kept}
+use Rattle.seg_spec.proofs.Values.PlaceFrameLaws.{each_right}
+use Rattle.seg_spec.proofs.Heap.LiveBlockLaws.{times-append}
+use Rattle.seg_spec.proofs.Images.RootFrameLaws.{IsEntry-kept}
 use Rattle.seg_index.proofs.RootOrder.{InOrder, AllBefore, order_head, order_tail}
 use Rattle.seg_index.proofs.TreeLists.{IsListed, AreListed}
 

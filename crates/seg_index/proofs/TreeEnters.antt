@@ -22,12 +22,12 @@ use Rattle.seg_spec.specs.Sound.{times, positions}
 use Rattle.seg_spec.specs.Demand.{need, block_for}
 use Rattle.seg_spec.specs.Spending.{spent, entry_asks}
 use Rattle.seg_spec.proofs.SliceLaws.{IsSame-trans, IsSame-part}
-use Rattle.seg_spec.proofs.Composing.{kept_twice}
-use Rattle.seg_spec.proofs.Frame.{each_weaker, word-same}
-use Rattle.seg_spec.proofs.LiveLaws.{times-append, times-same, times-other, there, LiesIn, live-lie, live-once}
-use Rattle.seg_spec.proofs.Standing.{each_live_at, live_at}
-use Rattle.seg_spec.proofs.WriteInside.{low_kept}
-use Rattle.seg_spec.proofs.OneMore.{OneMore, one_more}
+use Rattle.seg_spec.proofs.Heap.BlockFrameLaws.{kept_twice}
+use Rattle.seg_spec.proofs.Values.PlaceFrameLaws.{each_weaker, word-same}
+use Rattle.seg_spec.proofs.Heap.LiveBlockLaws.{times-append, times-same, times-other, there, LiesIn, live-lie, live-once}
+use Rattle.seg_spec.proofs.Values.CallPlaceLaws.{each_live_at, live_at}
+use Rattle.seg_spec.proofs.Heap.BlockWriteLaws.{low_kept}
+use Rattle.seg_spec.proofs.Heap.AllocationLaws.{OneMore, one_more}
 use Rattle.seg_value.specs.Nodes.{GivesNode}
 use Rattle.seg_value.proofs.Inside.{wrote_heap, wrote_live, wrote_ownable, wrote_other, wrote_block}
 use Rattle.seg_rbtree.specs.declared.path.Path.{Path}
@@ -43,8 +43,8 @@ use Rattle.seg_index.proofs.EntryLaws.{entry_reads, name_reads, type_small, entr
 use Rattle.seg_index.proofs.RootOrder.{InOrder, AllBefore, AllAfter, order_head, order_tail, order_with}
 use Rattle.seg_index.proofs.TreeLists.{IsListed, AreListed, order, shape, its, blocks_are, IsNode, are_nodes, listed, ascend, few_nodes, is_search_tree}
 use Rattle.seg_index.proofs.TreeChanges.{join_listed, entries_kept, lists_by, times_with}
-use Rattle.seg_index.proofs.Relinked.{IsTouched, Remade, remade, count_before, stand_apart}
-use Rattle.seg_index.proofs.Kept.{named_kept, finds_kept, leads_kept}
+use Rattle.seg_index.proofs.TreeWriteLaws.{IsTouched, Remade, remade, count_before, stand_apart}
+use Rattle.seg_index.proofs.IndexFrameLaws.{named_kept, finds_kept, leads_kept}
 
 -- what adding a node at the end of a path ensures, in any total order for which the path is the
 -- node's place

@@ -17,8 +17,8 @@ use Rattle.seg_spec.specs.Search.{Ascend, IsSearchTree, first_where, reaches}
 use Rattle.seg_spec.specs.Reads.{AreNodes}
 use Rattle.seg_spec.specs.Index.{Root, Index, OpensIndex, OpensTreeIndex, IsEntry, AreEntries, root_named, same_name}
 use Rattle.seg_spec.specs.Sound.{times, positions}
-use Rattle.seg_spec.proofs.LiveLaws.{times-same, times-more}
-use Rattle.seg_spec.proofs.FewBlocks.{no_more, few_live}
+use Rattle.seg_spec.proofs.Heap.LiveBlockLaws.{times-same, times-more}
+use Rattle.seg_spec.proofs.Heap.BlockCountLaws.{no_more, few_live}
 use Rattle.seg_rbtree.specs.declared.path.Path.{Path}
 use Rattle.seg_rbtree.specs.Ways.{LeadsTo}
 use Rattle.seg_rbtree.specs.Paths.{FindsEqual}

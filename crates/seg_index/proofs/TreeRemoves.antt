@@ -22,18 +22,18 @@ use Rattle.seg_spec.specs.Sound.{times, positions}
 use Rattle.seg_spec.specs.Demand.{after_gives}
 use Rattle.seg_spec.specs.Spending.{EntryBlocks}
 use Rattle.seg_spec.proofs.SliceLaws.{IsSame-part, IsSame-trans}
-use Rattle.seg_spec.proofs.OrderSteps.{steps_up}
-use Rattle.seg_spec.proofs.Giving.{found}
-use Rattle.seg_spec.proofs.Composing.{kept_twice}
-use Rattle.seg_spec.proofs.Frame.{each_of_map, each_weaker, each_both, word-same, target-same, cell-count, IsBlock-kept, payload-same, IsTree-same}
-use Rattle.seg_spec.proofs.LiveLaws.{times-same, times-more, there, not_there, live-once}
+use Rattle.seg_spec.proofs.OrderLaws.{steps_up}
+use Rattle.seg_spec.proofs.Deallocation.BlockFreeLaws.{found}
+use Rattle.seg_spec.proofs.Heap.BlockFrameLaws.{kept_twice}
+use Rattle.seg_spec.proofs.Values.PlaceFrameLaws.{each_of_map, each_weaker, each_both, word-same, target-same, cell-count, IsBlock-kept, payload-same, IsTree-same}
+use Rattle.seg_spec.proofs.Heap.LiveBlockLaws.{times-same, times-more, there, not_there, live-once}
 use Rattle.seg_value.proofs.Inside.{given_counts, given_linked, given_ownable, given_front}
 use Rattle.seg_rbtree.specs.declared.path.Path.{Path}
 use Rattle.seg_rbtree.specs.Ways.{LeadsTo}
 use Rattle.seg_rbtree.specs.Paths.{node_at, FindsEqual, IsEqualAmong}
 use Rattle.seg_rbtree.specs.Changes.{StandApart, without_node, Leaves}
 use Rattle.seg_rbtree.proofs.Paths.{finds_equal}
-use Rattle.seg_rbtree.proofs.TakingOut.{each_without}
+use Rattle.seg_rbtree.proofs.NodeRemovalLaws.{each_without}
 use Rattle.seg_rbtree.proofs.WithoutNode.{without_middle}
 use Rattle.seg_entry.specs.Names.{name_at}
 use Rattle.seg_index.specs.Lists.{entry_of, FindsNamesOf, LeadsToName, ChangesNames, LeavesName}
@@ -41,7 +41,7 @@ use Rattle.seg_entry.proofs.Precedes.{same_of_equal, same_name_self}
 use Rattle.seg_index.proofs.RootOrder.{InOrder, order_without, named_past}
 use Rattle.seg_index.proofs.TreeLists.{entry_in, path_is, AreListed, order, nodes, shape, its, blocks_are, IsNode, are_nodes, listed, ascend, few_nodes, is_search_tree}
 use Rattle.seg_index.proofs.TreeChanges.{Splits, split_listed, join_listed, entries_kept, order_before, lists_by, times_with, contains_middle}
-use Rattle.seg_index.proofs.Relinked.{IsTouched, Remade, remade, count_before, stand_apart}
+use Rattle.seg_index.proofs.TreeWriteLaws.{IsTouched, Remade, remade, count_before, stand_apart}
 
 -- what removing the node at the end of a path ensures
 abbrev pub TakesFrom : List ℕ → List ℕ → ℕ → Path → Type 0
@@ -257,7 +257,7 @@ module _ (allocator : ℕ) (old : List ℕ) (table : Table) (names : List Root) 
     }
       where
         times_cons : (h x : ℕ) (xs : List ℕ) → times h (x ∷ xs) ≡ times h (x ∷ []) + times h xs
-        times_cons h x xs = Rattle.seg_spec.proofs.LiveLaws.times-append h (x ∷ []) xs
+        times_cons h x xs = Rattle.seg_spec.proofs.Heap.LiveBlockLaws.times-append h (x ∷ []) xs
 
         not_it : (h : ℕ) → h ≡ block_of node → times h blocks ≡ 0 → ⊥
         not_it h e none =

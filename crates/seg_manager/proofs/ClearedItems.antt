@@ -21,15 +21,15 @@ use Rattle.seg_spec.specs.Shared.{named_in, named_each, IsReleasing}
 use Rattle.seg_spec.specs.Destroying.{AreLive, HoldFrozen, KeepFrozen, Destroys}
 use Rattle.seg_spec.specs.Clearing.{SharedBeside, BesideShared, ClearsPlace}
 use Rattle.seg_spec.proofs.SliceLaws.{IsSame-part}
-use Rattle.seg_spec.proofs.Frame.{word-same, spaced-same, places-same, HoldsEach-kept}
-use Rattle.seg_spec.proofs.LiveLaws.{OneOrApart, LiesIn, there, each_there, live-lie, live-apart, live-once, times-append, times-same}
-use Rattle.seg_spec.proofs.CellSteps.{size_aligned}
-use Rattle.seg_spec.proofs.Composing.{kept_twice}
-use Rattle.seg_spec.proofs.GiveOrder.{in_any_order}
-use Rattle.seg_spec.proofs.Giving.{found, kept_linked}
-use Rattle.seg_spec.proofs.Standing.{live_at}
-use Rattle.seg_spec.proofs.FrozenBlocks.{hold_kept, frozen_twice, frozen_kept, released_each}
-use Rattle.seg_spec.proofs.CountedPictures.{InTurn, in_turn, all_released, named_more, named_nothing}
+use Rattle.seg_spec.proofs.Values.PlaceFrameLaws.{word-same, spaced-same, places-same, HoldsEach-kept}
+use Rattle.seg_spec.proofs.Heap.LiveBlockLaws.{OneOrApart, LiesIn, there, each_there, live-lie, live-apart, live-once, times-append, times-same}
+use Rattle.seg_spec.proofs.Values.CellChangeLaws.{size_aligned}
+use Rattle.seg_spec.proofs.Heap.BlockFrameLaws.{kept_twice}
+use Rattle.seg_spec.proofs.Heap.FreeOrderLaws.{in_any_order}
+use Rattle.seg_spec.proofs.Deallocation.BlockFreeLaws.{found, kept_linked}
+use Rattle.seg_spec.proofs.Values.CallPlaceLaws.{live_at}
+use Rattle.seg_spec.proofs.Frozen.FrozenBlockLaws.{hold_kept, frozen_twice, frozen_kept, released_each}
+use Rattle.seg_spec.proofs.Frozen.PictureCountLaws.{InTurn, in_turn, all_released, named_more, named_nothing}
 use Rattle.seg_value.proofs.Inside.{given_counts, given_linked, given_ownable, given_front}
 use Rattle.seg_manager.specs.LeavingNamed.{IsUnlisted}
 use Rattle.seg_manager.specs.NamedObjects.{found_of}

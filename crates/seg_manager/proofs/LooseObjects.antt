@@ -20,21 +20,21 @@ use Rattle.seg_spec.specs.Counting.{cells_in, owners_in, AreCounted, without_cel
 use Rattle.seg_spec.specs.Destroying.{HoldFrozen, Destroys}
 use Rattle.seg_spec.specs.Clearing.{SharedBeside, BesideShared}
 use Rattle.seg_spec.proofs.SliceLaws.{IsSame-part}
-use Rattle.seg_spec.proofs.Frame.{word-same, each_left, each_right}
-use Rattle.seg_spec.proofs.LiveLaws.{times-other}
-use Rattle.seg_spec.proofs.Standing.{each_live_at, live_at}
-use Rattle.seg_spec.proofs.RootLaws.{HoldsRoots-one, HoldsRoots-only, IsLaidOut-loose}
-use Rattle.seg_spec.proofs.CountedPictures.{OwnerBeside, owner_beside, named_one, counted_without}
-use Rattle.seg_spec.proofs.OwnerGone.{live_given, others_linked, laid_out_without, laid_out_still, held_without}
+use Rattle.seg_spec.proofs.Values.PlaceFrameLaws.{word-same, each_left, each_right}
+use Rattle.seg_spec.proofs.Heap.LiveBlockLaws.{times-other}
+use Rattle.seg_spec.proofs.Values.CallPlaceLaws.{each_live_at, live_at}
+use Rattle.seg_spec.proofs.Images.RootLaws.{HoldsRoots-one, HoldsRoots-only, IsLaidOut-loose}
+use Rattle.seg_spec.proofs.Frozen.PictureCountLaws.{OwnerBeside, owner_beside, named_one, counted_without}
+use Rattle.seg_spec.proofs.Deallocation.OwnerDestructionLaws.{live_given, others_linked, laid_out_without, laid_out_still, held_without}
 use Rattle.seg_value.specs.Contents.{GivesBlock}
 use Rattle.seg_value.specs.Stored.{Stored}
 use Rattle.seg_manager.specs.Segments.{IsSegment, Becomes, new_root, MakesLoose, LosesLoose}
-use Rattle.seg_spec.proofs.LooseRoots.{Trades, holds_its, loose_traded, each_joined}
-use Rattle.seg_spec.proofs.LooseRoots as roots
-use Rattle.seg_spec.proofs.OneRequest.{spent_one, counts_one}
-use Rattle.seg_spec.proofs.PlainRoots.{HoldsPlain, plain_of, root_of_plain}
-use Rattle.seg_spec.proofs.CountedParts.{defaults_none}
-use Rattle.seg_spec.proofs.CountedKept.{next_same, counted_still, counted_with}
+use Rattle.seg_spec.proofs.Images.LooseRootLaws.{Trades, holds_its, loose_traded, each_joined}
+use Rattle.seg_spec.proofs.Images.LooseRootLaws as roots
+use Rattle.seg_spec.proofs.Heap.RequestLaws.{spent_one, counts_one}
+use Rattle.seg_spec.proofs.Images.PlainRootLaws.{HoldsPlain, plain_of, root_of_plain}
+use Rattle.seg_spec.proofs.Frozen.PartCountLaws.{defaults_none}
+use Rattle.seg_spec.proofs.Frozen.KeptCountLaws.{next_same, counted_still, counted_with}
 
 pub allocator_same : (old new : List ℕ) → KeepsFront old new → word new allocator_word ≡ word old allocator_word
 allocator_same old new front = word-same old new allocator_word (IsSame-part old new 0 free_word allocator_word 4 (omega arith) (omega arith) front)

@@ -18,28 +18,28 @@ use Rattle.seg_spec.specs.Spending.{entry_asks, object_asks, spent}
 use Rattle.seg_spec.specs.Owing.{KeepsLinked}
 use Rattle.seg_spec.specs.Calls.{Refuses}
 use Rattle.seg_spec.proofs.SliceLaws.{IsSame-part, IsSame-trans}
-use Rattle.seg_spec.proofs.Composing.{kept_twice}
-use Rattle.seg_spec.proofs.Frame.{word-same}
-use Rattle.seg_spec.proofs.LiveLaws.{times-append, times-other}
-use Rattle.seg_spec.proofs.Standing.{each_live_at, live_at, ownable_linked}
-use Rattle.seg_spec.proofs.KeptLaws.{front_kept}
-use Rattle.seg_spec.proofs.Giving.{found, given_kept}
-use Rattle.seg_spec.proofs.Destruction.{linked_twice, linked_same}
-use Rattle.seg_spec.proofs.LooseRoots.{Trades, its, holds_its, loose_traded}
+use Rattle.seg_spec.proofs.Heap.BlockFrameLaws.{kept_twice}
+use Rattle.seg_spec.proofs.Values.PlaceFrameLaws.{word-same}
+use Rattle.seg_spec.proofs.Heap.LiveBlockLaws.{times-append, times-other}
+use Rattle.seg_spec.proofs.Values.CallPlaceLaws.{each_live_at, live_at, ownable_linked}
+use Rattle.seg_spec.proofs.Heap.KeptBlockLaws.{front_kept}
+use Rattle.seg_spec.proofs.Deallocation.BlockFreeLaws.{found, given_kept}
+use Rattle.seg_spec.proofs.Deallocation.DestructionLaws.{linked_twice, linked_same}
+use Rattle.seg_spec.proofs.Images.LooseRootLaws.{Trades, its, holds_its, loose_traded}
 use Rattle.seg_value.specs.Stored.{Stored}
 use Rattle.seg_index.specs.Lists.{FindsNamesOf, IsVacant, MayEnter, EntersName}
 use Rattle.seg_index.specs.declared.lookup.Vacant.{Vacant}
 use Rattle.seg_index.proofs.HeldNames.{finds_held}
 use Rattle.seg_index.proofs.HeldChanges.{with_names, held_entered}
-use Rattle.seg_index.proofs.Kept.{finds_kept, vacant_kept}
+use Rattle.seg_index.proofs.IndexFrameLaws.{finds_kept, vacant_kept}
 use Rattle.seg_manager.specs.Segments.{IsSegment, Becomes, new_root}
 use Rattle.seg_manager.specs.NewNamed.{GivesNamed, MakesNamed, FindsNoRoom}
-use Rattle.seg_spec.proofs.OneRequest.{counts_one}
+use Rattle.seg_spec.proofs.Heap.RequestLaws.{counts_one}
 use Rattle.seg_manager.proofs.NewNamed.{count-copies, named_kind}
-use Rattle.seg_spec.proofs.CountedParts.{defaults_none}
-use Rattle.seg_spec.proofs.CountedKept.{next_same, counted_still, counted_with}
+use Rattle.seg_spec.proofs.Frozen.PartCountLaws.{defaults_none}
+use Rattle.seg_spec.proofs.Frozen.KeptCountLaws.{next_same, counted_still, counted_with}
 use Rattle.seg_manager.proofs.ObjectAsks.{entry_asks_kept, spent_after, asks_after, returned_one, no_room_first}
-use Rattle.seg_spec.proofs.PlainRoots.{HoldsPlain, plain_of}
+use Rattle.seg_spec.proofs.Images.PlainRootLaws.{HoldsPlain, plain_of}
 
 times_cons : (h x : ℕ) (xs : List ℕ) → times h (x ∷ xs) ≡ times h (x ∷ []) + times h xs
 times_cons h x xs = times-append h (x ∷ []) xs

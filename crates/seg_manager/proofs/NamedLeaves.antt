@@ -17,16 +17,16 @@ use Rattle.seg_spec.specs.Shared.{names_each, named_each, left, freed}
 use Rattle.seg_spec.specs.Counting.{cells_in, owners_in, without_cells}
 use Rattle.seg_spec.specs.Destroying.{HoldFrozen, KeepFrozen, Destroys}
 use Rattle.seg_spec.specs.Clearing.{SharedBeside}
-use Rattle.seg_spec.proofs.Frame.{word-same}
-use Rattle.seg_spec.proofs.LiveLaws.{each_there, times-append, live-once}
-use Rattle.seg_spec.proofs.RootFrame.{HoldsRoot-kept}
-use Rattle.seg_spec.proofs.RootLaws.{HoldsRoots-only, IsLaidOut-kept}
-use Rattle.seg_spec.proofs.Standing.{live_at}
-use Rattle.seg_spec.proofs.Composing.{kept_twice}
-use Rattle.seg_spec.proofs.GiveOrder.{in_any_order}
-use Rattle.seg_spec.proofs.FrozenBlocks.{hold_kept, frozen_twice, frozen_kept, left_fewer}
-use Rattle.seg_spec.proofs.CountedPictures.{roots_held, OwnerBeside, owner_beside, counted_without}
-use Rattle.seg_spec.proofs.OwnerGone.{live_given, live_counts, others_linked, ownable_after, laid_out_without, owners_left}
+use Rattle.seg_spec.proofs.Values.PlaceFrameLaws.{word-same}
+use Rattle.seg_spec.proofs.Heap.LiveBlockLaws.{each_there, times-append, live-once}
+use Rattle.seg_spec.proofs.Images.RootFrameLaws.{HoldsRoot-kept}
+use Rattle.seg_spec.proofs.Images.RootLaws.{HoldsRoots-only, IsLaidOut-kept}
+use Rattle.seg_spec.proofs.Values.CallPlaceLaws.{live_at}
+use Rattle.seg_spec.proofs.Heap.BlockFrameLaws.{kept_twice}
+use Rattle.seg_spec.proofs.Heap.FreeOrderLaws.{in_any_order}
+use Rattle.seg_spec.proofs.Frozen.FrozenBlockLaws.{hold_kept, frozen_twice, frozen_kept, left_fewer}
+use Rattle.seg_spec.proofs.Frozen.PictureCountLaws.{roots_held, OwnerBeside, owner_beside, counted_without}
+use Rattle.seg_spec.proofs.Deallocation.OwnerDestructionLaws.{live_given, live_counts, others_linked, ownable_after, laid_out_without, owners_left}
 use Rattle.seg_raw.specs.declared.code.Code.TheVariants as code
 use Rattle.seg_value.specs.Stored.{Stored}
 use Rattle.seg_index.specs.Lists.{LeavesName}
@@ -37,7 +37,7 @@ use Rattle.seg_manager.specs.Segments.{IsSegment}
 use Rattle.seg_manager.specs.LeavingNamed.{IsUnlisted, LosesNamed}
 use Rattle.seg_manager.proofs.LooseObjects.{allocator_same}
 use Rattle.seg_manager.proofs.ClearedItems.{gives_append}
-use Rattle.seg_spec.proofs.CountedKept.{next_same, counted_still}
+use Rattle.seg_spec.proofs.Frozen.KeptCountLaws.{next_same, counted_still}
 
 -- a search found this root for a name, with the type
 pub record IsFound (T : ℕ) (root : Root) (found : Found) : Type 0 where

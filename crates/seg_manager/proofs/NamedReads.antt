@@ -7,8 +7,8 @@ use Rattle.seg_spec.specs.Value.{count}
 use Rattle.seg_spec.specs.Index.{Root, same_name, root_named}
 use Rattle.seg_spec.specs.Sound.{Picture}
 use Rattle.seg_spec.specs.Types.{Table}
-use Rattle.seg_spec.proofs.Frame.{each_weaker}
-use Rattle.seg_spec.proofs.Leading.{each_at}
+use Rattle.seg_spec.proofs.Values.PlaceFrameLaws.{each_weaker}
+use Rattle.seg_spec.proofs.Values.PathFrameLaws.{each_at}
 use Rattle.seg_raw.specs.declared.code.Code.TheVariants as code
 use Rattle.seg_value.specs.Stored.{Stored}
 use Rattle.seg_entry.specs.Names.{type_of, name_of}

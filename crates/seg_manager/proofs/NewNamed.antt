@@ -10,17 +10,17 @@ use Rattle.seg_spec.specs.Calls.{Refuses}
 use Rattle.seg_spec.specs.Sound.{kind_with, HoldsRoot}
 use Rattle.seg_spec.proofs.BytesLaws.{length-set_number, length-put}
 use Rattle.seg_spec.proofs.SliceLaws.{put-changes, slice-put_same}
-use Rattle.seg_spec.proofs.NewBlock.{block_fits, was_free, new_heap, all_kept, is_block, new_length, new_front, new_back, new_link, taken_units}
+use Rattle.seg_spec.proofs.Heap.NewBlockLaws.{block_fits, was_free, new_heap, all_kept, is_block, new_length, new_front, new_back, new_link, taken_units}
 use Rattle.seg_value.proofs.NewBlocks.{now_live, asks_granted}
 use Rattle.seg_spec.specs.Cells.{IsWithin}
 use Rattle.seg_spec.specs.Types.{Table, IsTable, size}
 use Rattle.seg_spec.specs.Value.{Value, count, copies, default_of}
 use Rattle.seg_spec.specs.Reads.{Place, items, Holds, HoldsEach, holds_none, holds_more}
-use Rattle.seg_spec.proofs.Frame.{Holds-kept}
-use Rattle.seg_spec.proofs.CellSteps.{ChangesOnly-trans, ChangesOnly-wider}
+use Rattle.seg_spec.proofs.Values.PlaceFrameLaws.{Holds-kept}
+use Rattle.seg_spec.proofs.Values.CellChangeLaws.{ChangesOnly-trans, ChangesOnly-wider}
 use Rattle.seg_manager.specs.NewNamed.{HasValuesRoom, GivesNamed}
 use Rattle.seg_manager.specs.Segments.{new_root}
-use Rattle.seg_spec.proofs.PlainRoots.{root_of_plain}
+use Rattle.seg_spec.proofs.Images.PlainRootLaws.{root_of_plain}
 
 -- the place of a value in an object
 abbrev pub value_at : Table → ℕ → ℕ → ℕ → Place

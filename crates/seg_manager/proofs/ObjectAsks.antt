@@ -17,8 +17,8 @@ use Rattle.seg_spec.specs.Index.{Root, Index, OpensIndex, ListsNames}
 use Rattle.seg_spec.specs.Sound.{times, positions}
 use Rattle.seg_spec.specs.Demand.{Ask, units_for, growth, growth_if_needed, after_asks, NoRoom}
 use Rattle.seg_spec.specs.Spending.{units_named, buffer_asks, entry_asks, spent}
-use Rattle.seg_spec.proofs.Frame.{cell-target, cell-count}
-use Rattle.seg_spec.proofs.LiveLaws.{times-same, times-other, times-with_block, not_there}
+use Rattle.seg_spec.proofs.Values.PlaceFrameLaws.{cell-target, cell-count}
+use Rattle.seg_spec.proofs.Heap.LiveBlockLaws.{times-same, times-other, times-with_block, not_there}
 
 -- ---- the request for the entry
 

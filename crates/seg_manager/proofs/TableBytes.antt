@@ -6,10 +6,10 @@ use Rattle.std.proofs.lemmas.List.{append_assoc, append-nil, length-append, leng
 use Rattle.seg_spec.specs.Bytes.{slice, put, ChangesOnly}
 use Rattle.seg_spec.specs.Header.{types_start, types_size}
 use Rattle.seg_spec.specs.Types.{Form, Table, IsTable, HasTable, form_at, form_bytes, option_bytes, entry_at, padded}
-use Rattle.seg_spec.proofs.CellSteps.{ChangesOnly-trans, ChangesOnly-wider, ChangesOnly-none}
-use Rattle.seg_spec.proofs.OneTable.{IsLong, length-form_bytes}
+use Rattle.seg_spec.proofs.Values.CellChangeLaws.{ChangesOnly-trans, ChangesOnly-wider, ChangesOnly-none}
+use Rattle.seg_spec.proofs.Tables.OneTableLaws.{IsLong, length-form_bytes}
 use Rattle.seg_spec.proofs.SliceLaws.{slice-put_same, put-changes}
-use Rattle.seg_spec.proofs.TypesLaws.{all_forms}
+use Rattle.seg_spec.proofs.Tables.TypeSizeLaws.{all_forms}
 
 slice_split : (bytes : List ℕ) (at n m : ℕ) → slice bytes at (n + m) ≡ slice bytes at n ++ slice bytes (at + n) m
 unfolding slice

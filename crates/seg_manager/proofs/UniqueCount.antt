@@ -6,7 +6,7 @@ use Rattle.std.proofs.lemmas.Bool.{cases_eq, cases_lt}
 use Rattle.std.proofs.lemmas.Bool.Decides.{nat_tests}
 use Rattle.seg_spec.specs.Pointer.{target}
 use Rattle.seg_spec.specs.Index.{Root, position_of, AreRising, unique_word, ListsUniques}
-use Rattle.seg_spec.proofs.UniqueLaws.{at_head, past_head}
+use Rattle.seg_spec.proofs.Images.UniqueLaws.{at_head, past_head}
 
 -- the number of these roots whose type is less than T
 abbrev pub below : ℕ → List Root → ℕ

@@ -18,23 +18,23 @@ use Rattle.seg_spec.specs.Shared.{names_each, named_in, left, freed}
 use Rattle.seg_spec.specs.Counting.{owners_in}
 use Rattle.seg_spec.specs.Destroying.{HoldFrozen, Destroys}
 use Rattle.seg_spec.specs.Clearing.{BesideShared}
-use Rattle.seg_spec.proofs.FrozenBlocks.{hold_kept, frozen_twice, frozen_kept, left_fewer}
-use Rattle.seg_spec.proofs.CountedPictures.{counted_elsewhere}
-use Rattle.seg_spec.proofs.Composing.{kept_twice}
-use Rattle.seg_spec.proofs.LiveLaws.{times-same, there, each_there, LiesIn, live-lie}
-use Rattle.seg_spec.proofs.RootLaws.{HoldsRoots-only}
-use Rattle.seg_spec.proofs.RootFrame.{HoldsRoot-kept}
+use Rattle.seg_spec.proofs.Frozen.FrozenBlockLaws.{hold_kept, frozen_twice, frozen_kept, left_fewer}
+use Rattle.seg_spec.proofs.Frozen.PictureCountLaws.{counted_elsewhere}
+use Rattle.seg_spec.proofs.Heap.BlockFrameLaws.{kept_twice}
+use Rattle.seg_spec.proofs.Heap.LiveBlockLaws.{times-same, there, each_there, LiesIn, live-lie}
+use Rattle.seg_spec.proofs.Images.RootLaws.{HoldsRoots-only}
+use Rattle.seg_spec.proofs.Images.RootFrameLaws.{HoldsRoot-kept}
 use Rattle.seg_value.specs.Stored.{Stored}
 use Rattle.seg_value.proofs.HeaderLaws.{header_fits}
 use Rattle.seg_manager.specs.Segments.{IsSegment, Becomes, new_root, MakesLoose, unique_at, MakesUnique, LosesUnique}
-use Rattle.seg_spec.proofs.LooseRoots.{its, holds_its, its_live}
+use Rattle.seg_spec.proofs.Images.LooseRootLaws.{its, holds_its, its_live}
 use Rattle.seg_manager.proofs.LooseObjects.{lost, lost_owned}
-use Rattle.seg_spec.proofs.UniqueLaws.{position_root, none_root, unique_of, between}
+use Rattle.seg_spec.proofs.Images.UniqueLaws.{position_root, none_root, unique_of, between}
 use Rattle.seg_manager.proofs.UniqueWords.{word_changes, word_written, word_live, word_kept, above_kept, word_allocator, word_next, unique_joined, unique_left}
-use Rattle.seg_spec.proofs.PlainRoots.{plain_of}
-use Rattle.seg_spec.proofs.Frame.{each_right}
-use Rattle.seg_spec.proofs.CountedParts.{defaults_none}
-use Rattle.seg_spec.proofs.CountedKept.{counted_still, counted_with}
+use Rattle.seg_spec.proofs.Images.PlainRootLaws.{plain_of}
+use Rattle.seg_spec.proofs.Values.PlaceFrameLaws.{each_right}
+use Rattle.seg_spec.proofs.Frozen.PartCountLaws.{defaults_none}
+use Rattle.seg_spec.proofs.Frozen.KeptCountLaws.{counted_still, counted_with}
 
 -- the target of a type's pointer is the type's unique object
 pub names_unique : (allocator : ℕ) (s : Stored) (picture : Picture) (T : ℕ) → IsSegment allocator s picture → T < 32 → target s.window.bytes (unique_word T) ≡ unique_at picture T

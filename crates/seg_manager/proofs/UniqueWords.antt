@@ -13,16 +13,16 @@ use Rattle.seg_spec.specs.Block.{KeepsBlock, payload_size}
 use Rattle.seg_spec.specs.Index.{Root, unique_word, ListsUniques, AreRising}
 use Rattle.seg_spec.specs.Sound.{Picture, roots_of, IsPlain, HoldsRoots, holds_no_root, IsLaidOut, IsHeld, times, SameBlocks, positions, frozen_roots}
 use Rattle.seg_spec.specs.Roots.{StretchesComeApart}
-use Rattle.seg_spec.proofs.Frame.{each_left, each_right, word-same, target-same}
-use Rattle.seg_spec.proofs.LiveLaws.{times-append, each_there}
+use Rattle.seg_spec.proofs.Values.PlaceFrameLaws.{each_left, each_right, word-same, target-same}
+use Rattle.seg_spec.proofs.Heap.LiveBlockLaws.{times-append, each_there}
 use Rattle.seg_spec.proofs.PointerLaws.{target-set_same}
-use Rattle.seg_spec.proofs.RootFrame.{HoldsRoots-kept, ListsNames-kept}
-use Rattle.seg_spec.proofs.StretchLaws.{stretches_come_apart}
-use Rattle.seg_spec.proofs.Writing.{set_number-changes}
+use Rattle.seg_spec.proofs.Images.RootFrameLaws.{HoldsRoots-kept, ListsNames-kept}
+use Rattle.seg_spec.proofs.Images.RootStretchLaws.{stretches_come_apart}
+use Rattle.seg_spec.proofs.Images.RootWriteLaws.{set_number-changes}
 use Rattle.seg_value.proofs.HeaderLaws.{header_heap, header_live, header_ownable, header_kept}
-use Rattle.seg_spec.proofs.AddTypes.{header_same}
-use Rattle.seg_spec.proofs.LooseRoots.{each_joined}
-use Rattle.seg_spec.proofs.UniqueLaws.{unique_added, unique_removed}
+use Rattle.seg_spec.proofs.Images.TypeAdditionLaws.{header_same}
+use Rattle.seg_spec.proofs.Images.LooseRootLaws.{each_joined}
+use Rattle.seg_spec.proofs.Images.UniqueLaws.{unique_added, unique_removed}
 
 pub word_changes : (old : List ℕ) (T : ℕ) (to : Option ℕ) → ChangesOnly old (set_pointer old (unique_word T) to) (unique_word T) 4
 word_changes old T to = set_number-changes 4 old (unique_word T) (distance (unique_word T) to)

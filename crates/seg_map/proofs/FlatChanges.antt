@@ -23,13 +23,13 @@ use Rattle.seg_spec.specs.Demand.{Ask}
 use Rattle.seg_spec.specs.Spending.{PlaceBlocks}
 use Rattle.seg_spec.specs.Growing.{Succeeds}
 use Rattle.seg_spec.proofs.BytesLaws.{number-slice}
-use Rattle.seg_spec.proofs.Frame.{cell-target, cell-count}
+use Rattle.seg_spec.proofs.Values.PlaceFrameLaws.{cell-target, cell-count}
 use Rattle.seg_spec.proofs.SliceLaws.{IsSame-part}
-use Rattle.seg_spec.proofs.TypesLaws.{size_large}
-use Rattle.seg_spec.proofs.CellSteps.{ChangesOnly-wider, size_aligned}
-use Rattle.seg_spec.proofs.LiveLaws.{times-same, times-append}
-use Rattle.seg_spec.proofs.Paths.{Middle, middle}
-use Rattle.seg_spec.proofs.OneReading.{Holds-one}
+use Rattle.seg_spec.proofs.Tables.TypeSizeLaws.{size_large}
+use Rattle.seg_spec.proofs.Values.CellChangeLaws.{ChangesOnly-wider, size_aligned}
+use Rattle.seg_spec.proofs.Heap.LiveBlockLaws.{times-same, times-append}
+use Rattle.seg_spec.proofs.Values.PathSplitLaws.{Middle, middle}
+use Rattle.seg_spec.proofs.Values.OneValueLaws.{Holds-one}
 use Rattle.seg_cells.specs.Entries.{IsEntryOf}
 use Rattle.seg_value.specs.Entries.{OpensEntry, ClosesEntry, flat_asks, flat_value}
 use Rattle.seg_cells.specs.Places.{object_at, place_of}
@@ -39,7 +39,7 @@ use Rattle.seg_spec.specs.Shrinking.{KeepsPathsInside}
 use Rattle.seg_map.specs.Maps.{value_of, AddsKey, PutsKey, TakesKey, RemovesKey, KeepsLowerKeys}
 use Rattle.seg_map.proofs.KeyLaws.{stands_before, still_there, parted_missing, inserted_place, inserted_ascends, place_below}
 use Rattle.seg_map.proofs.FlatMaps.{goes_on, goes_through, HasBuffer, has_buffer, entry_small, its, holds_each, length_is, value_leads, ascending, key_leads, held_leads, held_opened, held_opens, held_part}
-use Rattle.seg_spec.proofs.PartCleared as part
+use Rattle.seg_spec.proofs.Values.PartClearLaws as part
 
 -- ---- a key is added
 

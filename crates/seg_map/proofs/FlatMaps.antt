@@ -19,10 +19,10 @@ use Rattle.seg_spec.specs.Reads.{Place, Opened, count_at, named, start, spaced, 
 use Rattle.seg_spec.specs.Owning.{Stands}
 use Rattle.seg_spec.specs.Sound.{times, positions}
 use Rattle.seg_spec.specs.Items.{key_place, keys_below}
-use Rattle.seg_spec.proofs.LiveLaws.{times-same, there, LiesIn, live-lie}
-use Rattle.seg_spec.proofs.PlaceSteps.{owned_live}
-use Rattle.seg_spec.proofs.Buffered.{Buffered, buffered}
-use Rattle.seg_spec.proofs.OneReading.{Opens-one}
+use Rattle.seg_spec.proofs.Heap.LiveBlockLaws.{times-same, there, LiesIn, live-lie}
+use Rattle.seg_spec.proofs.Values.PlaceWriteLaws.{owned_live}
+use Rattle.seg_spec.proofs.Values.BufferLaws.{Buffered, buffered}
+use Rattle.seg_spec.proofs.Values.OneValueLaws.{Opens-one}
 use Rattle.seg_value.proofs.Runs.{spaced_get, map_get}
 use Rattle.seg_cells.specs.Search.{IsBetween}
 use Rattle.seg_cells.specs.Entries.{IsEntryOf}

@@ -14,8 +14,8 @@ use Rattle.std.proofs.lemmas.List.Sums.{sum_by-cons}
 use Rattle.seg_spec.specs.Value.{IsAscending, same_int}
 use Rattle.seg_spec.specs.Items.{key_place, keys_below}
 use Rattle.seg_spec.specs.Search.{Ascend, first_where, reaches}
-use Rattle.seg_spec.proofs.Frame.{each_weaker}
-use Rattle.seg_spec.proofs.Leading.{each_at}
+use Rattle.seg_spec.proofs.Values.PlaceFrameLaws.{each_weaker}
+use Rattle.seg_spec.proofs.Values.PathFrameLaws.{each_at}
 use Rattle.seg_rbtree.specs.Changes.{with_node, without_node}
 use Rattle.seg_rbtree.specs.Paths.{IsEqualAmong}
 use Rattle.seg_rbtree.proofs.Orders.{ascend-parts}

@@ -8,10 +8,10 @@ use Rattle.seg_spec.specs.Heap.{units_at, link_at, live, IsHeap, heap_start}
 use Rattle.seg_spec.specs.Block.{KeepsHeader, KeepsBlock, IsOwnable}
 use Rattle.seg_spec.specs.Apart.{Separate, KeepsBlockAround}
 use Rattle.seg_spec.specs.Sound.{times, positions}
-use Rattle.seg_spec.proofs.Frame.{each_weaker}
-use Rattle.seg_spec.proofs.LiveLaws.{LiesIn, there, live-lie}
-use Rattle.seg_spec.proofs.SeveralWrites as writes
-pub use Rattle.seg_spec.proofs.SeveralWrites.{Range, Beside, IsWritable}
+use Rattle.seg_spec.proofs.Values.PlaceFrameLaws.{each_weaker}
+use Rattle.seg_spec.proofs.Heap.LiveBlockLaws.{LiesIn, there, live-lie}
+use Rattle.seg_spec.proofs.Heap.SeveralWriteLaws as writes
+pub use Rattle.seg_spec.proofs.Heap.SeveralWriteLaws.{Range, Beside, IsWritable}
 
 module _ (old new : List ℕ) (allocator : ℕ) (heap : IsHeap allocator old) (ranges : List Range) (writable : AllByRecursion (IsWritable old) ranges)
     (length_kept : length new ≡ length old) (beside : (p m : ℕ) → Beside p m ranges → IsSame old new p m) where

@@ -16,11 +16,11 @@ use Rattle.seg_spec.specs.Items.{key_place}
 use Rattle.seg_spec.specs.Reads.{Place, Opened, keys_at, places_of, AreNodes, OpensTree, Opens, Holds, holds, HoldsEach, Leads, here, into}
 use Rattle.seg_spec.specs.Sound.{times, positions}
 use Rattle.seg_spec.specs.Owning.{Stands}
-use Rattle.seg_spec.proofs.Frame.{each_weaker}
-use Rattle.seg_spec.proofs.LiveLaws.{times-append, times-same, times-more, there, LiesIn, live-lie}
-use Rattle.seg_spec.proofs.PlaceSteps.{owned_live}
-use Rattle.seg_spec.proofs.FewBlocks.{no_more, few_live}
-use Rattle.seg_spec.proofs.Leading.{each_at}
+use Rattle.seg_spec.proofs.Values.PlaceFrameLaws.{each_weaker}
+use Rattle.seg_spec.proofs.Heap.LiveBlockLaws.{times-append, times-same, times-more, there, LiesIn, live-lie}
+use Rattle.seg_spec.proofs.Values.PlaceWriteLaws.{owned_live}
+use Rattle.seg_spec.proofs.Heap.BlockCountLaws.{no_more, few_live}
+use Rattle.seg_spec.proofs.Values.PathFrameLaws.{each_at}
 use Rattle.seg_map.specs.Maps.{FindsValue, value_of, first_of, keys_above}
 use Rattle.seg_map.proofs.KeyOrder.{ascend_of, found, AtPlace, first_found, next_found}
 

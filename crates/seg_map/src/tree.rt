@@ -9,7 +9,7 @@ ghost use Rattle.seg_spec.specs.Bytes.{signed, signed_long};
 ghost use Rattle.seg_spec.specs.Window.{KeepsHost};
 ghost use Rattle.seg_spec.specs.Shrinking.{KeepsPathsInside};
 ghost use Rattle.seg_spec.proofs.BytesLaws.{number-slice};
-ghost use Rattle.seg_spec.proofs.OrderSteps.{steps_up};
+ghost use Rattle.seg_spec.proofs.OrderLaws.{steps_up};
 ghost use Rattle.seg_spec.specs.Owning.{Stands};
 ghost use Rattle.seg_spec.specs.Types.{Form, form_at, size};
 ghost use Rattle.seg_spec.specs.Value.{Values, Map};

@@ -3,7 +3,7 @@ use Rattle.std.proofs.Common.{ℕ, ◌+◌, ◌≤◌, inl, inr, List, [], ◌�
 use Rattle.std.specs.List.{AllByRecursion}
 use Rattle.seg_spec.specs.Apart.{Separate}
 use Rattle.seg_spec.specs.Shapes.{Colour, Tree, nodes_of}
-use Rattle.seg_spec.proofs.Frame.{each_left, each_right, each_weaker}
+use Rattle.seg_spec.proofs.Values.PlaceFrameLaws.{each_left, each_right, each_weaker}
 use Rattle.seg_rbtree.specs.declared.node.Side.{Side}
 use Rattle.seg_rbtree.specs.declared.node.Side.TheVariants.{Left, Right}
 use Rattle.seg_rbtree.specs.Nodes.{side_word, opposite}

@@ -3,7 +3,7 @@ use Rattle.std.proofs.Common.{ℕ, suc, ◌+◌, ◌*◌, ◌^◌, ◌<◌, ◌�
 use Rattle.std.proofs.lemmas.Bool.{cases_lt}
 use Rattle.std.proofs.Math.Pow.{pow_mono}
 use Rattle.seg_spec.specs.Shapes.{Colour, Tree, leaf, fork, black, red, nodes_of, IsBlack, IsBalanced, IsRedBlack}
-use Rattle.seg_spec.proofs.SearchLaws.{many_nodes}
+use Rattle.seg_spec.proofs.TreeSearchLaws.{many_nodes}
 use Rattle.seg_rbtree.specs.declared.node.Side.{Side}
 use Rattle.seg_rbtree.specs.declared.node.Side.TheVariants.{Left, Right}
 use Rattle.seg_rbtree.specs.Ways.{Layer, branch, grow, plug}

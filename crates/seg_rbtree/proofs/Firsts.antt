@@ -12,9 +12,9 @@ use Rattle.seg_rbtree.specs.declared.path.Path.{Path}
 use Rattle.seg_rbtree.specs.Ways.{Layer, plug, steps_of, EndsAt, LeadsTo, following, after_root}
 use Rattle.seg_rbtree.specs.Paths.{before_first, node_at}
 use Rattle.seg_rbtree.specs.Following.{AlwaysGoesRight, Climbs, GoesToNextNode}
-use Rattle.seg_rbtree.proofs.Climbing.{goes_up, goes_past, leads_by, part_there}
-use Rattle.seg_rbtree.proofs.Removed.{itself}
-use Rattle.seg_rbtree.proofs.Searching.{reaches_up}
+use Rattle.seg_rbtree.proofs.ClimbLaws.{goes_up, goes_past, leads_by, part_there}
+use Rattle.seg_rbtree.proofs.TreeWithoutNodeLaws.{itself}
+use Rattle.seg_rbtree.proofs.FirstNodeSearchLaws.{reaches_up}
 
 -- nodes after the place are at or above the key
 left_reaches : (r : Ordering) → before_first r ≡ Less → reaches Equal r ≡ true

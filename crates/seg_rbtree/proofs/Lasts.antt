@@ -7,7 +7,7 @@ use Rattle.std.specs.declared.cmp.Ordering.TheVariants.{Less}
 use Rattle.seg_spec.specs.Pointer.{target}
 use Rattle.seg_spec.specs.Search.{Ascend, IsSearchTree}
 use Rattle.seg_spec.specs.Shapes.{Tree, leaf, fork, nodes_of, IsTree}
-use Rattle.seg_spec.proofs.Frame.{each_left, each_right}
+use Rattle.seg_spec.proofs.Values.PlaceFrameLaws.{each_left, each_right}
 use Rattle.seg_rbtree.specs.declared.node.Side.{Side}
 use Rattle.seg_rbtree.specs.declared.node.Side.TheVariants.{Left, Right}
 use Rattle.seg_rbtree.specs.declared.path.Path.{Path}
@@ -17,11 +17,11 @@ use Rattle.seg_rbtree.specs.Paths.{node_at, IsLast}
 use Rattle.seg_rbtree.specs.Ways.{Layer, step_of, steps_of, LeadsTo, before, following, nodes_after}
 use Rattle.seg_rbtree.proofs.Apartness.{each_join}
 use Rattle.seg_rbtree.proofs.Branches.{IsFork, IsBranch, branch-parts, fork_at}
-use Rattle.seg_rbtree.proofs.Climbing.{following_none}
-use Rattle.seg_rbtree.proofs.Lengthening.{no_tree}
+use Rattle.seg_rbtree.proofs.ClimbLaws.{following_none}
+use Rattle.seg_rbtree.proofs.ShortSubtreeStepLaws.{no_tree}
 use Rattle.seg_rbtree.proofs.Orders.{ascend-parts}
-use Rattle.seg_rbtree.proofs.Removed.{itself, rest_hangs}
-use Rattle.seg_rbtree.proofs.Unlinking.{nodes_plug}
+use Rattle.seg_rbtree.proofs.TreeWithoutNodeLaws.{itself, rest_hangs}
+use Rattle.seg_rbtree.proofs.NodeUnlinkLaws.{nodes_plug}
 
 -- ---- the last of a list
 

@@ -19,12 +19,12 @@ use Rattle.seg_rbtree.specs.Removing.{layer_at, in_place_of, StandsAt, IsLeft, L
 use Rattle.seg_rbtree.proofs.Apartness.{Clear, parts-apart, apart-down, separate-swap, separate-part, clear-part}
 use Rattle.seg_rbtree.proofs.Branches.{branch-parts, tree-down}
 use Rattle.seg_rbtree.proofs.LowNodes.{root_low}
-use Rattle.seg_rbtree.proofs.Keeping.{keeps-trans, keeps-inside, colour-word, target-word, tree-word}
-use Rattle.seg_rbtree.proofs.Turning.{turns-up, turns-whole, turns-hung, relink, recolour, clear-parts}
+use Rattle.seg_rbtree.proofs.WordWriteLaws.{keeps-trans, keeps-inside, colour-word, target-word, tree-word}
+use Rattle.seg_rbtree.proofs.LocalChangeLaws.{turns-up, turns-whole, turns-hung, relink, recolour, clear-parts}
 use Rattle.seg_rbtree.proofs.Steps.{last_word-steps}
-use Rattle.seg_rbtree.proofs.Unlinking.{next_lost, red_unlinked, black_unlinked, renamed_whole, renamed_short}
-use Rattle.seg_rbtree.proofs.Lengthening.{colour_read, turned_at, here, here_apart}
-use Rattle.seg_rbtree.proofs.TakingOut.{plug_on, place_on, steps_on, apart_lost, each_lost, lone_turned}
+use Rattle.seg_rbtree.proofs.NodeUnlinkLaws.{next_lost, red_unlinked, black_unlinked, renamed_whole, renamed_short}
+use Rattle.seg_rbtree.proofs.ShortSubtreeStepLaws.{colour_read, turned_at, here, here_apart}
+use Rattle.seg_rbtree.proofs.NodeRemovalLaws.{plug_on, place_on, steps_on, apart_lost, each_lost, lone_turned}
 
 -- ---- the subtree at the node's pointer word
 

@@ -8,7 +8,7 @@ use Rattle.std.specs.declared.cmp.Ordering.TheVariants.{Less, Greater}
 use Rattle.seg_spec.specs.Shapes.{Tree, nodes_of}
 use Rattle.seg_spec.specs.Search.{Ascend}
 use Rattle.seg_spec.specs.Apart.{Separate}
-use Rattle.seg_spec.proofs.Frame.{each_left, each_right, each_weaker}
+use Rattle.seg_spec.proofs.Values.PlaceFrameLaws.{each_left, each_right, each_weaker}
 use Rattle.seg_rbtree.specs.declared.node.Side.{Side}
 use Rattle.seg_rbtree.specs.declared.node.Side.TheVariants.{Left, Right}
 use Rattle.seg_rbtree.specs.Ways.{Layer, branch, grow, plug, turn_of, LeadBy}

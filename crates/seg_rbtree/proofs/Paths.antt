@@ -10,7 +10,7 @@ use Rattle.std.specs.declared.cmp.Ordering.{Ordering}
 use Rattle.std.specs.declared.cmp.Ordering.TheVariants.{Less, Equal, Greater}
 use Rattle.seg_spec.specs.Shapes.{Tree, leaf, fork, nodes_of, IsTree}
 use Rattle.seg_spec.specs.Search.{rank_of, Ascend, first_where, IsSearchTree}
-use Rattle.seg_spec.proofs.Frame.{each_left, each_right, each_weaker}
+use Rattle.seg_spec.proofs.Values.PlaceFrameLaws.{each_left, each_right, each_weaker}
 use Rattle.seg_rbtree.specs.declared.node.Side.{Side}
 use Rattle.seg_rbtree.specs.declared.node.Side.TheVariants.{Left, Right}
 use Rattle.seg_rbtree.specs.declared.path.Path.{Path}
@@ -18,9 +18,9 @@ use Rattle.seg_rbtree.specs.Ways.{Layer, branch, grow, plug, turn_of, LeadBy, En
 use Rattle.seg_rbtree.specs.Paths.{node_at, IsEqualAmong, FindsEqual}
 use Rattle.seg_rbtree.proofs.Apartness.{each_join}
 use Rattle.seg_rbtree.proofs.Orders.{ascend-parts, ascend-down}
-use Rattle.seg_rbtree.proofs.Searching.{first_here, first_later}
-use Rattle.seg_rbtree.proofs.Unlinking.{nodes_plug}
-use Rattle.seg_rbtree.proofs.Removed.{rest_hangs}
+use Rattle.seg_rbtree.proofs.FirstNodeSearchLaws.{first_here, first_later}
+use Rattle.seg_rbtree.proofs.NodeUnlinkLaws.{nodes_plug}
+use Rattle.seg_rbtree.proofs.TreeWithoutNodeLaws.{rest_hangs}
 
 reversed : (r s : Ordering) → ordering_reverse r ≡ s → r ≡ ordering_reverse s
 reversed Less s e = ap ordering_reverse e

@@ -3,13 +3,13 @@ use Rattle.std.proofs.Common.{◌≡◌, ℕ, suc, ◌+◌, ◌*◌, ◌^◌, �
 use Rattle.std.proofs.lemmas.Bool.{cases_lt}
 use Rattle.std.proofs.Math.Pow.{pow_mono}
 use Rattle.seg_spec.specs.Shapes.{Colour, black, red, Tree, leaf, fork, nodes_of, IsBlack, IsBalanced, IsRedBlack}
-use Rattle.seg_spec.proofs.SearchLaws.{many_nodes}
+use Rattle.seg_spec.proofs.TreeSearchLaws.{many_nodes}
 use Rattle.seg_rbtree.specs.declared.node.Side.{Side}
 use Rattle.seg_rbtree.specs.declared.node.Side.TheVariants.{Left, Right}
 use Rattle.seg_rbtree.specs.Ways.{Layer, branch, grow, plug}
 use Rattle.seg_rbtree.specs.Balance.{IsBelowBlack, height_above, SideFits, Wants}
 use Rattle.seg_rbtree.specs.Removing.{blacks, IsNearly, IsShort, turns_over, turns_above, turns}
-use Rattle.seg_rbtree.proofs.Balancing.{black-branch, red-branch, balanced-black, balanced-red, black-parts, red-parts, IsBalancedAt, balanced-up}
+use Rattle.seg_rbtree.proofs.ColourLaws.{black-branch, red-branch, balanced-black, balanced-red, black-parts, red-parts, IsBalancedAt, balanced-up}
 
 -- ---- the subtree beside a place
 

@@ -14,28 +14,28 @@ use Rattle.seg_spec.specs.Sound.{times, positions}
 use Rattle.seg_spec.specs.Roots.{ChangesPlace}
 use Rattle.seg_spec.specs.Owning.{Stands}
 use Rattle.seg_spec.proofs.BytesLaws.{number-set_other}
-use Rattle.seg_spec.proofs.Frame.{SamePlace, each_weaker, each_left, each_right, IsRing-same, Holds-kept, HoldsEach-kept, nodes-same, inner-same, shorter}
-use Rattle.seg_spec.proofs.Composing.{around_twice}
-use Rattle.seg_spec.proofs.LiveLaws.{times-same, times-append, there}
-use Rattle.seg_spec.proofs.TypesLaws.{size-form}
-use Rattle.seg_spec.proofs.CellSteps.{ChangesOnly-wider}
-use Rattle.seg_spec.proofs.Writing.{set_number-changes}
-use Rattle.seg_spec.proofs.PlaceSteps.{place_within, blocks_then, changes_place}
-use Rattle.seg_spec.proofs.Standing.{stands_after}
-use Rattle.seg_spec.proofs.Leading.{Leads-each}
-use Rattle.seg_spec.proofs.Paths.{count_is}
+use Rattle.seg_spec.proofs.Values.PlaceFrameLaws.{SamePlace, each_weaker, each_left, each_right, IsRing-same, Holds-kept, HoldsEach-kept, nodes-same, inner-same, shorter}
+use Rattle.seg_spec.proofs.Heap.BlockFrameLaws.{around_twice}
+use Rattle.seg_spec.proofs.Heap.LiveBlockLaws.{times-same, times-append, there}
+use Rattle.seg_spec.proofs.Tables.TypeSizeLaws.{size-form}
+use Rattle.seg_spec.proofs.Values.CellChangeLaws.{ChangesOnly-wider}
+use Rattle.seg_spec.proofs.Images.RootWriteLaws.{set_number-changes}
+use Rattle.seg_spec.proofs.Values.PlaceWriteLaws.{place_within, blocks_then, changes_place}
+use Rattle.seg_spec.proofs.Values.CallPlaceLaws.{stands_after}
+use Rattle.seg_spec.proofs.Values.PathFrameLaws.{Leads-each}
+use Rattle.seg_spec.proofs.Values.PathSplitLaws.{count_is}
 use Rattle.seg_seq.specs.Rings.{AreSpread, HasRing, link_of, around}
 use Rattle.seg_seq.specs.Lists.{AddsItem}
 use Rattle.seg_seq.specs.declared.ring.Way.{Way}
 use Rattle.seg_seq.proofs.Joins.{names, linked_split}
-use Rattle.seg_seq.proofs.Removing.{ring_first}
+use Rattle.seg_seq.proofs.RingRemovalLaws.{ring_first}
 use Rattle.seg_seq.specs.declared.ring.Way.TheVariants as way
-use Rattle.seg_seq.proofs.Walking.{neighbour_named, around_less, starts, backward_is}
+use Rattle.seg_seq.proofs.RingWalkLaws.{neighbour_named, around_less, starts, backward_is}
 use Rattle.seg_spec.specs.Items.{remove_nth, without_last}
 use Rattle.seg_seq.proofs.Homes.{are_spread}
-use Rattle.seg_seq.proofs.Listed.{values_in, value_in, value_at_index, ListOf, list_of, holds_list, leads_on, item_leads}
-use Rattle.seg_seq.proofs.Dropping.{SplitAt, split_at}
-use Rattle.seg_seq.proofs.Removed.{node_split, index_back, leads_nowhere}
+use Rattle.seg_seq.proofs.ListNodeLaws.{values_in, value_in, value_at_index, ListOf, list_of, holds_list, leads_on, item_leads}
+use Rattle.seg_seq.proofs.NodeRemovalLaws.{SplitAt, split_at}
+use Rattle.seg_seq.proofs.ListRemovalLaws.{node_split, index_back, leads_nowhere}
 
 -- ---- a list at a place
 
@@ -272,7 +272,7 @@ module _ (allocator : ℕ) (mid : List ℕ) (table : Table) (list : Place) (U no
           (rotated mid (target mid list.at) xs node (subst (IsRing mid (target mid list.at)) l_is l.ring.ring)));
       counted = let a : length l.nodes ≡ length (xs ++ node ∷ []) = ap length l_is in let b = length-append xs (node ∷ []) in let c = l.ring.counted in let d = still_counted in omega arith;
     };
-    are_nodes = turn (λ q. IsBlock new q (tag_of Kind.node list.type) (8 + size table U)) (Rattle.seg_spec.proofs.Frame.nodes-kept mid new (tag_of Kind.node list.type) (8 + size table U) (xs ++ node ∷ []) nodes_kept_too are_nodes);
+    are_nodes = turn (λ q. IsBlock new q (tag_of Kind.node list.type) (8 + size table U)) (Rattle.seg_spec.proofs.Values.PlaceFrameLaws.nodes-kept mid new (tag_of Kind.node list.type) (8 + size table U) (xs ++ node ∷ []) nodes_kept_too are_nodes);
     each = turned_values;
     blocks_are = refl;
   }
@@ -284,7 +284,7 @@ module _ (allocator : ℕ) (mid : List ℕ) (table : Table) (list : Place) (U no
   turned_count h =
       let a : times h others ≡ times h (map block_of (xs ++ node ∷ []) ++ l.owned) = ap (times h) (l.blocks_are ∙ ap (λ ns. map block_of ns ++ l.owned) l_is) in
       let b = times-append h (map block_of (xs ++ node ∷ [])) l.owned in
-      let c : times h (map block_of (xs ++ node ∷ [])) ≡ times h (map block_of xs ++ map block_of (node ∷ [])) = ap (times h) (Rattle.seg_seq.proofs.Listed.mapped_append xs (node ∷ [])) in
+      let c : times h (map block_of (xs ++ node ∷ [])) ≡ times h (map block_of xs ++ map block_of (node ∷ [])) = ap (times h) (Rattle.seg_seq.proofs.ListNodeLaws.mapped_append xs (node ∷ [])) in
       let d = times-append h (map block_of xs) (map block_of (node ∷ [])) in
       let e : times h l.owned ≡ times h (p.front ++ (p.its ++ p.back)) = ap (times h) p.owned_is in
       let g = times-append h p.front (p.its ++ p.back) in

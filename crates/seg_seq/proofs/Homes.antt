@@ -7,12 +7,12 @@ use Rattle.seg_spec.specs.Heap.{Span, live, IsHeap, heap_start}
 use Rattle.seg_spec.specs.Block.{IsInside, KeepsBlock, block_of, payload_size}
 use Rattle.seg_spec.specs.Apart.{Separate, KeepsBlockAround}
 use Rattle.seg_spec.specs.Sound.{times, positions}
-use Rattle.seg_spec.proofs.FewBlocks.{few_live, no_more}
-use Rattle.seg_spec.proofs.MappedBlocks.{times_mapped}
+use Rattle.seg_spec.proofs.Heap.BlockCountLaws.{few_live, no_more}
+use Rattle.seg_spec.proofs.Heap.NodeBlockLaws.{times_mapped}
 use Rattle.std.proofs.lemmas.List.{length-map}
-use Rattle.seg_spec.proofs.LiveLaws.{times-same, times-other, times-more, there, each_there, LiesIn, live-lie, live-apart, live-once, OneOrApart}
+use Rattle.seg_spec.proofs.Heap.LiveBlockLaws.{times-same, times-other, times-more, there, each_there, LiesIn, live-lie, live-apart, live-once, OneOrApart}
 use Rattle.seg_seq.specs.Rings.{AreSpread, ChangesAt}
-use Rattle.seg_seq.proofs.Spread.{HasHome, part_same, block_same, header_same}
+use Rattle.seg_seq.proofs.SeveralWriteLaws.{HasHome, part_same, block_same, header_same}
 
 module _ (allocator : ℕ) (bytes : List ℕ) (heap : IsHeap allocator bytes) (cell home : ℕ) (inside : IsInside bytes home cell 8) (even : cell % 8 ≡ 0) (nodes : List ℕ) (low : AllByRecursion (λ p. 16 ≤ p) nodes)
     (owned : (h : ℕ) → times h (home ∷ map block_of nodes) ≤ times h (positions (live bytes))) where

@@ -11,9 +11,9 @@ use Rattle.seg_spec.specs.Value.{Values, Int, Seq, Text}
 use Rattle.seg_spec.specs.Reads.{Place, Holds, count_at, start}
 use Rattle.seg_spec.specs.Growing.{Reserves}
 use Rattle.seg_spec.specs.Spending.{buffer_asks, units_named}
-use Rattle.seg_spec.proofs.TypesLaws.{size_large, size-form}
+use Rattle.seg_spec.proofs.Tables.TypeSizeLaws.{size_large, size-form}
 use Rattle.seg_spec.proofs.BytesLaws.{number-set_same}
-use Rattle.seg_spec.proofs.Writing.{number_held, set_number-changes}
+use Rattle.seg_spec.proofs.Images.RootWriteLaws.{number_held, set_number-changes}
 use Rattle.seg_ptr.specs.Lent.{lent_to}
 use Rattle.seg_ptr.proofs.Lent.{lent_same}
 use Rattle.seg_layout.specs.Forms.{form_of, map_option}
@@ -33,7 +33,7 @@ use Rattle.seg_value.proofs.Buffers.{of_form, has_room}
 use Rattle.seg_seq.specs.Buffers.{LacksEntryRoom, LacksEntry, HasEntry}
 use Rattle.seg_seq.specs.declared.room.Room.{Room}
 use Rattle.seg_seq.specs.Sequences.{HasText, HasItems, IsFull, LacksByte, PushesItem}
-use Rattle.seg_seq.proofs.ItemAdded.{count_few}
+use Rattle.seg_seq.proofs.ItemAdditionLaws.{count_few}
 use Rattle.seg_seq.proofs.ItemCalls.{none_is_full, any_pushed}
 use Rattle.seg_seq.proofs.Rooms.{Reaches, reaches}
 use Rattle.seg_seq.proofs.TextCalls.{counts_few, none_lacks}

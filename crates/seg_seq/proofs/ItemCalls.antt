@@ -12,8 +12,8 @@ use Rattle.seg_spec.specs.Owning.{Stands}
 use Rattle.seg_spec.specs.Shared.{named_in}
 use Rattle.seg_spec.specs.Clearing.{SharedBeside, BesideShared, ClearsPlace}
 use Rattle.seg_spec.specs.Spending.{buffer_asks, units_named}
-use Rattle.seg_spec.proofs.PlaceSteps.{place_within}
-use Rattle.seg_spec.proofs.TypesLaws.{size_large}
+use Rattle.seg_spec.proofs.Values.PlaceWriteLaws.{place_within}
+use Rattle.seg_spec.proofs.Tables.TypeSizeLaws.{size_large}
 use Rattle.seg_raw.specs.declared.code.Code.TheVariants.{BadAlloc}
 use Rattle.seg_value.specs.Stored.{Stored}
 use Rattle.seg_cells.specs.Places.{object_at}
@@ -24,8 +24,8 @@ use Rattle.seg_cells.specs.declared.place.Place.{Place as Where}
 use Rattle.seg_seq.specs.Buffers.{NamesNone}
 use Rattle.seg_seq.specs.Sequences.{HasItems, IsFull, LacksRoom, CountsItem, PushesItem, PushesBack, PopsBack, push_asks}
 use Rattle.seg_seq.proofs.Rooms.{entries_fit}
-use Rattle.seg_seq.proofs.ItemRemoved.{some_buffer, last, value_is, item_stands as item_stands_there, item_beside, item_lost}
-use Rattle.seg_seq.proofs.ItemAdded.{has_each, count_few, has_buffer_now, item_within, item_added, item_stands}
+use Rattle.seg_seq.proofs.ItemRemovalLaws.{some_buffer, last, value_is, item_stands as item_stands_there, item_beside, item_lost}
+use Rattle.seg_seq.proofs.ItemAdditionLaws.{has_each, count_few, has_buffer_now, item_within, item_added, item_stands}
 
 -- the entries of a vector's buffer are values of the item type
 pub vector_entry : (table : Table) (T U : ℕ) (content : Content) → form_at table T ≡ Some (Form.vec U) → NamesBuffer table T content → IsEntryOf table 0 U content.entry

@@ -8,8 +8,8 @@ use Rattle.seg_spec.specs.Shapes.{AreLinked, IsLinked}
 use Rattle.seg_spec.specs.Sound.{times}
 use Rattle.seg_spec.proofs.BytesLaws.{length-set_number, number-set_other}
 use Rattle.seg_spec.proofs.PointerLaws.{target-set_same, target-same as word_target}
-use Rattle.seg_spec.proofs.LiveLaws.{times-same, times-more}
-use Rattle.seg_spec.proofs.RingOwed.{last_of}
+use Rattle.seg_spec.proofs.Heap.LiveBlockLaws.{times-same, times-more}
+use Rattle.seg_spec.proofs.Deallocation.RingDestructionLaws.{last_of}
 use Rattle.seg_seq.specs.Rings.{coupled}
 
 -- ---- single words

@@ -1,26 +1,26 @@
 pub mod Joins
-pub mod Inserting
-pub mod Removing
-pub mod Walking
-pub mod Spread
+pub mod RingInsertionLaws
+pub mod RingRemovalLaws
+pub mod RingWalkLaws
+pub mod SeveralWriteLaws
 pub mod Homes
-pub mod Listed
-pub mod Taken
-pub mod Adding
-pub mod Dropping
-pub mod Removed
+pub mod ListNodeLaws
+pub mod NewNodeLaws
+pub mod NodeAdditionLaws
+pub mod NodeRemovalLaws
+pub mod ListRemovalLaws
 pub mod Fronts
 mod SequenceKinds
 mod Results
-mod Lasting
+mod CallPlaceLaws
 mod Rooms
-mod Counting
+mod CountWriteLaws
 mod TextSteps
 mod TooMuch
 mod TextCalls
 mod Items
-mod ItemAdded
+mod ItemAdditionLaws
 mod ItemCalls
 mod InPlace
-mod ItemRemoved
-mod Found
+mod ItemRemovalLaws
+mod ItemPositionLaws

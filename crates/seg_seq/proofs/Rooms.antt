@@ -13,10 +13,10 @@ use Rattle.seg_spec.specs.Owning.{Stands}
 use Rattle.seg_spec.specs.Spending.{item_size}
 use Rattle.seg_spec.proofs.BytesLaws.{length-slice}
 use Rattle.seg_spec.proofs.SliceLaws.{IsSame-part}
-use Rattle.seg_spec.proofs.Frame.{word-same}
-use Rattle.seg_spec.proofs.LiveLaws.{times-same, there, LiesIn, live-lie}
-use Rattle.seg_spec.proofs.PlaceSteps.{owned_live, owned_other}
-use Rattle.seg_spec.proofs.Buffered.{Buffered, buffered}
+use Rattle.seg_spec.proofs.Values.PlaceFrameLaws.{word-same}
+use Rattle.seg_spec.proofs.Heap.LiveBlockLaws.{times-same, there, LiesIn, live-lie}
+use Rattle.seg_spec.proofs.Values.PlaceWriteLaws.{owned_live, owned_other}
+use Rattle.seg_spec.proofs.Values.BufferLaws.{Buffered, buffered}
 
 -- a block with the same header is still a block, with room for m bytes
 pub block_again : (old new : List ℕ) (p tag n m : ℕ) → IsSame old new (block_of p) 16 → m ≤ payload_size old (block_of p) → IsBlock old p tag n → IsBlock new p tag m

@@ -13,9 +13,9 @@ use Rattle.seg_spec.specs.Calls.{Refuses}
 use Rattle.seg_spec.specs.Growing.{HasRoomFor, Reserves}
 use Rattle.seg_spec.specs.Spending.{buffer_asks, units_named}
 use Rattle.seg_spec.specs.Owning.{Stands}
-use Rattle.seg_spec.proofs.PlaceSteps.{place_within}
-use Rattle.seg_spec.proofs.TypesLaws.{size_large}
-use Rattle.seg_spec.proofs.Standing.{stands_after}
+use Rattle.seg_spec.proofs.Values.PlaceWriteLaws.{place_within}
+use Rattle.seg_spec.proofs.Tables.TypeSizeLaws.{size_large}
+use Rattle.seg_spec.proofs.Values.CallPlaceLaws.{stands_after}
 use Rattle.seg_raw.specs.declared.code.Code.TheVariants.{BadAlloc}
 use Rattle.seg_value.specs.Stored.{Stored}
 use Rattle.seg_value.specs.Buffers.{NamesBuffer}

@@ -15,12 +15,12 @@ use Rattle.seg_spec.specs.Growing.{Succeeds, Reserves}
 use Rattle.seg_spec.specs.Demand.{Ask}
 use Rattle.seg_spec.proofs.BytesLaws.{put_in, put_past, length-slice}
 use Rattle.seg_spec.proofs.SliceLaws.{slice-slice, slice-put_same, slice-put_other, put-changes, IsSame-part}
-use Rattle.seg_spec.proofs.CellSteps.{ChangesOnly-none}
-use Rattle.seg_spec.proofs.PlaceSteps.{changes_place}
-use Rattle.seg_spec.proofs.Standing.{stands_after}
-use Rattle.seg_spec.proofs.Buffered.{holds_buffered}
-use Rattle.seg_seq.proofs.Lasting.{Leaves, begun, ended}
-use Rattle.seg_seq.proofs.Counting.{count_leaves, count_names, count_is, count_kept, count_header, inner_leaves, inner_names, inner_count, inner_header}
+use Rattle.seg_spec.proofs.Values.CellChangeLaws.{ChangesOnly-none}
+use Rattle.seg_spec.proofs.Values.PlaceWriteLaws.{changes_place}
+use Rattle.seg_spec.proofs.Values.CallPlaceLaws.{stands_after}
+use Rattle.seg_spec.proofs.Values.BufferLaws.{holds_buffered}
+use Rattle.seg_seq.proofs.CallPlaceLaws.{Leaves, begun, ended}
+use Rattle.seg_seq.proofs.CountWriteLaws.{count_leaves, count_names, count_is, count_kept, count_header, inner_leaves, inner_names, inner_count, inner_header}
 use Rattle.seg_seq.proofs.Rooms.{block_again, reaches, none_counted, text_is, text_owns, text_counts}
 
 -- ---- slices

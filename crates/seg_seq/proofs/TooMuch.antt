@@ -9,8 +9,8 @@ use Rattle.seg_spec.specs.Reads.{Place}
 use Rattle.seg_spec.specs.Owning.{Stands}
 use Rattle.seg_spec.specs.Demand.{need, NoRoom}
 use Rattle.seg_spec.specs.Spending.{units_named, buffer_asks}
-use Rattle.seg_spec.proofs.NoSpace.{too_large}
-use Rattle.seg_value.proofs.Enlarging.{ask, asks_once, least_first}
+use Rattle.seg_spec.proofs.Heap.LargeRequestLaws.{too_large}
+use Rattle.seg_value.proofs.BufferRequestLaws.{ask, asks_once, least_first}
 use Rattle.seg_seq.proofs.Rooms.{reaches}
 
 -- no request for a buffer of 2^32 bytes or more is granted

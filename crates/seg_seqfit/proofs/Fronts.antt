@@ -4,17 +4,17 @@ use Rattle.seg_spec.specs.Bytes.{word, set_word}
 use Rattle.seg_spec.specs.Pointer.{target, distance, set_pointer}
 use Rattle.seg_spec.specs.Heap.{Tile, IsHeader, units_before, link_at, Fill, AreHeaders, Links, heap_start}
 use Rattle.seg_spec.proofs.BytesLaws.{number-set_same, number-set_other, length-set_number}
-use Rattle.seg_spec.proofs.HeaderLaws.{AreHeaders-after, AreHeaders-set_link}
+use Rattle.seg_spec.proofs.Heap.HeaderLaws.{AreHeaders-after, AreHeaders-set_link}
 use Rattle.seg_spec.proofs.PointerLaws.{target-set_same, target-same}
-use Rattle.seg_spec.proofs.TileLaws.{Fill-le, AreHeaders-back, units_after}
+use Rattle.seg_spec.proofs.Heap.TileLaws.{Fill-le, AreHeaders-back, units_after}
 use Rattle.seg_block.specs.Sizes.{size_word, set_size}
 use Rattle.seg_block.specs.Tiling.{tile, IsTiling, Retiles}
 use Rattle.seg_block.proofs.SizeLaws.{IsHeader-set_size, Agrees-set_size, length-set_size}
-use Rattle.seg_block.proofs.Tiled.{around, aligned_end}
+use Rattle.seg_block.proofs.TileReplacementLaws.{around, aligned_end}
 use Rattle.seg_seqfit.specs.Retiling.{link_past}
 use Rattle.seg_seqfit.proofs.LinkLaws.{link_past-low}
 use Rattle.seg_seqfit.proofs.Retile.{IsLocal, retile, spares, link_names, IsLocal-trans, IsLocal-word, IsLocal-link, IsLocal-set_size}
-use Rattle.seg_seqfit.proofs.Taking.{named_after}
+use Rattle.seg_seqfit.proofs.GapAllocationLaws.{named_after}
 
 module _ (old : List ℕ) (xs ys : List Tile) (at n u r : ℕ) (was : IsTiling 0 old (xs ++ tile at n false ∷ ys)) (whole : n ≡ u + r) (front_large : 2 ≤ u) (rest_large : 2 ≤ r) where
   abbrev link : ℕ

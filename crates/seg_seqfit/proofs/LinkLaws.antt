@@ -5,7 +5,7 @@ use Rattle.seg_spec.specs.Bytes.{Agrees}
 use Rattle.seg_spec.specs.Pointer.{target}
 use Rattle.seg_spec.specs.Heap.{Span, Tile, span_of, end_of, Fill, Links, live_of, free_of}
 use Rattle.seg_spec.proofs.BytesLaws.{Agrees-within}
-use Rattle.seg_spec.proofs.TileLaws.{Fill-le}
+use Rattle.seg_spec.proofs.Heap.TileLaws.{Fill-le}
 use Rattle.seg_seqfit.specs.Retiling.{link_past}
 use Rattle.seg_block.proofs.LiveTiles.{cons_cases}
 use Rattle.seg_block.proofs.Heaps.{target-agrees}

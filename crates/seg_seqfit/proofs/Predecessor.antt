@@ -2,10 +2,10 @@
 use Rattle.std.proofs.Common.{◌≡◌, ℕ, ◌+◌, ◌*◌, ◌≤◌, Bool, true, false, List, [], ◌∷◌, ◌++◌, length, cond, Some, None, refl, sym, ap, ◌∙◌, subst, arith, ⊎_elim}
 use Rattle.std.proofs.lemmas.List.{append_assoc}
 use Rattle.seg_spec.specs.Heap.{Tile, span_of, is_live_at, Fill, Links, free_of, heap_start}
-use Rattle.seg_spec.proofs.TileLaws.{Fill-le, free_of-append}
+use Rattle.seg_spec.proofs.Heap.TileLaws.{Fill-le, free_of-append}
 use Rattle.seg_block.specs.declared.block.Block.{Block}
 use Rattle.seg_block.specs.Tiling.{tile, IsTiled, IsTiling}
-use Rattle.seg_block.proofs.Tiled.{around}
+use Rattle.seg_block.proofs.TileReplacementLaws.{around}
 use Rattle.seg_block.proofs.Neighbours.{own_flag}
 use Rattle.seg_block.specs.FreeBlocks.{AreFreeBlocks}
 use Rattle.seg_seqfit.specs.FreeBlocks.{link_after}

@@ -9,11 +9,11 @@ use Rattle.seg_spec.specs.Heap.{Span, Tile, span_of, end_of, Fill, AreHeaders, L
 use Rattle.seg_spec.proofs.BytesLaws.{number-agrees, Agrees-trans, Agrees-set_number, length-set_number}
 use Rattle.seg_spec.proofs.PointerLaws.{target-same}
 use Rattle.seg_block.specs.Sizes.{size_word, set_size}
-use Rattle.seg_spec.proofs.TileLaws.{Fill-le, units_after, live_of-append}
-use Rattle.seg_spec.proofs.HeaderLaws.{off_header}
+use Rattle.seg_spec.proofs.Heap.TileLaws.{Fill-le, units_after, live_of-append}
+use Rattle.seg_spec.proofs.Heap.HeaderLaws.{off_header}
 use Rattle.seg_block.specs.Tiling.{IsTiled, Spares, IsTiling}
 use Rattle.seg_seqfit.specs.Retiling.{link_past}
-use Rattle.seg_block.proofs.Tiled.{EachHeader, retiled, spared_tiles}
+use Rattle.seg_block.proofs.TileReplacementLaws.{EachHeader, retiled, spared_tiles}
 use Rattle.seg_seqfit.proofs.LinkLaws.{link_past-low, link_past-off, link_past-cases, Links-after, Links-changed, Links-moved, live_beside_link}
 use Rattle.seg_block.proofs.LiveTiles.{live_within}
 

@@ -5,15 +5,15 @@ use Rattle.seg_spec.specs.Pointer.{target, distance, set_pointer}
 use Rattle.seg_spec.specs.Heap.{Tile, units_before, link_at, Fill, AreHeaders, heap_start}
 use Rattle.seg_spec.proofs.BytesLaws.{number-set_other, length-set_number}
 use Rattle.seg_spec.proofs.PointerLaws.{target-set_same, target-same}
-use Rattle.seg_spec.proofs.TileLaws.{Fill-le, AreHeaders-back, units_after}
+use Rattle.seg_spec.proofs.Heap.TileLaws.{Fill-le, AreHeaders-back, units_after}
 use Rattle.seg_block.specs.Sizes.{size_word}
 use Rattle.seg_block.specs.Tiling.{tile, IsTiling, Retiles}
 use Rattle.seg_seqfit.specs.Retiling.{link_past}
 use Rattle.seg_block.proofs.SizeLaws.{IsHeader-set_word}
 use Rattle.seg_seqfit.proofs.LinkLaws.{link_past-low}
-use Rattle.seg_block.proofs.Tiled.{around}
+use Rattle.seg_block.proofs.TileReplacementLaws.{around}
 use Rattle.seg_seqfit.proofs.Retile.{IsLocal, retile, spares, link_names, IsLocal-trans, IsLocal-word, IsLocal-link}
-use Rattle.seg_seqfit.proofs.Taking.{named_after}
+use Rattle.seg_seqfit.proofs.GapAllocationLaws.{named_after}
 
 module _ (old : List ℕ) (xs ys : List Tile) (at u : ℕ) (was : IsTiling 0 old (xs ++ tile at u false ∷ ys)) where
   abbrev link : ℕ

@@ -17,8 +17,8 @@ use Rattle.seg_spec.specs.Faulty.{IsImageLength}
 use Rattle.seg_spec.proofs.BytesLaws.{number-set_same, number-slice, slice-agrees, length-put}
 use Rattle.seg_spec.proofs.SliceLaws.{slice-slice, slice-put_same, put-changes}
 use Rattle.seg_spec.proofs.PointerLaws.{target-set_same, target-same}
-use Rattle.seg_spec.proofs.CellSteps.{ChangesOnly-trans, ChangesOnly-wider}
-use Rattle.seg_spec.proofs.Writing.{set_number-changes}
+use Rattle.seg_spec.proofs.Values.CellChangeLaws.{ChangesOnly-trans, ChangesOnly-wider}
+use Rattle.seg_spec.proofs.Images.RootWriteLaws.{set_number-changes}
 use Rattle.seg_entry.specs.declared.kind.IndexKind.{IndexKind}
 use Rattle.seg_entry.specs.declared.kind.IndexKind.TheVariants as kinds
 use Rattle.seg_space.specs.NewSegments.{nothing, word_of_kind}

@@ -5,10 +5,10 @@ use Rattle.seg_spec.specs.Bytes.{IsSame}
 use Rattle.seg_spec.specs.Header.{free_word}
 use Rattle.seg_spec.specs.Pointer.{target}
 use Rattle.seg_spec.specs.Heap.{Span, tiles, AreHeaders, IsHeap, live, live_of, gaps, Links, HoldsGaps}
-use Rattle.seg_spec.proofs.Frame.{target-same}
-use Rattle.seg_spec.proofs.TileLaws.{tiles-unique}
-use Rattle.seg_spec.proofs.HeapFrame.{each_free, AreHeaders-kept, HoldsGaps-kept, link-kept}
-use Rattle.seg_spec.proofs.FreeLaws.{gaps-free}
+use Rattle.seg_spec.proofs.Values.PlaceFrameLaws.{target-same}
+use Rattle.seg_spec.proofs.Heap.TileLaws.{tiles-unique}
+use Rattle.seg_spec.proofs.Heap.HeapFrameLaws.{each_free, AreHeaders-kept, HoldsGaps-kept, link-kept}
+use Rattle.seg_spec.proofs.Heap.GapOrderLaws.{gaps-free}
 
 Links_same : (old new : List ℕ) (at : ℕ) (gs : List Span) (last : Option ℕ) → target new at ≡ target old at → AllByRecursion (λ g. IsSame old new g.at 16) gs → Links old at gs last → Links new at gs last
 Links_same old new at [] last e a l = e ∙ l

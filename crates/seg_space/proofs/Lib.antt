@@ -3,4 +3,4 @@ pub mod TileWalk
 pub mod KeptOrder
 pub mod ZeroedGaps
 pub mod NewZeros
-pub mod Resizing
+pub mod ResizeLaws

@@ -9,10 +9,10 @@ use Rattle.seg_spec.specs.Bytes.{slice, put, IsSame, Agrees, ChangesOnly}
 use Rattle.seg_spec.specs.Header.{units_word, free_word, back_start, heap_start, min_length}
 use Rattle.seg_spec.specs.Heap.{Span, Tile, span_of, end_of, tiles, IsHeap, live, live_of, free_of, gaps, gaps_between, run, without_end, after_extend, Extends}
 use Rattle.seg_spec.proofs.BytesLaws.{Agrees-put, Agrees-trans}
-use Rattle.seg_spec.proofs.Frame.{each_weaker, each_left, each_right, word-same}
-use Rattle.seg_spec.proofs.FreeLaws.{gaps-free}
-use Rattle.seg_spec.proofs.KeptLaws.{StatesSpan, live_stated, each_contained}
-use Rattle.seg_spec.proofs.LooseRoots.{each_joined}
+use Rattle.seg_spec.proofs.Values.PlaceFrameLaws.{each_weaker, each_left, each_right, word-same}
+use Rattle.seg_spec.proofs.Heap.GapOrderLaws.{gaps-free}
+use Rattle.seg_spec.proofs.Heap.KeptBlockLaws.{StatesSpan, live_stated, each_contained}
+use Rattle.seg_spec.proofs.Images.LooseRootLaws.{each_joined}
 use Rattle.seg_spec.proofs.SliceLaws.{slice-put_same, put-changes}
 use Rattle.seg_space.specs.Sizes.{used_front}
 use Rattle.seg_space.proofs.KeptOrder.{KeepsOrder, order_live, order_heap}

@@ -3,8 +3,8 @@ use Rattle.std.proofs.Common.{◌≡◌, ℕ, ◌+◌, ◌-◌, ◌*◌, ◌%◌
 use Rattle.std.proofs.lemmas.Bool.Decides.{nat_tests}
 use Rattle.std.specs.Prelude.{IsSomeAnd}
 use Rattle.seg_spec.specs.Heap.{Span, span, Tile, span_of, units_at, is_live_at, tiles, Fill, AreHeaders, AreApart, IsHeap, live, live_of, free_of, gaps, heap_start}
-use Rattle.seg_spec.proofs.TileLaws.{Fill-le}
-use Rattle.seg_spec.proofs.FreeLaws.{gaps-free}
+use Rattle.seg_spec.proofs.Heap.TileLaws.{Fill-le}
+use Rattle.seg_spec.proofs.Heap.GapOrderLaws.{gaps-free}
 use Rattle.seg_block.specs.declared.block.Block.{Block}
 use Rattle.seg_block.specs.Blocks.{IsSized, Covers}
 use Rattle.seg_space.specs.Gaps.{bytes_in_gaps, largest_of}

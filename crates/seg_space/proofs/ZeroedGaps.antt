@@ -10,21 +10,21 @@ use Rattle.seg_spec.specs.Block.{IsOwnable, KeepsBlock, payload_size}
 use Rattle.seg_spec.specs.Apart.{Separate}
 use Rattle.seg_spec.specs.Sound.{Picture, IsHeld, times, positions}
 use Rattle.seg_spec.proofs.BytesLaws.{Agrees-put}
-use Rattle.seg_spec.proofs.Frame.{each_weaker, each_both, each_left, each_right, word-same, target-same}
-use Rattle.seg_spec.proofs.TileLaws.{Fill-le, Fill-append, free_of-append}
-use Rattle.seg_spec.proofs.HeaderLaws.{AreHeaders-agrees}
-use Rattle.seg_spec.proofs.HeapFrame.{each_free}
-use Rattle.seg_spec.proofs.FreeLaws.{gaps-free}
-use Rattle.seg_spec.proofs.LiveLaws.{there, each_there, times-append}
-use Rattle.seg_spec.proofs.RootFrame.{HoldsRoots-kept}
-use Rattle.seg_spec.proofs.RootLaws.{IsLaidOut-kept}
+use Rattle.seg_spec.proofs.Values.PlaceFrameLaws.{each_weaker, each_both, each_left, each_right, word-same, target-same}
+use Rattle.seg_spec.proofs.Heap.TileLaws.{Fill-le, Fill-append, free_of-append}
+use Rattle.seg_spec.proofs.Heap.HeaderLaws.{AreHeaders-agrees}
+use Rattle.seg_spec.proofs.Heap.HeapFrameLaws.{each_free}
+use Rattle.seg_spec.proofs.Heap.GapOrderLaws.{gaps-free}
+use Rattle.seg_spec.proofs.Heap.LiveBlockLaws.{there, each_there, times-append}
+use Rattle.seg_spec.proofs.Images.RootFrameLaws.{HoldsRoots-kept}
+use Rattle.seg_spec.proofs.Images.RootLaws.{IsLaidOut-kept}
 use Rattle.seg_spec.proofs.SliceLaws.{IsSame-part, slice-put_same, put-changes}
 use Rattle.seg_value.specs.Stored.{Stored}
 use Rattle.seg_space.specs.Gaps.{spare_start, spare_size, IsZeroed, LiesBeside, ZeroesGaps}
 use Rattle.seg_manager.specs.Segments.{IsSegment}
-use Rattle.seg_spec.proofs.LooseRoots.{each_joined}
+use Rattle.seg_spec.proofs.Images.LooseRootLaws.{each_joined}
 use Rattle.seg_manager.proofs.LooseObjects.{allocator_same}
-use Rattle.seg_spec.proofs.CountedKept.{next_same, counted_still}
+use Rattle.seg_spec.proofs.Frozen.KeptCountLaws.{next_same, counted_still}
 use Rattle.seg_space.proofs.KeptOrder.{KeepsOrder, order_live, order_heap}
 use Rattle.seg_space.proofs.TileWalk.{Rest, Reads, reads_tile}
 

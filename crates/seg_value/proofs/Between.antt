@@ -22,15 +22,15 @@ use Rattle.seg_value.specs.Entries.{flat_value, flat_asks, OpensEntry, ClosesEnt
 use Rattle.seg_spec.specs.Shrinking.{KeepsPathsInside}
 use Rattle.seg_spec.proofs.BytesLaws.{number-set_same}
 use Rattle.seg_spec.proofs.SliceLaws.{IsSame-part}
-use Rattle.seg_spec.proofs.OneReading.{Holds-one}
-use Rattle.seg_spec.proofs.Frame.{cell-target, cell-count, target-same, IsBlock-kept}
-use Rattle.seg_spec.proofs.TypesLaws.{size_large}
-use Rattle.seg_spec.proofs.CellSteps.{size_aligned}
-use Rattle.seg_spec.proofs.Writing.{set_number-changes}
-use Rattle.seg_spec.proofs.LiveLaws.{times-same, times-other, times-more, times-append, there, each_there, LiesIn, live-lie, live-apart, OneOrApart, live-once}
-use Rattle.seg_spec.proofs.PlaceSteps.{home_live, owned_live, owned_other, place_within}
-use Rattle.seg_spec.proofs.Standing.{Frames, frames_twice, stands_after}
-use Rattle.seg_spec.proofs.Buffered.{HoldsEntries, Buffered, buffered, holds_buffered}
+use Rattle.seg_spec.proofs.Values.OneValueLaws.{Holds-one}
+use Rattle.seg_spec.proofs.Values.PlaceFrameLaws.{cell-target, cell-count, target-same, IsBlock-kept}
+use Rattle.seg_spec.proofs.Tables.TypeSizeLaws.{size_large}
+use Rattle.seg_spec.proofs.Values.CellChangeLaws.{size_aligned}
+use Rattle.seg_spec.proofs.Images.RootWriteLaws.{set_number-changes}
+use Rattle.seg_spec.proofs.Heap.LiveBlockLaws.{times-same, times-other, times-more, times-append, there, each_there, LiesIn, live-lie, live-apart, OneOrApart, live-once}
+use Rattle.seg_spec.proofs.Values.PlaceWriteLaws.{home_live, owned_live, owned_other, place_within}
+use Rattle.seg_spec.proofs.Values.CallPlaceLaws.{Frames, frames_twice, stands_after}
+use Rattle.seg_spec.proofs.Values.BufferLaws.{HoldsEntries, Buffered, buffered, holds_buffered}
 use Rattle.seg_value.proofs.Inside.{changes_twice, wrote_heap, wrote_live, wrote_ownable, wrote_other, wrote_block, frames_beside, frames_around}
 use Rattle.seg_value.proofs.Runs.{Run, run_kept, run_paths, run_moved, parts, joined, alone, keys_long, the_one, insert_between, remove_between, insert_key, remove_key, ascending_after, ascending_without}
 use Rattle.seg_cells.proofs.Shifts.{moved_changes}

@@ -18,19 +18,19 @@ use Rattle.seg_spec.specs.Cells.{IsWithin, Shifts}
 use Rattle.seg_spec.specs.Owning.{Stands}
 use Rattle.seg_spec.specs.Spending.{item_size, units_named, buffer_asks, spent}
 use Rattle.seg_spec.specs.Growing.{Reserves, MovesBuffer}
-use Rattle.seg_spec.proofs.LiveLaws.{times-same, there, LiesIn, live-lie, positions-resized}
-use Rattle.seg_spec.proofs.KeptLaws.{each_contained, StatesSpan, live_stated}
-use Rattle.seg_spec.proofs.Giving.{found}
-use Rattle.seg_spec.proofs.Frame.{cell-target}
+use Rattle.seg_spec.proofs.Heap.LiveBlockLaws.{times-same, there, LiesIn, live-lie, positions-resized}
+use Rattle.seg_spec.proofs.Heap.KeptBlockLaws.{each_contained, StatesSpan, live_stated}
+use Rattle.seg_spec.proofs.Deallocation.BlockFreeLaws.{found}
+use Rattle.seg_spec.proofs.Values.PlaceFrameLaws.{cell-target}
 use Rattle.seg_spec.proofs.SliceLaws.{IsSame-part}
-use Rattle.seg_spec.proofs.TypesLaws.{size_large}
-use Rattle.seg_spec.proofs.CellSteps.{ChangesOnly-none}
-use Rattle.seg_spec.proofs.PlaceSteps.{owned_live, changes_place}
-use Rattle.seg_spec.proofs.Standing.{changes_of}
-use Rattle.seg_spec.proofs.Buffered.{Buffered, buffered, MovesEntries}
-use Rattle.seg_spec.proofs.BufferMoves.{MovesFrom, less_room, old_count, block_small, from_within, to_within, pointed_stands, old_live, moves}
-use Rattle.seg_spec.proofs.BufferGrows.{grown_stands, grown_frames, grown_place, grown_units}
-use Rattle.seg_spec.proofs.Requested.{GrewTo, spent_same, spent_fresh}
+use Rattle.seg_spec.proofs.Tables.TypeSizeLaws.{size_large}
+use Rattle.seg_spec.proofs.Values.CellChangeLaws.{ChangesOnly-none}
+use Rattle.seg_spec.proofs.Values.PlaceWriteLaws.{owned_live, changes_place}
+use Rattle.seg_spec.proofs.Values.CallPlaceLaws.{changes_of}
+use Rattle.seg_spec.proofs.Values.BufferLaws.{Buffered, buffered, MovesEntries}
+use Rattle.seg_spec.proofs.Values.BufferMoveLaws.{MovesFrom, less_room, old_count, block_small, from_within, to_within, pointed_stands, old_live, moves}
+use Rattle.seg_spec.proofs.Values.BufferGrowthLaws.{grown_stands, grown_frames, grown_place, grown_units}
+use Rattle.seg_spec.proofs.Heap.GrantLaws.{GrewTo, spent_same, spent_fresh}
 use Rattle.seg_block.specs.Blocks.{IsSized, IsLiveBlock}
 use Rattle.seg_block.specs.Tags.{word_of}
 use Rattle.seg_block.specs.Request.{Grants, GrantsNew}
@@ -41,8 +41,8 @@ use Rattle.seg_cells.specs.declared.entry.Held.TheVariants as held
 use Rattle.seg_cells.specs.Entries.{IsEntryOf}
 use Rattle.seg_cells.specs.Contents.{IsContent, ContentOf}
 use Rattle.seg_cells.specs.Places.{object_at}
-use Rattle.seg_value.proofs.Enlarging as by_request
-use Rattle.seg_value.proofs.Enlarging.{ask, asks_nothing, NewFor}
+use Rattle.seg_value.proofs.BufferRequestLaws as by_request
+use Rattle.seg_value.proofs.BufferRequestLaws.{ask, asks_nothing, NewFor}
 use Rattle.seg_value.specs.Buffers.{NamesBuffer}
 
 -- ---- the entries of a buffer, by the form of its type

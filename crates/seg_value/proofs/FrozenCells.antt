@@ -18,16 +18,16 @@ use Rattle.seg_spec.specs.Frozen.{Frozen, root_of_frozen, blocks_by}
 use Rattle.seg_spec.specs.Shared.{names_in, IsBelow, left}
 use Rattle.seg_spec.specs.Clearing.{ClearsPlace}
 use Rattle.seg_spec.proofs.SliceLaws.{IsSame-part}
-use Rattle.seg_spec.proofs.Frame.{word-same, each_weaker, each_left, each_right}
-use Rattle.seg_spec.proofs.Composing.{kept_twice, around_twice, around_kept}
-use Rattle.seg_spec.proofs.LiveLaws.{times-append, times-same, times-other, there, each_there, LiesIn, live-lie, live-apart, live-once, OneOrApart}
-use Rattle.seg_spec.proofs.FrozenBlocks.{hold_kept, frozen_twice, frozen_kept, left_each, left_fewer}
-use Rattle.seg_spec.proofs.SharedLaws.{elsewhere}
-use Rattle.seg_spec.proofs.Releases.{IsFrozenThere, frozen_there}
-use Rattle.seg_spec.proofs.OneMoreFrozen.{with_own, by_others, hold_others, keep_others, not_there, stays_left}
-use Rattle.seg_spec.proofs.Sharing.{one_frozen}
-use Rattle.seg_spec.proofs.Raising.{counted_moved}
-use Rattle.seg_spec.proofs.Standing.{each_live_at, live_at, stands_still, still_home}
+use Rattle.seg_spec.proofs.Values.PlaceFrameLaws.{word-same, each_weaker, each_left, each_right}
+use Rattle.seg_spec.proofs.Heap.BlockFrameLaws.{kept_twice, around_twice, around_kept}
+use Rattle.seg_spec.proofs.Heap.LiveBlockLaws.{times-append, times-same, times-other, there, each_there, LiesIn, live-lie, live-apart, live-once, OneOrApart}
+use Rattle.seg_spec.proofs.Frozen.FrozenBlockLaws.{hold_kept, frozen_twice, frozen_kept, left_each, left_fewer}
+use Rattle.seg_spec.proofs.Frozen.SharedLaws.{elsewhere}
+use Rattle.seg_spec.proofs.Frozen.ReleaseLaws.{IsFrozenThere, frozen_there}
+use Rattle.seg_spec.proofs.Frozen.OneMoreObjectLaws.{with_own, by_others, hold_others, keep_others, not_there, stays_left}
+use Rattle.seg_spec.proofs.Frozen.OneMoreCellLaws.{one_frozen}
+use Rattle.seg_spec.proofs.Frozen.CountIncreaseLaws.{counted_moved}
+use Rattle.seg_spec.proofs.Values.CallPlaceLaws.{each_live_at, live_at, stands_still, still_home}
 use Rattle.seg_spec.specs.Sharing.{FrozenBeside, frozen_now, with_blocks, MovesFrozen, Freezes}
 use Rattle.seg_value.proofs.SharedCells.{ClearsCell, cell_changed}
 

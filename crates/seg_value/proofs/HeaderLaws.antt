@@ -6,11 +6,11 @@ use Rattle.seg_spec.specs.Types.{Table}
 use Rattle.seg_spec.specs.Heap.{Tile, tiles, Fill, gaps, live, IsHeap, heap_start, free_of, KeepsTiles}
 use Rattle.seg_spec.specs.Block.{IsOwnable, KeepsBlock, payload_size}
 use Rattle.seg_spec.specs.Sound.{times, positions}
-use Rattle.seg_spec.proofs.Frame.{each_weaker, word-same}
-use Rattle.seg_spec.proofs.TileLaws.{Fill-le, gaps_between-live_of}
-use Rattle.seg_spec.proofs.HeapFrame.{IsHeap-kept, live-kept, IsOwnable-kept}
-use Rattle.seg_spec.proofs.LiveLaws.{there, LiesIn, live-lie}
-use Rattle.seg_spec.proofs.WriteInside.{each_free_tile}
+use Rattle.seg_spec.proofs.Values.PlaceFrameLaws.{each_weaker, word-same}
+use Rattle.seg_spec.proofs.Heap.TileLaws.{Fill-le, gaps_between-live_of}
+use Rattle.seg_spec.proofs.Heap.HeapFrameLaws.{IsHeap-kept, live-kept, IsOwnable-kept}
+use Rattle.seg_spec.proofs.Heap.LiveBlockLaws.{there, LiesIn, live-lie}
+use Rattle.seg_spec.proofs.Heap.BlockWriteLaws.{each_free_tile}
 
 above : (ts : List Tile) (from to : ℕ) → Fill from ts to → AllByRecursion (λ t. from ≤ t.at) ts
 above [] from to f = tt

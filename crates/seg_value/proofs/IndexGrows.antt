@@ -9,19 +9,19 @@ use Rattle.seg_spec.specs.Reads.{count_at, named}
 use Rattle.seg_spec.specs.Sound.{positions}
 use Rattle.seg_spec.specs.Demand.{Ask, need, after_ask, after_gives}
 use Rattle.seg_spec.specs.Spending.{units_named, buffer_asks, spent}
-use Rattle.seg_spec.proofs.LiveLaws.{there, LiesIn, live-lie}
-use Rattle.seg_spec.proofs.KeptLaws.{each_contained, StatesSpan, live_stated}
-use Rattle.seg_spec.proofs.Giving.{found}
-use Rattle.seg_spec.proofs.BufferMoves.{less_room}
-use Rattle.seg_spec.proofs.Requested.{GrewTo, spent_same, spent_fresh}
+use Rattle.seg_spec.proofs.Heap.LiveBlockLaws.{there, LiesIn, live-lie}
+use Rattle.seg_spec.proofs.Heap.KeptBlockLaws.{each_contained, StatesSpan, live_stated}
+use Rattle.seg_spec.proofs.Deallocation.BlockFreeLaws.{found}
+use Rattle.seg_spec.proofs.Values.BufferMoveLaws.{less_room}
+use Rattle.seg_spec.proofs.Heap.GrantLaws.{GrewTo, spent_same, spent_fresh}
 use Rattle.seg_block.specs.Blocks.{IsSized, IsLiveBlock}
 use Rattle.seg_block.specs.Request.{Grants, GrantsNew}
 use Rattle.seg_block.specs.declared.grant.Grant.{Grant}
 use Rattle.seg_value.specs.Names.{index_cell, FindsNames, ChangesIndex, ReservesIndex, MovesIndex}
-use Rattle.seg_value.proofs.Enlarging as by_request
-use Rattle.seg_value.proofs.Enlarging.{ask, asks_nothing, NewFor}
-use Rattle.seg_value.proofs.Named.{name_block, name_live, name_room}
-use Rattle.seg_value.proofs.Indexed.{grown_index, grown_names, grown_target, grown_index_units}
+use Rattle.seg_value.proofs.BufferRequestLaws as by_request
+use Rattle.seg_value.proofs.BufferRequestLaws.{ask, asks_nothing, NewFor}
+use Rattle.seg_value.proofs.IndexEntryLaws.{name_block, name_live, name_room}
+use Rattle.seg_value.proofs.IndexBufferLaws.{grown_index, grown_names, grown_target, grown_index_units}
 
 module _ (allocator : ℕ) (old : List ℕ) (table : Table) (s : FindsNames allocator old table) where
   record Named (p : ℕ) : Type 0 where

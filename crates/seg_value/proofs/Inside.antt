@@ -11,15 +11,15 @@ use Rattle.seg_spec.specs.Block.{IsBlock, IsInside, IsOwnable, KeepsBlock, Keeps
 use Rattle.seg_spec.specs.Reads.{Place}
 use Rattle.seg_spec.specs.Sound.{times, positions}
 use Rattle.seg_spec.specs.Roots.{ChangesPlace}
-use Rattle.seg_spec.proofs.Frame.{word-same}
-use Rattle.seg_spec.proofs.LiveLaws.{LiesIn, live-lie, times-more, times-without, times-same, there, live-once}
-use Rattle.seg_spec.proofs.HeapFrame.{IsHeap-kept, live-kept, IsOwnable-kept}
-use Rattle.seg_spec.proofs.WriteInside.{tiles_kept, low_kept, KeptBut, live_kept_but}
-use Rattle.seg_spec.proofs.Composing.{around_twice, around_kept}
+use Rattle.seg_spec.proofs.Values.PlaceFrameLaws.{word-same}
+use Rattle.seg_spec.proofs.Heap.LiveBlockLaws.{LiesIn, live-lie, times-more, times-without, times-same, there, live-once}
+use Rattle.seg_spec.proofs.Heap.HeapFrameLaws.{IsHeap-kept, live-kept, IsOwnable-kept}
+use Rattle.seg_spec.proofs.Heap.BlockWriteLaws.{tiles_kept, low_kept, KeptBut, live_kept_but}
+use Rattle.seg_spec.proofs.Heap.BlockFrameLaws.{around_twice, around_kept}
 use Rattle.seg_spec.specs.Owing.{KeepsLinked}
-use Rattle.seg_spec.proofs.Giving.{given_kept}
-use Rattle.seg_spec.proofs.KeptLaws.{front_kept}
-use Rattle.seg_spec.proofs.Standing.{each_live_at, live_at, ownable_linked, Frames}
+use Rattle.seg_spec.proofs.Deallocation.BlockFreeLaws.{given_kept}
+use Rattle.seg_spec.proofs.Heap.KeptBlockLaws.{front_kept}
+use Rattle.seg_spec.proofs.Values.CallPlaceLaws.{each_live_at, live_at, ownable_linked, Frames}
 
 module _ (allocator : ℕ) (old new : List ℕ) (table : Table) (g at m : ℕ) (heap : IsHeap allocator old) (changes : ChangesOnly old new at m) (inside : IsInside old g at m) (g_live : 1 ≤ times g (positions (live old))) where
   tiles : KeepsTiles old new

@@ -9,9 +9,9 @@ use Rattle.seg_spec.specs.Sound.{times, SameBlocks, positions}
 use Rattle.seg_spec.specs.Owing.{KeepsWhole, OwesLinks, no_links, null_link, node_link}
 use Rattle.seg_spec.specs.Destroying.{AreLive, GoesWith}
 use Rattle.seg_spec.proofs.SliceLaws.{IsSame-part}
-use Rattle.seg_spec.proofs.LiveLaws.{times-append, times-same, times-more, there, each_there, LiesIn, live-lie, live-once}
-use Rattle.seg_spec.proofs.Owed.{OwesLinks-kept}
-use Rattle.seg_spec.proofs.Destruction.{no_common, inside_same, awaits_names, adds_twice}
+use Rattle.seg_spec.proofs.Heap.LiveBlockLaws.{times-append, times-same, times-more, there, each_there, LiesIn, live-lie, live-once}
+use Rattle.seg_spec.proofs.Deallocation.WaitingBlockLaws.{OwesLinks-kept}
+use Rattle.seg_spec.proofs.Deallocation.DestructionLaws.{no_common, inside_same, awaits_names, adds_twice}
 use Rattle.seg_value.specs.Waiting.{AddsIn}
 use Rattle.seg_value.proofs.Nulls.{Nothing}
 

@@ -7,8 +7,8 @@ use Rattle.seg_spec.specs.Heap.{IsHeap, live, after_take, Takes}
 use Rattle.seg_spec.specs.Reads.{Holds}
 use Rattle.seg_spec.specs.Demand.{need, after_asks, block_for}
 use Rattle.seg_spec.specs.Sound.{times, positions}
-use Rattle.seg_spec.proofs.LiveLaws.{times-same, times-with_block}
-use Rattle.seg_spec.proofs.NewBlock.{took, new_live, block_fits, was_free, new_heap, all_kept, is_block, new_length, new_front, new_back, new_link, taken_units}
+use Rattle.seg_spec.proofs.Heap.LiveBlockLaws.{times-same, times-with_block}
+use Rattle.seg_spec.proofs.Heap.NewBlockLaws.{took, new_live, block_fits, was_free, new_heap, all_kept, is_block, new_length, new_front, new_back, new_link, taken_units}
 use Rattle.seg_spec.specs.Cells.{IsWithin}
 use Rattle.seg_spec.proofs.BytesLaws.{length-set_number}
 use Rattle.seg_value.specs.Contents.{GivesBlock}

@@ -4,7 +4,7 @@ use Rattle.seg_spec.specs.Bytes.{set_word, ChangesOnly}
 use Rattle.seg_spec.specs.Heap.{IsHeap, Takes}
 use Rattle.seg_spec.specs.Demand.{need}
 use Rattle.seg_spec.specs.Block.{Kind, tag_of}
-use Rattle.seg_spec.proofs.NewBlock.{block_fits, was_free, new_heap, all_kept, is_block, new_length, new_front, new_back, new_link, taken_units}
+use Rattle.seg_spec.proofs.Heap.NewBlockLaws.{block_fits, was_free, new_heap, all_kept, is_block, new_length, new_front, new_back, new_link, taken_units}
 use Rattle.seg_value.specs.Nodes.{GivesNode}
 use Rattle.seg_value.proofs.NewBlocks.{now_live, asks_granted}
 

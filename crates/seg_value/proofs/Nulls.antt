@@ -10,11 +10,11 @@ use Rattle.seg_spec.specs.Cells.{EachCell}
 use Rattle.seg_spec.specs.Sound.{times}
 use Rattle.seg_spec.specs.Shared.{named_in, named_each}
 use Rattle.seg_spec.specs.Owing.{NamesNothing, IsPart, AreParts, no_parts, more_parts}
-use Rattle.seg_spec.proofs.LiveLaws.{times-same}
-use Rattle.seg_spec.proofs.CellLaws.{IsOne}
-use Rattle.seg_spec.proofs.CellSteps.{one_cell, length_fields}
-use Rattle.seg_spec.proofs.CellOwed.{same_form}
-use Rattle.seg_spec.proofs.PartsOwed.{named_inside}
+use Rattle.seg_spec.proofs.Heap.LiveBlockLaws.{times-same}
+use Rattle.seg_spec.proofs.Values.CellLaws.{IsOne}
+use Rattle.seg_spec.proofs.Values.CellChangeLaws.{one_cell, length_fields}
+use Rattle.seg_spec.proofs.Deallocation.CellDestructionLaws.{same_form}
+use Rattle.seg_spec.proofs.Deallocation.PartDestructionLaws.{named_inside}
 use Rattle.seg_layout.specs.Forms.{has_cells}
 use Rattle.seg_cells.specs.Contents.{ContentOf}
 use Rattle.seg_cells.specs.declared.content.Content.{Content}

@@ -10,11 +10,11 @@ use Rattle.seg_spec.specs.Block.{Kind, tag_of, block_of, KeepsBlock}
 use Rattle.seg_spec.specs.Reads.{Place}
 use Rattle.seg_spec.specs.Sound.{times, positions}
 use Rattle.seg_spec.specs.Owning.{Stands}
-use Rattle.seg_spec.proofs.Frame.{Holds-kept, IsBlock-kept, payload-same}
-use Rattle.seg_spec.proofs.LiveLaws.{times-more}
-use Rattle.seg_spec.proofs.TypesLaws.{size-form}
-use Rattle.seg_spec.proofs.PlaceSteps.{place_within, blocks_then, live_then, changes_place}
-use Rattle.seg_spec.proofs.OwnSteps.{FullOwn, full_own, null_own, cell_changes, cell_names, cell_counts}
+use Rattle.seg_spec.proofs.Values.PlaceFrameLaws.{Holds-kept, IsBlock-kept, payload-same}
+use Rattle.seg_spec.proofs.Heap.LiveBlockLaws.{times-more}
+use Rattle.seg_spec.proofs.Tables.TypeSizeLaws.{size-form}
+use Rattle.seg_spec.proofs.Values.PlaceWriteLaws.{place_within, blocks_then, live_then, changes_place}
+use Rattle.seg_spec.proofs.Deallocation.OwnLaws.{FullOwn, full_own, null_own, cell_changes, cell_names, cell_counts}
 use Rattle.seg_value.specs.Places.{TakesOwn}
 
 module _ (allocator : ℕ) (old : List ℕ) (table : Table) (own : Place) (U : ℕ) (f : form_at table own.type ≡ Some (Form.own U)) (v : Value) (blocks : List ℕ) (s : Stands allocator old table own (Full v) blocks) where

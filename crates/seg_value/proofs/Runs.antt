@@ -12,9 +12,9 @@ use Rattle.seg_spec.specs.Reads.{Place, spaced, places_of, keys_at, Holds, Holds
 use Rattle.seg_spec.specs.Cells.{IsWithin, Shifts}
 use Rattle.seg_spec.specs.Owning.{StandsBeside}
 use Rattle.seg_spec.specs.Shrinking.{KeepsPathsInside}
-use Rattle.seg_spec.proofs.Leading.{Leads-each}
-use Rattle.seg_spec.proofs.Frame.{keys_at-same, spaced-same, inner-same, shorter, HoldsEach-kept}
-use Rattle.seg_spec.proofs.Buffered.{HoldsEntries, entries_moved}
+use Rattle.seg_spec.proofs.Values.PathFrameLaws.{Leads-each}
+use Rattle.seg_spec.proofs.Values.PlaceFrameLaws.{keys_at-same, spaced-same, inner-same, shorter, HoldsEach-kept}
+use Rattle.seg_spec.proofs.Values.BufferLaws.{HoldsEntries, entries_moved}
 
 -- ---- places in a row
 

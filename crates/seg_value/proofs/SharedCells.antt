@@ -17,20 +17,20 @@ use Rattle.seg_spec.specs.Shared.{names_in, named_in, IsBelow, raised, raised_by
 use Rattle.seg_spec.specs.Destroying.{AreLive, KeepFrozen}
 use Rattle.seg_spec.specs.Clearing.{SharedBeside, BesideShared, ClearsPlace}
 use Rattle.seg_spec.proofs.SliceLaws.{IsSame-part}
-use Rattle.seg_spec.proofs.Frame.{word-same, each_right}
+use Rattle.seg_spec.proofs.Values.PlaceFrameLaws.{word-same, each_right}
 use Rattle.seg_spec.proofs.BytesLaws.{number-set_same}
-use Rattle.seg_spec.proofs.Writing.{set_number-changes}
+use Rattle.seg_spec.proofs.Images.RootWriteLaws.{set_number-changes}
 use Rattle.seg_spec.proofs.PointerLaws.{target-small}
-use Rattle.seg_spec.proofs.Defaults.{default-form}
-use Rattle.seg_spec.proofs.Composing.{around_twice}
-use Rattle.seg_spec.proofs.LiveLaws.{times-append, times-other, live-once}
-use Rattle.seg_spec.proofs.FrozenBlocks.{frozen_twice, left_each, left_fewer}
-use Rattle.seg_spec.proofs.Lowering.{named_positions}
-use Rattle.seg_spec.proofs.Sharing.{shared}
-use Rattle.seg_spec.proofs.Raising.{k, falling_raised, counted_moved, by_raised, own_shared, own_live, count_was, count_inside, count_fits, hold_raised, kept_raised}
-use Rattle.seg_spec.proofs.Standing.{Frames, live_at, beside_stands, beside_home, beside_live, beside_frames}
+use Rattle.seg_spec.proofs.Values.DefaultLaws.{default-form}
+use Rattle.seg_spec.proofs.Heap.BlockFrameLaws.{around_twice}
+use Rattle.seg_spec.proofs.Heap.LiveBlockLaws.{times-append, times-other, live-once}
+use Rattle.seg_spec.proofs.Frozen.FrozenBlockLaws.{frozen_twice, left_each, left_fewer}
+use Rattle.seg_spec.proofs.Frozen.CountDecreaseLaws.{named_positions}
+use Rattle.seg_spec.proofs.Frozen.OneMoreCellLaws.{shared}
+use Rattle.seg_spec.proofs.Frozen.CountIncreaseLaws.{k, falling_raised, counted_moved, by_raised, own_shared, own_live, count_was, count_inside, count_fits, hold_raised, kept_raised}
+use Rattle.seg_spec.proofs.Values.CallPlaceLaws.{Frames, live_at, beside_stands, beside_home, beside_live, beside_frames}
 use Rattle.seg_spec.specs.Sharing.{FrozenBeside, cell_count}
-use Rattle.seg_value.proofs.Pointed.{names_by, names_of_cell, SharedCell, shared_cell, pointed}
+use Rattle.seg_value.proofs.SharedCellLaws.{names_by, names_of_cell, SharedCell, shared_cell, pointed}
 
 -- what a call that clears a cell ensures
 abbrev pub ClearsCell : ℕ → List ℕ → List ℕ → Table → Place → Type 0

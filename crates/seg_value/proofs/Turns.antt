@@ -13,14 +13,14 @@ use Rattle.seg_spec.specs.Frozen.{Frozen, blocks_by}
 use Rattle.seg_spec.specs.Shared.{named_in}
 use Rattle.seg_spec.specs.Owing.{KeepsLinked, no_parts, more_parts, owes, no_links}
 use Rattle.seg_spec.specs.Destroying.{AreLive, GoesWith, Awaits, Pops, Adds, HoldFrozen, KeepFrozen, Destroys}
-use Rattle.seg_spec.proofs.LiveLaws.{times-append, times-same, times-without, there, LiesIn, live-lie, live-once}
-use Rattle.seg_spec.proofs.KeptLaws.{front_kept}
-use Rattle.seg_spec.proofs.Giving.{found, given_kept}
-use Rattle.seg_spec.proofs.Destruction.{HasFreed, pop_live, freed_more, linked_twice, released}
+use Rattle.seg_spec.proofs.Heap.LiveBlockLaws.{times-append, times-same, times-without, there, LiesIn, live-lie, live-once}
+use Rattle.seg_spec.proofs.Heap.KeptBlockLaws.{front_kept}
+use Rattle.seg_spec.proofs.Deallocation.BlockFreeLaws.{found, given_kept}
+use Rattle.seg_spec.proofs.Deallocation.DestructionLaws.{HasFreed, pop_live, freed_more, linked_twice, released}
 use Rattle.seg_spec.specs.Clearing.{SharedBeside}
-use Rattle.seg_spec.proofs.FrozenBlocks.{hold_kept, frozen_twice, frozen_kept}
-use Rattle.seg_spec.proofs.Standing.{ownable_linked}
-use Rattle.seg_spec.proofs.SharedBeside.{awaits_shared}
+use Rattle.seg_spec.proofs.Frozen.FrozenBlockLaws.{hold_kept, frozen_twice, frozen_kept}
+use Rattle.seg_spec.proofs.Values.CallPlaceLaws.{ownable_linked}
+use Rattle.seg_spec.proofs.Deallocation.SharedDestructionLaws.{awaits_shared}
 use Rattle.seg_value.specs.Waiting.{AddsIn, IsOpened}
 
 -- a position in the list of allocated blocks is an allocated block's

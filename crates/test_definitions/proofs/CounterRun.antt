@@ -17,10 +17,10 @@ use Rattle.seg_spec.specs.Sound.{Picture, IsHeld, holds_no_root}
 use Rattle.seg_spec.specs.Faulty.{IsImageLength}
 use Rattle.seg_spec.specs.Roots.{Listed}
 use Rattle.seg_spec.specs.Fixtures.{counter, counter_picture}
-use Rattle.test_definitions.proofs.Evaluating.{live_evaluated, unshared}
+use Rattle.test_definitions.proofs.ImageEvaluationLaws.{live_evaluated, unshared}
 use Rattle.test_definitions.proofs.SoundImages.{counter_tiles, counter_fill, counter_headers, counter_held, counter_counted}
-use Rattle.seg_spec.proofs.Upgrading.{upgraded_held, upgraded_counted, upgraded_live}
-use Rattle.seg_spec.proofs.Writing.{stored}
+use Rattle.seg_spec.proofs.Images.UpgradeLaws.{upgraded_held, upgraded_counted, upgraded_live}
+use Rattle.seg_spec.proofs.Images.RootWriteLaws.{stored}
 use Rattle.client_spec.specs.declared.table.Operation.{Operation}
 use Rattle.client_spec.specs.Syntax.{Instruction}
 use Rattle.client_spec.specs.Grammar.{client_bytes}
@@ -31,15 +31,15 @@ use Rattle.client_spec.specs.Typed.{RegisterType, rule, sharing_rule, types_by}
 use Rattle.client_spec.specs.Run.{Run, Nothing, finished}
 use Rattle.client_spec.specs.Trees.{unfolded_object, AreTrees}
 use Rattle.client_spec.specs.Pictures.{Pictures, AreOwned, names_in as names_of_picture, object_of, meaning_in, PicturesTrees}
-use Rattle.client_spec.proofs.Values.{Some_inj}
-use Rattle.client_spec.proofs.PictureLaws.{owned_one}
-use Rattle.client_spec.proofs.PicturedTrees.{own_trees}
+use Rattle.client_spec.proofs.TypedStates.ValueLaws.{Some_inj}
+use Rattle.client_spec.proofs.TypedStates.PictureLaws.{owned_one}
+use Rattle.client_spec.proofs.Unfolded.PictureTreeLaws.{own_trees}
 use Rattle.client_spec.specs.Asks.{ChangesBlocks}
 use Rattle.client_spec.specs.OnImages.{Situation, image_machine, RowOn, Given, Left, IsFirst, IsLeftAfter, RunsClient}
 use Rattle.client_spec.specs.Clients.{AreAccepted}
 use Rattle.client_spec.specs.Outcome.{given_first, IsOutcome}
 use Rattle.client_spec.specs.Fixtures.{at, increment, counted, x}
-use Rattle.test_definitions.proofs.Worked.{increment_spelled, same_x}
+use Rattle.test_definitions.proofs.IncrementLaws.{increment_spelled, same_x}
 
 -- ---- the states and the image
 

@@ -16,9 +16,9 @@ use Rattle.seg_spec.specs.Roots.{KeepsPaths, KeepsPathsBeside, ChangesPlace}
 use Rattle.seg_spec.specs.Spending.{units_named, item_size, cut_to}
 use Rattle.seg_spec.specs.Shrinking.{KeepsPathsInside, ShrinksPlace}
 use Rattle.seg_spec.specs.Fixtures.{roomy, cut, unnamed, vec_table, vec_place, vec_value, vec_root}
-use Rattle.test_definitions.proofs.Evaluating.{live_evaluated, heap_evaluated}
+use Rattle.test_definitions.proofs.ImageEvaluationLaws.{live_evaluated, heap_evaluated}
 use Rattle.seg_spec.proofs.SliceLaws.{IsSame-part}
-use Rattle.seg_spec.proofs.LiveLaws.{times-other}
+use Rattle.seg_spec.proofs.Heap.LiveBlockLaws.{times-other}
 
 -- ---- the heaps
 

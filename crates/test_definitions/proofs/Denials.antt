@@ -3,7 +3,7 @@ use Rattle.std.proofs.Common.{◌≡◌, ◌≤◌, List, [], ◌∷◌, ◌++�
 use Rattle.std.proofs.lemmas.List.{length-append}
 use Rattle.seg_spec.specs.Heap.{span}
 use Rattle.seg_spec.specs.Demand.{Ask, units_for, growth, NoRoom, IsDenied}
-use Rattle.seg_spec.proofs.NoGaps.{denied, no_room}
+use Rattle.seg_spec.proofs.Heap.OutOfMemoryLaws.{denied, no_room}
 
 pub second_is_denied : IsDenied 0 [] 752 (units_for 3 ∷ units_for 3 ∷ [])
 second_is_denied = denied 0 [] 752 (units_for 3 ∷ units_for 3 ∷ []) refl

@@ -13,7 +13,7 @@ use Rattle.seg_spec.specs.Reads.{Holds, holds, holds_none, holds_more}
 use Rattle.seg_spec.specs.Index.{Root, plain_root}
 use Rattle.seg_spec.specs.Sound.{HoldsRoot, holds_no_root, holds_more_roots, IsLaidOut, IsHeld, times, positions}
 use Rattle.seg_spec.specs.Fixtures.{every, every_table, every_value, every_picture, many}
-use Rattle.test_definitions.proofs.Evaluating.{live_evaluated, heap_evaluated, uniques_evaluated, all_old}
+use Rattle.test_definitions.proofs.ImageEvaluationLaws.{live_evaluated, heap_evaluated, uniques_evaluated, all_old}
 
 abbrev tile : ℕ → ℕ → Bool → Tile
 tile at units live = record { at = at; units = units; live = live }

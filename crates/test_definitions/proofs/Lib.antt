@@ -1,5 +1,5 @@
 pub mod OnePicture
-pub mod Evaluating
+pub mod ImageEvaluationLaws
 pub mod SoundImages
 pub mod SharedImages
 pub mod UnsoundImages
@@ -9,9 +9,9 @@ pub mod NoRoots
 pub mod Denials
 pub mod CutBuffers
 pub mod WorkedCalls
-pub mod Simulated
-pub mod Worked
-pub mod Stopped
+pub mod SimulationLaws
+pub mod IncrementLaws
+pub mod StoppedRunLaws
 pub mod Several
 pub mod Whole
 pub mod CounterRun

@@ -10,7 +10,7 @@ use Rattle.seg_spec.specs.Shapes.{nodes_of}
 use Rattle.seg_spec.specs.Reads.{count_at, start, spaced}
 use Rattle.seg_spec.specs.Index.{Root, Index, OpensIndex, AreEntries}
 use Rattle.seg_spec.specs.Sound.{Picture, frozen_roots, roots_of, HoldsRoots, holds_no_root, IsHeld, times, positions}
-use Rattle.seg_spec.proofs.LiveLaws.{times-same}
+use Rattle.seg_spec.proofs.Heap.LiveBlockLaws.{times-same}
 
 left_empty : {X : Type 0} (xs ys : List X) → xs ++ ys ≡ [] → xs ≡ []
 left_empty [] ys e = refl

@@ -12,13 +12,13 @@ use Rattle.seg_spec.specs.Sound.{HasHeader, IsLaidOut, holds_no_root, SameBlocks
 use Rattle.seg_spec.specs.Header.{version_word, next_word, sharing_version}
 use Rattle.seg_spec.specs.Faulty.{IsImageLength, IsTagOf, HasTiles, HoldsAll, HasFront, LacksHeader, LacksType, LacksTiles, LacksGaps, LacksContent, LacksOwner, Failure, Lacks}
 use Rattle.seg_spec.specs.Fixtures.{counter, empty, neighbours, linked, odd_kind, lost_gap, two_owners, no_owner, other_magic, odd_type, empty_picture}
-use Rattle.seg_spec.proofs.Failures.{right_types}
-use Rattle.seg_spec.proofs.OneTable.{HasTable-one}
-use Rattle.seg_spec.proofs.TileLaws.{tiles-unique}
-use Rattle.seg_spec.proofs.LiveLaws.{each_there}
-use Rattle.test_definitions.proofs.Evaluating.{live_evaluated, gaps_evaluated, heap_evaluated, uniques_evaluated, unshared, numbers-valid, numbers-old}
+use Rattle.seg_spec.proofs.Images.UnsoundImageLaws.{right_types}
+use Rattle.seg_spec.proofs.Tables.OneTableLaws.{HasTable-one}
+use Rattle.seg_spec.proofs.Heap.TileLaws.{tiles-unique}
+use Rattle.seg_spec.proofs.Heap.LiveBlockLaws.{each_there}
+use Rattle.test_definitions.proofs.ImageEvaluationLaws.{live_evaluated, gaps_evaluated, heap_evaluated, uniques_evaluated, unshared, numbers-valid, numbers-old}
 use Rattle.test_definitions.proofs.SoundImages.{counter_tiles, empty_tiles, counter_sound}
-use Rattle.seg_spec.proofs.OwnedTags.{tags_of_version}
+use Rattle.seg_spec.proofs.Images.OwnedTagLaws.{tags_of_version}
 use Rattle.test_definitions.proofs.UnsoundImages.{linked_live, odd_kind_live, two_free, two_owners-unsound, no_owner-unsound}
 
 pub image_length : (bytes : List ℕ) → HasHeader bytes → IsImageLength (length bytes)

@@ -12,8 +12,8 @@ use Rattle.client_spec.specs.Grammar.{SpellsClient}
 use Rattle.client_spec.specs.Run.{Ending, finished, stopped, stuck, bound}
 use Rattle.client_spec.specs.OnImages.{Given, Left, RunsClient}
 use Rattle.client_spec.specs.Clients.{IsVerified, AreAccepted, given_next, GoesOn, RunClients, image_after, StayWithin}
-use Rattle.test_definitions.proofs.Simulated.{run_of_states, client_within_bound}
-use Rattle.test_definitions.proofs.Stopped.{run_writes}
+use Rattle.test_definitions.proofs.SimulationLaws.{run_of_states, client_within_bound}
+use Rattle.test_definitions.proofs.StoppedRunLaws.{run_writes}
 
 -- after one client the table is the longer one of the table and the client's types
 table_left : (client : Client) (given : Given) (left : Left) (table : Table) (picture : Picture) → IsHeld given.image picture → picture.table ≡ table → (runs : RunsClient client given left)

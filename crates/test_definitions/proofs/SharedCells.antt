@@ -21,9 +21,9 @@ use Rattle.seg_spec.specs.Sound.{Picture, HoldsRoot, holds_no_root, holds_more_r
 use Rattle.seg_spec.specs.Destroying.{HoldFrozen}
 use Rattle.seg_spec.specs.Demand.{Ask, units_for}
 use Rattle.seg_spec.specs.Fixtures.{words, back, live_header, sharing_table, sharing_cell}
-use Rattle.seg_spec.proofs.OneReading.{Holds-one}
-use Rattle.seg_spec.proofs.Releases.{frozen_there}
-use Rattle.test_definitions.proofs.Evaluating.{live_evaluated, heap_evaluated, uniques_evaluated}
+use Rattle.seg_spec.proofs.Values.OneValueLaws.{Holds-one}
+use Rattle.seg_spec.proofs.Frozen.ReleaseLaws.{frozen_there}
+use Rattle.test_definitions.proofs.ImageEvaluationLaws.{live_evaluated, heap_evaluated, uniques_evaluated}
 use Rattle.test_definitions.proofs.SharedImages.{sharing_table-valid, all_types}
 use Rattle.client_spec.specs.declared.table.Operation.{Operation}
 use Rattle.client_spec.specs.Syntax.{Instruction}

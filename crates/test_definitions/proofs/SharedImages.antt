@@ -18,8 +18,8 @@ use Rattle.seg_spec.specs.Counting.{AreCounted}
 use Rattle.seg_spec.specs.Images.{IsSound, upgraded}
 use Rattle.seg_spec.specs.Sound.{HoldsRoot, holds_no_root, holds_more_roots, IsLaidOut, IsHeld, times, positions}
 use Rattle.seg_spec.specs.Fixtures.{counter, sharing_image, sharing_table, sharing_cell, sharing_number, sharing_picture}
-use Rattle.seg_spec.proofs.Upgrading.{any_type, upgraded_sound}
-use Rattle.test_definitions.proofs.Evaluating.{live_evaluated, heap_evaluated, uniques_evaluated}
+use Rattle.seg_spec.proofs.Images.UpgradeLaws.{any_type, upgraded_sound}
+use Rattle.test_definitions.proofs.ImageEvaluationLaws.{live_evaluated, heap_evaluated, uniques_evaluated}
 use Rattle.test_definitions.proofs.SoundImages.{counter_sound}
 
 abbrev sharing_tiles : List Tile

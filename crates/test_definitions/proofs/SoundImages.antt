@@ -17,7 +17,7 @@ use Rattle.seg_spec.specs.Counting.{AreCounted}
 use Rattle.seg_spec.specs.Images.{IsSound}
 use Rattle.seg_spec.specs.Sound.{HoldsRoot, holds_no_root, holds_more_roots, IsLaidOut, IsHeld, times, positions}
 use Rattle.seg_spec.specs.Fixtures.{counter, greeting, empty, empty_tree, counter_picture, greeting_picture, empty_picture}
-use Rattle.test_definitions.proofs.Evaluating.{live_evaluated, heap_evaluated, uniques_evaluated, unshared, numbers-valid, texts-valid, numbers-old, texts-old}
+use Rattle.test_definitions.proofs.ImageEvaluationLaws.{live_evaluated, heap_evaluated, uniques_evaluated, unshared, numbers-valid, texts-valid, numbers-old, texts-old}
 
 abbrev counter_root : Root
 counter_root = plain_root (120 ∷ []) 720 0 (cons (Int (pos 41)) nil)

@@ -16,14 +16,14 @@ use Rattle.seg_spec.specs.Frozen.{root_of_frozen}
 use Rattle.seg_spec.specs.Images.{IsSound}
 use Rattle.seg_spec.specs.Sound.{IsPlain, kind_with, frozen_roots, HoldsRoots, holds_no_root, holds_more_roots, times, positions}
 use Rattle.seg_spec.specs.Fixtures.{counter, greeting, empty, empty_tree, other_magic, other_size, linked, odd_kind, lost_gap, red_root, neighbours, no_items, named_as_unique, no_buffer, own_buffer, two_owners, no_owner}
-use Rattle.seg_spec.proofs.OneTable.{HasTable-one}
-use Rattle.seg_spec.proofs.PlainRoots.{plain_of}
-use Rattle.seg_spec.proofs.RootLaws.{HoldsRoots-split}
-use Rattle.seg_spec.proofs.Frame.{each_left}
-use Rattle.seg_spec.proofs.LiveLaws.{live-once, times-append, times-same}
-use Rattle.test_definitions.proofs.Evaluating.{live_evaluated, apart_evaluated, free_evaluated, numbers-valid, texts-valid}
-use Rattle.seg_spec.proofs.NoFrozen.{none_numbered}
-use Rattle.seg_spec.proofs.OwnedTags.{tags_of_version}
+use Rattle.seg_spec.proofs.Tables.OneTableLaws.{HasTable-one}
+use Rattle.seg_spec.proofs.Images.PlainRootLaws.{plain_of}
+use Rattle.seg_spec.proofs.Images.RootLaws.{HoldsRoots-split}
+use Rattle.seg_spec.proofs.Values.PlaceFrameLaws.{each_left}
+use Rattle.seg_spec.proofs.Heap.LiveBlockLaws.{live-once, times-append, times-same}
+use Rattle.test_definitions.proofs.ImageEvaluationLaws.{live_evaluated, apart_evaluated, free_evaluated, numbers-valid, texts-valid}
+use Rattle.seg_spec.proofs.Frozen.NoFrozenLaws.{none_numbered}
+use Rattle.seg_spec.proofs.Images.OwnedTagLaws.{tags_of_version}
 use Rattle.test_definitions.proofs.SoundImages.{counter_tiles, empty_tiles, empty_tree_tiles}
 
 -- ---- the header

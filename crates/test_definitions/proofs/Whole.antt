@@ -4,14 +4,14 @@ use Rattle.std.proofs.Common.{◌≡◌, ◌≢◌, ℕ, zero, suc, List, [], �
 use Rattle.std.specs.Prelude.{slice_get}
 use Rattle.seg_spec.specs.Types.{Table, longer}
 use Rattle.seg_spec.specs.Images.{IsSound, upgraded}
-use Rattle.seg_spec.proofs.Upgrading.{upgraded_held, upgraded_counted}
+use Rattle.seg_spec.proofs.Images.UpgradeLaws.{upgraded_held, upgraded_counted}
 use Rattle.test_definitions.proofs.OnePicture.{Held-one}
 use Rattle.client_spec.specs.Syntax.{Client}
 use Rattle.client_spec.specs.Grammar.{SpellsClient}
 use Rattle.client_spec.specs.OnImages.{Move, Left}
 use Rattle.client_spec.specs.Clients.{IsVerified, AreAccepted, AreMoves, table_after, image_after, StayWithin}
 use Rattle.client_spec.specs.Outcome.{given_first, CanRun, IsOutcome, Refusal, IsTurnOf, IsRefusalOf}
-use Rattle.client_spec.proofs.OneClient.{one_client}
+use Rattle.client_spec.proofs.Spelling.OneClientLaws.{one_client}
 use Rattle.test_definitions.proofs.Several.{all_within, held_after}
 
 bytes_one : (text : List ℕ) (client other : Client) → SpellsClient text client → SpellsClient text other → client ≡ other

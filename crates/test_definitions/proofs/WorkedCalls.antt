@@ -6,8 +6,8 @@ use Rattle.seg_spec.specs.Pointer.{target}
 use Rattle.seg_spec.specs.Heap.{Span, span, Tile, live, Fill, AreHeaders, heap_start, Takes, Gives, Expands}
 use Rattle.seg_spec.specs.Fixtures.{empty, taken, widened, given_back}
 use Rattle.seg_spec.proofs.SliceLaws.{Agrees-same_slice}
-use Rattle.seg_spec.proofs.KeptLaws.{each_contained}
-use Rattle.test_definitions.proofs.Evaluating.{live_evaluated, heap_evaluated}
+use Rattle.seg_spec.proofs.Heap.KeptBlockLaws.{each_contained}
+use Rattle.test_definitions.proofs.ImageEvaluationLaws.{live_evaluated, heap_evaluated}
 use Rattle.test_definitions.proofs.SoundImages.{empty_tiles, empty_fill, empty_headers}
 
 abbrev taken_tiles : List Tile

@@ -1,3 +1,3 @@
 pub mod FaultLaws
 pub mod OutcomeLaws
-pub mod SharingLaws
+pub mod SharedObjectLaws

@@ -3,7 +3,7 @@ use Rattle.std.proofs.Common.{◌≡◌, ℕ, zero, suc, ◌-◌, ◌^◌, ◌<�
 use Rattle.seg_spec.specs.Types.{Form, Table, form_at}
 use Rattle.seg_spec.specs.Images.{IsSound, upgraded}
 use Rattle.seg_spec.specs.Faulty.{IsImageLength}
-use Rattle.seg_spec.proofs.Upgrading.{upgrade_changes, upgraded_sound}
+use Rattle.seg_spec.proofs.Images.UpgradeLaws.{upgrade_changes, upgraded_sound}
 use Rattle.seg_spec.specs.Fixtures.{counter, greeting, empty, lost_gap, counter_picture, greeting_picture}
 use Rattle.seg_spec.specs.Bytes.{put, set_number}
 use Rattle.test_definitions.proofs.OnePicture.{Held-one}
@@ -20,8 +20,8 @@ use Rattle.client_spec.specs.Clients.{IsVerified, AreAccepted, RunClients, table
 use Rattle.client_spec.specs.Outcome.{CanLie, CanMove, CanRun, Refusal, IsTurnOf, IsRefusalOf}
 use Rattle.client_spec.specs.Fixtures.{increment, move_to}
 use Rattle.client_verify.specs.Refusals.{IsRefused}
-use Rattle.client_spec.proofs.OneClient.{one_client}
-use Rattle.test_definitions.proofs.Worked.{increment_spelled}
+use Rattle.client_spec.proofs.Spelling.OneClientLaws.{one_client}
+use Rattle.test_definitions.proofs.IncrementLaws.{increment_spelled}
 use Rattle.test_definitions.proofs.Whole as whole
 use Rattle.client_output.specs.declared.report.Report.{Report}
 use Rattle.client_output.specs.declared.refused.Refused.{Refused}

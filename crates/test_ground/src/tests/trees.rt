@@ -6,7 +6,7 @@ ghost use Rattle.seg_spec.specs.Bytes.{word};
 ghost use Rattle.seg_rbtree.specs.Parts.{byte_range};
 ghost use Rattle.seg_rbtree.proofs.Keys.{equal_to_one};
 ghost use Rattle.seg_spec.proofs.BytesLaws.{number-slice};
-ghost use Rattle.seg_spec.proofs.OrderSteps.{steps_up};
+ghost use Rattle.seg_spec.proofs.OrderLaws.{steps_up};
 
 use seg_ptr::{Region, View, Window};
 use seg_rbtree::{Colour, NodeOrder, Path, Side, TREE_WORDS, Tree, UniqueKeys, child, node_colour};

@@ -1,4 +1,4 @@
-use Rattle.client_code.proofs.Spelling.{text_valid}
+use Rattle.client_code.proofs.FileReadLaws.{text_valid}
 use Rattle.client_code.proofs.constant.may_be.Goals as goal
 
 pub returns-in-Text : goal.returns-in-Text

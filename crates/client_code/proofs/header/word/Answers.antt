@@ -1,7 +1,7 @@
 use Rattle.std.proofs.Common.{◌∙◌}
 use Rattle.seg_raw.proofs.Numbers.{slice_from}
 use Rattle.std.proofs.Common.{refl}
-use Rattle.client_code.proofs.Spelling.{word_at}
+use Rattle.client_code.proofs.FileReadLaws.{word_at}
 use Rattle.client_code.proofs.header.word.Goals as goal
 
 pub returns : goal.returns

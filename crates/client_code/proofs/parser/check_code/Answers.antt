@@ -1,9 +1,9 @@
 use Rattle.std.proofs.Common.{◌≡◌, ◌++◌, [], sym, ap, ◌∙◌, subst, arith}
 use Rattle.std.proofs.lemmas.Bool.{false≢true}
-use Rattle.client_spec.proofs.OneClient.{instruction_front}
+use Rattle.client_spec.proofs.Spelling.OneClientLaws.{instruction_front}
 use Rattle.client_code.specs.Views.{instruction_of}
 use Rattle.client_code.specs.Parts.{passed, open_parts}
-use Rattle.client_code.proofs.Nested.{Right, role_of}
+use Rattle.client_code.proofs.ListingTreeLaws.{Right, role_of}
 use Rattle.client_code.proofs.Operands.{has_operands}
 use Rattle.client_code.proofs.Instructions.{CodeTo, starts, goes_on, ends, stands, closed}
 use Rattle.client_code.proofs.parser.check_code.Goals as goal

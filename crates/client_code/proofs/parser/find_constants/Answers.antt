@@ -3,7 +3,7 @@ use Rattle.std.proofs.lemmas.Bool.{false≢true}
 use Rattle.std.proofs.lemmas.List.{map_push, length_push}
 use Rattle.std.specs.Prelude.{All}
 use Rattle.client_spec.specs.Grammar.{Differ}
-use Rattle.client_spec.proofs.OneClient.{constant_front}
+use Rattle.client_spec.proofs.Spelling.OneClientLaws.{constant_front}
 use Rattle.client_code.specs.Views.{constant_of, constant_kind_of}
 use Rattle.client_code.proofs.Constants.{begins, one_more, none_more, kind_by}
 use Rattle.client_code.proofs.parser.find_constants.Goals as goal

@@ -1,6 +1,6 @@
 use Rattle.std.proofs.Common.{refl, ◌∙◌}
 use Rattle.seg_raw.proofs.Numbers.{slice_from}
-use Rattle.client_code.proofs.Spelling.{decoded, not_decoded}
+use Rattle.client_code.proofs.FileReadLaws.{decoded, not_decoded}
 use Rattle.client_code.proofs.parser.instruction_at.Goals as goal
 
 pub returns-clause-found : goal.returns-clause-found

@@ -2,7 +2,7 @@ use Rattle.std.proofs.Common.{◌≡◌, ◌*◌, sym, ap, ◌∙◌, arith}
 use Rattle.std.specs.Prelude.{flat_map}
 use Rattle.seg_spec.specs.Bytes.{slice}
 use Rattle.seg_spec.specs.Types.{form_bytes}
-use Rattle.client_spec.proofs.FileVersions.{of_sharing}
+use Rattle.client_spec.proofs.Spelling.FileVersionLaws.{of_sharing}
 use Rattle.client_code.proofs.TypeEntries.{full, are_types, spells_flat, all_used}
 use Rattle.client_code.proofs.types.read_types.Goals as goal
 use Rattle.client_code.proofs.types.read_types.Goals.{in-Some+in_default-read_shared, in_default}

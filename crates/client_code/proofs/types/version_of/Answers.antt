@@ -3,7 +3,7 @@ use Rattle.std.specs.Prelude.{Some}
 use Rattle.seg_spec.specs.Types.{Form}
 use Rattle.seg_layout.specs.Forms.{form_of}
 use Rattle.std.proofs.lemmas.Option.{slice_get_within}
-use Rattle.client_spec.proofs.FileVersions.{is_version, of_its_version, first_version}
+use Rattle.client_spec.proofs.Spelling.FileVersionLaws.{is_version, of_its_version, first_version}
 use Rattle.client_code.proofs.types.version_of.Goals as goal
 
 pub returns-in-Some-Shared : goal.returns-in-Some-Shared

@@ -1,7 +1,7 @@
 use Rattle.std.proofs.Common.{◌++◌, ap, ◌∙◌, subst}
 use Rattle.client_spec.specs.Grammar.{SpellsClient}
 use Rattle.client_spec.specs.Pieces.{file_of}
-use Rattle.client_text.proofs.Assembling.{text_spells, canonical_file, no_client}
+use Rattle.client_text.proofs.AssemblyLaws.{text_spells, canonical_file, no_client}
 use Rattle.client_text.proofs.assembler.assemble.Goals as goal
 
 pub returns-in-None-clause-found : goal.returns-in-None-clause-found

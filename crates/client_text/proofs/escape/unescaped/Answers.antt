@@ -3,7 +3,7 @@ use Rattle.std.proofs.lemmas.Bool.{eqb-true, eqb-false}
 use Rattle.std.proofs.lemmas.List.{nil_from_length}
 use Rattle.client_spec.specs.Text.{SpellsText}
 use Rattle.client_text.proofs.Outcomes.{on_none, was_ok, was_err}
-use Rattle.client_text.proofs.Unescaping.{Reads, begin, further, stuck, too_long}
+use Rattle.client_text.proofs.EscapeLaws.{Reads, begin, further, stuck, too_long}
 use Rattle.client_text.proofs.escape.unescaped.Goals as goal
 
 pub loop-rest-init : goal.loop-rest-init

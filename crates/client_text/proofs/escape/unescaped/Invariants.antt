@@ -1,5 +1,5 @@
 use Rattle.std.proofs.Common.{length}
-use Rattle.client_text.proofs.Unescaping.{Reads}
+use Rattle.client_text.proofs.EscapeLaws.{Reads}
 use Rattle.client_text.proofs.escape.unescaped.Given as goal
 
 abbrev pub decreases-loop-rest : goal.decreases-loop-rest

@@ -1,7 +1,7 @@
 use Rattle.std.proofs.Common.{◌≡◌, ℕ, List, ◌++◌, ap, ◌∙◌, append_assoc}
 use Rattle.std.specs.Prelude.{codes}
 use Rattle.client_spec.specs.Grammar.{word_bytes}
-use Rattle.client_text.proofs.Spacing.{on_ok}
+use Rattle.client_text.proofs.CanonicalLineLaws.{on_ok}
 use Rattle.client_text.proofs.header.append_header.Goals as goal
 
 appended : (old m v t c i f0 f1 f2 f3 f4 : List ℕ) → f0 ≡ old ++ m → f1 ≡ f0 ++ v → f2 ≡ f1 ++ t → f3 ≡ f2 ++ c → f4 ≡ f3 ++ i → f4 ≡ old ++ ((((m ++ v) ++ t) ++ c) ++ i)

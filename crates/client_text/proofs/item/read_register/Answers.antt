@@ -1,5 +1,5 @@
 use Rattle.std.proofs.Common.{sym, ◌∙◌, arith}
-use Rattle.client_spec.proofs.TextWords.{lettered_one}
+use Rattle.client_spec.proofs.Spelling.TextWordLaws.{lettered_one}
 use Rattle.client_text.proofs.item.read_register.Goals as goal
 
 pub returns-else-register-lt-REGISTERS-clause-none : goal.returns-else-register-lt-REGISTERS-clause-none

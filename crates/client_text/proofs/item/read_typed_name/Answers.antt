@@ -1,5 +1,5 @@
 use Rattle.std.proofs.Common.{◌∙◌, sym}
-use Rattle.client_spec.proofs.TextWords.{tail_of}
+use Rattle.client_spec.proofs.Spelling.TextWordLaws.{tail_of}
 use Rattle.client_text.proofs.Outcomes.{on_none}
 use Rattle.client_text.proofs.item.read_typed_name.Goals as goal
 

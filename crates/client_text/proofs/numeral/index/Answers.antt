@@ -1,6 +1,6 @@
 use Rattle.std.proofs.Common.{◌<◌, ◌∙◌, sym, subst, arith}
 use Rattle.std.specs.Fmt.{decimal}
-use Rattle.client_spec.proofs.TextWords.{decimal_one}
+use Rattle.client_spec.proofs.Spelling.TextWordLaws.{decimal_one}
 use Rattle.client_text.proofs.Outcomes.{fails_large}
 use Rattle.client_text.proofs.Numerals.{after_letter}
 use Rattle.client_text.proofs.numeral.index.Goals as goal

@@ -1,7 +1,7 @@
 use Rattle.std.proofs.Common.{arith}
 use Rattle.client_spec.specs.Grammar.{listing}
 use Rattle.client_spec.specs.Text.{instruction_item}
-use Rattle.client_text.proofs.Spacing.{get_there, line_more}
+use Rattle.client_text.proofs.CanonicalLineLaws.{get_there, line_more}
 use Rattle.client_text.proofs.printer.print_code.Goals as goal
 
 pub loop-i-preserved : goal.loop-i-preserved

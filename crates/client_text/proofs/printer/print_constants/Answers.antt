@@ -1,4 +1,4 @@
-use Rattle.client_text.proofs.Spacing.{constant_more}
+use Rattle.client_text.proofs.CanonicalLineLaws.{constant_more}
 use Rattle.client_text.proofs.printer.print_constants.Goals as goal
 
 pub loop-constant-preserved : goal.loop-constant-preserved

@@ -2,7 +2,7 @@ use Rattle.std.proofs.Common.{◌++◌, ◌∷◌, [], ap, ◌∙◌, rules, Fit
 use Rattle.std.proofs.lemmas.Int.{to_z-of_z}
 use Rattle.client_spec.specs.Operations.{mnemonic}
 use Rattle.client_spec.specs.Text.{operand_words, number_words, spaced_words}
-use Rattle.client_text.proofs.Spacing.{on_ok, pushed, line_is}
+use Rattle.client_text.proofs.CanonicalLineLaws.{on_ok, pushed, line_is}
 use Rattle.client_text.proofs.printer.print_instruction.Goals as goal
 
 pub returns : goal.returns

@@ -1,6 +1,6 @@
 use Rattle.std.proofs.Common.{map, ◌∷◌, []}
 use Rattle.client_spec.specs.Text.{type_word}
-use Rattle.client_text.proofs.Spacing.{on_ok, pushed, struct_line}
+use Rattle.client_text.proofs.CanonicalLineLaws.{on_ok, pushed, struct_line}
 use Rattle.client_text.proofs.printer.print_struct.Goals as goal
 
 pub returns : goal.returns

@@ -1,6 +1,6 @@
 use Rattle.std.proofs.Common.{arith}
 use Rattle.client_spec.specs.Text.{type_item}
-use Rattle.client_text.proofs.Spacing.{get_there, line_more}
+use Rattle.client_text.proofs.CanonicalLineLaws.{get_there, line_more}
 use Rattle.client_text.proofs.printer.print_types.Goals as goal
 
 pub loop-type_id-preserved : goal.loop-type_id-preserved

@@ -1,7 +1,7 @@
 use Rattle.std.proofs.Common.{List, ℕ, map}
 use Rattle.std.proofs.lemmas.Result.{IfErr-at_err}
 use Rattle.client_vm.specs.Admitted.{IsWrong}
-use Rattle.client_vm.proofs.Refusing.{err_is, if_wrong}
+use Rattle.client_vm.proofs.RefusalLaws.{err_is, if_wrong}
 use Rattle.client_vm.proofs.bytes.admit.Goals as goal
 
 pub returns-in_err-programs-clause-refused : goal.returns-in_err-programs-clause-refused

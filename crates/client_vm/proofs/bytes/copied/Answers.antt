@@ -1,5 +1,5 @@
 use Rattle.std.proofs.Common.{arith}
-use Rattle.client_vm.proofs.Refusing.{placed_there, shows, among_zeros}
+use Rattle.client_vm.proofs.RefusalLaws.{placed_there, shows, among_zeros}
 use Rattle.client_vm.proofs.bytes.copied.Goals as goal
 
 pub returns-clause-bytes : goal.returns-clause-bytes

@@ -1,5 +1,5 @@
 use Rattle.std.proofs.Common.{sym, ◌∙◌}
-use Rattle.client_vm.proofs.Refusing.{other_allocator}
+use Rattle.client_vm.proofs.RefusalLaws.{other_allocator}
 use Rattle.client_vm.proofs.bytes.run_admitted.Goals as goal
 
 pub returns-then-get32-word-clause-runs : goal.returns-then-get32-word-clause-runs

@@ -2,9 +2,9 @@ use Rattle.std.proofs.Common.{List, ℕ, map, None}
 use Rattle.client_vm.specs.Moves.{moves_of}
 use Rattle.client_vm.specs.Jobs.{job_of, effect_of}
 use Rattle.client_vm.specs.Outcomes.{IsRefusedFor, HasOutcome}
-use Rattle.client_vm.proofs.Refusing.{err_is, refused_for}
+use Rattle.client_vm.proofs.RefusalLaws.{err_is, refused_for}
 use Rattle.client_vm.proofs.TogetherLaws.{if_ok}
-use Rattle.client_vm.proofs.Elsewhere.{outcome_elsewhere}
+use Rattle.client_vm.proofs.ImagePlaceLaws.{outcome_elsewhere}
 use Rattle.client_vm.proofs.bytes.run_bytes.Goals as goal
 
 pub returns-in_err-len-clause-refused : goal.returns-in_err-len-clause-refused

@@ -5,9 +5,9 @@ use Rattle.client_vm.specs.Moves.{moves_of}
 use Rattle.client_vm.specs.Admitted.{IsWrong}
 use Rattle.client_vm.specs.Jobs.{job_at, job_of, effect_of}
 use Rattle.client_vm.specs.Outcomes.{IsFaultOfCall, IsRefusedFor, HasOutcome}
-use Rattle.client_vm.proofs.Refusing.{why}
+use Rattle.client_vm.proofs.RefusalLaws.{why}
 use Rattle.client_vm.proofs.TogetherLaws.{if_ok}
-use Rattle.client_vm.proofs.Elsewhere.{outcome_elsewhere}
+use Rattle.client_vm.proofs.ImagePlaceLaws.{outcome_elsewhere}
 use Rattle.client_vm.proofs.bytes.run_image.Goals as goal
 
 pub returns-in-Err-clause-refused : goal.returns-in-Err-clause-refused

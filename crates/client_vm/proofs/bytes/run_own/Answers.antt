@@ -1,7 +1,7 @@
 use Rattle.std.proofs.Common.{List, ℕ, length, map, sym, ap, ◌∙◌}
 use Rattle.client_vm.specs.Moves.{moves_of}
 use Rattle.client_vm.specs.Jobs.{effect_of}
-use Rattle.client_vm.proofs.Refusing.{placed_there, shows, whole_region}
+use Rattle.client_vm.proofs.RefusalLaws.{placed_there, shows, whole_region}
 use Rattle.client_vm.proofs.TogetherLaws.{has_outcome}
 use Rattle.client_vm.proofs.bytes.run_own.Goals as goal
 

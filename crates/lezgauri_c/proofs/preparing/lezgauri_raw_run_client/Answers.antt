@@ -7,7 +7,7 @@ use Rattle.client_vm.specs.declared.ready.Ready.{Ready}
 use Rattle.client_output.specs.declared.report.Ended.{Ended}
 use Rattle.client_vm.specs.Admitted.{IsWrong}
 use Rattle.client_vm.specs.Reports.{IsReportOf}
-use Rattle.client_vm.proofs.Refusing.{why}
+use Rattle.client_vm.proofs.RefusalLaws.{why}
 use Rattle.lezgauri_c.specs.Calls.{IsRun}
 use Rattle.lezgauri_c.specs.Prepared.{client_bytes_of}
 use Rattle.lezgauri_c.proofs.Numbers.{status_one}

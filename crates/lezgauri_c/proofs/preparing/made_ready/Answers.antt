@@ -7,7 +7,7 @@ use Rattle.seg_check.specs.Faults.{IsImageOf}
 use Rattle.client_output.specs.declared.refused.Refused.{Refused}
 use Rattle.client_verify.specs.Texts.{AreWrong}
 use Rattle.client_vm.specs.Admitted.{IsWrong}
-use Rattle.client_vm.proofs.Refusing.{if_wrong}
+use Rattle.client_vm.proofs.RefusalLaws.{if_wrong}
 use Rattle.lezgauri_c.specs.Prepared.{IsReadyOn}
 use Rattle.lezgauri_c.proofs.OneClient.{image_of, has_types}
 use Rattle.lezgauri_c.proofs.preparing.made_ready.Goals as goal

@@ -6,7 +6,7 @@ use Rattle.client_output.specs.declared.report.Ended.TheVariants as ended
 use Rattle.client_vm.specs.Admitted.{IsWrong}
 use Rattle.lezgauri_c.specs.Calls.{whole_job, effect_of_one}
 use Rattle.lezgauri_c.proofs.OneClient.{done}
-use Rattle.lezgauri_c.proofs.Ran.{same_run, same_refusal}
+use Rattle.lezgauri_c.proofs.SameRunLaws.{same_run, same_refusal}
 use Rattle.lezgauri_c.proofs.Sizes.{saved_size, same_room, told_bytes}
 use Rattle.lezgauri_c.proofs.whole.lezgauri_raw_run_whole.Goals as goal
 

@@ -1,5 +1,5 @@
 use Rattle.std.proofs.Common.{Some, None, refl}
-use Rattle.seg_bestfit.proofs.Searching.{finds_none, never_unread, never_small, finds_best}
+use Rattle.seg_bestfit.proofs.GapSearchLaws.{finds_none, never_unread, never_small, finds_best}
 use Rattle.seg_bestfit.proofs.free_tree.best_fit.Goals as goal
 
 pub returns-in_err-node-clause-best : goal.returns-in_err-node-clause-best

@@ -3,7 +3,7 @@ use Rattle.seg_spec.specs.Window.{Placement}
 use Rattle.seg_spec.specs.Heap.{free_of, link_at, IsFreeTree}
 use Rattle.seg_block.specs.FreeBlocks.{AreFreeBlocks}
 use Rattle.seg_bestfit.specs.FreeTree.{JoinsTree}
-use Rattle.seg_bestfit.proofs.Releasing.{freed_blocks, freed_tree, freed_link, freed_length, released-retiles}
+use Rattle.seg_bestfit.proofs.TileReleaseLaws.{freed_blocks, freed_tree, freed_link, freed_length, released-retiles}
 use Rattle.seg_bestfit.proofs.free_tree.make_gap.Goals as goal
 
 pub returns-clause-tiles : goal.returns-clause-tiles

@@ -1,4 +1,4 @@
-use Rattle.seg_bestfit.proofs.Listing.{joins_at}
+use Rattle.seg_bestfit.proofs.TreeChangeLaws.{joins_at}
 use Rattle.seg_bestfit.proofs.free_tree.put_in.Goals as goal
 
 pub returns-clause-joins : goal.returns-clause-joins

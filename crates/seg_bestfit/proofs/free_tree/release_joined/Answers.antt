@@ -1,7 +1,7 @@
 use Rattle.std.proofs.Common.{◌+◌, List, ℕ, ap, subst}
 use Rattle.seg_spec.specs.Window.{Placement}
 use Rattle.seg_rbtree.specs.Paths.{RenamesAt}
-use Rattle.seg_bestfit.proofs.Downs.{down-retiles, moved-retiles, makes_alone, makes_with}
+use Rattle.seg_bestfit.proofs.GapJoinLaws.{down-retiles, moved-retiles, makes_alone, makes_with}
 use Rattle.seg_bestfit.proofs.free_tree.release_joined.Goals as goal
 
 pub returns-then-more-eq0-clause-tiles : goal.returns-then-more-eq0-clause-tiles

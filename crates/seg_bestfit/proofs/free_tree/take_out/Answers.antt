@@ -1,4 +1,4 @@
-use Rattle.seg_bestfit.proofs.Listing.{leaves_at}
+use Rattle.seg_bestfit.proofs.TreeChangeLaws.{leaves_at}
 use Rattle.seg_bestfit.proofs.free_tree.take_out.Goals as goal
 
 pub returns-clause-leaves : goal.returns-clause-leaves

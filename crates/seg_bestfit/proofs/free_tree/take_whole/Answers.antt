@@ -1,8 +1,8 @@
 use Rattle.std.proofs.Common.{ap}
 use Rattle.seg_spec.specs.Window.{Placement}
 use Rattle.seg_spec.specs.Heap.{free_of}
-use Rattle.seg_bestfit.proofs.Replacing.{left_here}
-use Rattle.seg_bestfit.proofs.Taking.{blocks_around, tree_around, made_live}
+use Rattle.seg_bestfit.proofs.GapReplacementLaws.{left_here}
+use Rattle.seg_bestfit.proofs.GapAllocationLaws.{blocks_around, tree_around, made_live}
 use Rattle.seg_bestfit.proofs.free_tree.take_whole.Goals as goal
 
 pub returns-clause-tiles : goal.returns-clause-tiles

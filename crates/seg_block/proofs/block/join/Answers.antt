@@ -2,8 +2,8 @@ use Rattle.std.proofs.Common.{◌+◌, ◌*◌, List, [], ◌∷◌, ℕ, sym, a
 use Rattle.seg_spec.specs.Window.{Placement}
 use Rattle.seg_block.specs.Sizes.{set_size}
 use Rattle.seg_block.specs.Tiling.{tile, Replaces}
-use Rattle.seg_block.proofs.Tiled.{header_of}
-use Rattle.seg_block.proofs.Joining.{join-replaces}
+use Rattle.seg_block.proofs.TileReplacementLaws.{header_of}
+use Rattle.seg_block.proofs.TileJoinLaws.{join-replaces}
 use Rattle.seg_block.proofs.block.join.Goals as goal
 
 pub returns-clause-tiles : goal.returns-clause-tiles

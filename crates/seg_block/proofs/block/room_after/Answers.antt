@@ -1,4 +1,4 @@
-use Rattle.seg_block.proofs.Resized.{room_some, room_none}
+use Rattle.seg_block.proofs.ResizedBlockLaws.{room_some, room_none}
 use Rattle.seg_block.proofs.block.room_after.Goals as goal
 
 pub returns-in-None-clause-room : goal.returns-in-None-clause-room

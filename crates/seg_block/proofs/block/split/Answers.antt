@@ -2,8 +2,8 @@ use Rattle.std.proofs.Common.{◌+◌, ◌-◌, ◌*◌, List, [], ◌∷◌, �
 use Rattle.seg_spec.specs.Window.{Placement}
 use Rattle.seg_block.specs.Sizes.{set_size, set_split}
 use Rattle.seg_block.specs.Tiling.{tile, Replaces}
-use Rattle.seg_block.proofs.Tiled.{header_of}
-use Rattle.seg_block.proofs.Splitting.{split-replaces}
+use Rattle.seg_block.proofs.TileReplacementLaws.{header_of}
+use Rattle.seg_block.proofs.TileSplitLaws.{split-replaces}
 use Rattle.seg_block.proofs.block.split.Goals as goal
 
 pub returns-clause-tiles : goal.returns-clause-tiles

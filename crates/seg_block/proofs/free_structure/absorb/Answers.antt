@@ -1,6 +1,6 @@
 use Rattle.std.proofs.Common.{ap, arith}
 use Rattle.seg_spec.specs.Window.{Placement}
-use Rattle.seg_block.proofs.Resizing.{absorbs, absorbs_large}
+use Rattle.seg_block.proofs.TileResizeLaws.{absorbs, absorbs_large}
 use Rattle.seg_block.proofs.free_structure.absorb.Goals as goal
 
 pub returns-then-more-eq0-clause-tiles : goal.returns-then-more-eq0-clause-tiles

@@ -1,6 +1,6 @@
 use Rattle.std.proofs.Common.{◌-◌, ap, arith}
 use Rattle.seg_spec.specs.Window.{Placement}
-use Rattle.seg_block.proofs.Resizing.{cuts}
+use Rattle.seg_block.proofs.TileResizeLaws.{cuts}
 use Rattle.seg_block.proofs.free_structure.cut.Goals as goal
 
 pub returns-then-units-block-clause-tiles : goal.returns-then-units-block-clause-tiles

@@ -1,8 +1,8 @@
 use Rattle.std.proofs.Common.{ap, subst, sym, true}
 use Rattle.seg_spec.specs.Window.{Placement}
 use Rattle.seg_block.specs.Blocks.{IsResized}
-use Rattle.seg_block.proofs.Resized.{resized_not, before, following, was}
-use Rattle.seg_block.proofs.Expanding.{resized}
+use Rattle.seg_block.proofs.ResizedBlockLaws.{resized_not, before, following, was}
+use Rattle.seg_block.proofs.BlockExpansionLaws.{resized}
 use Rattle.seg_block.proofs.free_structure.resize.Goals as goal
 
 pub returns-then-units-block-clause-resized : goal.returns-then-units-block-clause-resized

@@ -2,10 +2,10 @@ use Rattle.std.proofs.Common.{ap, ◌∙◌, sym, refl, arith, subst}
 use Rattle.seg_spec.specs.Bytes.{word, set_word}
 use Rattle.seg_spec.specs.Window.{with_bytes}
 use Rattle.seg_spec.specs.Cells.{ChangesCells, IsFurther, further}
-use Rattle.seg_spec.proofs.CellSteps.{further_local, next_field, field_within, past_fields, whole_struct, no_fields}
+use Rattle.seg_spec.proofs.Values.CellChangeLaws.{further_local, next_field, field_within, past_fields, whole_struct, no_fields}
 use Rattle.seg_layout.specs.Forms.{map_option, cell_of}
 use Rattle.seg_cells.proofs.CellCases.{struct_of, cell_of_type, further_no_cells, further_one_cell, further_small}
-use Rattle.seg_spec.proofs.Placements.{bytes_of}
+use Rattle.seg_spec.proofs.WindowLaws.{bytes_of}
 use Rattle.seg_cells.proofs.cells.+point_again.Goals as goal
 use Rattle.seg_cells.proofs.cells.+point_again.Goals.{in-Some, in_default}
 

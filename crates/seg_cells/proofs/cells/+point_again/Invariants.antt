@@ -2,7 +2,7 @@ use Rattle.std.proofs.Common.{◌≡◌, take}
 use Rattle.seg_spec.specs.Window.{with_bytes}
 use Rattle.seg_spec.specs.Types.{size, IsTable}
 use Rattle.seg_spec.specs.Cells.{IsWithin, IsFurther}
-use Rattle.seg_spec.proofs.CellSteps.{ChangesFields, further_local, field_types}
+use Rattle.seg_spec.proofs.Values.CellChangeLaws.{ChangesFields, further_local, field_types}
 use Rattle.seg_cells.proofs.cells.+point_again.Given as goal
 
 abbrev pub decreases-point_again : goal.decreases-point_again

@@ -1,10 +1,10 @@
 use Rattle.std.proofs.Common.{ap, ◌∙◌, sym, refl, arith}
 use Rattle.seg_spec.specs.Window.{with_bytes}
 use Rattle.seg_spec.specs.Cells.{IsDefaulted}
-use Rattle.seg_spec.proofs.CellSteps.{defaulted_local, next_field, field_within, past_fields, whole_struct, no_fields}
+use Rattle.seg_spec.proofs.Values.CellChangeLaws.{defaulted_local, next_field, field_within, past_fields, whole_struct, no_fields}
 use Rattle.seg_layout.specs.Forms.{map_option, cell_of}
 use Rattle.seg_cells.proofs.CellCases.{struct_of}
-use Rattle.seg_spec.proofs.Placements.{bytes_of}
+use Rattle.seg_spec.proofs.WindowLaws.{bytes_of}
 use Rattle.seg_cells.proofs.cells.+set_fields.Goals as goal
 use Rattle.seg_cells.proofs.cells.+set_fields.Goals.{in-Some, in_default}
 

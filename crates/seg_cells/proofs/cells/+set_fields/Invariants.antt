@@ -2,7 +2,7 @@ use Rattle.std.proofs.Common.{◌≡◌, take}
 use Rattle.seg_spec.specs.Window.{with_bytes}
 use Rattle.seg_spec.specs.Types.{size, IsTable}
 use Rattle.seg_spec.specs.Cells.{IsWithin, IsDefaulted}
-use Rattle.seg_spec.proofs.CellSteps.{ChangesFields, defaulted_local, field_types}
+use Rattle.seg_spec.proofs.Values.CellChangeLaws.{ChangesFields, defaulted_local, field_types}
 use Rattle.seg_cells.proofs.cells.+set_fields.Given as goal
 
 abbrev pub decreases-set_fields : goal.decreases-set_fields

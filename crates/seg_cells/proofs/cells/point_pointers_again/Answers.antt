@@ -3,7 +3,7 @@ use Rattle.seg_spec.specs.Bytes.{word, set_word}
 use Rattle.seg_spec.specs.Window.{with_bytes}
 use Rattle.seg_spec.specs.Cells.{further}
 use Rattle.seg_cells.proofs.Pointers.{no_pointers, pointer_position, next_pointer}
-use Rattle.seg_spec.proofs.Placements.{bytes_of}
+use Rattle.seg_spec.proofs.WindowLaws.{bytes_of}
 use Rattle.seg_cells.proofs.cells.point_pointers_again.Goals as goal
 
 pub loop-index-init : goal.loop-index-init

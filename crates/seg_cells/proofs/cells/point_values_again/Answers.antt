@@ -1,7 +1,7 @@
 use Rattle.std.proofs.Common.{ap, ◌∙◌}
 use Rattle.seg_spec.specs.Window.{with_bytes}
 use Rattle.seg_spec.specs.Cells.{IsFurther}
-use Rattle.seg_spec.proofs.CellSteps.{further_local, no_change, next_entry, entry_position, entry_within}
+use Rattle.seg_spec.proofs.Values.CellChangeLaws.{further_local, no_change, next_entry, entry_position, entry_within}
 use Rattle.seg_cells.proofs.CellCases.{further_no_cells}
 use Rattle.seg_cells.proofs.cells.point_values_again.Goals as goal
 

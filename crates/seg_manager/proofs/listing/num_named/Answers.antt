@@ -1,5 +1,5 @@
 use Rattle.std.proofs.Common.{◌∙◌}
-use Rattle.seg_manager.proofs.Counting.{names_counted}
+use Rattle.seg_manager.proofs.ObjectCountLaws.{names_counted}
 use Rattle.seg_manager.proofs.listing.num_named.Goals as goal
 
 pub returns : goal.returns

@@ -1,7 +1,7 @@
 use Rattle.std.proofs.Common.{◌≡◌, ◌+◌, ◌*◌, ◌<◌, ap, refl, arith}
 use Rattle.seg_spec.specs.Bytes.{put}
 use Rattle.seg_spec.specs.Window.{Placement}
-use Rattle.seg_manager.proofs.Answering.{host_twice}
+use Rattle.seg_manager.proofs.ResultLaws.{host_twice}
 use Rattle.seg_manager.proofs.TableBytes.{none_written, one_written, entry_long, all_written}
 use Rattle.seg_manager.proofs.segment.write_types.Goals as goal
 

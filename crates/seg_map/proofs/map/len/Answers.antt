@@ -1,6 +1,6 @@
 use Rattle.std.proofs.Common.{Ok, sym, ap, ◌∙◌}
 use Rattle.seg_cells.specs.Places.{place_of}
-use Rattle.seg_map.proofs.Counted.{keys_counted}
+use Rattle.seg_map.proofs.MapCountLaws.{keys_counted}
 use Rattle.seg_map.proofs.map.len.Goals as goal
 
 pub returns-clause-keys : goal.returns-clause-keys

@@ -12,9 +12,9 @@ use Rattle.seg_raw.specs.declared.code.Code.{Code}
 use Rattle.seg_cells.specs.Places.{object_at}
 use Rattle.seg_cells.specs.declared.content.Shape.TheVariants as shape
 use Rattle.seg_rbtree.specs.Paths.{node_at}
-use Rattle.seg_map.proofs.Adding.{AddsFrom}
+use Rattle.seg_map.proofs.NodeAdditionLaws.{AddsFrom}
 use Rattle.seg_map.specs.Maps.{PutsKey}
-use Rattle.seg_map.proofs.Putting.{tag_small, value_known, around, missing, puts_there, puts_refused, puts_new, added_new}
+use Rattle.seg_map.proofs.TreePutLaws.{tag_small, value_known, around, missing, puts_there, puts_refused, puts_new, added_new}
 use Rattle.seg_map.proofs.tree.put.Goals as goal
 
 bytes_are : (p q : Placement) → p ≡ q → p.bytes ≡ q.bytes

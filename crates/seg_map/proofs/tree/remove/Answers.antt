@@ -11,8 +11,8 @@ use Rattle.seg_cells.specs.Places.{object_at}
 use Rattle.seg_cells.specs.declared.place.Place.{Place}
 use Rattle.seg_map.specs.Maps.{RemovesKey}
 use Rattle.seg_map.specs.Trees.{KeepsOtherKeys}
-use Rattle.seg_map.proofs.Putting.{around, missing}
-use Rattle.seg_map.proofs.Taking.{removes_none, removes_one, taken_out}
+use Rattle.seg_map.proofs.TreePutLaws.{around, missing}
+use Rattle.seg_map.proofs.TreeRemoveLaws.{removes_none, removes_one, taken_out}
 use Rattle.seg_map.proofs.tree.remove.Goals as goal
 use Rattle.seg_map.proofs.tree.remove.Goals.{in-Some-value, in_default-value}
 

@@ -5,8 +5,8 @@ use Rattle.seg_rbtree.specs.declared.node.Colour.TheVariants.{Black, Red}
 use Rattle.seg_rbtree.specs.Nodes.{side_word, opposite, colour_at}
 use Rattle.seg_rbtree.specs.Ways.{last_word}
 use Rattle.seg_rbtree.specs.Rising.{Settles}
-use Rattle.seg_rbtree.proofs.Settling.{settled_root, settled_below_black, family, red_below_some}
-use Rattle.seg_rbtree.proofs.Parting.{settled_parting, settled_straight}
+use Rattle.seg_rbtree.proofs.RedPairStepLaws.{settled_root, settled_below_black, family, red_below_some}
+use Rattle.seg_rbtree.proofs.RecolourLaws.{settled_parting, settled_straight}
 use Rattle.seg_rbtree.proofs.insert.settle.Goals.{in_default-uncle-via-in-Some-uncle+else-is_red, in_default-uncle-via-in_default-uncle}
 use Rattle.seg_rbtree.proofs.insert.settle.Goals as goal
 

@@ -1,5 +1,5 @@
 use Rattle.std.proofs.Common.{refl, ◌∙◌, arith}
-use Rattle.seg_rbtree.proofs.TakingOut.{descending_start, descending_on, descended, descending_low, descending_room, descending_few}
+use Rattle.seg_rbtree.proofs.NodeRemovalLaws.{descending_start, descending_on, descended, descending_low, descending_room, descending_few}
 use Rattle.seg_rbtree.proofs.next.descend_from.Goals as goal
 
 pub loop-init : goal.loop-init

@@ -3,7 +3,7 @@ use Rattle.seg_spec.specs.Pointer.{target}
 use Rattle.seg_spec.specs.Shapes.{Tree}
 use Rattle.seg_rbtree.specs.Ways.{Layer, place}
 use Rattle.seg_rbtree.specs.Following.{IsPartAt}
-use Rattle.seg_rbtree.proofs.TakingOut.{IsDescending}
+use Rattle.seg_rbtree.proofs.NodeRemovalLaws.{IsDescending}
 use Rattle.seg_rbtree.proofs.next.descend_from.Given as goal
 
 abbrev pub invariant-loop : goal.invariant-loop

@@ -1,7 +1,7 @@
 use Rattle.std.proofs.Common.{◌∷◌}
 use Rattle.seg_rbtree.specs.declared.node.Side.TheVariants.{Right}
 use Rattle.seg_rbtree.specs.Removing.{layer_at}
-use Rattle.seg_rbtree.proofs.TakingOut.{stepped, step_room}
+use Rattle.seg_rbtree.proofs.NodeRemovalLaws.{stepped, step_room}
 use Rattle.seg_rbtree.proofs.next.descend_right.Goals as goal
 
 pub returns-else-push-clause-descended : goal.returns-else-push-clause-descended

@@ -1,6 +1,6 @@
 use Rattle.std.proofs.Common.{ℕ, ◌∙◌, ap, sym}
 use Rattle.seg_spec.specs.Pointer.{target}
-use Rattle.seg_rbtree.proofs.TakingOut.{part_word}
+use Rattle.seg_rbtree.proofs.NodeRemovalLaws.{part_word}
 use Rattle.seg_rbtree.proofs.next.descend_to_first.Goals as goal
 
 pub returns-in_err-first-clause-descended : goal.returns-in_err-first-clause-descended

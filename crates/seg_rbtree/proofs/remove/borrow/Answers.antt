@@ -5,7 +5,7 @@ use Rattle.seg_spec.specs.Window.{Placement}
 use Rattle.seg_rbtree.specs.declared.node.Side.{Side}
 use Rattle.seg_rbtree.specs.declared.node.Colour.TheVariants.{Red}
 use Rattle.seg_rbtree.specs.Nodes.{side_word, opposite, colour_at, rotated}
-use Rattle.seg_rbtree.proofs.Lengthening.{by_outer, by_inner, shortening, not_red_paint, holds_if, fails_if}
+use Rattle.seg_rbtree.proofs.ShortSubtreeStepLaws.{by_outer, by_inner, shortening, not_red_paint, holds_if, fails_if}
 use Rattle.seg_rbtree.proofs.remove.borrow.Goals as goal
 
 pub returns-in-Some-clause-lengthened : goal.returns-in-Some-clause-lengthened

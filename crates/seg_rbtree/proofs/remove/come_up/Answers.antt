@@ -1,6 +1,6 @@
 use Rattle.std.proofs.Common.{ap, sym, ◌∙◌}
 use Rattle.seg_spec.specs.Window.{Placement}
-use Rattle.seg_rbtree.proofs.Lengthening.{came_up, sibling_named}
+use Rattle.seg_rbtree.proofs.ShortSubtreeStepLaws.{came_up, sibling_named}
 use Rattle.seg_rbtree.proofs.remove.come_up.Goals as goal
 
 pub returns-in-Some-clause-came_up : goal.returns-in-Some-clause-came_up

@@ -5,7 +5,7 @@ use Rattle.seg_rbtree.specs.declared.node.Colour.TheVariants.{Red}
 use Rattle.seg_rbtree.specs.Nodes.{colour_at}
 use Rattle.seg_rbtree.specs.Ways.{Layer}
 use Rattle.seg_rbtree.specs.Removing.{IsShort, Lengthens}
-use Rattle.seg_rbtree.proofs.Lengthening.{red_part, black_part, short_whole, step_up, holds_if, fails_if}
+use Rattle.seg_rbtree.proofs.ShortSubtreeStepLaws.{red_part, black_part, short_whole, step_up, holds_if, fails_if}
 use Rattle.seg_rbtree.proofs.remove.lengthen.Goals as goal
 
 pub returns-in-Some-clause-lengthened : goal.returns-in-Some-clause-lengthened

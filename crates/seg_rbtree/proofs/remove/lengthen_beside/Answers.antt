@@ -2,7 +2,7 @@ use Rattle.std.proofs.Common.{◌≡◌, Some, ap, sym, ◌∙◌}
 use Rattle.seg_spec.specs.Pointer.{target}
 use Rattle.seg_rbtree.specs.declared.node.Colour.TheVariants.{Red}
 use Rattle.seg_rbtree.specs.Nodes.{side_word, opposite, colour_at}
-use Rattle.seg_rbtree.proofs.Lengthening.{by_lower, by_borrow, no_sibling, not_red_paint, holds_if, fails_if}
+use Rattle.seg_rbtree.proofs.ShortSubtreeStepLaws.{by_lower, by_borrow, no_sibling, not_red_paint, holds_if, fails_if}
 use Rattle.seg_rbtree.proofs.remove.lengthen_beside.Goals as goal
 
 pub returns-in_default-clause-lengthened : goal.returns-in_default-clause-lengthened

@@ -1,6 +1,6 @@
 use Rattle.std.proofs.Common.{ap}
 use Rattle.seg_spec.specs.Window.{Placement}
-use Rattle.seg_rbtree.proofs.Lengthening.{lowered_whole}
+use Rattle.seg_rbtree.proofs.ShortSubtreeStepLaws.{lowered_whole}
 use Rattle.seg_rbtree.proofs.remove.lower.Goals as goal
 
 pub returns-clause-lowered : goal.returns-clause-lowered

@@ -1,7 +1,7 @@
 use Rattle.std.proofs.Common.{Bool, ◌∙◌, ap, subst, arith}
 use Rattle.seg_spec.specs.Window.{Placement, with_bytes}
 use Rattle.seg_rbtree.specs.Removing.{Lengthens}
-use Rattle.seg_rbtree.proofs.Restoring.{restoring_stands, restoring_on, restored, restoring_ends}
+use Rattle.seg_rbtree.proofs.ShortSubtreeRepairLaws.{restoring_stands, restoring_on, restored, restoring_ends}
 use Rattle.seg_rbtree.proofs.remove.restore.Goals as goal
 
 pub loop-preserved : goal.loop-preserved

@@ -3,7 +3,7 @@ use Rattle.seg_spec.specs.Shapes.{Tree}
 use Rattle.seg_spec.specs.Window.{with_bytes}
 use Rattle.seg_rbtree.specs.Ways.{Layer}
 use Rattle.seg_rbtree.specs.Removing.{StandsAt, IsShort}
-use Rattle.seg_rbtree.proofs.Restoring.{IsRestoring}
+use Rattle.seg_rbtree.proofs.ShortSubtreeRepairLaws.{IsRestoring}
 use Rattle.seg_rbtree.proofs.remove.restore.Given as goal
 
 abbrev pub invariant-loop : goal.invariant-loop

@@ -1,7 +1,7 @@
 use Rattle.std.proofs.Common.{◌∙◌, ap, sym}
 use Rattle.seg_spec.specs.Window.{Placement}
 use Rattle.seg_rbtree.specs.declared.node.Side.TheVariants.{Left, Right}
-use Rattle.seg_rbtree.proofs.TakingOut.{lone_unlinked, any_unlinked, nothing_there, something_there}
+use Rattle.seg_rbtree.proofs.NodeRemovalLaws.{lone_unlinked, any_unlinked, nothing_there, something_there}
 use Rattle.seg_rbtree.proofs.remove.unlink.Goals as goal
 
 pub returns-then-is_none-clause-unlinked : goal.returns-then-is_none-clause-unlinked

@@ -1,7 +1,7 @@
 use Rattle.std.proofs.Common.{◌≢◌, ◌+◌, List, ℕ, None, ◌∷◌, ap, sym, subst}
 use Rattle.seg_spec.specs.Window.{Placement}
 use Rattle.seg_spec.specs.Pointer.{target}
-use Rattle.seg_rbtree.proofs.TakingOut.{as_part}
+use Rattle.seg_rbtree.proofs.NodeRemovalLaws.{as_part}
 use Rattle.seg_rbtree.proofs.NextNode.{by_next, no_next}
 use Rattle.seg_rbtree.specs.declared.node.Side.TheVariants.{Right}
 use Rattle.seg_spec.specs.Shapes.{fork}

@@ -1,10 +1,10 @@
 use Rattle.std.proofs.Common.{arith}
 use Rattle.seg_spec.specs.Types.{Form}
 use Rattle.seg_spec.specs.Block.{Kind, tag_of}
-use Rattle.seg_spec.proofs.MoreTypes.{below_length}
+use Rattle.seg_spec.proofs.Tables.TableExtensionLaws.{below_length}
 use Rattle.seg_cells.specs.Places.{object_at}
 use Rattle.seg_cells.specs.declared.content.Shape.TheVariants as shape
-use Rattle.seg_seq.proofs.Adding.{item_pushed}
+use Rattle.seg_seq.proofs.NodeAdditionLaws.{item_pushed}
 use Rattle.seg_seq.proofs.Results.{refused_so}
 use Rattle.seg_seq.proofs.list.push_node.Goals as goal
 

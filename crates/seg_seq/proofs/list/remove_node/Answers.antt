@@ -2,8 +2,8 @@ use Rattle.std.proofs.Common.{◌≡◌, ◌+◌, ◌*◌, ◌%◌, ◌^◌, Som
 use Rattle.seg_cells.specs.Places.{place_of, object_at}
 use Rattle.seg_value.specs.Stored.{Stored}
 use Rattle.seg_cells.specs.declared.place.Place.{Place}
-use Rattle.seg_seq.proofs.Listed.{value_in}
-use Rattle.seg_seq.proofs.Removed.{Clears, clears_here, item_small, item_removed}
+use Rattle.seg_seq.proofs.ListNodeLaws.{value_in}
+use Rattle.seg_seq.proofs.ListRemovalLaws.{Clears, clears_here, item_small, item_removed}
 use Rattle.seg_seq.proofs.list.remove_node.Goals as goal
 use Rattle.seg_seq.proofs.list.remove_node.Goals.{in-Some, in_default}
 

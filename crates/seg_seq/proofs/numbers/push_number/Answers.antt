@@ -4,9 +4,9 @@ use Rattle.seg_spec.specs.Bytes.{signed_long, ChangesOnly}
 use Rattle.seg_spec.specs.Reads.{Holds}
 use Rattle.seg_spec.specs.Types.{Form, Table, form_at, size}
 use Rattle.seg_spec.specs.Value.{Int}
-use Rattle.seg_spec.proofs.TypesLaws.{size-form}
+use Rattle.seg_spec.proofs.Tables.TypeSizeLaws.{size-form}
 use Rattle.seg_cells.specs.Places.{object_at}
-use Rattle.seg_spec.proofs.Writing.{number_held}
+use Rattle.seg_spec.proofs.Images.RootWriteLaws.{number_held}
 use Rattle.seg_seq.proofs.ItemCalls.{item_written}
 use Rattle.seg_seq.proofs.numbers.push_number.Goals as goal
 

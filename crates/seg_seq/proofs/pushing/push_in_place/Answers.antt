@@ -1,7 +1,7 @@
 use Rattle.std.proofs.Common.{rules, ◌≡◌, pos, None, sym, subst}
 use Rattle.seg_spec.specs.Types.{Form}
 use Rattle.seg_spec.specs.Value.{Value, Int, default_of}
-use Rattle.seg_spec.proofs.Defaults.{default-form}
+use Rattle.seg_spec.proofs.Values.DefaultLaws.{default-form}
 use Rattle.seg_cells.specs.Places.{place_of}
 use Rattle.seg_seq.specs.Sequences.{PushesItem}
 use Rattle.seg_seq.proofs.InPlace.{number_items}

@@ -4,7 +4,7 @@ use Rattle.seg_spec.specs.Bytes.{signed, set_word, set_long}
 use Rattle.seg_spec.specs.Types.{Form, size}
 use Rattle.seg_spec.specs.Value.{Int}
 use Rattle.seg_spec.specs.Window.{Placement, KeepsHost}
-use Rattle.seg_spec.proofs.TypesLaws.{size-form}
+use Rattle.seg_spec.proofs.Tables.TypeSizeLaws.{size-form}
 use Rattle.seg_ptr.specs.Lent.{lent_to}
 use Rattle.seg_cells.specs.Places.{object_at}
 use Rattle.seg_value.specs.Stored.{Stored}

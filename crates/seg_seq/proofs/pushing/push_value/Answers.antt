@@ -2,7 +2,7 @@ use Rattle.std.proofs.Common.{rules, ◌≡◌, ◌+◌, ◌%◌, ◌^◌, refl,
 use Rattle.seg_spec.specs.Bytes.{set_word}
 use Rattle.seg_spec.specs.Types.{Table, size}
 use Rattle.seg_spec.specs.Window.{Placement, with_bytes}
-use Rattle.seg_spec.proofs.Placements.{bytes_of}
+use Rattle.seg_spec.proofs.WindowLaws.{bytes_of}
 use Rattle.seg_seq.specs.Buffers.{LacksEntry, HasEntry}
 use Rattle.seg_seq.proofs.InPlace.{item_first, lacks_item, item_more, item_place, item_room}
 use Rattle.seg_seq.proofs.ItemCalls.{item_pushed}

@@ -4,7 +4,7 @@ use Rattle.seg_spec.specs.Pointer.{target, set_pointer}
 use Rattle.seg_spec.specs.Window.{Placement}
 use Rattle.seg_value.specs.Stored.{Stored}
 use Rattle.seg_seq.specs.Rings.{coupled}
-use Rattle.seg_seq.proofs.Inserting.{Inserted, inserted_first, inserted_more, inserted_counted}
+use Rattle.seg_seq.proofs.RingInsertionLaws.{Inserted, inserted_first, inserted_more, inserted_counted}
 use Rattle.seg_seq.proofs.ring.insert.Goals as goal
 use Rattle.seg_seq.proofs.ring.insert.Goals.{in-None, in-Some}
 

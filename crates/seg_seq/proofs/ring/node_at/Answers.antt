@@ -1,5 +1,5 @@
 use Rattle.std.proofs.Common.{◌≡◌, ◌-◌, length, get_or, ap, ◌∙◌, arith}
-use Rattle.seg_seq.proofs.Walking.{starts, forward_is, backward_is}
+use Rattle.seg_seq.proofs.RingWalkLaws.{starts, forward_is, backward_is}
 use Rattle.seg_seq.proofs.ring.node_at.Goals as goal
 
 pub returns-then-index-from_end : goal.returns-then-index-from_end

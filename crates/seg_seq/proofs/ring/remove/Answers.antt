@@ -4,7 +4,7 @@ use Rattle.seg_spec.specs.Pointer.{target, set_pointer}
 use Rattle.seg_spec.specs.Reads.{count_at, start}
 use Rattle.seg_spec.specs.Window.{Placement}
 use Rattle.seg_seq.specs.Rings.{coupled}
-use Rattle.seg_seq.proofs.Removing.{removed_only, removed_first, removed_other}
+use Rattle.seg_seq.proofs.RingRemovalLaws.{removed_only, removed_first, removed_other}
 use Rattle.seg_seq.proofs.ring.remove.Goals as goal
 
 pub returns-then-nodes-eq0-clause-removed : goal.returns-then-nodes-eq0-clause-removed

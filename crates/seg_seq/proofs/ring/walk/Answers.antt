@@ -1,7 +1,7 @@
 use Rattle.std.proofs.Common.{◌≡◌, length, get_or, sym, ap, ◌∙◌, arith}
 use Rattle.seg_spec.specs.Window.{Placement}
 use Rattle.seg_seq.specs.Rings.{around}
-use Rattle.seg_seq.proofs.Walking.{walked, around_none}
+use Rattle.seg_seq.proofs.RingWalkLaws.{walked, around_none}
 use Rattle.seg_seq.proofs.ring.walk.Goals as goal
 
 pub loop-init : goal.loop-init

@@ -2,7 +2,7 @@ use Rattle.std.proofs.Common.{refl, arith}
 use Rattle.seg_cells.specs.Places.{place_of}
 use Rattle.seg_seq.proofs.TextCalls.{counted_all}
 use Rattle.seg_seq.proofs.ItemCalls.{items_counted, vector_entry}
-use Rattle.seg_seq.proofs.Found.{shows_byte, shows_item}
+use Rattle.seg_seq.proofs.ItemPositionLaws.{shows_byte, shows_item}
 use Rattle.seg_seq.proofs.Fronts.{counted_items, item_found}
 use Rattle.seg_seq.proofs.SequenceKinds.{buffer_text, buffer_vector}
 use Rattle.seg_seq.proofs.sequence.at.Goals as goal

@@ -2,7 +2,7 @@ use Rattle.std.proofs.Common.{rules, ◌≡◌, ◌+◌, Err}
 use Rattle.seg_spec.specs.Bytes.{set_word}
 use Rattle.seg_spec.specs.Value.{Seq}
 use Rattle.seg_spec.specs.Window.{with_bytes}
-use Rattle.seg_spec.proofs.Placements.{bytes_of}
+use Rattle.seg_spec.proofs.WindowLaws.{bytes_of}
 use Rattle.seg_seq.proofs.ItemCalls.{vector_entry, no_item_pushed, item_counted}
 use Rattle.seg_seq.proofs.sequence.count_entry.Goals as goal
 

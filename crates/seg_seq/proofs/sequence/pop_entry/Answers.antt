@@ -6,7 +6,7 @@ use Rattle.seg_value.specs.Stored.{Stored}
 use Rattle.seg_cells.specs.declared.place.Place.{Place}
 use Rattle.seg_seq.proofs.TextCalls.{text_entry, byte_popped}
 use Rattle.seg_seq.proofs.ItemCalls.{vector_entry, one_place, item_popped}
-use Rattle.seg_spec.proofs.Placements.{bytes_of}
+use Rattle.seg_spec.proofs.WindowLaws.{bytes_of}
 use Rattle.seg_seq.proofs.sequence.pop_entry.Goals as goal
 use Rattle.seg_seq.proofs.sequence.pop_entry.Goals.{in-Some, in_default}
 

@@ -6,7 +6,7 @@ use Rattle.seg_raw.specs.declared.code.Code.TheVariants.{BadAlloc}
 use Rattle.seg_cells.specs.Places.{place_of}
 use Rattle.seg_seq.proofs.SequenceKinds.{buffer_text}
 use Rattle.seg_seq.proofs.TextCalls.{too_long, no_room_made, makes_room}
-use Rattle.seg_spec.proofs.Placements.{bytes_of}
+use Rattle.seg_spec.proofs.WindowLaws.{bytes_of}
 use Rattle.seg_seq.proofs.text.make_room.Goals as goal
 
 pub returns-in_err-added-clause-text : goal.returns-in_err-added-clause-text

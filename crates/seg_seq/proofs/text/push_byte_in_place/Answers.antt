@@ -1,7 +1,7 @@
 use Rattle.std.proofs.Common.{rules, ◌≡◌, ◌+◌, ◌%◌, ◌^◌, ◌<◌, ◌≤◌, ◌∷◌, ◌∙◌, [], length, refl, ap, subst, arith, None}
 use Rattle.seg_spec.specs.Bytes.{set_byte, set_word}
 use Rattle.seg_spec.specs.Window.{Placement, with_bytes}
-use Rattle.seg_spec.proofs.Placements.{bytes_of}
+use Rattle.seg_spec.proofs.WindowLaws.{bytes_of}
 use Rattle.seg_cells.specs.Places.{place_of}
 use Rattle.seg_value.specs.Stored.{Stored}
 use Rattle.seg_seq.specs.Buffers.{LacksEntry, HasEntry}

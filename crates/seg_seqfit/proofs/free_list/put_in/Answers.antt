@@ -3,7 +3,7 @@ use Rattle.seg_spec.specs.Pointer.{target, set_pointer}
 use Rattle.seg_block.specs.Sizes.{set_size}
 use Rattle.seg_block.specs.Tiling.{tile, Retiles}
 use Rattle.seg_seqfit.specs.Retiling.{link_past}
-use Rattle.seg_seqfit.proofs.Releasing.{release-retiles}
+use Rattle.seg_seqfit.proofs.TileReleaseLaws.{release-retiles}
 use Rattle.seg_seqfit.proofs.free_list.put_in.Goals as goal
 
 pub returns-clause-tiles : goal.returns-clause-tiles

@@ -2,10 +2,10 @@ use Rattle.std.proofs.Common.{◌+◌, ◌*◌, true, false, ◌∷◌, List, �
 use Rattle.seg_spec.specs.Heap.{Gives}
 use Rattle.seg_spec.specs.Pointer.{target}
 use Rattle.seg_block.specs.Tiling.{tile}
-use Rattle.seg_block.proofs.Freeing.{has_following, freed_alone, freed_joined}
-use Rattle.seg_block.proofs.Resized.{before, following, was}
-use Rattle.seg_seqfit.proofs.Freeing.{fill_from, link_is}
-use Rattle.seg_seqfit.proofs.Lending.{lent_bytes, lent_keeps, PutsIn, Widens}
+use Rattle.seg_block.proofs.BlockFreeLaws.{has_following, freed_alone, freed_joined}
+use Rattle.seg_block.proofs.ResizedBlockLaws.{before, following, was}
+use Rattle.seg_seqfit.proofs.TileRangeLaws.{fill_from, link_is}
+use Rattle.seg_seqfit.proofs.LentBytesLaws.{lent_bytes, lent_keeps, PutsIn, Widens}
 use Rattle.seg_seqfit.proofs.free_list.release_joined.Goals as goal
 
 pub returns-in_default-clause-host : goal.returns-in_default-clause-host

@@ -2,7 +2,7 @@ use Rattle.std.proofs.Common.{◌+◌, false, [], ◌∷◌, List, ℕ, sym, ap,
 use Rattle.seg_spec.specs.Pointer.{set_pointer}
 use Rattle.seg_block.specs.Sizes.{set_size}
 use Rattle.seg_block.specs.Tiling.{tile, Retiles}
-use Rattle.seg_seqfit.proofs.Widening.{widen-retiles}
+use Rattle.seg_seqfit.proofs.GapGrowthLaws.{widen-retiles}
 use Rattle.seg_seqfit.proofs.free_list.widen.Goals as goal
 
 pub returns-clause-tiles : goal.returns-clause-tiles

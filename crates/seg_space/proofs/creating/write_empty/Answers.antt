@@ -6,9 +6,9 @@ use Rattle.seg_spec.specs.Heap.{Begins}
 use Rattle.seg_spec.specs.Window.{Placement, with_bytes}
 use Rattle.seg_spec.specs.Header.{uniques_start, uniques_size, heap_start}
 use Rattle.std.specs.Prelude.{codes}
-use Rattle.seg_spec.proofs.CellSteps.{ChangesOnly-none}
+use Rattle.seg_spec.proofs.Values.CellChangeLaws.{ChangesOnly-none}
 use Rattle.seg_space.specs.NewSegments.{word_of_kind}
-use Rattle.seg_manager.proofs.Answering.{host_twice}
+use Rattle.seg_manager.proofs.ResultLaws.{host_twice}
 use Rattle.seg_space.proofs.EmptyImages.{kind_word, few_kinds_of, one_more_null, empty_long, kind_then, version_then, allocator_then, new_long, nothing_held}
 use Rattle.seg_space.proofs.creating.write_empty.Goals as goal
 

@@ -8,7 +8,7 @@ use Rattle.seg_spec.proofs.BytesLaws.{length-put}
 use Rattle.std.proofs.Common.{ℕ, ◌+◌, ◌-◌, ◌/◌, ◌≤◌, List, replicate}
 use Rattle.seg_spec.specs.Heap.{IsHeap, without_end}
 use Rattle.seg_spec.specs.Faulty.{IsImageLength}
-use Rattle.seg_space.proofs.Resizing.{grown_by_none, front_is, host_then, grown}
+use Rattle.seg_space.proofs.ResizeLaws.{grown_by_none, front_is, host_then, grown}
 use Rattle.seg_space.specs.Sizes.{used_front}
 use Rattle.seg_space.proofs.NewZeros.{zeros_extend, zeros_there}
 use Rattle.seg_space.proofs.size.grow.Goals as goal

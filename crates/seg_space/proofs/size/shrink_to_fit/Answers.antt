@@ -2,7 +2,7 @@ use Rattle.std.proofs.Common.{◌≡◌, ◌≤◌, ◌+◌, ◌*◌, Result, Ok
 use Rattle.std.specs.Result.{IsOk, OnOk}
 use Rattle.std.proofs.lemmas.Bool.{false≢true}
 use Rattle.seg_spec.specs.Heap.{IsHeap, Cuts}
-use Rattle.seg_space.proofs.Resizing.{cut_fits, region_long, shrunk_to}
+use Rattle.seg_space.proofs.ResizeLaws.{cut_fits, region_long, shrunk_to}
 use Rattle.seg_space.proofs.size.shrink_to_fit.Goals as goal
 
 on_ok : {T E P : Type 0} (r : Result T E) → IsOk r → OnOk r P → P

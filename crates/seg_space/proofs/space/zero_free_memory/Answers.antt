@@ -2,7 +2,7 @@ use Rattle.std.proofs.Common.{◌≡◌, ◌≤◌, ◌+◌, ◌*◌, length, ap
 use Rattle.seg_block.specs.declared.block.Block.{Block}
 use Rattle.seg_spec.specs.Heap.{IsHeap, units_at}
 use Rattle.seg_spec.specs.Window.{Placement, with_bytes}
-use Rattle.seg_manager.proofs.Answering.{host_twice}
+use Rattle.seg_manager.proofs.ResultLaws.{host_twice}
 use Rattle.seg_space.proofs.TileWalk.{reads_none, rest_none}
 use Rattle.seg_space.proofs.ZeroedGaps.{stepped_live, stepped_free, zeroed_all, zeroes}
 use Rattle.seg_space.proofs.space.zero_free_memory.Goals as goal

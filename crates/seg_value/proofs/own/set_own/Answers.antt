@@ -6,8 +6,8 @@ use Rattle.seg_spec.specs.Owning.{Stands}
 use Rattle.seg_spec.specs.Window.{Placement, with_bytes}
 use Rattle.seg_cells.specs.Places.{place_of}
 use Rattle.seg_value.specs.Stored.{Stored}
-use Rattle.seg_value.proofs.Setting.{IsEmptied, own_cases, emptied_already, taken_emptied, own_set}
-use Rattle.seg_spec.proofs.Placements.{bytes_of}
+use Rattle.seg_value.proofs.OwnSetLaws.{IsEmptied, own_cases, emptied_already, taken_emptied, own_set}
+use Rattle.seg_spec.proofs.WindowLaws.{bytes_of}
 use Rattle.seg_value.proofs.own.set_own.Goals as goal
 use Rattle.seg_value.proofs.own.set_own.Goals.{in-Some, in_default}
 

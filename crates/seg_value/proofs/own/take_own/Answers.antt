@@ -2,10 +2,10 @@ use Rattle.std.proofs.Common.{◌≡◌, ◌+◌, ap, ◌∙◌, sym, Some, None
 use Rattle.seg_spec.specs.Bytes.{set_word}
 use Rattle.seg_spec.specs.Pointer.{target, set_pointer}
 use Rattle.seg_spec.specs.Window.{Placement, with_bytes}
-use Rattle.seg_spec.proofs.OwnSteps.{empty_own}
+use Rattle.seg_spec.proofs.Deallocation.OwnLaws.{empty_own}
 use Rattle.seg_cells.specs.Places.{place_of}
 use Rattle.seg_value.proofs.Owns.{full, own_taken}
-use Rattle.seg_spec.proofs.Placements.{bytes_of}
+use Rattle.seg_spec.proofs.WindowLaws.{bytes_of}
 use Rattle.seg_value.proofs.own.take_own.Goals as goal
 
 pub returns-clause-empty : goal.returns-clause-empty

@@ -3,10 +3,10 @@ use Rattle.seg_spec.specs.Bytes.{set_word}
 use Rattle.seg_spec.specs.Header.{next_word}
 use Rattle.seg_spec.specs.Block.{Kind, tag_of}
 use Rattle.seg_spec.specs.Window.{with_bytes}
-use Rattle.seg_spec.proofs.Placements.{bytes_of}
+use Rattle.seg_spec.proofs.WindowLaws.{bytes_of}
 use Rattle.seg_cells.specs.declared.content.Shape.TheVariants as shape
 use Rattle.seg_cells.specs.Contents.{IsContent}
-use Rattle.seg_value.proofs.Freezing.{all_moved}
+use Rattle.seg_value.proofs.FreezeLaws.{all_moved}
 use Rattle.seg_value.proofs.sharing.move_frozen.Goals as goal
 
 pub returns-clause-moved : goal.returns-clause-moved

@@ -1,4 +1,4 @@
-use Rattle.client_spec.proofs.Total.{three_runs, down_runs, idle_runs, increment_runs, echo_runs, kill_runs, other_runs}
+use Rattle.client_spec.proofs.Runs.TotalRunLaws.{three_runs, down_runs, idle_runs, increment_runs, echo_runs, kill_runs, other_runs}
 use Rattle.test_definitions.proofs.clients.runs.Goals as goal
 
 pub returns : goal.returns

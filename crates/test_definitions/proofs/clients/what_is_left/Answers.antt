@@ -5,7 +5,7 @@ use Rattle.client_spec.specs.Run.{finished}
 use Rattle.client_spec.specs.Safe.{IsFront}
 use Rattle.client_spec.specs.Clients.{IsLeftInPlace}
 use Rattle.client_spec.specs.Fixtures.{increment, counted, left_with, given_at_0}
-use Rattle.client_spec.proofs.Total.{increment_runs}
+use Rattle.client_spec.proofs.Runs.TotalRunLaws.{increment_runs}
 use Rattle.test_definitions.proofs.clients.what_is_left.Goals as goal
 
 placed : IsLeftInPlace (given_at_0 (codes "ab")) (left_with 1 finished [] (codes "cd"))

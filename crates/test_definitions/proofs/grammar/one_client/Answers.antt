@@ -1,5 +1,5 @@
 use Rattle.std.proofs.Common.{◌∙◌, sym}
-use Rattle.client_spec.proofs.OneClient.{one_client as same_client}
+use Rattle.client_spec.proofs.Spelling.OneClientLaws.{one_client as same_client}
 use Rattle.test_definitions.proofs.grammar.one_client.Goals as goal
 
 pub returns : goal.returns

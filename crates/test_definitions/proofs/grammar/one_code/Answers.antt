@@ -1,5 +1,5 @@
 use Rattle.std.proofs.Common.{◌∙◌, sym, append-nil}
-use Rattle.client_spec.proofs.OneTree.{one_code as same_code}
+use Rattle.client_spec.proofs.Spelling.OneTreeLaws.{one_code as same_code}
 use Rattle.test_definitions.proofs.grammar.one_code.Goals as goal
 
 pub returns : goal.returns

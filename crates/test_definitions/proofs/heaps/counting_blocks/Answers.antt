@@ -1,4 +1,4 @@
-use Rattle.seg_spec.proofs.LiveLaws.{times-with_block, times-without, positions-resized}
+use Rattle.seg_spec.proofs.Heap.LiveBlockLaws.{times-with_block, times-without, positions-resized}
 use Rattle.test_definitions.proofs.heaps.counting_blocks.Goals as goal
 
 pub returns : goal.returns

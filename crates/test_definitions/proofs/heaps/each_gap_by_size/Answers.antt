@@ -1,4 +1,4 @@
-use Rattle.seg_spec.proofs.FreeLaws.{gaps-by_size, times-by_size, by_size-middle, insert-placed, insert-removed}
+use Rattle.seg_spec.proofs.Heap.GapOrderLaws.{gaps-by_size, times-by_size, by_size-middle, insert-placed, insert-removed}
 use Rattle.test_definitions.proofs.heaps.each_gap_by_size.Goals as goal
 
 pub returns-clause-ordered : goal.returns-clause-ordered

@@ -1,6 +1,6 @@
 use Rattle.std.proofs.Common.{true}
-use Rattle.seg_spec.proofs.TileLaws.{gaps_between-live_of}
-use Rattle.seg_spec.proofs.FreeLaws.{gaps-free}
+use Rattle.seg_spec.proofs.Heap.TileLaws.{gaps_between-live_of}
+use Rattle.seg_spec.proofs.Heap.GapOrderLaws.{gaps-free}
 use Rattle.test_definitions.proofs.heaps.gaps_are_free_tiles.Goals as goal
 
 pub returns-clause-filled : goal.returns-clause-filled

@@ -1,4 +1,4 @@
-use Rattle.seg_spec.proofs.Composing.{kept_twice, around_twice, around_kept}
+use Rattle.seg_spec.proofs.Heap.BlockFrameLaws.{kept_twice, around_twice, around_kept}
 use Rattle.test_definitions.proofs.heaps.keeping_twice.Goals as goal
 
 pub returns : goal.returns

@@ -1,4 +1,4 @@
-use Rattle.seg_spec.proofs.NoGaps.{denied as law, no_room as law_back}
+use Rattle.seg_spec.proofs.Heap.OutOfMemoryLaws.{denied as law, no_room as law_back}
 use Rattle.test_definitions.proofs.heaps.no_room.Goals as goal
 
 pub returns : goal.returns

@@ -1,5 +1,5 @@
-use Rattle.seg_spec.proofs.LiveLaws.{live-once}
-use Rattle.seg_spec.proofs.FreeLaws.{gaps-once}
+use Rattle.seg_spec.proofs.Heap.LiveBlockLaws.{live-once}
+use Rattle.seg_spec.proofs.Heap.GapOrderLaws.{gaps-once}
 use Rattle.test_definitions.proofs.heaps.one_block_at_a_position.Goals as goal
 
 pub returns-clause-live : goal.returns-clause-live

@@ -1,4 +1,4 @@
-use Rattle.seg_spec.proofs.TileLaws.{tiles-unique}
+use Rattle.seg_spec.proofs.Heap.TileLaws.{tiles-unique}
 use Rattle.test_definitions.proofs.heaps.one_tiling.Goals as goal
 
 pub returns : goal.returns

@@ -1,4 +1,4 @@
-use Rattle.seg_spec.proofs.PickLaws.{first_fit-lowest, best_fit-smallest, first_fit-none, best_fit-none}
+use Rattle.seg_spec.proofs.Heap.GapPickLaws.{first_fit-lowest, best_fit-smallest, first_fit-none, best_fit-none}
 use Rattle.test_definitions.proofs.heaps.picking.Goals as goal
 
 pub returns : goal.returns

@@ -1,4 +1,4 @@
-use Rattle.seg_spec.proofs.HeapFrame.{IsHeap-kept, live-kept}
+use Rattle.seg_spec.proofs.Heap.HeapFrameLaws.{IsHeap-kept, live-kept}
 use Rattle.test_definitions.proofs.heaps.same_heap.Goals as goal
 
 pub returns-clause-order : goal.returns-clause-order

@@ -1,5 +1,5 @@
 use Rattle.seg_spec.specs.Heap.{gaps}
-use Rattle.seg_spec.proofs.FreeLaws.{gaps-rising, best_fit-first}
+use Rattle.seg_spec.proofs.Heap.GapOrderLaws.{gaps-rising, best_fit-first}
 use Rattle.test_definitions.proofs.heaps.smallest_is_first_by_size.Goals as goal
 
 pub returns : goal.returns

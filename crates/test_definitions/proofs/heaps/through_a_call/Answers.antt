@@ -1,4 +1,4 @@
-use Rattle.seg_spec.proofs.KeptLaws.{block_kept, block_ownable, front_kept}
+use Rattle.seg_spec.proofs.Heap.KeptBlockLaws.{block_kept, block_ownable, front_kept}
 use Rattle.test_definitions.proofs.heaps.through_a_call.Goals as goal
 
 pub returns : goal.returns

@@ -1,4 +1,4 @@
-use Rattle.seg_spec.proofs.Composing.{tiles_written, others_written}
+use Rattle.seg_spec.proofs.Heap.BlockFrameLaws.{tiles_written, others_written}
 use Rattle.test_definitions.proofs.heaps.writing_in_a_block.Goals as goal
 
 pub returns : goal.returns

@@ -1,4 +1,4 @@
-use Rattle.seg_spec.proofs.AddTypes.{types_added}
+use Rattle.seg_spec.proofs.Images.TypeAdditionLaws.{types_added}
 use Rattle.test_definitions.proofs.images.adding_types.Goals as goal
 
 pub returns : goal.returns

@@ -1,4 +1,4 @@
-use Rattle.seg_spec.proofs.RootPart.{part_comes_apart}
+use Rattle.seg_spec.proofs.Images.RootPartLaws.{part_comes_apart}
 use Rattle.test_definitions.proofs.images.changing_inside.Goals as goal
 
 pub returns : goal.returns

@@ -1,4 +1,4 @@
-use Rattle.seg_spec.proofs.PartLaw.{place_changed}
+use Rattle.seg_spec.proofs.Images.RootCallLaws.{place_changed}
 use Rattle.test_definitions.proofs.images.changing_place.Goals as goal
 
 pub returns : goal.returns

@@ -1,4 +1,4 @@
-use Rattle.seg_spec.proofs.RootLaws.{root_comes_apart}
+use Rattle.seg_spec.proofs.Images.RootLaws.{root_comes_apart}
 use Rattle.test_definitions.proofs.images.changing_root.Goals as goal
 
 pub returns : goal.returns

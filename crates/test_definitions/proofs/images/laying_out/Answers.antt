@@ -1,4 +1,4 @@
-use Rattle.seg_spec.proofs.RootLaws.{IsLaidOut-kept, IsLaidOut-faced, IsLaidOut-loose}
+use Rattle.seg_spec.proofs.Images.RootLaws.{IsLaidOut-kept, IsLaidOut-faced, IsLaidOut-loose}
 use Rattle.test_definitions.proofs.images.laying_out.Goals as goal
 
 pub returns : goal.returns

@@ -1,4 +1,4 @@
-use Rattle.seg_spec.proofs.MoveLaw.{moves, moved_after, moved_before}
+use Rattle.seg_spec.proofs.Images.RootChangeLaws.{moves, moved_after, moved_before}
 use Rattle.test_definitions.proofs.images.moving_objects.Goals as goal
 
 pub returns-clause-after : goal.returns-clause-after

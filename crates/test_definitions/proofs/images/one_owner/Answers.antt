@@ -1,5 +1,5 @@
 use Rattle.seg_spec.specs.Bytes.{word}
-use Rattle.seg_spec.proofs.LiveLaws.{owned_once, owns_live}
+use Rattle.seg_spec.proofs.Heap.LiveBlockLaws.{owned_once, owns_live}
 use Rattle.test_definitions.proofs.images.one_owner.Goals as goal
 
 pub returns-clause-live : goal.returns-clause-live

@@ -1,4 +1,4 @@
-use Rattle.seg_spec.proofs.Writing.{Held-apart}
+use Rattle.seg_spec.proofs.Images.RootWriteLaws.{Held-apart}
 use Rattle.test_definitions.proofs.images.owners_apart.Goals as goal
 
 pub returns : goal.returns

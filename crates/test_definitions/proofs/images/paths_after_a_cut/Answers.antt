@@ -1,4 +1,4 @@
-use Rattle.seg_spec.proofs.PathsAfter.{after_a_cut}
+use Rattle.seg_spec.proofs.Values.PathContinuationLaws.{after_a_cut}
 use Rattle.test_definitions.proofs.images.paths_after_a_cut.Goals as goal
 
 pub returns : goal.returns

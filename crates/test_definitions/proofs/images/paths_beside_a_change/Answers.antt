@@ -1,4 +1,4 @@
-use Rattle.seg_spec.proofs.RootPaths.{place_paths}
+use Rattle.seg_spec.proofs.Images.RootPathLaws.{place_paths}
 use Rattle.test_definitions.proofs.images.paths_beside_a_change.Goals as goal
 
 pub returns : goal.returns

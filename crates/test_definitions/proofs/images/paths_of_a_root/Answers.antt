@@ -1,4 +1,4 @@
-use Rattle.seg_spec.proofs.RootPaths.{root_paths}
+use Rattle.seg_spec.proofs.Images.RootPathLaws.{root_paths}
 use Rattle.test_definitions.proofs.images.paths_of_a_root.Goals as goal
 
 pub returns : goal.returns

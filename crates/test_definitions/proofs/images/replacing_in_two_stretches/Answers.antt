@@ -1,4 +1,4 @@
-use Rattle.seg_spec.proofs.StretchLaws.{stretches_come_apart}
+use Rattle.seg_spec.proofs.Images.RootStretchLaws.{stretches_come_apart}
 use Rattle.test_definitions.proofs.images.replacing_in_two_stretches.Goals as goal
 
 pub returns : goal.returns

@@ -1,4 +1,4 @@
-use Rattle.seg_spec.proofs.RootLaws.{roots_come_apart}
+use Rattle.seg_spec.proofs.Images.RootLaws.{roots_come_apart}
 use Rattle.test_definitions.proofs.images.replacing_roots.Goals as goal
 
 pub returns : goal.returns

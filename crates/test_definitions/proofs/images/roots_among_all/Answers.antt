@@ -1,4 +1,4 @@
-use Rattle.seg_spec.proofs.RootLaws.{roots_are, roots_with}
+use Rattle.seg_spec.proofs.Images.RootLaws.{roots_are, roots_with}
 use Rattle.test_definitions.proofs.images.roots_among_all.Goals as goal
 
 pub returns-clause-these : goal.returns-clause-these

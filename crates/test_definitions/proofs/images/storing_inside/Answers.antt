@@ -1,4 +1,4 @@
-use Rattle.seg_spec.proofs.Writing.{stored}
+use Rattle.seg_spec.proofs.Images.RootWriteLaws.{stored}
 use Rattle.test_definitions.proofs.images.storing_inside.Goals as goal
 
 pub returns : goal.returns

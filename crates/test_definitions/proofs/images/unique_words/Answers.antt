@@ -1,4 +1,4 @@
-use Rattle.seg_spec.proofs.UniqueLaws.{unique_added, unique_removed}
+use Rattle.seg_spec.proofs.Images.UniqueLaws.{unique_added, unique_removed}
 use Rattle.test_definitions.proofs.images.unique_words.Goals as goal
 
 pub returns-clause-added : goal.returns-clause-added

@@ -1,4 +1,4 @@
-use Rattle.seg_spec.proofs.Failures.{unsound}
+use Rattle.seg_spec.proofs.Images.UnsoundImageLaws.{unsound}
 use Rattle.test_definitions.proofs.Parts.{one_failure, owner_is_content}
 use Rattle.test_definitions.proofs.images.what_is_wrong.Goals as goal
 

@@ -1,4 +1,4 @@
-use Rattle.seg_spec.proofs.Writing.{written}
+use Rattle.seg_spec.proofs.Images.RootWriteLaws.{written}
 use Rattle.test_definitions.proofs.images.writing_inside.Goals as goal
 
 pub returns : goal.returns

@@ -1,4 +1,4 @@
-use Rattle.client_spec.proofs.PicturedTrees.{begins_first}
+use Rattle.client_spec.proofs.Unfolded.PictureTreeLaws.{begins_first}
 use Rattle.test_definitions.proofs.pictures.first_situation.Goals as goal
 
 pub returns : goal.returns

@@ -1,5 +1,5 @@
-use Rattle.client_spec.proofs.PictureLaws.{pictured_typed}
-use Rattle.client_spec.proofs.PicturedTrees.{pictures_trees}
+use Rattle.client_spec.proofs.TypedStates.PictureLaws.{pictured_typed}
+use Rattle.client_spec.proofs.Unfolded.PictureTreeLaws.{pictures_trees}
 use Rattle.test_definitions.proofs.pictures.pictured_is_typed.Goals as goal
 
 pub returns : goal.returns

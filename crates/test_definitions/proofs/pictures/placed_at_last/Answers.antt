@@ -1,4 +1,4 @@
-use Rattle.client_sim.proofs.LeftInPlace.{left_in_place}
+use Rattle.client_sim.proofs.FinalPlaceLaws.{left_in_place}
 use Rattle.test_definitions.proofs.pictures.placed_at_last.Goals as goal
 
 pub returns : goal.returns

@@ -1,5 +1,5 @@
-use Rattle.client_spec.proofs.Held.{held_shape}
-use Rattle.client_spec.proofs.PictureLaws.{shape_of}
+use Rattle.client_spec.proofs.TypedStates.PlaceShapeLaws.{held_shape}
+use Rattle.client_spec.proofs.TypedStates.PictureLaws.{shape_of}
 use Rattle.test_definitions.proofs.pictures.shape_of_a_value.Goals as goal
 
 pub returns : goal.returns

@@ -1,4 +1,4 @@
-use Rattle.seg_spec.proofs.Sharing.{one_frozen}
+use Rattle.seg_spec.proofs.Frozen.OneMoreCellLaws.{one_frozen}
 use Rattle.test_definitions.proofs.shared.freezing.Goals as goal
 
 pub returns : goal.returns

@@ -1,5 +1,5 @@
-use Rattle.seg_spec.proofs.SharedLaws.{counted_again}
-use Rattle.seg_spec.proofs.Unfolding.{deep_enough, reads_the_same}
+use Rattle.seg_spec.proofs.Frozen.SharedLaws.{counted_again}
+use Rattle.seg_spec.proofs.Frozen.UnfoldedTreeLaws.{deep_enough, reads_the_same}
 use Rattle.test_definitions.proofs.shared.reading.Goals as goal
 
 pub returns-clause-deep : goal.returns-clause-deep

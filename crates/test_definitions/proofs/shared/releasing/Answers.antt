@@ -1,4 +1,4 @@
-use Rattle.seg_spec.proofs.SharedLaws.{counted_again, unnamed_freed, left_or_freed}
+use Rattle.seg_spec.proofs.Frozen.SharedLaws.{counted_again, unnamed_freed, left_or_freed}
 use Rattle.test_definitions.proofs.shared.releasing.Goals as goal
 
 pub returns-clause-left : goal.returns-clause-left

@@ -1,4 +1,4 @@
-use Rattle.seg_spec.proofs.Releasing.{counted_on, left_at_last, one_name_a_turn, to_the_end}
+use Rattle.seg_spec.proofs.Frozen.ReleaseOrderLaws.{counted_on, left_at_last, one_name_a_turn, to_the_end}
 use Rattle.test_definitions.proofs.shared.releasing_in_turns.Goals as goal
 
 pub returns-clause-counted : goal.returns-clause-counted

@@ -1,4 +1,4 @@
-use Rattle.seg_spec.proofs.Sharing.{shared}
+use Rattle.seg_spec.proofs.Frozen.OneMoreCellLaws.{shared}
 use Rattle.test_definitions.proofs.shared.sharing.Goals as goal
 
 pub returns : goal.returns

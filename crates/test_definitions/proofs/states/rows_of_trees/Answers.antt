@@ -1,4 +1,4 @@
-use Rattle.client_spec.proofs.UnfoldedEffects.{same_row, trees_stay}
+use Rattle.client_spec.proofs.Unfolded.UnfoldedEffectLaws.{same_row, trees_stay}
 use Rattle.test_definitions.proofs.states.rows_of_trees.Goals as goal
 
 pub returns : goal.returns

@@ -1,4 +1,4 @@
-use Rattle.seg_spec.proofs.SearchLaws.{looks-bound}
+use Rattle.seg_spec.proofs.TreeSearchLaws.{looks-bound}
 use Rattle.test_definitions.proofs.trees.few_looks.Goals as goal
 
 pub returns : goal.returns

@@ -1,4 +1,4 @@
-use Rattle.seg_spec.proofs.PutLaw.{comes_apart}
+use Rattle.seg_spec.proofs.Values.PutLaws.{comes_apart}
 use Rattle.test_definitions.proofs.values.changing.Goals as goal
 
 pub returns : goal.returns

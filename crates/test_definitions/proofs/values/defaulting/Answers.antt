@@ -1,4 +1,4 @@
-use Rattle.seg_spec.proofs.Defaults.{Holds-default}
+use Rattle.seg_spec.proofs.Values.DefaultLaws.{Holds-default}
 use Rattle.test_definitions.proofs.values.defaulting.Goals as goal
 
 pub returns : goal.returns

@@ -1,4 +1,4 @@
-use Rattle.seg_spec.proofs.Fits.{Holds-has}
+use Rattle.seg_spec.proofs.Values.ValueTypeLaws.{Holds-has}
 use Rattle.test_definitions.proofs.values.fitting.Goals as goal
 
 pub returns : goal.returns

@@ -1,4 +1,4 @@
-use Rattle.seg_spec.proofs.MoreTypes.{Holds-extended}
+use Rattle.seg_spec.proofs.Tables.TableExtensionLaws.{Holds-extended}
 use Rattle.test_definitions.proofs.values.more_types.Goals as goal
 
 pub returns : goal.returns

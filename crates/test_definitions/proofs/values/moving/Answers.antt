@@ -1,4 +1,4 @@
-use Rattle.seg_spec.proofs.Moving.{Holds-moved}
+use Rattle.seg_spec.proofs.Values.ValueMoveLaws.{Holds-moved}
 use Rattle.test_definitions.proofs.values.moving.Goals as goal
 
 pub returns : goal.returns

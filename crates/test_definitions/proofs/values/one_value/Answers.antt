@@ -1,4 +1,4 @@
-use Rattle.seg_spec.proofs.OneReading.{Holds-one}
+use Rattle.seg_spec.proofs.Values.OneValueLaws.{Holds-one}
 use Rattle.test_definitions.proofs.values.one_value.Goals as goal
 
 pub returns : goal.returns

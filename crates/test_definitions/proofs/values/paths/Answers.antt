@@ -1,5 +1,5 @@
-use Rattle.seg_spec.proofs.Found.{Leads-found}
-use Rattle.seg_spec.proofs.Paths.{Leads-append}
+use Rattle.seg_spec.proofs.Values.PartPlaceLaws.{Leads-found}
+use Rattle.seg_spec.proofs.Values.PathSplitLaws.{Leads-append}
 use Rattle.test_definitions.proofs.values.paths.Goals as goal
 
 pub returns-clause-found : goal.returns-clause-found

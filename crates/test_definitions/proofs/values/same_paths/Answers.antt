@@ -1,4 +1,4 @@
-use Rattle.seg_spec.proofs.Leading.{Leads-kept}
+use Rattle.seg_spec.proofs.Values.PathFrameLaws.{Leads-kept}
 use Rattle.test_definitions.proofs.values.same_paths.Goals as goal
 
 pub returns : goal.returns

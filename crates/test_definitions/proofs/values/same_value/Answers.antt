@@ -1,4 +1,4 @@
-use Rattle.seg_spec.proofs.Frame.{Holds-kept}
+use Rattle.seg_spec.proofs.Values.PlaceFrameLaws.{Holds-kept}
 use Rattle.test_definitions.proofs.values.same_value.Goals as goal
 
 pub returns : goal.returns

@@ -1,4 +1,4 @@
-use Rattle.test_statements.proofs.SharingLaws.{each_named, row_gives, row_frees, last_cell, with_it, shared_goes}
+use Rattle.test_statements.proofs.SharedObjectLaws.{each_named, row_gives, row_frees, last_cell, with_it, shared_goes}
 use Rattle.test_statements.proofs.sharing.rows_with_shared_objects.Goals as goal
 
 pub returns : goal.returns

@@ -1,4 +1,4 @@
-use Rattle.client_spec.proofs.PicturedTrees.{pictures_trees}
+use Rattle.client_spec.proofs.Unfolded.PictureTreeLaws.{pictures_trees}
 use Rattle.test_statements.proofs.sharing.runs_of_trees.Goals as goal
 
 pub returns : goal.returns

@@ -2,7 +2,7 @@ use Rattle.std.proofs.Common.{◌≡◌, ◌+◌, ◌-◌, ◌*◌, ◌<◌, ◌
 use Rattle.client_spec.specs.Grammar.{listing}
 use Rattle.seg_spec.specs.Bytes.{slice}
 use Rattle.client_code.specs.Operands.{IsSpelling}
-use Rattle.client_code.proofs.Spelled.{spelled_at}
+use Rattle.client_code.proofs.CodeSpellingLaws.{spelled_at}
 use Rattle.client_code.proofs.Whole.{same_instruction, past_instructions}
 use Rattle.client_code.proofs.client.Client.instruction.Goals as goal
 

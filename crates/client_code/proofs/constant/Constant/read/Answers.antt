@@ -1,7 +1,7 @@
 use Rattle.std.proofs.Common.{◌∙◌, sym, subst}
 use Rattle.std.proofs.lemmas.Bool.{false≢true}
 use Rattle.client_spec.specs.Grammar.{IsConstant}
-use Rattle.client_spec.proofs.OneClient.{constant_front}
+use Rattle.client_spec.proofs.Spelling.OneClientLaws.{constant_front}
 use Rattle.client_code.specs.Views.{constant_of}
 use Rattle.client_code.proofs.constant.Constant.read.Goals as goal
 

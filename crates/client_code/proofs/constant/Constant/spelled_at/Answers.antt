@@ -1,5 +1,5 @@
 use Rattle.std.proofs.Common.{refl}
-use Rattle.client_code.proofs.Spelling.{constant_at}
+use Rattle.client_code.proofs.FileReadLaws.{constant_at}
 use Rattle.client_code.proofs.constant.Constant.spelled_at.Goals as goal
 
 pub returns-clause-spelled : goal.returns-clause-spelled

@@ -1,7 +1,7 @@
 use Rattle.std.proofs.Common.{◌≡◌, ◌+◌, ◌*◌, ◌^◌, ◌<◌, ◌∷◌, slice_index_or, sym, ap, ◌∙◌, arith, w32, to_z, of_z}
 use Rattle.std.proofs.lemmas.Int.{of_z-to_z}
 use Rattle.client_spec.specs.Grammar.{word_bytes}
-use Rattle.client_code.proofs.Spelling.{eight}
+use Rattle.client_code.proofs.FileReadLaws.{eight}
 use Rattle.client_code.proofs.instruction.Instruction.decode.Goals as goal
 
 pub returns-clause-found : goal.returns-clause-found

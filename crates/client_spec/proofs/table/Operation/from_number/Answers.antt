@@ -1,6 +1,6 @@
 use Rattle.std.proofs.Common.{ap, ◌∙◌, arith}
 use Rattle.client_spec.specs.Operations.{opcode}
-use Rattle.client_spec.proofs.TableRows.{operation_number, as_many}
+use Rattle.client_spec.proofs.Spelling.OperationTableLaws.{operation_number, as_many}
 use Rattle.client_spec.proofs.table.Operation.from_number.Goals as goal
 
 pub returns-clause-found : goal.returns-clause-found

@@ -3,7 +3,7 @@ use Rattle.std.proofs.lemmas.List.{get_or_default}
 use Rattle.std.proofs.lemmas.Bool.{false≢true}
 use Rattle.std.proofs.lemmas.Bool.Decides.{Decides-eqb}
 use Rattle.std.proofs.lemmas.Slice.Eq.{slice_eq-Decides}
-use Rattle.client_spec.proofs.TableRows.{operation_word, no_word, as_many}
+use Rattle.client_spec.proofs.Spelling.OperationTableLaws.{operation_word, no_word, as_many}
 use Rattle.client_spec.proofs.table.Operation.from_word.Goals as goal
 
 pub returns-then-eq-clause-found : goal.returns-then-eq-clause-found

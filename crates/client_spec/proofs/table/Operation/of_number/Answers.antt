@@ -1,5 +1,5 @@
 use Rattle.std.proofs.Common.{◌-◌, ◌∙◌, arith}
-use Rattle.client_spec.proofs.TableRows.{operation_number}
+use Rattle.client_spec.proofs.Spelling.OperationTableLaws.{operation_number}
 use Rattle.client_spec.proofs.table.Operation.of_number.Goals as goal
 
 pub returns : goal.returns

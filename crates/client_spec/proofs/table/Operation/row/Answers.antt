@@ -1,5 +1,5 @@
 use Rattle.std.proofs.Common.{ap, ◌∙◌}
-use Rattle.client_spec.proofs.TableRows.{at_index, own_row}
+use Rattle.client_spec.proofs.Spelling.OperationTableLaws.{at_index, own_row}
 use Rattle.client_spec.proofs.table.Operation.row.Goals as goal
 
 pub returns-clause-row : goal.returns-clause-row

@@ -1,5 +1,5 @@
 use Rattle.std.proofs.Common.{ap}
-use Rattle.client_spec.proofs.TableRows.{at_index}
+use Rattle.client_spec.proofs.Spelling.OperationTableLaws.{at_index}
 use Rattle.client_spec.proofs.table.Operation.word.Goals as goal
 
 pub returns : goal.returns

@@ -2,7 +2,7 @@ use Rattle.std.proofs.Common.{◌≡◌, ◌∷◌, [], List, ℕ, length, sym, 
 use Rattle.client_spec.specs.Text.{words_of, instruction_words}
 use Rattle.std.proofs.lemmas.Slice.Eq.{slice_eq-Decides}
 use Rattle.std.proofs.lemmas.Bool.Decides.{Decides-eqb}
-use Rattle.client_spec.proofs.TextWords.{tail_of}
+use Rattle.client_spec.proofs.Spelling.TextWordLaws.{tail_of}
 use Rattle.client_text.proofs.Outcomes.{on_none}
 use Rattle.client_text.proofs.ItemWords.{other_word, no_type, no_name, no_family, no_instruction}
 use Rattle.client_text.proofs.item.Item.read_words.Goals as goal

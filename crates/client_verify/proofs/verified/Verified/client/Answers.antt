@@ -1,6 +1,6 @@
 use denote.Struct.Props.{props}
 use Rattle.std.proofs.Math.Logic.{∥∥₁_elim}
-use Rattle.client_spec.proofs.Keeping.{never_wrong}
+use Rattle.client_spec.proofs.Runs.TypedRunLaws.{never_wrong}
 use Rattle.client_verify.proofs.verified.Verified.client.Goals as goal
 
 pub returns-clause-safe : goal.returns-clause-safe

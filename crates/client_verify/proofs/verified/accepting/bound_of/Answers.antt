@@ -5,7 +5,7 @@ use Rattle.client_code.specs.Views.{instruction_of}
 use Rattle.client_verify.specs.Views.{reason_of}
 use Rattle.client_verify.specs.Verifiers.{progress_of}
 use Rattle.client_verify.specs.Refusals.{WalksTo}
-use Rattle.client_verify.proofs.Accepting.{goes_on, rejected, there, ends}
+use Rattle.client_verify.proofs.VerifierStateLaws.{goes_on, rejected, there, ends}
 use Rattle.client_verify.proofs.verified.accepting.bound_of.Goals as goal
 use Rattle.client_verify.proofs.verified.accepting.bound_of.Goals.{in-Some+in_default-pass, in_default}
 

@@ -2,7 +2,7 @@ use Rattle.std.proofs.Common.{rules, ◌≡◌, ◌∙◌, ap, sym, subst, w64, 
 use Rattle.seg_value.specs.Stored.{Stored}
 use Rattle.client_program.specs.Paths.{number_at}
 use Rattle.client_vm.specs.Worlds.{OpensOn}
-use Rattle.client_vm.proofs.WritingLaws.{GetsLength, gets_length, gets_code, add_byte_opens, add_byte_stays}
+use Rattle.client_vm.proofs.TextLaws.{GetsLength, gets_length, gets_code, add_byte_opens, add_byte_stays}
 use Rattle.client_vm.proofs.machine.Machine.add_byte.Goals.{in-Ok, in-Err, in-Ok-added, in-Err-added}
 use Rattle.client_vm.proofs.machine.Machine.add_byte.Goals as goal
 

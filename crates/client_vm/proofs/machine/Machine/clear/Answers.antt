@@ -1,6 +1,6 @@
 use Rattle.std.proofs.Common.{◌∙◌, ap}
 use Rattle.seg_value.specs.Stored.{Stored}
-use Rattle.client_vm.proofs.WritingLaws.{clear_does}
+use Rattle.client_vm.proofs.TextLaws.{clear_does}
 use Rattle.client_vm.proofs.machine.Machine.clear.Goals as goal
 
 pub returns-clause-does : goal.returns-clause-does

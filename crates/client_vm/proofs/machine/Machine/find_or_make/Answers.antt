@@ -1,5 +1,5 @@
 use Rattle.client_vm.proofs.ObjectLaws.{named_same}
-use Rattle.client_vm.proofs.MakingLaws.{find_or_make_opens}
+use Rattle.client_vm.proofs.NamedObjectLaws.{find_or_make_opens}
 use Rattle.client_vm.proofs.machine.Machine.find_or_make.Goals as goal
 
 pub returns-clause-does : goal.returns-clause-does

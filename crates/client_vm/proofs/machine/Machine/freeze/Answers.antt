@@ -2,7 +2,7 @@ use Rattle.std.proofs.Common.{◌∙◌, ap, subst, sym}
 use Rattle.seg_value.specs.Stored.{Stored}
 use Rattle.client_program.specs.declared.jump.Jump.{Jump}
 use Rattle.client_vm.specs.Worlds.{OpensOn}
-use Rattle.client_vm.proofs.SharingLaws.{place_read, frozen_opens, refused_opens}
+use Rattle.client_vm.proofs.SharedObjectLaws.{place_read, frozen_opens, refused_opens}
 use Rattle.client_vm.proofs.machine.Machine.freeze.Goals as goal
 
 pub returns-in-Ok-clause-does : goal.returns-in-Ok-clause-does

@@ -1,6 +1,6 @@
 use Rattle.client_program.specs.declared.jump.Jump.{Jump}
 use Rattle.client_vm.proofs.ObjectLaws.{named_same}
-use Rattle.client_vm.proofs.MakingLaws.{kill_acts_on}
+use Rattle.client_vm.proofs.NamedObjectLaws.{kill_acts_on}
 use Rattle.client_vm.proofs.machine.Machine.kill.Goals as goal
 
 pub returns-clause-does : goal.returns-clause-does

@@ -4,7 +4,7 @@ use Rattle.seg_value.specs.Stored.{Stored}
 use Rattle.client_spec.specs.declared.table.Operation.{Operation}
 use Rattle.client_vm.specs.Worlds.{RefersOr, OpensPart}
 use Rattle.client_vm.proofs.ObjectLaws.{named_same}
-use Rattle.client_vm.proofs.MakingLaws.{make_opens, make_uncounted, any_name, any_named}
+use Rattle.client_vm.proofs.NamedObjectLaws.{make_opens, make_uncounted, any_name, any_named}
 use Rattle.client_vm.proofs.machine.Machine.make.Goals.{in-Ok, in-Err}
 use Rattle.client_vm.proofs.machine.Machine.make.Goals as goal
 

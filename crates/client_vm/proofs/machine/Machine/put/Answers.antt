@@ -1,7 +1,7 @@
 use Rattle.std.proofs.Common.{◌∙◌, ap}
 use Rattle.std.specs.Prelude.{slice_index_or}
 use Rattle.seg_value.specs.Stored.{Stored}
-use Rattle.client_vm.proofs.OwningLaws.{put_does}
+use Rattle.client_vm.proofs.OwnMoveLaws.{put_does}
 use Rattle.client_vm.specs.declared.machine.Machine.{Machine}
 use Rattle.client_vm.proofs.machine.Machine.put.Goals as goal
 

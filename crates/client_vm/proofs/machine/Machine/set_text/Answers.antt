@@ -1,6 +1,6 @@
 use Rattle.std.proofs.Common.{◌∙◌, ap}
 use Rattle.seg_value.specs.Stored.{Stored}
-use Rattle.client_vm.proofs.WritingLaws.{set_text_opens}
+use Rattle.client_vm.proofs.TextLaws.{set_text_opens}
 use Rattle.client_vm.proofs.machine.Machine.set_text.Goals as goal
 
 pub returns-clause-does : goal.returns-clause-does

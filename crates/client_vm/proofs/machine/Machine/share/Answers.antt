@@ -1,6 +1,6 @@
 use Rattle.std.proofs.Common.{◌∙◌, ap}
 use Rattle.seg_value.specs.Stored.{Stored}
-use Rattle.client_vm.proofs.SharingLaws.{place_read, share_does}
+use Rattle.client_vm.proofs.SharedObjectLaws.{place_read, share_does}
 use Rattle.client_vm.proofs.machine.Machine.share.Goals as goal
 
 pub returns-clause-does : goal.returns-clause-does

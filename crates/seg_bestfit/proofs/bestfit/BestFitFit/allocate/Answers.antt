@@ -2,13 +2,13 @@ use Rattle.std.proofs.Common.{length, sym, ap, arith}
 use Rattle.std.specs.Prelude.{⊤}
 use Rattle.seg_spec.specs.Window.{Placement}
 use Rattle.seg_spec.specs.Heap.{heap_start, tiles, gaps}
-use Rattle.seg_spec.proofs.PickLaws.{best_fit-smallest}
-use Rattle.seg_spec.proofs.TileLaws.{Fill-le}
+use Rattle.seg_spec.proofs.Heap.GapPickLaws.{best_fit-smallest}
+use Rattle.seg_spec.proofs.Heap.TileLaws.{Fill-le}
 use Rattle.seg_block.proofs.FreeTiles.{heap_free_blocks, takes_gap, takes_gap_front}
-use Rattle.seg_block.proofs.Resized.{granted_part}
-use Rattle.seg_block.proofs.Taken.{takes_none}
+use Rattle.seg_block.proofs.ResizedBlockLaws.{granted_part}
+use Rattle.seg_block.proofs.GapAllocationLaws.{takes_none}
 use Rattle.seg_bestfit.proofs.Fronts.{rest_in_place}
-use Rattle.seg_bestfit.proofs.Taking.{blocks_around, tree_around}
+use Rattle.seg_bestfit.proofs.GapAllocationLaws.{blocks_around, tree_around}
 use Rattle.seg_bestfit.proofs.bestfit.BestFitFit.allocate.Goals as goal
 
 pub returns-in_err-gap-clause-takes : goal.returns-in_err-gap-clause-takes

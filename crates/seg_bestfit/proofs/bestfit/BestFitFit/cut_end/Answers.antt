@@ -1,8 +1,8 @@
 use Rattle.std.proofs.Common.{false, arith, sym, ap, ◌∙◌}
 use Rattle.seg_spec.specs.Window.{Placement}
 use Rattle.seg_block.specs.Sizes.{set_size}
-use Rattle.seg_block.proofs.Cuttings.{never_ends, cuts_live, cuts_some}
-use Rattle.seg_bestfit.proofs.Cuttings.{cuts_whole, cuts_gap}
+use Rattle.seg_block.proofs.HeapCutLaws.{never_ends, cuts_live, cuts_some}
+use Rattle.seg_bestfit.proofs.HeapCutLaws.{cuts_whole, cuts_gap}
 use Rattle.seg_bestfit.proofs.bestfit.BestFitFit.cut_end.Goals as goal
 
 pub returns-in_default-clause-cuts : goal.returns-in_default-clause-cuts

@@ -1,7 +1,7 @@
 use Rattle.std.proofs.Common.{sym, ap, ◌∙◌, arith}
 use Rattle.seg_spec.specs.Window.{Placement}
-use Rattle.seg_block.proofs.Enlarging.{enlarged_live}
-use Rattle.seg_bestfit.proofs.Enlarging.{enlarged_free}
+use Rattle.seg_block.proofs.HeapGrowthLaws.{enlarged_live}
+use Rattle.seg_bestfit.proofs.HeapGrowthLaws.{enlarged_free}
 use Rattle.seg_bestfit.proofs.bestfit.BestFitFit.enlarge.Goals as goal
 
 pub returns-then-is_live-clause-enlarges : goal.returns-then-is_live-clause-enlarges

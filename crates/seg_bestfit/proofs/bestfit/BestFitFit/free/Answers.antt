@@ -2,11 +2,11 @@ use Rattle.std.proofs.Common.{◌+◌, ◌*◌, sym, subst}
 use Rattle.seg_spec.specs.Heap.{Gives}
 use Rattle.seg_spec.specs.Window.{Placement}
 use Rattle.seg_block.specs.declared.block.Block.{Block}
-use Rattle.seg_block.proofs.Freeing.{has_following, freed_alone, freed_joined}
+use Rattle.seg_block.proofs.BlockFreeLaws.{has_following, freed_alone, freed_joined}
 use Rattle.seg_block.proofs.LiveBlocks.{unread, read_is, read_held}
-use Rattle.seg_block.proofs.Resized.{before}
+use Rattle.seg_block.proofs.ResizedBlockLaws.{before}
 use Rattle.seg_bestfit.specs.FreeTree.{IsGapAt, MakesGapWith}
-use Rattle.seg_bestfit.proofs.Freeing.{after-retiles, both-retiles}
+use Rattle.seg_bestfit.proofs.TileMergeLaws.{after-retiles, both-retiles}
 use Rattle.seg_bestfit.proofs.bestfit.BestFitFit.free.Goals.{in-Some-free_before, in-None}
 use Rattle.seg_bestfit.proofs.bestfit.BestFitFit.free.Goals as goal
 

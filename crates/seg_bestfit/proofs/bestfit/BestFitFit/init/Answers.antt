@@ -3,7 +3,7 @@ use Rattle.seg_spec.specs.Pointer.{set_pointer}
 use Rattle.seg_spec.specs.Window.{Placement}
 use Rattle.seg_block.specs.Sizes.{set_size}
 use Rattle.seg_block.specs.Tiling.{tile, IsTiling, Retiles}
-use Rattle.seg_bestfit.proofs.Beginning.{one_block, begins}
+use Rattle.seg_bestfit.proofs.FirstGapLaws.{one_block, begins}
 use Rattle.seg_bestfit.proofs.bestfit.BestFitFit.init.Goals as goal
 
 pub returns-clause-begins : goal.returns-clause-begins

@@ -1,4 +1,4 @@
-use Rattle.seg_bestfit.proofs.Freeing.{lone-retiles}
+use Rattle.seg_bestfit.proofs.TileMergeLaws.{lone-retiles}
 use Rattle.seg_bestfit.proofs.free_tree.BestFitFreeStructure.release.Goals as goal
 
 pub returns-clause-tiles : goal.returns-clause-tiles

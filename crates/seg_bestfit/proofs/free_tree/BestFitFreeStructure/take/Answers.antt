@@ -1,7 +1,7 @@
 use Rattle.std.proofs.Common.{ap}
 use Rattle.seg_spec.specs.Window.{Placement}
 use Rattle.seg_spec.specs.Heap.{free_of}
-use Rattle.seg_bestfit.proofs.Taking.{blocks_around, tree_around, made_live}
+use Rattle.seg_bestfit.proofs.GapAllocationLaws.{blocks_around, tree_around, made_live}
 use Rattle.seg_bestfit.proofs.free_tree.BestFitFreeStructure.take.Goals as goal
 
 pub returns-clause-tiles : goal.returns-clause-tiles

@@ -1,7 +1,7 @@
 use Rattle.std.proofs.Common.{ap}
 use Rattle.seg_spec.specs.Window.{Placement}
 use Rattle.seg_block.proofs.LiveBlocks.{unread}
-use Rattle.seg_block.proofs.Expanding.{expand_never, expand_done}
+use Rattle.seg_block.proofs.BlockExpansionLaws.{expand_never, expand_done}
 use Rattle.seg_block.proofs.fit.Fit.expand.Goals as goal
 
 pub returns-in_default-clause-expands : goal.returns-in_default-clause-expands

@@ -1,6 +1,6 @@
 use Rattle.std.proofs.Common.{arith}
 use Rattle.seg_block.proofs.LiveBlocks.{unread, read_is}
-use Rattle.seg_block.proofs.Expanding.{shrink_done, shrink_none}
+use Rattle.seg_block.proofs.BlockExpansionLaws.{shrink_done, shrink_none}
 use Rattle.seg_block.proofs.fit.Fit.shrink.Goals as goal
 
 pub returns-in_default-clause-shrinks : goal.returns-in_default-clause-shrinks

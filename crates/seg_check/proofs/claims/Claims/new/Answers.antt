@@ -1,6 +1,6 @@
 use Rattle.std.proofs.Common.{◌≡◌, ◌+◌, ◌-◌, ◌/◌, length, sym, ap, ◌∙◌, arith, rules}
 use Rattle.seg_check.specs.Marks.{slots_in}
-use Rattle.seg_check.proofs.KnownLaws.{fresh}
+use Rattle.seg_check.proofs.Blocks.MarkedBlockLaws.{fresh}
 use Rattle.seg_check.proofs.claims.Claims.new.Goals as goal
 use Rattle.seg_check.proofs.claims.Claims.new.Goals.{then-shares, else-shares}
 

@@ -2,14 +2,14 @@ use Rattle.std.proofs.Common.{◌≡◌, ◌+◌, ◌^◌, ◌<◌, ◌≤◌, �
 use Rattle.std.specs.Prelude.{slice_get}
 use Rattle.std.proofs.lemmas.Result.{err_from_is_err_and}
 use Rattle.seg_spec.specs.Types.{form_at, size, fields_of}
-use Rattle.seg_spec.proofs.TypesLaws.{size_large}
+use Rattle.seg_spec.proofs.Tables.TypeSizeLaws.{size_large}
 use Rattle.seg_layout.specs.Forms.{cell_of, map_option}
 use Rattle.seg_cells.specs.Places.{place_of}
 use Rattle.seg_check.specs.Marks.{Known}
 use Rattle.seg_check.specs.Turns.{parts_at}
 use Rattle.seg_check.specs.Resolving.{Advances, CanResolve}
-use Rattle.seg_check.proofs.StepLaws.{advance_none, advance_number, known_number, ready_now, steps_refused}
-use Rattle.seg_check.proofs.StructLaws.{struct_by, field_in, field_more, field_past, field_can, fields_all}
+use Rattle.seg_check.proofs.Queue.QueueStepLaws.{advance_none, advance_number, known_number, ready_now, steps_refused}
+use Rattle.seg_check.proofs.Contents.StructLaws.{struct_by, field_in, field_more, field_past, field_can, fields_all}
 use Rattle.seg_check.proofs.image.TypedImage.+check_value.Goals as goal
 use Rattle.seg_check.proofs.image.TypedImage.+check_value.Goals.{in-Some+in_ok-check_value, in_default}
 

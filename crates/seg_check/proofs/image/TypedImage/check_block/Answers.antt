@@ -6,9 +6,9 @@ use Rattle.seg_cells.specs.declared.place.Place.{Place}
 use Rattle.seg_check.specs.Marks.{Known}
 use Rattle.seg_check.specs.Turns.{places_in}
 use Rattle.seg_check.specs.Resolving.{Advances}
-use Rattle.seg_check.proofs.StepLaws.{advance_none, ready_now, steps_refused}
-use Rattle.seg_check.proofs.PlaceLoop.{place_more, place_past, place_can, place_all}
-use Rattle.seg_check.proofs.EntryLoop.{few_places, no_value, is_read}
+use Rattle.seg_check.proofs.Queue.QueueStepLaws.{advance_none, ready_now, steps_refused}
+use Rattle.seg_check.proofs.Queue.PlaceLoopLaws.{place_more, place_past, place_can, place_all}
+use Rattle.seg_check.proofs.Queue.EntryLoopLaws.{few_places, no_value, is_read}
 use Rattle.seg_check.proofs.image.TypedImage.check_block.Goals as goal
 use Rattle.seg_check.proofs.image.TypedImage.check_block.Goals.{in-Some-value+in_ok-check_value, in_default-value}
 

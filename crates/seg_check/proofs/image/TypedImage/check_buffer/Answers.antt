@@ -4,9 +4,9 @@ use Rattle.seg_spec.specs.Pointer.{target}
 use Rattle.seg_spec.specs.Reads.{count_at}
 use Rattle.seg_cells.specs.Places.{object_at}
 use Rattle.seg_check.specs.Resolving.{Steps}
-use Rattle.seg_check.proofs.StepLaws.{steps_refused}
-use Rattle.seg_check.proofs.OpenLaws.{ready_live}
-use Rattle.seg_check.proofs.BufferLaws.{counted_none, counted_some, counted_names, items_advance, items_nothing, items_can, items_counted}
+use Rattle.seg_check.proofs.Queue.QueueStepLaws.{steps_refused}
+use Rattle.seg_check.proofs.Blocks.CellClaimLaws.{ready_live}
+use Rattle.seg_check.proofs.Contents.BufferLaws.{counted_none, counted_some, counted_names, items_advance, items_nothing, items_can, items_counted}
 use Rattle.seg_check.proofs.image.TypedImage.check_buffer.Goals as goal
 
 pub returns-in_err-count-clause-steps : goal.returns-in_err-count-clause-steps

@@ -4,7 +4,7 @@ use Rattle.seg_layout.specs.Forms.{form_of}
 use Rattle.seg_layout.specs.declared.kind.«Type».{«Type»}
 use Rattle.seg_layout.specs.declared.kind.«Type».TheVariants as kind
 use Rattle.seg_cells.specs.Contents.{ContentOf}
-use Rattle.seg_check.proofs.StructLaws.{no_cell}
+use Rattle.seg_check.proofs.Contents.StructLaws.{no_cell}
 use Rattle.seg_check.proofs.image.TypedImage.check_cell.Goals as goal
 
 pub returns-in_default-of-clause-steps : goal.returns-in_default-of-clause-steps

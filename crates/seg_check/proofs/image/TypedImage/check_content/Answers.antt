@@ -5,7 +5,7 @@ use Rattle.seg_spec.specs.Bytes.{word}
 use Rattle.seg_spec.specs.Header.{next_word}
 use Rattle.seg_check.specs.Claiming.{Refutes}
 use Rattle.seg_check.specs.Cells.{AreCountsRight}
-use Rattle.seg_check.proofs.StationLaws.{finds_wrong, first_ready, first_can, second_ready, second_can, third_ready, third_waits, third_can, finds_counts}
+use Rattle.seg_check.proofs.CheckStageLaws.{finds_wrong, first_ready, first_can, second_ready, second_can, third_ready, third_waits, third_can, finds_counts}
 use Rattle.seg_check.proofs.image.TypedImage.check_content.Goals as goal
 
 pub returns-in_err-check_index : goal.returns-in_err-check_index

@@ -8,8 +8,8 @@ use Rattle.seg_entry.specs.Entries.{entry_read}
 use Rattle.seg_entry.specs.declared.entry.NameEntry.{NameEntry}
 use Rattle.seg_check.specs.Claiming.{Refutes}
 use Rattle.seg_check.specs.Roots.{CanResolveRoots, CanClaimNamed, names_ahead}
-use Rattle.seg_check.proofs.StepLaws.{refuses_map}
-use Rattle.seg_check.proofs.NameSteps.{named_can, name_long, entry_advance, entry_names}
+use Rattle.seg_check.proofs.Queue.QueueStepLaws.{refuses_map}
+use Rattle.seg_check.proofs.Objects.NamedObjectLaws.{named_can, name_long, entry_advance, entry_names}
 use Rattle.seg_check.proofs.image.TypedImage.check_entry.Goals as goal
 use Rattle.seg_check.proofs.image.TypedImage.check_entry.Goals.{else-is_before-via-then-is_before+else-is_printable, else-is_before-via-else-is_before}
 

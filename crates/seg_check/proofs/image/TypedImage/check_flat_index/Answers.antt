@@ -6,10 +6,10 @@ use Rattle.seg_spec.specs.Block.{Kind, tag_of}
 use Rattle.seg_block.specs.Tags.{word_of}
 use Rattle.seg_check.specs.Claiming.{CanClaim}
 use Rattle.seg_check.specs.Roots.{StepsIndex, AdvancesRoots, CanResolveRoots, CanResolveIndex, names_ahead}
-use Rattle.seg_check.proofs.OpenLaws.{ready_live}
-use Rattle.seg_check.proofs.StepLaws.{refuses_map}
-use Rattle.seg_check.proofs.RootSteps.{roots_none, roots_more, can_roots, ready_roots}
-use Rattle.seg_check.proofs.IndexSteps.{flat_ready, spaced_next, spaced_end, spaced_start, flat_some, flat_can, flat_names, flat_advance, buffer_claimed, buffer_can, block_inside}
+use Rattle.seg_check.proofs.Blocks.CellClaimLaws.{ready_live}
+use Rattle.seg_check.proofs.Queue.QueueStepLaws.{refuses_map}
+use Rattle.seg_check.proofs.Objects.RootReadLaws.{roots_none, roots_more, can_roots, ready_roots}
+use Rattle.seg_check.proofs.Objects.IndexLaws.{flat_ready, spaced_next, spaced_end, spaced_start, flat_some, flat_can, flat_names, flat_advance, buffer_claimed, buffer_can, block_inside}
 use Rattle.seg_check.proofs.image.TypedImage.check_flat_index.Goals as goal
 
 pub loop-index-init : goal.loop-index-init

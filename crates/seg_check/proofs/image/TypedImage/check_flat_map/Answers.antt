@@ -8,11 +8,11 @@ use Rattle.seg_spec.specs.Reads.{count_at, keys_at, spaced}
 use Rattle.seg_cells.specs.Places.{object_at}
 use Rattle.seg_check.specs.Keys.{HasKeys}
 use Rattle.seg_check.specs.Resolving.{Steps}
-use Rattle.seg_check.proofs.StepLaws.{steps_refused}
-use Rattle.seg_check.proofs.OpenLaws.{ready_live}
-use Rattle.seg_check.proofs.BufferLaws.{counted_none, counted_some, counted_names}
-use Rattle.seg_check.proofs.AscendLaws.{keys_more}
-use Rattle.seg_check.proofs.FlatMapLaws.{flat_nothing, flat_counted, flat_can, flat_steps, flat_key}
+use Rattle.seg_check.proofs.Queue.QueueStepLaws.{steps_refused}
+use Rattle.seg_check.proofs.Blocks.CellClaimLaws.{ready_live}
+use Rattle.seg_check.proofs.Contents.BufferLaws.{counted_none, counted_some, counted_names}
+use Rattle.seg_check.proofs.Contents.AscendingKeyLaws.{keys_more}
+use Rattle.seg_check.proofs.Contents.FlatMapLaws.{flat_nothing, flat_counted, flat_can, flat_steps, flat_key}
 use Rattle.seg_check.proofs.image.TypedImage.check_flat_map.Goals as goal
 
 pub returns-in_err-count-clause-steps : goal.returns-in_err-count-clause-steps

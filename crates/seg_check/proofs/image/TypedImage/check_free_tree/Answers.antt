@@ -10,9 +10,9 @@ use Rattle.seg_spec.specs.Sound.{times}
 use Rattle.seg_check.specs.declared.walk.Visit.{Visit}
 use Rattle.seg_check.specs.declared.walk.Visit.TheVariants.{Enter, Pass}
 use Rattle.seg_check.specs.Walks.{Completes, Proceeds, IsSteady, span_at, last_block, is_above}
-use Rattle.seg_check.proofs.Followed.{Followed, follow_start}
-use Rattle.seg_check.proofs.GapLaws.{last_more}
-use Rattle.seg_check.proofs.FreeWalk.{IsNext, entered, passed, ended, never_refused, next_is}
+use Rattle.seg_check.proofs.WalkStateLaws.{Followed, follow_start}
+use Rattle.seg_check.proofs.Heap.GapLaws.{last_more}
+use Rattle.seg_check.proofs.Heap.FreeTreeWalkLaws.{IsNext, entered, passed, ended, never_refused, next_is}
 use Rattle.seg_check.proofs.image.TypedImage.check_free_tree.Goals as goal
 use Rattle.seg_check.proofs.image.TypedImage.check_free_tree.Goals.{then-not-is_free-via-then-not-is_free, then-not-is_free-via-else-not-is_free+then-is_some, then-not-is_free-via-else-not-is_free+else-is_some+then-not-is_above}
 

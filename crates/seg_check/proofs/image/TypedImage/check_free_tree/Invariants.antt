@@ -1,7 +1,7 @@
 use Rattle.std.proofs.Common.{◌≡◌, map}
 use Rattle.seg_spec.specs.Block.{block_of}
 use Rattle.seg_check.specs.Walks.{last_block}
-use Rattle.seg_check.proofs.FreeWalk.{Passed}
+use Rattle.seg_check.proofs.Heap.FreeTreeWalkLaws.{Passed}
 use Rattle.seg_check.proofs.image.TypedImage.check_free_tree.Given as goal
 
 abbrev pub invariant-loop-visit : goal.invariant-loop-visit

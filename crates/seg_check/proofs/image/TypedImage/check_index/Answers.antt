@@ -1,5 +1,5 @@
 use Rattle.std.proofs.Common.{sym, ◌∙◌}
-use Rattle.seg_check.proofs.IndexSteps.{index_empty}
+use Rattle.seg_check.proofs.Objects.IndexLaws.{index_empty}
 use Rattle.seg_check.proofs.image.TypedImage.check_index.Goals as goal
 
 pub returns-in-None-eq0 : goal.returns-in-None-eq0

@@ -8,10 +8,10 @@ use Rattle.seg_block.specs.Tags.{word_of}
 use Rattle.seg_cells.specs.Places.{object_at}
 use Rattle.seg_check.specs.Claiming.{HaveLiveHeaders, has_turns}
 use Rattle.seg_check.specs.Resolving.{Steps}
-use Rattle.seg_check.proofs.StepLaws.{steps_refused}
-use Rattle.seg_check.proofs.OpenLaws.{ready_live}
-use Rattle.seg_check.proofs.BufferLaws.{blocks_none, blocks_some, blocks_names}
-use Rattle.seg_check.proofs.ListLaws.{walked_first, walked_more, walked_live, ring_advance, ring_nothing, ring_counted, first_can, ring_closed, next_can, owner_claimed, owner_can, first_low, next_low}
+use Rattle.seg_check.proofs.Queue.QueueStepLaws.{steps_refused}
+use Rattle.seg_check.proofs.Blocks.CellClaimLaws.{ready_live}
+use Rattle.seg_check.proofs.Contents.BufferLaws.{blocks_none, blocks_some, blocks_names}
+use Rattle.seg_check.proofs.Contents.ListLaws.{walked_first, walked_more, walked_live, ring_advance, ring_nothing, ring_counted, first_can, ring_closed, next_can, owner_claimed, owner_can, first_low, next_low}
 use Rattle.seg_check.proofs.image.TypedImage.check_list.Goals as goal
 use Rattle.seg_check.proofs.image.TypedImage.check_list.Goals.{then-is_linked, else-is_linked, then-eq, else-eq, else-is_linked-2-via-then-is_linked-2+else-is_closed, else-is_linked-2-via-else-is_linked-2}
 

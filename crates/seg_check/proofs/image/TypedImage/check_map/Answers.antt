@@ -13,10 +13,10 @@ use Rattle.seg_check.specs.declared.walk.Visit.TheVariants.{Enter, Pass}
 use Rattle.seg_check.specs.Keys.{HasKeys}
 use Rattle.seg_check.specs.Walks.{Completes, IsSteady, Proceeds}
 use Rattle.seg_check.specs.Resolving.{CanResolve, Steps}
-use Rattle.seg_check.proofs.StepLaws.{steps_refused}
-use Rattle.seg_check.proofs.BufferLaws.{blocks_none, blocks_some}
-use Rattle.seg_check.proofs.Followed.{Followed, follow_start, steps_on}
-use Rattle.seg_check.proofs.MapLaws.{traced_start, tree_nothing, tree_counted, traced_refused, traced_can, traced_steps, traced_enter, traced_pass, traced_live, node_claimed, node_can, node_key, ok_was, err_was}
+use Rattle.seg_check.proofs.Queue.QueueStepLaws.{steps_refused}
+use Rattle.seg_check.proofs.Contents.BufferLaws.{blocks_none, blocks_some}
+use Rattle.seg_check.proofs.WalkStateLaws.{Followed, follow_start, steps_on}
+use Rattle.seg_check.proofs.Contents.MapLaws.{traced_start, tree_nothing, tree_counted, traced_refused, traced_can, traced_steps, traced_enter, traced_pass, traced_live, node_claimed, node_can, node_key, ok_was, err_was}
 use Rattle.seg_check.proofs.image.TypedImage.check_map.Goals as goal
 
 pub returns-in_err-count-clause-steps : goal.returns-in_err-count-clause-steps

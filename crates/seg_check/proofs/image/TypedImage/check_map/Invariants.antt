@@ -2,7 +2,7 @@ use Rattle.std.proofs.Common.{◌≡◌, ℕ}
 use Rattle.seg_spec.specs.Types.{Form}
 use Rattle.seg_check.specs.Cells.{CellsPointTo}
 use Rattle.seg_check.specs.Resolving.{IsReady}
-use Rattle.seg_check.proofs.MapLaws.{Traced}
+use Rattle.seg_check.proofs.Contents.MapLaws.{Traced}
 use Rattle.seg_check.proofs.image.TypedImage.check_map.Given as goal
 
 abbrev pub invariant-loop-visit : goal.invariant-loop-visit

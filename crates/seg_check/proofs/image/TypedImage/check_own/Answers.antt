@@ -4,9 +4,9 @@ use Rattle.seg_spec.specs.Pointer.{target}
 use Rattle.seg_spec.specs.Reads.{count_at}
 use Rattle.seg_cells.specs.Places.{object_at}
 use Rattle.seg_check.specs.Resolving.{Steps}
-use Rattle.seg_check.proofs.StepLaws.{steps_refused}
-use Rattle.seg_check.proofs.OpenLaws.{ready_live}
-use Rattle.seg_check.proofs.BufferLaws.{blocks_is_some, blocks_is_none, own_advance, own_nothing, own_can, own_counted, own_many}
+use Rattle.seg_check.proofs.Queue.QueueStepLaws.{steps_refused}
+use Rattle.seg_check.proofs.Blocks.CellClaimLaws.{ready_live}
+use Rattle.seg_check.proofs.Contents.BufferLaws.{blocks_is_some, blocks_is_none, own_advance, own_nothing, own_can, own_counted, own_many}
 use Rattle.seg_check.proofs.image.TypedImage.check_own.Goals as goal
 
 pub returns-in_err-counted_blocks-clause-steps : goal.returns-in_err-counted_blocks-clause-steps

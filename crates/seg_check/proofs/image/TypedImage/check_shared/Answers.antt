@@ -11,9 +11,9 @@ use Rattle.seg_cells.specs.Places.{object_at}
 use Rattle.seg_check.specs.Marks.{Known}
 use Rattle.seg_check.specs.Naming.{IsUnder, IsNameable, CanName, NamesBlock, frozen_number_at}
 use Rattle.seg_check.specs.Resolving.{IsReady, Steps}
-use Rattle.seg_check.proofs.StepLaws.{steps_refused}
-use Rattle.seg_check.proofs.BufferLaws.{blocks_none, blocks_some, blocks_names}
-use Rattle.seg_check.proofs.SharedLaws.{nameable, shared_counted, shared_many, shared_named, shared_can, shared_nothing, advance_shared}
+use Rattle.seg_check.proofs.Queue.QueueStepLaws.{steps_refused}
+use Rattle.seg_check.proofs.Contents.BufferLaws.{blocks_none, blocks_some, blocks_names}
+use Rattle.seg_check.proofs.Contents.SharedCellLaws.{nameable, shared_counted, shared_many, shared_named, shared_can, shared_nothing, advance_shared}
 use Rattle.seg_check.proofs.image.TypedImage.check_shared.Goals as goal
 
 true_false : {X : Type 0} → true ≡ false → X

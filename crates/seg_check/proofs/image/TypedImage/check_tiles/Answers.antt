@@ -7,8 +7,8 @@ use Rattle.seg_block.specs.Headers.{header_at}
 use Rattle.seg_check.specs.declared.free_list.FreeList.{FreeList}
 use Rattle.seg_check.specs.Tiles.{Follows, KnowsGaps}
 use Rattle.seg_check.specs.Marks.{IsUnit, AddsBlock}
-use Rattle.seg_check.proofs.PassedTiles.{KnowsPassed, knows_none, knows_more, knows_all, no_live, no_free}
-use Rattle.seg_check.proofs.TileWalk.{Walked, walked_none, walked_more, walked_all, next_is, fits_is, tile_at, end_at}
+use Rattle.seg_check.proofs.Heap.PassedTileLaws.{KnowsPassed, knows_none, knows_more, knows_all, no_live, no_free}
+use Rattle.seg_check.proofs.Heap.TileWalkLaws.{Walked, walked_none, walked_more, walked_all, next_is, fits_is, tile_at, end_at}
 use Rattle.seg_check.proofs.image.TypedImage.check_tiles.Goals as goal
 use Rattle.seg_check.proofs.image.TypedImage.check_tiles.Goals.{then-units-lt2-via-then-units-lt2, then-units-lt2-via-else-units-lt2+then-units-end, then-units-lt2-via-else-units-lt2+else-units-end+then-not-follows, then-not-header, else-not-header}
 

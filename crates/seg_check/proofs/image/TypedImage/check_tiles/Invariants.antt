@@ -2,8 +2,8 @@ use Rattle.std.proofs.Common.{◌≡◌, ℕ, ◌-◌, ◌/◌, length}
 use Rattle.seg_spec.specs.Heap.{heap_start}
 use Rattle.seg_spec.specs.Faulty.{HasFront}
 use Rattle.seg_check.specs.Marks.{nothing_known}
-use Rattle.seg_check.proofs.TileWalk.{Walked}
-use Rattle.seg_check.proofs.PassedTiles.{KnowsPassed}
+use Rattle.seg_check.proofs.Heap.TileWalkLaws.{Walked}
+use Rattle.seg_check.proofs.Heap.PassedTileLaws.{KnowsPassed}
 use Rattle.seg_check.proofs.image.TypedImage.check_tiles.Given as goal
 
 abbrev pub invariant-loop-at : goal.invariant-loop-at

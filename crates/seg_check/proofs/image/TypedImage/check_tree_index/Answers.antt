@@ -7,11 +7,11 @@ use Rattle.seg_spec.specs.Shapes.{tree_words}
 use Rattle.seg_check.specs.declared.walk.Visit.TheVariants.{Enter, Pass}
 use Rattle.seg_check.specs.Walks.{Completes, IsSteady, Proceeds}
 use Rattle.seg_check.specs.Roots.{StepsIndex, AdvancesRoots, CanResolveRoots, CanResolveIndex, CanClaimTree, names_ahead}
-use Rattle.seg_check.proofs.StepLaws.{refuses_map}
-use Rattle.seg_check.proofs.RootSteps.{can_roots, ready_roots}
-use Rattle.seg_check.proofs.Followed.{Followed, follow_start, steps_on}
-use Rattle.seg_check.proofs.MapLaws.{ok_was, err_was}
-use Rattle.seg_check.proofs.TreeIndex.{named_start, named_next, named_inside, named_end, named_refused, named_enter, named_pass, tree_names, tree_advance, tree_ready, planted_index}
+use Rattle.seg_check.proofs.Queue.QueueStepLaws.{refuses_map}
+use Rattle.seg_check.proofs.Objects.RootReadLaws.{can_roots, ready_roots}
+use Rattle.seg_check.proofs.WalkStateLaws.{Followed, follow_start, steps_on}
+use Rattle.seg_check.proofs.Contents.MapLaws.{ok_was, err_was}
+use Rattle.seg_check.proofs.Objects.TreeIndexLaws.{named_start, named_next, named_inside, named_end, named_refused, named_enter, named_pass, tree_names, tree_advance, tree_ready, planted_index}
 use Rattle.seg_check.proofs.image.TypedImage.check_tree_index.Goals as goal
 
 pub returns-in_err-claim_index_nodes : goal.returns-in_err-claim_index_nodes

@@ -3,7 +3,7 @@ use Rattle.seg_spec.specs.Header.{index_cell}
 use Rattle.seg_spec.specs.Reads.{count_at}
 use Rattle.seg_check.specs.Resolving.{IsReady}
 use Rattle.seg_check.specs.Roots.{ClaimsTree}
-use Rattle.seg_check.proofs.TreeIndex.{Named}
+use Rattle.seg_check.proofs.Objects.TreeIndexLaws.{Named}
 use Rattle.seg_check.proofs.image.TypedImage.check_tree_index.Given as goal
 
 abbrev pub invariant-loop-visit : goal.invariant-loop-visit

@@ -2,10 +2,10 @@ use Rattle.std.proofs.Common.{◌≡◌, ℕ, ◌+◌, true, false, Option, None
 use Rattle.std.specs.Option.{is_some}
 use Rattle.std.proofs.lemmas.Result.{err_from_is_err_and}
 use Rattle.seg_check.specs.Roots.{uniques_ahead, AdvancesRoots, CanResolveRoots, StepsUniques}
-use Rattle.seg_check.proofs.OpenLaws.{ready_live}
-use Rattle.seg_check.proofs.StepLaws.{refuses_map}
-use Rattle.seg_check.proofs.RootSteps.{roots_none, roots_more, can_roots, ready_roots}
-use Rattle.seg_check.proofs.UniqueSteps.{from_type, unique_advance, unique_can, unused_advance, all_unique}
+use Rattle.seg_check.proofs.Blocks.CellClaimLaws.{ready_live}
+use Rattle.seg_check.proofs.Queue.QueueStepLaws.{refuses_map}
+use Rattle.seg_check.proofs.Objects.RootReadLaws.{roots_none, roots_more, can_roots, ready_roots}
+use Rattle.seg_check.proofs.Objects.UniqueObjectLaws.{from_type, unique_advance, unique_can, unused_advance, all_unique}
 use Rattle.seg_check.proofs.image.TypedImage.check_uniques.Goals as goal
 use Rattle.seg_check.proofs.image.TypedImage.check_uniques.Goals.{then-is_some+in_ok-claim_entries, else-is_some}
 

@@ -1,6 +1,6 @@
 use Rattle.seg_check.specs.Resolving.{IsReady}
 use Rattle.seg_check.specs.Roots.{uniques_ahead, AdvancesRoots}
-use Rattle.seg_check.proofs.UniqueSteps.{from_type}
+use Rattle.seg_check.proofs.Objects.UniqueObjectLaws.{from_type}
 use Rattle.seg_check.proofs.image.TypedImage.check_uniques.Given as goal
 
 abbrev pub invariant-loop-t : goal.invariant-loop-t

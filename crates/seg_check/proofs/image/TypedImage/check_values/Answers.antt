@@ -1,8 +1,8 @@
 use Rattle.std.proofs.Common.{◌≡◌, Err, sym, ap, ◌∙◌, subst, arith}
 use Rattle.std.proofs.lemmas.Result.{err_from_is_err_and}
 use Rattle.seg_check.specs.Cells.{ResolvesTurns}
-use Rattle.seg_check.proofs.StepLaws.{refuses_map}
-use Rattle.seg_check.proofs.TurnLoop.{Takes, resolving_none, resolving_more, mid_ready, next_turn, can_next, all_seen}
+use Rattle.seg_check.proofs.Queue.QueueStepLaws.{refuses_map}
+use Rattle.seg_check.proofs.Queue.BlockLoopLaws.{Takes, resolving_none, resolving_more, mid_ready, next_turn, can_next, all_seen}
 use Rattle.seg_check.proofs.image.TypedImage.check_values.Goals as goal
 
 pub loop-turn-init : goal.loop-turn-init

@@ -1,7 +1,7 @@
 use Rattle.std.proofs.Common.{◌-◌, ◌^◌}
 use Rattle.seg_check.specs.Turns.{AreWaiting}
 use Rattle.seg_check.specs.Resolving.{IsReady}
-use Rattle.seg_check.proofs.TurnLoop.{Resolving}
+use Rattle.seg_check.proofs.Queue.BlockLoopLaws.{Resolving}
 use Rattle.seg_check.proofs.image.TypedImage.check_values.Given as goal
 
 abbrev pub invariant-loop-turn : goal.invariant-loop-turn

@@ -8,10 +8,10 @@ use Rattle.seg_check.specs.declared.walk.Visit.TheVariants.{Enter, Pass}
 use Rattle.seg_check.specs.Claiming.{Refutes}
 use Rattle.seg_check.specs.Walks.{Completes, IsSteady, Proceeds}
 use Rattle.seg_check.specs.Roots.{CanClaimTree}
-use Rattle.seg_check.proofs.StepLaws.{refuses_map}
-use Rattle.seg_check.proofs.Followed.{Followed, follow_start, steps_on}
-use Rattle.seg_check.proofs.MapLaws.{ok_was, err_was}
-use Rattle.seg_check.proofs.TreeIndex.{traced_start, traced_enter, traced_pass, traced_end, traced_live, traced_refused, traced_can, index_node_claimed, index_node_can}
+use Rattle.seg_check.proofs.Queue.QueueStepLaws.{refuses_map}
+use Rattle.seg_check.proofs.WalkStateLaws.{Followed, follow_start, steps_on}
+use Rattle.seg_check.proofs.Contents.MapLaws.{ok_was, err_was}
+use Rattle.seg_check.proofs.Objects.TreeIndexLaws.{traced_start, traced_enter, traced_pass, traced_end, traced_live, traced_refused, traced_can, index_node_claimed, index_node_can}
 use Rattle.seg_check.proofs.image.TypedImage.claim_index_nodes.Goals as goal
 
 pub loop-visit-init : goal.loop-visit-init

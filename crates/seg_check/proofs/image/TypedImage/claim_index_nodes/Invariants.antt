@@ -2,7 +2,7 @@ use Rattle.std.proofs.Common.{◌≡◌}
 use Rattle.seg_spec.specs.Header.{index_cell}
 use Rattle.seg_spec.specs.Reads.{count_at}
 use Rattle.seg_check.specs.Resolving.{IsReady}
-use Rattle.seg_check.proofs.TreeIndex.{Traced}
+use Rattle.seg_check.proofs.Objects.TreeIndexLaws.{Traced}
 use Rattle.seg_check.proofs.image.TypedImage.claim_index_nodes.Given as goal
 
 abbrev pub invariant-loop-visit : goal.invariant-loop-visit

@@ -5,7 +5,7 @@ use Rattle.seg_block.specs.declared.tag.Kind.{Kind}
 use Rattle.seg_block.specs.declared.tag.Kind.TheVariants.{Named, Object, Buffer, Node, IndexBuffer, IndexNode, Frozen}
 use Rattle.seg_cells.specs.declared.content.Content.{Content}
 use Rattle.seg_check.specs.Turns.{HasEntries, HoldsEntries}
-use Rattle.seg_check.proofs.TagLaws.{stands_named, stands_in, none_in, has_tag}
+use Rattle.seg_check.proofs.Heap.TagLaws.{stands_named, stands_in, none_in, has_tag}
 use Rattle.seg_check.proofs.image.TypedImage.entry_of.Goals as goal
 use Rattle.seg_check.proofs.image.TypedImage.entry_of.Goals.{in-Named, in-Object+in_ok-content-in-Object}
 

@@ -1,6 +1,6 @@
 use Rattle.std.proofs.Common.{◌≡◌, ◌<◌, ◌^◌, true, false, [], None, refl, sym, ◌∙◌, arith}
 use Rattle.seg_spec.specs.Pointer.{target}
-use Rattle.seg_check.proofs.WalkSteady.{steady_enter, steady_pass, node_low, never_deep}
+use Rattle.seg_check.proofs.WalkBoundLaws.{steady_enter, steady_pass, node_low, never_deep}
 use Rattle.seg_check.proofs.walk.Walk.next.Goals as goal
 
 pub returns-then-enter-clause-steady : goal.returns-then-enter-clause-steady

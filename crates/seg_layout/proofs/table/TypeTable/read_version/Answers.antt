@@ -1,7 +1,7 @@
 use Rattle.std.proofs.Common.{◌*◌, ◌≤◌, length, ap, ◌∙◌, arith, Ok}
-use Rattle.seg_spec.proofs.RightTables.{valid_right, valid_one}
+use Rattle.seg_spec.proofs.Tables.ValidTableLaws.{valid_right, valid_one}
 use Rattle.seg_layout.specs.Entries.{forms}
-use Rattle.seg_layout.proofs.Reading.{is_table, is_spelled}
+use Rattle.seg_layout.proofs.EntryReadLaws.{is_table, is_spelled}
 use Rattle.seg_layout.proofs.Tables.{read_begins, read_used, read_unused}
 use Rattle.seg_layout.proofs.table.TypeTable.read_version.Goals as goal
 use Rattle.seg_layout.proofs.table.TypeTable.read_version.Goals.{in-Used, in-Unused}

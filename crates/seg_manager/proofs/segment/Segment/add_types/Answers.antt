@@ -1,6 +1,6 @@
 use Rattle.std.proofs.Common.{sym, ap, ◌∙◌, refl, arith}
 use Rattle.seg_value.specs.Stored.{Stored}
-use Rattle.seg_manager.proofs.TypesAdded.{adds_by, then_longer}
+use Rattle.seg_manager.proofs.TypeAdditionLaws.{adds_by, then_longer}
 use Rattle.seg_manager.proofs.segment.Segment.add_types.Goals as goal
 
 pub returns-clause-adds : goal.returns-clause-adds

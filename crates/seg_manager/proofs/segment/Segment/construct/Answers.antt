@@ -4,7 +4,7 @@ use Rattle.seg_spec.specs.Index.{IsName, root_named}
 use Rattle.seg_value.specs.Stored.{Stored}
 use Rattle.seg_index.specs.Lists.{IsVacant}
 use Rattle.seg_manager.proofs.NamedReads.{finds_in}
-use Rattle.seg_manager.proofs.NamedMaking.{is_there, made_named, made_as, lacks_as}
+use Rattle.seg_manager.proofs.NamedResultLaws.{is_there, made_named, made_as, lacks_as}
 use Rattle.seg_manager.proofs.segment.Segment.construct.Goals as goal
 
 pub returns-in-Ok-look_up-clause-tells : goal.returns-in-Ok-look_up-clause-tells

@@ -1,7 +1,7 @@
 use Rattle.std.proofs.Common.{ap, ◌∙◌, sym, refl}
 use Rattle.seg_raw.specs.declared.code.Code.TheVariants as code
 use Rattle.seg_spec.specs.Window.{Placement}
-use Rattle.seg_manager.proofs.Answering.{some_is, none_is, handed_on}
+use Rattle.seg_manager.proofs.ResultLaws.{some_is, none_is, handed_on}
 use Rattle.seg_manager.proofs.UniqueObjects.{names_unique, few_types, made_unique}
 use Rattle.seg_manager.specs.Segments.{RefusesUnique, MakesUnique, unique_at}
 use Rattle.seg_manager.proofs.segment.Segment.construct_unique.Goals as goal

@@ -5,7 +5,7 @@ use Rattle.seg_raw.specs.declared.code.Code.TheVariants as code
 use Rattle.seg_value.specs.Stored.{Stored}
 use Rattle.seg_index.specs.Lists.{IsVacant}
 use Rattle.seg_manager.proofs.NamedReads.{finds_in, listed_named}
-use Rattle.seg_manager.proofs.NamedMaking.{made_missing, made_as, lacks_as, not_both, was_other, found_is, other_is}
+use Rattle.seg_manager.proofs.NamedResultLaws.{made_missing, made_as, lacks_as, not_both, was_other, found_is, other_is}
 use Rattle.seg_manager.proofs.segment.Segment.find_or_construct.Goals as goal
 
 pub returns-in_default-clause-tells : goal.returns-in_default-clause-tells

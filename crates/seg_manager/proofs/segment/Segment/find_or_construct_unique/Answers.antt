@@ -6,7 +6,7 @@ use Rattle.seg_raw.specs.declared.code.Code.TheVariants as code
 use Rattle.seg_spec.specs.Sound.{Picture}
 use Rattle.seg_value.specs.Stored.{Stored}
 use Rattle.seg_manager.specs.Segments.{unique_at, MakesUnique, RefusesUnique}
-use Rattle.seg_manager.proofs.Answering.{by_result}
+use Rattle.seg_manager.proofs.ResultLaws.{by_result}
 use Rattle.seg_manager.proofs.UniqueObjects.{names_unique, few_types}
 use Rattle.seg_manager.proofs.segment.Segment.find_or_construct_unique.Goals as goal
 

@@ -2,7 +2,7 @@ use Rattle.std.proofs.Common.{◌≡◌, ◌+◌, ap, ◌∙◌, arith}
 use Rattle.seg_cells.specs.declared.content.Shape.TheVariants as shape
 use Rattle.seg_spec.specs.Types.{IsTable, size}
 use Rattle.seg_spec.specs.Block.{Kind, tag_of}
-use Rattle.seg_manager.proofs.Answering.{by_result}
+use Rattle.seg_manager.proofs.ResultLaws.{by_result}
 use Rattle.seg_manager.proofs.LooseObjects.{made}
 use Rattle.seg_manager.proofs.segment.Segment.new_anonymous.Goals as goal
 

@@ -1,5 +1,5 @@
 use Rattle.seg_rbtree.specs.declared.path.Path.{Path}
-use Rattle.seg_rbtree.proofs.Climbing.{climbing_on, climbed, climbed_all}
+use Rattle.seg_rbtree.proofs.ClimbLaws.{climbing_on, climbed, climbed_all}
 use Rattle.std.proofs.Common.{◌∙◌, ap, sym}
 use Rattle.seg_rbtree.proofs.path.Path.climb.Goals as goal
 

@@ -1,6 +1,6 @@
 use Rattle.std.proofs.Common.{◌≡◌, List, length}
 use Rattle.seg_rbtree.specs.Ways.{Layer, steps_of}
-use Rattle.seg_rbtree.proofs.Climbing.{IsClimbing}
+use Rattle.seg_rbtree.proofs.ClimbLaws.{IsClimbing}
 use Rattle.seg_rbtree.proofs.path.Path.climb.Given as goal
 
 abbrev pub invariant-loop-step : goal.invariant-loop-step

@@ -2,7 +2,7 @@ use Rattle.std.proofs.Common.{◌≡◌, ℕ, ◌^◌, ◌≤◌, List, true, le
 use Rattle.seg_spec.specs.Pointer.{target}
 use Rattle.seg_rbtree.specs.Ways.{turn_of}
 use Rattle.seg_rbtree.specs.Paths.{sought_by}
-use Rattle.seg_rbtree.proofs.Walking.{walking_start, walking_room, walked, walked_to_end, walked_to_node, walked_all}
+use Rattle.seg_rbtree.proofs.PlacePathLaws.{walking_start, walking_room, walked, walked_to_end, walked_to_node, walked_all}
 use Rattle.seg_rbtree.proofs.path.Path.descend.Goals.{in-Less, in-Greater}
 use Rattle.seg_rbtree.proofs.path.Path.descend.Goals as goal
 

@@ -2,7 +2,7 @@ use Rattle.std.proofs.Common.{◌≡◌, []}
 use Rattle.seg_spec.specs.Shapes.{Tree}
 use Rattle.seg_spec.specs.Search.{IsSearchTree}
 use Rattle.seg_rbtree.specs.Paths.{sought_by}
-use Rattle.seg_rbtree.proofs.Walking.{IsWalking}
+use Rattle.seg_rbtree.proofs.PlacePathLaws.{IsWalking}
 use Rattle.seg_rbtree.proofs.path.Path.descend.Given as goal
 
 abbrev pub invariant-loop : goal.invariant-loop

@@ -1,6 +1,6 @@
 use Rattle.std.proofs.Common.{ℕ, List, sym, subst}
 use Rattle.seg_spec.specs.Search.{IsSearchTree}
-use Rattle.seg_rbtree.proofs.Climbing.{first_found}
+use Rattle.seg_rbtree.proofs.ClimbLaws.{first_found}
 use Rattle.seg_rbtree.proofs.path.Path.first.Goals as goal
 
 pub returns-clause-node : goal.returns-clause-node

@@ -1,6 +1,6 @@
 use Rattle.std.proofs.Common.{sym, ◌∙◌, refl}
 use Rattle.seg_rbtree.specs.Paths.{node_at}
-use Rattle.seg_rbtree.proofs.Climbing.{stands_below, goes_up, no_root}
+use Rattle.seg_rbtree.proofs.ClimbLaws.{stands_below, goes_up, no_root}
 use Rattle.seg_rbtree.proofs.path.Path.go_on.Goals as goal
 
 pub returns-in-None-clause-on : goal.returns-in-None-clause-on

@@ -1,7 +1,7 @@
 use Rattle.std.proofs.Common.{sym, ◌∙◌, subst, refl}
 use Rattle.seg_rbtree.specs.Following.{IsPartAt}
 use Rattle.seg_rbtree.specs.Paths.{node_at}
-use Rattle.seg_rbtree.proofs.Climbing.{stands_below, goes_up, goes_down, no_right, fork_there}
+use Rattle.seg_rbtree.proofs.ClimbLaws.{stands_below, goes_up, goes_down, no_right, fork_there}
 use Rattle.seg_rbtree.proofs.path.Path.go_on_from.Goals as goal
 
 pub returns-in-None-clause-on : goal.returns-in-None-clause-on

@@ -6,7 +6,7 @@ use Rattle.seg_rbtree.specs.Nodes.{with_new_node}
 use Rattle.seg_rbtree.specs.Ways.{last_word}
 use Rattle.seg_rbtree.specs.Changes.{with_node}
 use Rattle.seg_rbtree.specs.Rising.{IsRising, Settles}
-use Rattle.seg_rbtree.proofs.Growing.{IsGrowing, grown, growing_start, settled_end, settled_late}
+use Rattle.seg_rbtree.proofs.InsertionLaws.{IsGrowing, grown, growing_start, settled_end, settled_late}
 use Rattle.seg_rbtree.proofs.path.Path.insert.Goals as goal
 
 both : (a b c : Placement) (x y : List ℕ) → b ≡ with_bytes a x → c ≡ with_bytes b y → c ≡ with_bytes a c.bytes

@@ -6,7 +6,7 @@ use Rattle.seg_spec.specs.Search.{Ascend, IsSearchTree}
 use Rattle.seg_spec.specs.Window.{with_bytes}
 use Rattle.seg_rbtree.specs.Ways.{LeadsTo}
 use Rattle.seg_rbtree.specs.Changes.{StandApart, IsNew, with_node}
-use Rattle.seg_rbtree.proofs.Growing.{IsGrowing}
+use Rattle.seg_rbtree.proofs.InsertionLaws.{IsGrowing}
 use Rattle.seg_rbtree.proofs.path.Path.insert.Given as goal
 
 abbrev pub invariant-loop : goal.invariant-loop

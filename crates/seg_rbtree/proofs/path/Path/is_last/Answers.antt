@@ -1,7 +1,7 @@
 use Rattle.std.proofs.Common.{◌≡◌, ℕ, ◌+◌, List, Option, Some, sym, ◌∙◌}
 use Rattle.seg_spec.specs.Pointer.{target}
 use Rattle.seg_rbtree.proofs.Lasts.{last_there, way_to_last}
-use Rattle.seg_rbtree.proofs.TakingOut.{nothing_there, something_there}
+use Rattle.seg_rbtree.proofs.NodeRemovalLaws.{nothing_there, something_there}
 use Rattle.seg_rbtree.proofs.path.Path.is_last.Goals as goal
 
 -- the child that was read belongs to the node at the path's end

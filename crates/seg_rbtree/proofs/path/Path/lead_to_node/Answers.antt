@@ -1,6 +1,6 @@
 use Rattle.std.proofs.Common.{ℕ, ◌∙◌, sym, subst}
 use Rattle.seg_spec.specs.Search.{IsSearchTree}
-use Rattle.seg_rbtree.proofs.Leading.{led_there}
+use Rattle.seg_rbtree.proofs.NodePathLaws.{led_there}
 use Rattle.seg_rbtree.proofs.path.Path.lead_to_node.Goals as goal
 
 pub returns-clause-found : goal.returns-clause-found

@@ -4,7 +4,7 @@ use Rattle.std.specs.declared.cmp.Ordering.TheVariants.{Equal}
 use Rattle.seg_spec.specs.Shapes.{Tree}
 use Rattle.seg_spec.specs.Search.{IsSearchTree}
 use Rattle.seg_rbtree.specs.Paths.{node_at}
-use Rattle.seg_rbtree.proofs.Climbing.{goes_above, goes_inside, leads_there}
+use Rattle.seg_rbtree.proofs.ClimbLaws.{goes_above, goes_inside, leads_there}
 use Rattle.seg_rbtree.proofs.path.Path.next_after.Goals as goal
 
 pub returns-in-Some-clause-node : goal.returns-in-Some-clause-node

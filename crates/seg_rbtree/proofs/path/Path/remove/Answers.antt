@@ -1,7 +1,7 @@
 use Rattle.std.proofs.Common.{◌≡◌, ℕ, refl, sym, ◌∙◌, subst}
 use Rattle.seg_spec.specs.Shapes.{nodes_of}
 use Rattle.seg_rbtree.specs.Changes.{without_node, Leaves}
-use Rattle.seg_rbtree.proofs.Removed.{begins, named_there, whole_red, whole_few, red_left, short_stands, black_left}
+use Rattle.seg_rbtree.proofs.TreeWithoutNodeLaws.{begins, named_there, whole_red, whole_few, red_left, short_stands, black_left}
 use Rattle.seg_rbtree.proofs.path.Path.remove.Goals as goal
 
 pub returns-in-Black-clause-removed : goal.returns-in-Black-clause-removed

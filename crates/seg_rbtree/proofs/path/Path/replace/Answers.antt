@@ -1,6 +1,6 @@
 use Rattle.std.proofs.Common.{sym, ap, ◌∙◌}
 use Rattle.seg_spec.specs.Window.{Placement}
-use Rattle.seg_rbtree.proofs.Renaming.{renamed_there}
+use Rattle.seg_rbtree.proofs.NodeReplacementLaws.{renamed_there}
 use Rattle.seg_rbtree.proofs.path.Path.replace.Goals as goal
 
 pub returns-clause-replaced : goal.returns-clause-replaced

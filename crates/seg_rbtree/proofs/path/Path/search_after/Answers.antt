@@ -2,7 +2,7 @@ use Rattle.std.proofs.Common.{ℕ, List, sym, subst, ◌∙◌}
 use Rattle.seg_spec.specs.Shapes.{Tree}
 use Rattle.seg_spec.specs.Search.{IsSearchTree}
 use Rattle.std.specs.Ordering.{ordering_reverse}
-use Rattle.seg_rbtree.proofs.Climbing.{goes_above, goes_inside, leads_inside}
+use Rattle.seg_rbtree.proofs.ClimbLaws.{goes_above, goes_inside, leads_inside}
 use Rattle.seg_rbtree.proofs.path.Path.search_after.Goals as goal
 
 pub returns-clause-node : goal.returns-clause-node

@@ -3,7 +3,7 @@ use Rattle.std.specs.Ordering.{ordering_reverse}
 use Rattle.seg_spec.specs.Pointer.{target}
 use Rattle.seg_rbtree.specs.Nodes.{side_word}
 use Rattle.seg_rbtree.specs.Ways.{turn_of}
-use Rattle.seg_rbtree.proofs.Seeking.{seeking_start, sought_on, sought_all, sought_nothing, sought_node}
+use Rattle.seg_rbtree.proofs.KeySearchLaws.{seeking_start, sought_on, sought_all, sought_nothing, sought_node}
 use Rattle.seg_rbtree.proofs.tree.Tree.find.Goals.{in-Less, in-Greater}
 use Rattle.seg_rbtree.proofs.tree.Tree.find.Goals as goal
 

@@ -1,7 +1,7 @@
 use Rattle.std.specs.Ordering.{ordering_reverse}
 use Rattle.seg_spec.specs.Shapes.{Tree}
 use Rattle.seg_spec.specs.Search.{IsSearchTree}
-use Rattle.seg_rbtree.proofs.Seeking.{IsSeeking}
+use Rattle.seg_rbtree.proofs.KeySearchLaws.{IsSeeking}
 use Rattle.seg_rbtree.proofs.tree.Tree.find.Given as goal
 
 abbrev pub invariant-loop : goal.invariant-loop

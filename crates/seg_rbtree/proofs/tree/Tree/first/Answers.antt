@@ -2,8 +2,8 @@ use Rattle.std.proofs.Common.{ℕ, List, refl, sym, ap, ◌∙◌, subst, ◌≤
 use Rattle.seg_spec.specs.Pointer.{target}
 use Rattle.seg_spec.specs.Shapes.{IsTree, nodes_of}
 use Rattle.seg_spec.specs.Search.{looks}
-use Rattle.seg_spec.proofs.SearchLaws.{looks-64}
-use Rattle.seg_rbtree.proofs.Searching.{always, searching_start, went_left, searching_stop, came_to_end}
+use Rattle.seg_spec.proofs.TreeSearchLaws.{looks-64}
+use Rattle.seg_rbtree.proofs.FirstNodeSearchLaws.{always, searching_start, went_left, searching_stop, came_to_end}
 use Rattle.seg_rbtree.proofs.tree.Tree.first.Goals as goal
 
 pub loop-init : goal.loop-init

@@ -1,7 +1,7 @@
 use Rattle.std.proofs.Common.{true}
 use Rattle.seg_spec.specs.Shapes.{Tree}
 use Rattle.seg_spec.specs.Search.{IsSearchTree}
-use Rattle.seg_rbtree.proofs.Searching.{IsSearching}
+use Rattle.seg_rbtree.proofs.FirstNodeSearchLaws.{IsSearching}
 use Rattle.seg_rbtree.proofs.tree.Tree.first.Given as goal
 
 abbrev pub invariant-loop : goal.invariant-loop

@@ -2,7 +2,7 @@ use Rattle.std.proofs.Common.{ℕ, ◌+◌, ◌≤◌, ◌^◌, length, sym, sub
 use Rattle.std.specs.declared.cmp.Ordering.TheVariants.{Equal}
 use Rattle.seg_spec.specs.Shapes.{nodes_of}
 use Rattle.seg_spec.specs.Search.{reaches}
-use Rattle.seg_spec.proofs.SearchLaws.{looks-bound}
+use Rattle.seg_spec.proofs.TreeSearchLaws.{looks-bound}
 use Rattle.seg_rbtree.proofs.tree.Tree.first_at_least.Goals as goal
 
 pub returns-clause-bound : goal.returns-clause-bound

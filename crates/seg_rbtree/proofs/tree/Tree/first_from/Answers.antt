@@ -2,8 +2,8 @@ use Rattle.std.proofs.Common.{ℕ, List, ◌+◌, ◌≤◌, ap, sym, ◌∙◌,
 use Rattle.seg_spec.specs.Pointer.{target}
 use Rattle.seg_spec.specs.Shapes.{IsTree, nodes_of}
 use Rattle.seg_spec.specs.Search.{reaches, looks}
-use Rattle.seg_spec.proofs.SearchLaws.{looks-64}
-use Rattle.seg_rbtree.proofs.Searching.{upward_of, reaches_up, searching_start, went_left, went_right, searching_stop}
+use Rattle.seg_spec.proofs.TreeSearchLaws.{looks-64}
+use Rattle.seg_rbtree.proofs.FirstNodeSearchLaws.{upward_of, reaches_up, searching_start, went_left, went_right, searching_stop}
 use Rattle.seg_rbtree.proofs.tree.Tree.first_from.Goals as goal
 
 pub loop-found-init : goal.loop-found-init

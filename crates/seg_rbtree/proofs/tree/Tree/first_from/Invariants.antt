@@ -1,7 +1,7 @@
 use Rattle.std.proofs.Common.{◌≤◌, ◌-◌}
 use Rattle.seg_spec.specs.Shapes.{Tree, nodes_of}
 use Rattle.seg_spec.specs.Search.{reaches, Ascend, IsSearchTree}
-use Rattle.seg_rbtree.proofs.Searching.{IsSearching}
+use Rattle.seg_rbtree.proofs.FirstNodeSearchLaws.{IsSearching}
 use Rattle.seg_rbtree.proofs.tree.Tree.first_from.Given as goal
 
 abbrev pub invariant-loop-found : goal.invariant-loop-found

@@ -1,6 +1,6 @@
 use Rattle.std.proofs.Common.{ℕ, ◌∙◌, sym, subst}
 use Rattle.seg_spec.specs.Search.{IsSearchTree}
-use Rattle.seg_rbtree.proofs.Removed.{left_alone, not_absent, not_named, named}
+use Rattle.seg_rbtree.proofs.TreeWithoutNodeLaws.{left_alone, not_absent, not_named, named}
 use Rattle.seg_rbtree.proofs.tree.Tree.remove.Goals as goal
 
 pub returns-then-ne-clause-removed : goal.returns-then-ne-clause-removed

@@ -1,9 +1,9 @@
 use Rattle.std.proofs.Common.{◌+◌, ◌*◌, ◌≤◌, true, false, List, ℕ, [], ◌∷◌, length, refl, sym, subst, arith}
 use Rattle.seg_spec.specs.Heap.{heap_start}
-use Rattle.seg_spec.proofs.TileLaws.{Fill-le}
+use Rattle.seg_spec.proofs.Heap.TileLaws.{Fill-le}
 use Rattle.seg_block.specs.Tiling.{tile, Retiles}
-use Rattle.seg_block.proofs.Tiled.{around}
-use Rattle.seg_seqfit.proofs.Lending.{lent_bytes, lent_keeps, PutsIn}
+use Rattle.seg_block.proofs.TileReplacementLaws.{around}
+use Rattle.seg_seqfit.proofs.LentBytesLaws.{lent_bytes, lent_keeps, PutsIn}
 use Rattle.seg_seqfit.proofs.free_list.SeqFitFreeStructure.release.Goals as goal
 use Rattle.seg_seqfit.proofs.free_list.SeqFitFreeStructure.release.Goals.{else-block-ge2-via-then-block-ge2+else-block-len, else-block-ge2-via-else-block-ge2}
 

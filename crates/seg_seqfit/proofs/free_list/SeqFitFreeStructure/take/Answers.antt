@@ -4,7 +4,7 @@ use Rattle.seg_spec.specs.Pointer.{target, set_pointer}
 use Rattle.seg_spec.specs.Heap.{link_at}
 use Rattle.seg_block.specs.Sizes.{set_size}
 use Rattle.seg_block.specs.Tiling.{tile, Retiles}
-use Rattle.seg_seqfit.proofs.Taking.{take-retiles, link_at-taken}
+use Rattle.seg_seqfit.proofs.GapAllocationLaws.{take-retiles, link_at-taken}
 use Rattle.seg_seqfit.proofs.free_list.SeqFitFreeStructure.take.Goals as goal
 
 pub returns-clause-tiles : goal.returns-clause-tiles

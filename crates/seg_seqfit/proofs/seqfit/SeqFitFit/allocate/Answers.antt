@@ -1,9 +1,9 @@
 use Rattle.std.proofs.Common.{◌+◌, ◌-◌, ◌*◌, true, false, List, [], ◌∷◌, ℕ, Some, sym, subst, arith}
 use Rattle.seg_spec.specs.Heap.{gaps, Takes}
 use Rattle.seg_block.specs.Tiling.{tile}
-use Rattle.seg_block.proofs.Taken.{takes_none}
+use Rattle.seg_block.proofs.GapAllocationLaws.{takes_none}
 use Rattle.seg_block.proofs.FreeTiles.{heap_free_blocks, takes_gap_whole, takes_gap_front}
-use Rattle.seg_seqfit.proofs.Lending.{lent_bytes, lent_keeps, TakesGap}
+use Rattle.seg_seqfit.proofs.LentBytesLaws.{lent_bytes, lent_keeps, TakesGap}
 use Rattle.seg_seqfit.proofs.Places.{Place, place_of_gap}
 use Rattle.seg_seqfit.proofs.seqfit.SeqFitFit.allocate.Goals as goal
 

@@ -2,8 +2,8 @@ use Rattle.std.proofs.Common.{None, false, arith, sym, ap, ◌∙◌}
 use Rattle.seg_spec.specs.Pointer.{set_pointer}
 use Rattle.seg_spec.specs.Window.{Placement}
 use Rattle.seg_block.specs.Sizes.{set_size}
-use Rattle.seg_block.proofs.Cuttings.{never_ends, cuts_live, cuts_some}
-use Rattle.seg_seqfit.proofs.Cuttings.{cuts_whole, cuts_gap}
+use Rattle.seg_block.proofs.HeapCutLaws.{never_ends, cuts_live, cuts_some}
+use Rattle.seg_seqfit.proofs.HeapCutLaws.{cuts_whole, cuts_gap}
 use Rattle.seg_seqfit.proofs.seqfit.SeqFitFit.cut_end.Goals as goal
 
 pub returns-in_default-clause-cuts : goal.returns-in_default-clause-cuts

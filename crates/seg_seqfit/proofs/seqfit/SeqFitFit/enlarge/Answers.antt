@@ -1,6 +1,6 @@
 use Rattle.std.proofs.Common.{ap, arith}
 use Rattle.seg_spec.specs.Window.{Placement}
-use Rattle.seg_seqfit.proofs.Enlarging.{enlarged}
+use Rattle.seg_seqfit.proofs.HeapGrowthLaws.{enlarged}
 use Rattle.seg_seqfit.proofs.seqfit.SeqFitFit.enlarge.Goals as goal
 
 pub returns-clause-enlarges : goal.returns-clause-enlarges

@@ -4,7 +4,7 @@ use Rattle.seg_spec.specs.Pointer.{set_pointer}
 use Rattle.seg_spec.specs.Window.{Placement}
 use Rattle.seg_spec.specs.Heap.{Begins}
 use Rattle.seg_block.specs.Sizes.{set_size}
-use Rattle.seg_seqfit.proofs.Beginning.{begins}
+use Rattle.seg_seqfit.proofs.FirstGapLaws.{begins}
 use Rattle.seg_seqfit.proofs.seqfit.SeqFitFit.init.Goals as goal
 
 pub returns-clause-begins : goal.returns-clause-begins

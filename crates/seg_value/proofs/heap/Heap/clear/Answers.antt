@@ -3,7 +3,7 @@ use Rattle.seg_spec.specs.Types.{form_at}
 use Rattle.seg_cells.specs.declared.cells.Cells.TheVariants as cells
 use Rattle.seg_cells.specs.Places.{place_of}
 use Rattle.seg_cells.proofs.CellCases.{no_pointers}
-use Rattle.seg_value.proofs.Clearing.{cleared, number_cleared}
+use Rattle.seg_value.proofs.ClearLaws.{cleared, number_cleared}
 use Rattle.seg_value.proofs.heap.Heap.clear.Goals as goal
 
 pub returns-clause-cleared : goal.returns-clause-cleared

@@ -1,10 +1,10 @@
 use Rattle.std.proofs.Common.{◌+◌}
-use Rattle.seg_value.proofs.Named.{name_closed_by}
+use Rattle.seg_value.proofs.IndexEntryLaws.{name_closed_by}
 use Rattle.seg_spec.specs.Bytes.{set_word}
 use Rattle.seg_spec.specs.Window.{with_bytes}
 use Rattle.seg_cells.specs.Places.{object_at}
 use Rattle.seg_value.proofs.Between.{closed_by}
-use Rattle.seg_spec.proofs.Placements.{bytes_of}
+use Rattle.seg_spec.proofs.WindowLaws.{bytes_of}
 use Rattle.seg_value.proofs.heap.Heap.close_entry.Goals as goal
 
 pub returns-clause-closes : goal.returns-clause-closes

@@ -4,10 +4,10 @@ use Rattle.seg_spec.specs.Heap.{units_at}
 use Rattle.seg_spec.specs.Block.{block_of, payload_size}
 use Rattle.seg_spec.specs.Cells.{IsWithin, IsDefaulted}
 use Rattle.seg_spec.specs.Window.{with_bytes}
-use Rattle.seg_spec.proofs.CellSteps.{defaulted_local, no_entries}
+use Rattle.seg_spec.proofs.Values.CellChangeLaws.{defaulted_local, no_entries}
 use Rattle.seg_cells.specs.declared.place.Place.{Place}
 use Rattle.seg_value.specs.Stored.{Stored}
-use Rattle.seg_value.proofs.Resting.{no_rest, sized, rest_within, rest_from, rests, next_default}
+use Rattle.seg_value.proofs.UnusedEntryLaws.{no_rest, sized, rest_within, rest_from, rests, next_default}
 use Rattle.seg_value.proofs.heap.Heap.default_rest.Goals as goal
 use Rattle.seg_value.proofs.heap.Heap.default_rest.Goals.{in-Some, in_default}
 

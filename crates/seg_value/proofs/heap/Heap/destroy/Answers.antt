@@ -2,7 +2,7 @@ use Rattle.std.proofs.Common.{◌≤◌, arith}
 use Rattle.seg_spec.specs.Block.{block_of}
 use Rattle.seg_spec.specs.Heap.{live}
 use Rattle.seg_spec.specs.Sound.{times, positions}
-use Rattle.seg_spec.proofs.LiveLaws.{times-same}
+use Rattle.seg_spec.proofs.Heap.LiveBlockLaws.{times-same}
 use Rattle.seg_value.proofs.Turns.{destroyed, is_live, number_destroys}
 use Rattle.seg_value.proofs.heap.Heap.destroy.Goals as goal
 

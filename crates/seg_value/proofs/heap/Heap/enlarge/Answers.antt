@@ -6,9 +6,9 @@ use Rattle.seg_cells.specs.Places.{object_at}
 use Rattle.seg_value.specs.Stored.{Stored}
 use Rattle.seg_value.proofs.Buffers.{of_form, wanted_is, wanted_large, Enlarged, enlarged, enlarged_large, moved_to_new}
 use Rattle.seg_value.specs.Names.{index_cell, ReservesIndex}
-use Rattle.seg_value.proofs.Enlarging.{asks_once}
+use Rattle.seg_value.proofs.BufferRequestLaws.{asks_once}
 use Rattle.seg_value.proofs.IndexGrows as index
-use Rattle.seg_spec.proofs.Placements.{bytes_of}
+use Rattle.seg_spec.proofs.WindowLaws.{bytes_of}
 use Rattle.seg_value.proofs.heap.Heap.enlarge.Goals as goal
 
 pub returns-in-None-clause-enlarges : goal.returns-in-None-clause-enlarges

@@ -3,9 +3,9 @@ use Rattle.seg_spec.specs.Pointer.{target, set_pointer}
 use Rattle.seg_spec.specs.Window.{with_bytes}
 use Rattle.seg_cells.specs.Places.{object_at}
 use Rattle.seg_value.specs.Stored.{Stored}
-use Rattle.seg_value.proofs.Cutting.{left_alone, unnamed_heap, unnamed_is_live, given_up}
-use Rattle.seg_value.proofs.Named.{index_empty, unnamed_index_heap, unnamed_index_live, index_given_up}
-use Rattle.seg_spec.proofs.Placements.{bytes_of}
+use Rattle.seg_value.proofs.BufferCutLaws.{left_alone, unnamed_heap, unnamed_is_live, given_up}
+use Rattle.seg_value.proofs.IndexEntryLaws.{index_empty, unnamed_index_heap, unnamed_index_live, index_given_up}
+use Rattle.seg_spec.proofs.WindowLaws.{bytes_of}
 use Rattle.seg_value.proofs.heap.Heap.free_buffer.Goals as goal
 
 pub returns-in_default-clause-frees : goal.returns-in_default-clause-frees

@@ -4,7 +4,7 @@ use Rattle.seg_spec.specs.Cells.{IsWithin, ChangesCells, IsDefaulted}
 use Rattle.seg_spec.specs.Reads.{Holds}
 use Rattle.seg_spec.specs.Types.{IsTable, form_at, size}
 use Rattle.seg_spec.specs.Value.{default_of}
-use Rattle.seg_spec.proofs.Defaults.{Holds-default}
+use Rattle.seg_spec.proofs.Values.DefaultLaws.{Holds-default}
 use Rattle.seg_cells.specs.Cells.{cells_of}
 use Rattle.seg_cells.specs.Places.{place_of}
 use Rattle.seg_value.specs.Stored.{Stored}

@@ -10,7 +10,7 @@ use Rattle.seg_value.specs.Stored.{Stored}
 use Rattle.seg_cells.specs.declared.cells.Cells.TheVariants as cells
 use Rattle.seg_cells.proofs.CellCases.{no_pointers}
 use Rattle.seg_value.proofs.Nulls.{no_cells_own}
-use Rattle.seg_value.proofs.Opening.{same_object}
+use Rattle.seg_value.proofs.WaitingOpenLaws.{same_object}
 use Rattle.seg_value.proofs.heap.Heap.is_number.Goals as goal
 
 pub returns-in-Some : goal.returns-in-Some

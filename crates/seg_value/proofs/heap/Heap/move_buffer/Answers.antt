@@ -5,8 +5,8 @@ use Rattle.seg_spec.specs.Window.{with_bytes}
 use Rattle.seg_block.specs.Tags.{word_of}
 use Rattle.seg_value.specs.Stored.{Stored}
 use Rattle.seg_value.proofs.Buffers.{first_buffer, next_buffer}
-use Rattle.seg_value.proofs.Indexed.{first_index, next_index}
-use Rattle.seg_spec.proofs.Placements.{bytes_of}
+use Rattle.seg_value.proofs.IndexBufferLaws.{first_index, next_index}
+use Rattle.seg_spec.proofs.WindowLaws.{bytes_of}
 use Rattle.seg_value.proofs.heap.Heap.move_buffer.Goals as goal
 
 pub returns-in_default-clause-moves : goal.returns-in_default-clause-moves

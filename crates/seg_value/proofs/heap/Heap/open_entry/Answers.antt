@@ -17,8 +17,8 @@ use Rattle.seg_value.proofs.Between.{one_more, opened_by}
 use Rattle.seg_spec.specs.Spending.{entry_asks}
 use Rattle.seg_value.specs.Names.{index_cell, OpensName}
 use Rattle.seg_value.proofs.IndexGrows.{one_name_more}
-use Rattle.seg_value.proofs.Named.{name_opened_by}
-use Rattle.seg_spec.proofs.Placements.{bytes_of}
+use Rattle.seg_value.proofs.IndexEntryLaws.{name_opened_by}
+use Rattle.seg_spec.proofs.WindowLaws.{bytes_of}
 use Rattle.seg_value.proofs.heap.Heap.open_entry.Goals as goal
 
 only_err : {X Y : Type 0} (r : Result X Y) (P : X → Type 0) (Q : Type 0) → IsErr r → Q → MatchResult r P (λ code. Q)

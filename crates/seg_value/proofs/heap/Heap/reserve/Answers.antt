@@ -1,6 +1,6 @@
 use Rattle.std.proofs.Common.{rules, ◌≡◌, ◌-◌, ◌*◌, ◌<◌, ◌≤◌, ap, arith, Err}
 use Rattle.seg_spec.specs.Spending.{units_named}
-use Rattle.seg_spec.proofs.Placements.{bytes_of}
+use Rattle.seg_spec.proofs.WindowLaws.{bytes_of}
 use Rattle.seg_value.specs.Stored.{Stored}
 use Rattle.seg_value.proofs.Buffers.{of_form, has_room}
 use Rattle.seg_value.proofs.IndexGrows.{index_has_room}

@@ -8,7 +8,7 @@ use Rattle.seg_cells.specs.Pointers.{MovesPointers}
 use Rattle.seg_cells.proofs.Pointers.{pointers_moved}
 use Rattle.seg_value.specs.Stored.{Stored}
 use Rattle.seg_cells.proofs.Shifts.{shifts_by, raw_within}
-use Rattle.seg_spec.proofs.Placements.{bytes_of}
+use Rattle.seg_spec.proofs.WindowLaws.{bytes_of}
 use Rattle.seg_value.proofs.heap.Heap.shift_entries.Goals as goal
 
 pub returns-clause-text : goal.returns-clause-text

@@ -2,8 +2,8 @@ use Rattle.std.proofs.Common.{◌≡◌, ◌≤◌, ap, ◌∙◌, sym, Some, No
 use Rattle.seg_spec.specs.Pointer.{target}
 use Rattle.seg_cells.specs.Places.{place_of}
 use Rattle.seg_value.specs.Stored.{Stored}
-use Rattle.seg_value.proofs.Cutting.{left_alone, entry_bytes, cut_at}
-use Rattle.seg_spec.proofs.Placements.{bytes_of}
+use Rattle.seg_value.proofs.BufferCutLaws.{left_alone, entry_bytes, cut_at}
+use Rattle.seg_spec.proofs.WindowLaws.{bytes_of}
 use Rattle.seg_value.proofs.heap.Heap.shrink_to_fit.Goals as goal
 
 pub returns-in_default-target-clause-shrinks : goal.returns-in_default-target-clause-shrinks

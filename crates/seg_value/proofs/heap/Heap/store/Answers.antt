@@ -3,9 +3,9 @@ use Rattle.std.proofs.lemmas.Int.{to_z-of_z}
 use Rattle.seg_spec.specs.Window.{with_bytes}
 use Rattle.seg_spec.specs.Bytes.{set_long, signed, signed_long, ChangesOnly}
 use Rattle.seg_spec.proofs.BytesLaws.{number-set_same}
-use Rattle.seg_spec.proofs.Writing.{set_number-changes}
+use Rattle.seg_spec.proofs.Images.RootWriteLaws.{set_number-changes}
 use Rattle.seg_value.specs.Stored.{Stored}
-use Rattle.seg_spec.proofs.Placements.{bytes_of}
+use Rattle.seg_spec.proofs.WindowLaws.{bytes_of}
 use Rattle.seg_value.proofs.heap.Heap.store.Goals as goal
 
 signed_back : (z : ℤ) → SFits w64 z → signed (of_z w64 z) ≡ z

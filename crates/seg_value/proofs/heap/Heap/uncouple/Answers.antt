@@ -1,6 +1,6 @@
 use Rattle.seg_cells.specs.Places.{object_at}
-use Rattle.seg_value.proofs.Uncoupling.{single, ring, buffer}
-use Rattle.seg_spec.proofs.Placements.{bytes_of}
+use Rattle.seg_value.proofs.UncoupleLaws.{single, ring, buffer}
+use Rattle.seg_spec.proofs.WindowLaws.{bytes_of}
 use Rattle.seg_value.proofs.heap.Heap.uncouple.Goals as goal
 
 pub returns-in-Buffer-clause-uncouples : goal.returns-in-Buffer-clause-uncouples

@@ -3,14 +3,14 @@ use Rattle.std.specs.Prelude.{slice_get, true, false, [], ◌∷◌}
 use Rattle.seg_spec.specs.Types.{form_at, fields_of}
 use Rattle.seg_spec.specs.Window.{with_bytes}
 use Rattle.seg_spec.specs.Reads.{fields}
-use Rattle.seg_spec.proofs.PartsOwed.{struct_parts, fields_inside, none_joined}
+use Rattle.seg_spec.proofs.Deallocation.PartDestructionLaws.{struct_parts, fields_inside, none_joined}
 use Rattle.seg_layout.specs.Forms.{map_option, cell_of, has_cells}
 use Rattle.seg_cells.specs.Places.{place_of}
 use Rattle.seg_value.specs.Stored.{Stored}
 use Rattle.seg_cells.proofs.CellCases.{struct_of}
 use Rattle.seg_value.proofs.Links.{without_home}
 use Rattle.seg_value.proofs.Nulls.{no_cells_own}
-use Rattle.seg_value.proofs.Joining.{nothing_added, next_field_joined, past_fields_joined, all_fields_joined}
+use Rattle.seg_value.proofs.WaitingBlockLaws.{nothing_added, next_field_joined, past_fields_joined, all_fields_joined}
 use Rattle.seg_value.proofs.pending.Pending.+add_value.Goals as goal
 use Rattle.seg_value.proofs.pending.Pending.+add_value.Goals.{in-Some, in_default}
 

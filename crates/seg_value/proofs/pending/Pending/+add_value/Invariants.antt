@@ -6,7 +6,7 @@ use Rattle.seg_spec.specs.Reads.{Place, fields}
 use Rattle.seg_spec.specs.Owing.{IsPart}
 use Rattle.seg_spec.specs.Frozen.{Frozen}
 use Rattle.seg_spec.specs.Destroying.{AreLive, Awaits}
-use Rattle.seg_spec.proofs.PartsOwed.{Joined}
+use Rattle.seg_spec.proofs.Deallocation.PartDestructionLaws.{Joined}
 use Rattle.seg_cells.specs.Places.{place_of}
 use Rattle.seg_value.proofs.pending.Pending.+add_value.Given as goal
 

@@ -6,7 +6,7 @@ use Rattle.seg_cells.specs.Contents.{ContentOf}
 use Rattle.seg_cells.specs.Places.{place_of}
 use Rattle.seg_value.specs.Waiting.{AddsWaiting}
 use Rattle.seg_value.proofs.Nulls.{null_owns, shared_there, held_there}
-use Rattle.seg_value.proofs.Joining.{nothing_added, uncoupled_adds}
+use Rattle.seg_value.proofs.WaitingBlockLaws.{nothing_added, uncoupled_adds}
 use Rattle.seg_value.proofs.pending.Pending.add_cell.Goals as goal
 
 pub returns-in_default-clause-added : goal.returns-in_default-clause-added

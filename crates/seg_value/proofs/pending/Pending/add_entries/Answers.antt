@@ -3,11 +3,11 @@ use Rattle.seg_spec.specs.Types.{size}
 use Rattle.seg_spec.specs.Reads.{spaced}
 use Rattle.seg_spec.specs.Owing.{entries_at}
 use Rattle.seg_spec.specs.Window.{with_bytes}
-use Rattle.seg_spec.proofs.PartsOwed.{entries_inside, none_joined}
+use Rattle.seg_spec.proofs.Deallocation.PartDestructionLaws.{entries_inside, none_joined}
 use Rattle.seg_cells.specs.declared.place.Place.{Place}
 use Rattle.seg_value.specs.Stored.{Stored}
 use Rattle.seg_value.proofs.Nulls.{no_cells_parts}
-use Rattle.seg_value.proofs.Joining.{nothing_added, from_first, next_entry_joined, all_entries_joined}
+use Rattle.seg_value.proofs.WaitingBlockLaws.{nothing_added, from_first, next_entry_joined, all_entries_joined}
 use Rattle.seg_value.proofs.pending.Pending.add_entries.Goals as goal
 use Rattle.seg_value.proofs.pending.Pending.add_entries.Goals.{in-Some, in_default}
 

@@ -6,7 +6,7 @@ use Rattle.seg_spec.specs.Owing.{AreParts, entries_at}
 use Rattle.seg_spec.specs.Frozen.{Frozen}
 use Rattle.seg_spec.specs.Reads.{Place}
 use Rattle.seg_spec.specs.Destroying.{AreLive, Awaits}
-use Rattle.seg_spec.proofs.PartsOwed.{Joined}
+use Rattle.seg_spec.proofs.Deallocation.PartDestructionLaws.{Joined}
 use Rattle.seg_cells.specs.declared.entry.Held.TheVariants as held
 use Rattle.seg_cells.specs.Entries.{IsEntryOf}
 use Rattle.seg_value.proofs.pending.Pending.add_entries.Given as goal

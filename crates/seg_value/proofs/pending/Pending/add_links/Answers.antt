@@ -1,7 +1,7 @@
 use Rattle.std.proofs.Common.{◌≡◌, ⊎_elim, [], ◌∷◌, ◌++◌, refl, ap, subst}
 use Rattle.seg_spec.specs.Owing.{OwesLinks}
 use Rattle.seg_value.specs.Waiting.{links_of}
-use Rattle.seg_value.proofs.Joining.{nothing_added}
+use Rattle.seg_value.proofs.WaitingBlockLaws.{nothing_added}
 use Rattle.seg_value.proofs.Links.{without_home, no_further, two_links}
 use Rattle.seg_value.proofs.pending.Pending.add_links.Goals as goal
 

@@ -1,7 +1,7 @@
 use Rattle.std.proofs.Common.{◌≡◌, [], Some, None, ap, ◌∙◌, sym}
 use Rattle.seg_spec.specs.Pointer.{target}
 use Rattle.seg_spec.specs.Window.{Placement}
-use Rattle.seg_value.proofs.Joining.{nothing_added}
+use Rattle.seg_value.proofs.WaitingBlockLaws.{nothing_added}
 use Rattle.seg_value.proofs.Links.{one_link, no_link}
 use Rattle.seg_value.proofs.pending.Pending.add_node.Goals as goal
 

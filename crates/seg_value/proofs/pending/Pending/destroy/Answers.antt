@@ -1,6 +1,6 @@
 use Rattle.std.proofs.Common.{◌≡◌, refl, ap, ◌∙◌, arith, length}
 use Rattle.seg_spec.specs.Window.{Placement, with_bytes}
-use Rattle.seg_spec.proofs.Destruction.{none_freed, all_freed, enough_turns}
+use Rattle.seg_spec.proofs.Deallocation.DestructionLaws.{none_freed, all_freed, enough_turns}
 use Rattle.seg_value.proofs.Turns.{turned}
 use Rattle.seg_value.proofs.pending.Pending.destroy.Goals as goal
 

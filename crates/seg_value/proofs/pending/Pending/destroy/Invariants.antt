@@ -4,7 +4,7 @@ use Rattle.seg_spec.specs.Types.{IsTable}
 use Rattle.seg_spec.specs.Reads.{Place}
 use Rattle.seg_spec.specs.Frozen.{Frozen}
 use Rattle.seg_spec.specs.Destroying.{AreLive, Awaits}
-use Rattle.seg_spec.proofs.Destruction.{HasFreed}
+use Rattle.seg_spec.proofs.Deallocation.DestructionLaws.{HasFreed}
 use Rattle.seg_value.proofs.pending.Pending.destroy.Given as goal
 
 abbrev pub invariant-loop-turn : goal.invariant-loop-turn

@@ -2,11 +2,11 @@ use Rattle.std.proofs.Common.{◌≡◌, [], ◌++◌, Some, None, refl, sym, ap
 use Rattle.seg_spec.specs.Heap.{tag_at}
 use Rattle.seg_spec.specs.Block.{block_of}
 use Rattle.seg_spec.specs.Window.{Placement}
-use Rattle.seg_spec.proofs.LiveLaws.{times-append}
-use Rattle.seg_spec.proofs.Destruction.{same_adds, awaits_names}
+use Rattle.seg_spec.proofs.Heap.LiveBlockLaws.{times-append}
+use Rattle.seg_spec.proofs.Deallocation.DestructionLaws.{same_adds, awaits_names}
 use Rattle.seg_cells.specs.Contents.{OfBlock}
-use Rattle.seg_value.proofs.Opening.{parted, some_content, unread, links_fit, inside_links, links_waiting, all_added}
-use Rattle.seg_spec.proofs.Placements.{bytes_of}
+use Rattle.seg_value.proofs.WaitingOpenLaws.{parted, some_content, unread, links_fit, inside_links, links_waiting, all_added}
+use Rattle.seg_spec.proofs.WindowLaws.{bytes_of}
 use Rattle.seg_value.proofs.pending.Pending.open.Goals as goal
 
 pub returns-in_default-clause-opened : goal.returns-in_default-clause-opened

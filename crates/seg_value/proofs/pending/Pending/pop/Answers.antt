@@ -3,7 +3,7 @@ use Rattle.seg_spec.specs.Heap.{link_at}
 use Rattle.seg_spec.specs.Block.{block_of}
 use Rattle.seg_spec.specs.Destroying.{Awaits}
 use Rattle.seg_spec.specs.Window.{Placement}
-use Rattle.seg_spec.proofs.Destruction.{pops}
+use Rattle.seg_spec.proofs.Deallocation.DestructionLaws.{pops}
 use Rattle.seg_value.proofs.pending.Pending.pop.Goals as goal
 
 pub returns-clause-popped : goal.returns-clause-popped

@@ -2,8 +2,8 @@ use Rattle.std.proofs.Common.{◌+◌}
 use Rattle.seg_spec.specs.Pointer.{set_pointer}
 use Rattle.seg_spec.specs.Block.{block_of}
 use Rattle.seg_spec.specs.Window.{with_bytes}
-use Rattle.seg_spec.proofs.Destruction.{adds_pushed}
-use Rattle.seg_spec.proofs.Placements.{bytes_of}
+use Rattle.seg_spec.proofs.Deallocation.DestructionLaws.{adds_pushed}
+use Rattle.seg_spec.proofs.WindowLaws.{bytes_of}
 use Rattle.seg_value.proofs.pending.Pending.push.Goals as goal
 
 pub returns-clause-added : goal.returns-clause-added

@@ -3,8 +3,8 @@ use Rattle.seg_spec.specs.Bytes.{word, set_word}
 use Rattle.seg_spec.specs.Types.{Table}
 use Rattle.seg_spec.specs.Window.{Placement, with_bytes}
 use Rattle.seg_spec.specs.Destroying.{GoesWith, Adds}
-use Rattle.seg_spec.proofs.Placements.{bytes_of}
-use Rattle.seg_spec.proofs.Releases.{written_changes, written_is, stays, goes}
+use Rattle.seg_spec.proofs.WindowLaws.{bytes_of}
+use Rattle.seg_spec.proofs.Frozen.ReleaseLaws.{written_changes, written_is, stays, goes}
 use Rattle.seg_value.specs.Waiting.{AddsIn}
 use Rattle.seg_value.proofs.pending.Pending.release.Goals as goal
 

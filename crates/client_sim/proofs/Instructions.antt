@@ -1,0 +1,25 @@
+-- The rows of instructions over images, for every state that a world represents.
+pub mod ContentLaws
+pub mod ShareLaws
+pub mod FreezeLaws
+pub mod NumberReferenceLaws
+pub mod NumberLaws
+pub mod CopyLaws
+pub mod ForgetLaws
+pub mod StreamLaws
+pub mod PrintLaws
+pub mod RefLaws
+pub mod TextLaws
+pub mod LengthLaws
+pub mod KeyLaws
+pub mod FindLaws
+pub mod ItemLaws
+pub mod MapEntryLaws
+pub mod ClearLaws
+pub mod ShrinkLaws
+pub mod AtLaws
+pub mod NamedObjectLaws
+pub mod PutLaws
+pub mod TakeLaws
+pub mod OwnerLaws
+pub mod UniqueObjectLaws

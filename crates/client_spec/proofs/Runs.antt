@@ -1,0 +1,7 @@
+-- Runs of code: their bounds, and what they keep.
+pub mod RunBoundLaws
+pub mod TotalRunLaws
+pub mod TypedRunLaws
+pub mod InterpreterStepLaws
+pub mod OutsideByteLaws
+pub mod RunInvariantLaws

@@ -1,0 +1,6 @@
+-- What the marks tell of blocks, and what a claim needs.
+pub mod MarkLaws
+pub mod MarkedBlockLaws
+pub mod ClaimLaws
+pub mod FrozenClaimLaws
+pub mod CellClaimLaws

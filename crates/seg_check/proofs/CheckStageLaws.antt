@@ -1,0 +1,65 @@
+-- The facts that follow from each stage of the check of an image's content.
+use Rattle.std.proofs.Common.{◌≡◌, ℕ, [], map, List, Result, Ok, Err, sym, subst}
+use Rattle.std.specs.Prelude.{MatchResult}
+use Rattle.seg_spec.specs.Types.{Table}
+use Rattle.seg_spec.specs.Images.{IsSound}
+use Rattle.seg_check.specs.declared.fault.ContentFault.{ContentFault}
+use Rattle.seg_check.specs.Claiming.{Refutes}
+use Rattle.seg_check.specs.Marks.{Known}
+use Rattle.seg_check.specs.Turns.{AreWaiting, frozen_place}
+use Rattle.seg_check.specs.Resolving.{IsReady}
+use Rattle.seg_check.specs.Cells.{Owned, CanResolveAll, AreCountsRight}
+use Rattle.seg_check.specs.Roots.{uniques_ahead, ResolvesIndex, CanResolveIndex, CanResolveRoots, AdvancesIndex, AdvancesUniques}
+use Rattle.seg_check.specs.Stations.{KnowsHeap, FindsOwners}
+use Rattle.seg_check.proofs.Heap.HeapLaws.{ready_known}
+use Rattle.seg_check.proofs.Queue.QueueStepLaws.{refuses_map, ready_found}
+use Rattle.seg_check.proofs.WholeImageLaws.{sound_read, roots_can, are_waiting, sound_can, sound_end, all_owned, some_unowned, counted_last}
+
+module _ (bytes : List ℕ) (table : Table) where
+  -- if a fault refutes a fact about sound images, the image isn't sound
+  pub finds_wrong : {A : Type 0} (new : Known) (P : Type 0) → (IsSound bytes → P) → (result : Result A ContentFault) (e : ContentFault) → Refutes e P → (x : ContentFault) × (result ≡ Err x) × (x ≡ e)
+      → FindsOwners bytes table new result
+  finds_wrong {A = A} new P lead result e refused r =
+      subst (λ (x : Result A ContentFault). FindsOwners bytes table new x) (sym r.1) (subst (λ f. Refutes f (IsSound bytes)) (sym r.2) (refuses_map e P (IsSound bytes) lead refused))
+
+  module _ (first : Known) (heap : KnowsHeap bytes table first) where
+    pub first_ready : IsReady bytes table first
+    first_ready = ready_known bytes table heap.front heap.tiles heap.free first heap.knows heap.room
+
+    pub first_can : IsSound bytes → CanResolveIndex bytes table first
+    first_can s =
+        let r = sound_read bytes table first heap.front heap.tiles heap.free heap.knows s in
+        record {
+          left = [];
+          places = map (frozen_place bytes) r.blocks;
+          found = r.found;
+          resolves = subst (λ k. ResolvesIndex bytes table k first.unclaimed [] (map (frozen_place bytes) r.blocks) r.found) (sym heap.knows.no_limit) r.index;
+        }
+
+    module _ (second : Known) (index : AdvancesIndex bytes table first second) where
+      pub second_ready : IsReady bytes table second
+      second_ready = ready_found bytes table first second [] first_ready index.within index.finds
+
+      pub second_can : IsSound bytes → CanResolveRoots bytes table second uniques_ahead
+      second_can s = roots_can bytes table first heap.front heap.tiles heap.free heap.knows second second index s
+
+      module _ (third : Known) (uniques : AdvancesUniques bytes table second third) where
+        pub third_ready : IsReady bytes table third
+        third_ready = ready_found bytes table second third [] second_ready uniques.within uniques.finds
+
+        pub third_waits : AreWaiting bytes table third.turns
+        third_waits = are_waiting bytes table first heap.front heap.tiles heap.free heap.knows second third index uniques
+
+        pub third_can : IsSound bytes → CanResolveAll bytes table third
+        third_can s = sound_can bytes table first heap.front heap.tiles heap.free heap.knows second third index uniques s
+
+        -- the result of the check of counts
+        pub finds_counts : {A : Type 0} (last : Known) → Owned bytes table third last → (result : Result A ContentFault)
+            → MatchResult result (λ _. AreCountsRight bytes last) (λ f. Refutes f (AreCountsRight bytes last)) → FindsOwners bytes table last result
+        finds_counts last values (Ok x) right = record {
+          counted = counted_last bytes table first heap.front heap.tiles heap.free heap.knows second third index uniques last values;
+          all_owned = all_owned bytes table first heap.front heap.tiles heap.free heap.knows second third index uniques last values right;
+          some_unowned = some_unowned bytes table first heap.front heap.tiles heap.free heap.knows second third index uniques last values right;
+        }
+        finds_counts last values (Err f) refused = refuses_map f (AreCountsRight bytes last) (IsSound bytes)
+            (λ s. (sound_end bytes table first heap.front heap.tiles heap.free heap.knows second third index uniques last values s).right) refused

@@ -1,0 +1,19 @@
+-- Frozen objects: their blocks, how many cells point to them, and what they mean.
+pub mod SharedLaws
+pub mod ReleaseOrderLaws
+pub mod FrozenBlockLaws
+pub mod CountDecreaseLaws
+pub mod ReleaseLaws
+pub mod NoFrozenLaws
+pub mod FrozenFrameLaws
+pub mod PictureCountLaws
+pub mod KeptCountLaws
+pub mod PartCountLaws
+pub mod OneMoreCellLaws
+pub mod CountIncreaseLaws
+pub mod UnfoldedTreeLaws
+pub mod MeaningLaws
+pub mod OneMoreObjectLaws
+pub mod SharedCountLaws
+pub mod CellBoundLaws
+pub mod FreezeLaws

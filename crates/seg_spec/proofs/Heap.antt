@@ -1,0 +1,22 @@
+-- The heap: its tiles and headers, allocated blocks and gaps, and what writes inside blocks keep.
+pub mod TileLaws
+pub mod HeaderLaws
+pub mod LiveBlockLaws
+pub mod HeapFrameLaws
+pub mod BlockWriteLaws
+pub mod GapOrderLaws
+pub mod KeptBlockLaws
+pub mod GapPickLaws
+pub mod FreeOrderLaws
+pub mod OutOfMemoryLaws
+pub mod BlockFrameLaws
+pub mod BlockTagLaws
+pub mod NewBlockLaws
+pub mod GrantLaws
+pub mod SeveralWriteLaws
+pub mod AllocationLaws
+pub mod BlockCountLaws
+pub mod NodeBlockLaws
+pub mod BlockSizeLaws
+pub mod LargeRequestLaws
+pub mod RequestLaws

@@ -1,0 +1,22 @@
+-- Values in places: paths to their parts, their cells, their buffers, and calls on them.
+pub mod PlaceFrameLaws
+pub mod OneValueLaws
+pub mod PathSplitLaws
+pub mod PartPositionLaws
+pub mod PutLaws
+pub mod ValueTypeLaws
+pub mod DefaultLaws
+pub mod CellLaws
+pub mod PartPlaceLaws
+pub mod AroundLaws
+pub mod PathFrameLaws
+pub mod ValueMoveLaws
+pub mod CellChangeLaws
+pub mod CellShiftLaws
+pub mod PlaceWriteLaws
+pub mod CallPlaceLaws
+pub mod BufferLaws
+pub mod BufferMoveLaws
+pub mod BufferGrowthLaws
+pub mod PartClearLaws
+pub mod PathContinuationLaws
