@@ -90,7 +90,9 @@ laws Operation.Const = record {
 laws Operation.Mov = record {
   goes = λ types constants one ks s h a b c number m. mov_goes types constants one ks s h a b c number;
   alike = λ types constants ks a b c number f. alike_bind (copy_needed (known ks b)) (λ k. gives a k ks) (λ k. alike_gives a k ks);
-  bares = λ types constants ks b a c number b_is. bare.binds ks (copy_needed (known ks b)) (copy_needed (known (bare ks) b)) _ _ (λ k e. (ap copy_needed (known_bare ks b ∙ b_is) ∙ e, bare.gives_here a k (subst IsBare (copy_bare (known ks b) k e) b_is)));
+  bares = λ types constants ks b a c number b_is.
+      bare.binds ks (copy_needed (known ks b)) (copy_needed (known (bare ks) b)) _ _ (λ k e. (ap copy_needed (known_bare ks b ∙ b_is)
+      ∙ e, bare.gives_here a k (subst IsBare (copy_bare (known ks b) k e) b_is)));
   kept = λ types constants one ks s h class a b c number room good bad e far. kept.bound s (copied s (register s b)) _ (λ x _. kept.given s success a x);
   spared = λ types constants ks class one s h a b c number good bad e b_is still. tt;
   same = mov_same;
@@ -217,7 +219,8 @@ laws Operation.Make = record {
   goes = λ types constants one ks s h a b c number m good bad room. make_goes types constants one ks s h a b c number good bad room (type_of_name types constants b number m);
   alike = λ types constants ks a b c number f. absurd (subst IsPlain (sym f) tt);
   bares = λ types constants ks b a c number b_is. bare.needs_name b _ _ _ (bare.needs_some c _ _ (bare.opens_here a _ refl));
-  kept = λ types constants one ks s h class a b c number room good bad e far. kept.bound s (slice_get constants (constant_operand number) >>= λ k. constant_name k (register s b)) _ (λ name _. kept.bound s (integer_or (pos 1) c s) _ (λ x _. kept.either s _
+  kept = λ types constants one ks s h class a b c number room good bad e far.
+      kept.bound s (slice_get constants (constant_operand number) >>= λ k. constant_name k (register s b)) _ (λ name _. kept.bound s (integer_or (pos 1) c s) _ (λ x _. kept.either s _
       (object_count x) _ (λ n _. kept.adds s a name (type_operand number) (s.names name) n room refl) (λ _. kept.given s _ a _)));
   spared = λ types constants ks class one s h a b c number good bad e b_is still. tt;
   same = make_same;
@@ -239,7 +242,8 @@ laws Operation.FindOrMake = record {
   goes = λ types constants one ks s h a b c number m good bad room. findor_goes types constants one ks s h a b c number good bad room (type_of_name types constants b number m);
   alike = λ types constants ks a b c number f. absurd (subst IsPlain (sym f) tt);
   bares = λ types constants ks b a c number b_is. bare.needs_name b _ _ _ (bare.opens_here a _ refl);
-  kept = λ types constants one ks s h class a b c number room good bad e far. kept.bound s (slice_get constants (constant_operand number) >>= λ k. constant_name k (register s b)) _ (λ name _. kept.finds s a name (type_operand number) (s.names name) room refl);
+  kept = λ types constants one ks s h class a b c number room good bad e far.
+      kept.bound s (slice_get constants (constant_operand number) >>= λ k. constant_name k (register s b)) _ (λ name _. kept.finds s a name (type_operand number) (s.names name) room refl);
   spared = λ types constants ks class one s h a b c number good bad e b_is still. tt;
   same = find_or_make_same;
   follows = λ constants s a b c number room. follow.bound (slice_get constants (constant_operand number) >>= λ k. constant_name k (register s b)) _ (λ name. follow.finds a name (type_operand number) (s.names name) room);
@@ -248,7 +252,8 @@ laws Operation.Count = record {
   goes = λ types constants one ks s h a b c number m. count_row types constants one ks s h a b c number;
   alike = λ types constants ks a b c number f. absurd (subst IsPlain (sym f) tt);
   bares = λ types constants ks b a c number b_is. bare.needs_name b _ _ _ (bare.opens_here a RegisterType.Int refl);
-  kept = λ types constants one ks s h class a b c number room good bad e far. kept.bound s (slice_get constants (constant_operand number) >>= λ k. constant_name k (register s b)) _ (λ name _. kept.counts s a (type_operand number) (s.names name));
+  kept = λ types constants one ks s h class a b c number room good bad e far.
+      kept.bound s (slice_get constants (constant_operand number) >>= λ k. constant_name k (register s b)) _ (λ name _. kept.counts s a (type_operand number) (s.names name));
   spared = λ types constants ks class one s h a b c number good bad e b_is still. tt;
   same = count_row_same;
   follows = λ constants s a b c number room. follow.bound (slice_get constants (constant_operand number) >>= λ k. constant_name k (register s b)) _ (λ name. follow.counts a (type_operand number) (s.names name));
@@ -300,7 +305,8 @@ laws Operation.KillUnique = record {
   goes = λ types constants one ks s h a b c number m. ukill_goes types constants one ks s h a b c number;
   alike = λ types constants ks a b c number f. alike_gives a RegisterType.Int (ended (Class.Unique (nat_abs number)) ks);
   bares = λ types constants ks b a c number b_is. bare.gives_ended a (Class.Unique (nat_abs number));
-  kept = λ types constants one ks s h class a b c number room good bad e far. kept.by_unique s (nat_abs number) _ _ (kept.answered s _ success a _ (kept.by_unique_gone constants one class s (nat_abs number) far)) (λ _. kept.given s success a _);
+  kept = λ types constants one ks s h class a b c number room good bad e far.
+      kept.by_unique s (nat_abs number) _ _ (kept.answered s _ success a _ (kept.by_unique_gone constants one class s (nat_abs number) far)) (λ _. kept.given s success a _);
   spared = λ types constants ks class one s h a b c number good bad e b_is still.
       let E = Class.Unique (nat_abs number) in
       let g = kept.gives_from types constants ks b class (ended E ks) a RegisterType.Int good bad refl e in
@@ -356,9 +362,12 @@ laws Operation.Put = record {
       (λ _ _. bare.same_needed (required (not (same_class (sharing x.0) (Class.Register c))) Reason.PutIntoItself) _ _
       (λ _ _. subst (λ es. Bares ks (known_after (slice_set (ended (Class.Register c) (others_ended x.0 b ks)) c RegisterType.Undefined)) (known_after (slice_set (ended (Class.Register c) es) c RegisterType.Undefined)))
       (bare_others x.0 b ks) (bare.emptied (Class.Register c) c (others_ended x.0 b ks) (bare.others_from ks b b_is x.0))))));
-  kept = λ types constants one ks s h class a b c number room good bad e far. kept.bound s (path_of s b) _ (λ p at. let f = kept.far_at constants one class types ks s h b _ good bad e far.0 p at in kept.bound s (path_form s p >>= owned_type) _ (λ t _. kept.bound s (owned_by (register s c)) _ (λ new _. kept.bound s
+  kept = λ types constants one ks s h class a b c number room good bad e far.
+      kept.bound s (path_of s b) _ (λ p at. let f = kept.far_at constants one class types ks s h b _ good bad e far.0 p at in kept.bound s (path_form s p >>= owned_type) _
+      (λ t _. kept.bound s (owned_by (register s c)) _ (λ new _. kept.bound s
       (path_value s p >>= content_in) _ (λ o there. let v = bind_some (path_value s p) content_in o there in let later = put_at s p (Full new.0) in
-      kept.shown s _ _ (kept.some s success _ (kept.onward constants one class s later (set_register later c Register.Undefined) (kept.by_put constants one class s p v.0 (Full new.0) f.its v.1 f.within f.far) (kept.by_release constants one class later c Register.Undefined far.1)))))));
+      kept.shown s _ _ (kept.some s success _ (kept.onward constants one class s later (set_register later c Register.Undefined)
+          (kept.by_put constants one class s p v.0 (Full new.0) f.its v.1 f.within f.far) (kept.by_release constants one class later c Register.Undefined far.1)))))));
   spared = λ types constants ks class one s h a b c number good bad e b_is still.
       let end = λ (x : Class × ℕ). slice_set (ended (Class.Register c) (others_ended x.0 b ks)) c RegisterType.Undefined in
       let last = λ (x : Class × ℕ). typed.◌>>=◌ (required (not (same_class (sharing x.0) (Class.Register c))) Reason.PutIntoItself) (λ _. known_after (end x)) in
@@ -385,7 +394,9 @@ laws Operation.Take = record {
   goes = λ types constants one ks s h a b c number m. take_goes types constants one ks s h a b c number;
   alike = λ types constants ks a b c number f. absurd (subst IsPlain (sym f) tt);
   bares = λ types constants ks b a c number b_is. bare.needs_form types b b_is owned_type _ _ (λ x i t. bare.opens_others b b_is a (RegisterType.Owner t) x.0 refl);
-  kept = λ types constants one ks s h class a b c number room good bad e far. kept.bound s (path_of s b) _ (λ p at. let f = kept.far_at constants one class types ks s h b _ good bad e far p at in kept.bound s (path_form s p >>= owned_type) _ (λ t _. kept.bound s (path_value s p >>= content_in) _
+  kept = λ types constants one ks s h class a b c number room good bad e far.
+      kept.bound s (path_of s b) _ (λ p at. let f = kept.far_at constants one class types ks s h b _ good bad e far p at in kept.bound s (path_form s p >>= owned_type) _
+      (λ t _. kept.bound s (path_value s p >>= content_in) _
       (λ o there. let v = bind_some (path_value s p) content_in o there in kept.takes s p v.0 v.1 f.its f.within f.far a t o)));
   spared = λ types constants ks class one s h a b c number good bad e b_is still. kept.opened_far types constants ks b class one s h a owned_type (λ x t. RegisterType.Owner t) good bad b_is (λ x t _. refl) e still;
   same = take_same;
@@ -417,7 +428,8 @@ laws Operation.Forget = record {
   goes = λ types constants one ks s h a b c number m. forget_goes types constants one ks s h a b c number;
   alike = λ types constants ks a b c number f. alike_gives b RegisterType.Undefined ks;
   bares = λ types constants ks b a c number b_is. bare.gives_here b RegisterType.Undefined refl;
-  kept = λ types constants one ks s h class a b c number room good bad e far. kept.either s _ (owned_by (register s b)) _ (λ o _. kept.none s) (λ free. kept.some s success _ (kept.by_register constants one class s b Register.Undefined free));
+  kept = λ types constants one ks s h class a b c number room good bad e far.
+      kept.either s _ (owned_by (register s b)) _ (λ o _. kept.none s) (λ free. kept.some s success _ (kept.by_register constants one class s b Register.Undefined free));
   spared = λ types constants ks class one s h a b c number good bad e b_is still. tt;
   same = forget_same;
   follows = λ constants s a b c number room. follow.either _ (owned_by (register s b)) _ (λ o. follow.none) (follow.some success _ (follow.alike s _ refl refl));
@@ -433,9 +445,13 @@ laws Operation.Load = record {
 }
 laws Operation.Store = record {
   goes = λ types constants one ks s h a b c number m. store_goes types constants ks s h a b c number;
-  alike = λ types constants ks a b c number f. alike_found types is_i64 (λ x y. typed.◌>>=◌ (integer_needed (known ks c)) (λ _. known_after ks)) b ks (λ x y. alike_bind (integer_needed (known ks c)) (λ _. known_after ks) (λ _. alike_known ks));
+  alike = λ types constants ks a b c number f.
+      alike_found types is_i64 (λ x y. typed.◌>>=◌ (integer_needed (known ks c)) (λ _. known_after ks)) b ks (λ x y. alike_bind (integer_needed (known ks c)) (λ _. known_after ks)
+      (λ _. alike_known ks));
   bares = λ types constants ks b a c number b_is. bare.needs_form types b b_is is_i64 _ _ (λ x i y. bare.needs_integer c _ _ bare.known_here);
-  kept = λ types constants one ks s h class a b c number room good bad e far. kept.bound s (path_of s b) _ (λ p _. kept.bound s (path_value s p >>= int_in) _ (λ k there. kept.bound s (integer_at s c) _ (λ x _. kept.some s success _ (kept.put_number constants one class s p k _ there))));
+  kept = λ types constants one ks s h class a b c number room good bad e far.
+      kept.bound s (path_of s b) _ (λ p _. kept.bound s (path_value s p >>= int_in) _ (λ k there. kept.bound s (integer_at s c) _ (λ x _. kept.some s success _
+      (kept.put_number constants one class s p k _ there))));
   spared = λ types constants ks class one s h a b c number good bad e b_is still. tt;
   same = store_same;
   follows = λ constants s a b c number room. follow.bound (path_of s b) _ (λ p. follow.bound (path_value s p >>= int_in) _ (λ k. follow.bound (integer_at s c) _ (λ x. follow.put_some p _)));
@@ -444,7 +460,8 @@ laws Operation.Field = record {
   goes = λ types constants one ks s h a b c number m. field_goes types constants one ks s h a b c number;
   alike = λ types constants ks a b c number f. alike_found types (field_type number) (λ x t. gives a (RegisterType.Reference x.0 t) ks) b ks (λ x t. alike_gives a (RegisterType.Reference x.0 t) ks);
   bares = λ types constants ks b a c number b_is. bare.needs_form types b b_is (field_type number) _ _ (λ x i t. bare.gives_here a (RegisterType.Reference x.0 t) (i t));
-  kept = λ types constants one ks s h class a b c number room good bad e far. kept.bound s (path_of s b) _ (λ p _. kept.bound s (path_value s p >>= fields_in) _ (λ vs _. kept.bound s (index_below (count vs) number) _ (λ i _. kept.given s success a _)));
+  kept = λ types constants one ks s h class a b c number room good bad e far.
+      kept.bound s (path_of s b) _ (λ p _. kept.bound s (path_value s p >>= fields_in) _ (λ vs _. kept.bound s (index_below (count vs) number) _ (λ i _. kept.given s success a _)));
   spared = λ types constants ks class one s h a b c number good bad e b_is still. tt;
   same = field_same;
   follows = λ constants s a b c number room. follow.bound (path_of s b) _ (λ p. follow.bound (path_value s p >>= fields_in) _ (λ vs. follow.bound (index_below (count vs) number) _ (λ i. follow.given success a _)));
@@ -472,19 +489,27 @@ laws Operation.PushBack = record {
   goes = λ types constants one ks s h a b c number m. push_goes types constants one ks s h a b c number;
   alike = λ types constants ks a b c number f. absurd (subst IsPlain (sym f) tt);
   bares = λ types constants ks b a c number b_is. bare.needs_form types b b_is vec_or_list_item _ _ (λ x i t. bare.opens_others b b_is a (RegisterType.Reference x.0 t) x.0 (i t));
-  kept = λ types constants one ks s h class a b c number room good bad e far. kept.bound s (path_of s b) _ (λ p at. let f = kept.far_at constants one class types ks s h b _ good bad e far p at in kept.bound s (path_form s p >>= vec_or_list_item) _ (λ t _. kept.bound s (path_value s p >>= items_in) _
+  kept = λ types constants one ks s h class a b c number room good bad e far.
+      kept.bound s (path_of s b) _ (λ p at. let f = kept.far_at constants one class types ks s h b _ good bad e far p at in kept.bound s (path_form s p >>= vec_or_list_item) _
+      (λ t _. kept.bound s (path_value s p >>= items_in) _
       (λ vs there. let v = bind_some (path_value s p) items_in vs there in kept.roomy s room a _ (kept.given_put s p v.0 v.1 f.its f.within f.far a _ _))));
-  spared = λ types constants ks class one s h a b c number good bad e b_is still. kept.opened_far types constants ks b class one s h a vec_or_list_item (λ x t. RegisterType.Reference x.0 t) good bad b_is (λ x t n. class_bare (known ks b) x t b_is n) e still;
+  spared = λ types constants ks class one s h a b c number good bad e b_is still.
+      kept.opened_far types constants ks b class one s h a vec_or_list_item (λ x t. RegisterType.Reference x.0 t) good bad b_is (λ x t n. class_bare (known ks b) x t b_is n) e still;
   same = push_back_same;
-  follows = λ constants s a b c number room. follow.bound (path_of s b) _ (λ p. follow.bound (path_form s p >>= vec_or_list_item) _ (λ t. follow.bound (path_value s p >>= items_in) _ (λ vs. follow.roomy room a _ (follow.given_put a _ p _))));
+  follows = λ constants s a b c number room.
+      follow.bound (path_of s b) _ (λ p. follow.bound (path_form s p >>= vec_or_list_item) _ (λ t. follow.bound (path_value s p >>= items_in) _ (λ vs. follow.roomy room a _
+      (follow.given_put a _ p _))));
 }
 laws Operation.PushFront = record {
   goes = λ types constants one ks s h a b c number m. pushf_goes types constants one ks s h a b c number;
   alike = λ types constants ks a b c number f. absurd (subst IsPlain (sym f) tt);
   bares = λ types constants ks b a c number b_is. bare.needs_form types b b_is list_item _ _ (λ x i t. bare.opens_others b b_is a (RegisterType.Reference x.0 t) x.0 (i t));
-  kept = λ types constants one ks s h class a b c number room good bad e far. kept.bound s (path_of s b) _ (λ p at. let f = kept.far_at constants one class types ks s h b _ good bad e far p at in kept.bound s (path_form s p >>= list_item) _ (λ t _. kept.bound s (path_value s p >>= items_in) _
+  kept = λ types constants one ks s h class a b c number room good bad e far.
+      kept.bound s (path_of s b) _ (λ p at. let f = kept.far_at constants one class types ks s h b _ good bad e far p at in kept.bound s (path_form s p >>= list_item) _
+      (λ t _. kept.bound s (path_value s p >>= items_in) _
       (λ vs there. let v = bind_some (path_value s p) items_in vs there in kept.roomy s room a _ (kept.given_put s p v.0 v.1 f.its f.within f.far a _ _))));
-  spared = λ types constants ks class one s h a b c number good bad e b_is still. kept.opened_far types constants ks b class one s h a list_item (λ x t. RegisterType.Reference x.0 t) good bad b_is (λ x t n. class_bare (known ks b) x t b_is n) e still;
+  spared = λ types constants ks class one s h a b c number good bad e b_is still.
+      kept.opened_far types constants ks b class one s h a list_item (λ x t. RegisterType.Reference x.0 t) good bad b_is (λ x t n. class_bare (known ks b) x t b_is n) e still;
   same = push_front_same;
   follows = λ constants s a b c number room. follow.bound (path_of s b) _ (λ p. follow.bound (path_form s p >>= list_item) _ (λ t. follow.bound (path_value s p >>= items_in) _ (λ vs. follow.roomy room a _ (follow.given_put a _ p _))));
 }
@@ -492,17 +517,22 @@ laws Operation.PopBack = record {
   goes = λ types constants one ks s h a b c number m. pop_goes types constants one ks s h a b c number;
   alike = λ types constants ks a b c number f. absurd (subst IsPlain (sym f) tt);
   bares = λ types constants ks b a c number b_is. bare.needs_form types b b_is can_pop _ _ (λ x i y. bare.opens_others b b_is a RegisterType.Int x.0 refl);
-  kept = λ types constants one ks s h class a b c number room good bad e far. kept.bound s (path_of s b) _ (λ p at. let f = kept.far_at constants one class types ks s h b _ good bad e far p at in kept.bound s (path_value s p) _ (λ v there. kept.either s _ (text_in v) _
+  kept = λ types constants one ks s h class a b c number room good bad e far.
+      kept.bound s (path_of s b) _ (λ p at. let f = kept.far_at constants one class types ks s h b _ good bad e far p at in kept.bound s (path_value s p) _ (λ v there. kept.either s _ (text_in v) _
       (λ bytes _. kept.bytes_pop s p v there f.its f.within f.far a bytes) (λ _. kept.bound s (items_in v) _ (λ vs _. kept.last_pop s p v there f.its f.within f.far a vs))));
   spared = λ types constants ks class one s h a b c number good bad e b_is still. kept.opened_far types constants ks b class one s h a can_pop (λ x y. RegisterType.Int) good bad b_is (λ x y _. refl) e still;
   same = pop_back_same;
-  follows = λ constants s a b c number room. follow.bound (path_of s b) _ (λ p. follow.bound (path_value s p) _ (λ v. follow.either _ (text_in v) _ (λ bytes. follow.bytes_pop a p bytes) (follow.bound (items_in v) _ (λ vs. follow.last_pop a p vs))));
+  follows = λ constants s a b c number room.
+      follow.bound (path_of s b) _ (λ p. follow.bound (path_value s p) _ (λ v. follow.either _ (text_in v) _ (λ bytes. follow.bytes_pop a p bytes) (follow.bound (items_in v) _
+      (λ vs. follow.last_pop a p vs))));
 }
 laws Operation.PopFront = record {
   goes = λ types constants one ks s h a b c number m. popf_goes types constants one ks s h a b c number;
   alike = λ types constants ks a b c number f. absurd (subst IsPlain (sym f) tt);
   bares = λ types constants ks b a c number b_is. bare.needs_form types b b_is list_item _ _ (λ x i y. bare.opens_others b b_is a RegisterType.Int x.0 refl);
-  kept = λ types constants one ks s h class a b c number room good bad e far. kept.bound s (path_of s b) _ (λ p at. let f = kept.far_at constants one class types ks s h b _ good bad e far p at in kept.bound s (path_form s p >>= list_item) _ (λ t _. kept.bound s (path_value s p >>= items_in) _
+  kept = λ types constants one ks s h class a b c number room good bad e far.
+      kept.bound s (path_of s b) _ (λ p at. let f = kept.far_at constants one class types ks s h b _ good bad e far p at in kept.bound s (path_form s p >>= list_item) _
+      (λ t _. kept.bound s (path_value s p >>= items_in) _
       (λ vs there. let v = bind_some (path_value s p) items_in vs there in kept.first_pop s p v.0 v.1 f.its f.within f.far a vs)));
   spared = λ types constants ks class one s h a b c number good bad e b_is still. kept.opened_far types constants ks b class one s h a list_item (λ x y. RegisterType.Int) good bad b_is (λ x y _. refl) e still;
   same = pop_front_same;
@@ -537,13 +567,17 @@ laws Operation.AddByte = record {
       (λ _. kept.given s _ a _))));
   spared = λ types constants ks class one s h a b c number good bad e b_is still. tt;
   same = add_byte_same;
-  follows = λ constants s a b c number room. follow.bound (path_of s b) _ (λ p. follow.bound (path_value s p >>= text_in) _ (λ old. follow.bound (integer_at s c) _ (λ x. follow.either _ (byte_of x) _ (λ byte. follow.text a p _ room) (follow.given _ a _))));
+  follows = λ constants s a b c number room.
+      follow.bound (path_of s b) _ (λ p. follow.bound (path_value s p >>= text_in) _ (λ old. follow.bound (integer_at s c) _ (λ x. follow.either _ (byte_of x) _
+      (λ byte. follow.text a p _ room) (follow.given _ a _))));
 }
 laws Operation.Shrink = record {
   goes = λ types constants one ks s h a b c number m. shrink_goes types constants one ks s h a b c number;
   alike = λ types constants ks a b c number f. alike_found types can_shrink (λ x y. known_after ks) b ks (λ x y. alike_known ks);
   bares = λ types constants ks b a c number b_is. bare.needs_form types b b_is can_shrink _ _ (λ x i y. bare.known_here);
-  kept = λ types constants one ks s h class a b c number room good bad e far. kept.bound s (path_of s b) _ (λ p _. kept.bound s (path_form s p) _ (λ k _. kept.bound s (path_value s p) _ (λ v _. kept.shown s _ _ (kept.some s success s (kept.still constants one class s)))));
+  kept = λ types constants one ks s h class a b c number room good bad e far.
+      kept.bound s (path_of s b) _ (λ p _. kept.bound s (path_form s p) _ (λ k _. kept.bound s (path_value s p) _ (λ v _. kept.shown s _ _ (kept.some s success s
+      (kept.still constants one class s)))));
   spared = λ types constants ks class one s h a b c number good bad e b_is still. tt;
   same = shrink_same;
   follows = λ constants s a b c number room. follow.bound (path_of s b) _ (λ p. follow.bound (path_form s p) _ (λ k. follow.bound (path_value s p) _ (λ v. follow.shown _ _ (follow.some success s (follow.still s)))));
@@ -556,7 +590,9 @@ laws Operation.GetKey = record {
       (λ p _. kept.bound s (integer_at s c) _ (λ k _. kept.bound s (path_value s p >>= entries_in) _ (λ es _. kept.either s _ (key_place es.0 k) _ (λ i _. kept.given s success a _) (λ _. kept.given s _ a _))));
   spared = λ types constants ks class one s h a b c number good bad e b_is still. tt;
   same = get_key_same;
-  follows = λ constants s a b c number room. follow.bound (path_of s b) _ (λ p. follow.bound (integer_at s c) _ (λ k. follow.bound (path_value s p >>= entries_in) _ (λ es. follow.either _ (key_place es.0 k) _ (λ i. follow.given success a _) (follow.given _ a _))));
+  follows = λ constants s a b c number room.
+      follow.bound (path_of s b) _ (λ p. follow.bound (integer_at s c) _ (λ k. follow.bound (path_value s p >>= entries_in) _ (λ es. follow.either _ (key_place es.0 k) _
+      (λ i. follow.given success a _) (follow.given _ a _))));
 }
 laws Operation.PutKey = record {
   goes = λ types constants one ks s h a b c number m. putk_goes types constants one ks s h a b c number;
@@ -579,14 +615,18 @@ laws Operation.DeleteKey = record {
       alike_found types is_map (λ x y. typed.◌>>=◌ (integer_needed (known ks c)) (λ _. gives a RegisterType.Int (others_ended x.0 b ks))) b ks (λ x y. alike_bind
       (integer_needed (known ks c)) (λ _. gives a RegisterType.Int (others_ended x.0 b ks)) (λ _. alike_gives a RegisterType.Int (others_ended x.0 b ks)));
   bares = λ types constants ks b a c number b_is. bare.needs_form types b b_is is_map _ _ (λ x i y. bare.needs_integer c _ _ (bare.gives_others b b_is a RegisterType.Int x.0 refl));
-  kept = λ types constants one ks s h class a b c number room good bad e far. kept.bound s (path_of s b) _ (λ p at. let f = kept.far_at constants one class types ks s h b _ good bad e far p at in kept.bound s (integer_at s c) _ (λ k _. kept.bound s (path_value s p >>= entries_in) _
+  kept = λ types constants one ks s h class a b c number room good bad e far.
+      kept.bound s (path_of s b) _ (λ p at. let f = kept.far_at constants one class types ks s h b _ good bad e far p at in kept.bound s (integer_at s c) _
+      (λ k _. kept.bound s (path_value s p >>= entries_in) _
       (λ es there. let v = bind_some (path_value s p) entries_in es there in kept.either s _ (key_place es.0 k) _ (λ i _. kept.given_put s p v.0 v.1 f.its f.within f.far a _ _) (λ _. kept.given s success a _))));
   spared = λ types constants ks class one s h a b c number good bad e b_is still.
       kept.opens_far types constants ks b class one s h is_map (λ x y. typed.◌>>=◌ (integer_needed (known ks c)) (λ _. gives a RegisterType.Int (others_ended x.0 b ks))) good bad b_is
       (λ x y n f. let m = bind_ok (integer_needed (known ks c)) (λ _. gives a RegisterType.Int (others_ended x.0 b ks)) (good, bad) f in
       kept.gives_from types constants ks b class (others_ended x.0 b ks) a RegisterType.Int good bad refl m.2) e still;
   same = delete_key_same;
-  follows = λ constants s a b c number room. follow.bound (path_of s b) _ (λ p. follow.bound (integer_at s c) _ (λ k. follow.bound (path_value s p >>= entries_in) _ (λ es. follow.either _ (key_place es.0 k) _ (λ i. follow.given_put a _ p _) (follow.given success a _))));
+  follows = λ constants s a b c number room.
+      follow.bound (path_of s b) _ (λ p. follow.bound (integer_at s c) _ (λ k. follow.bound (path_value s p >>= entries_in) _ (λ es. follow.either _ (key_place es.0 k) _
+      (λ i. follow.given_put a _ p _) (follow.given success a _))));
 }
 laws Operation.FirstKey = record {
   goes = λ types constants one ks s h a b c number m. firstk_goes types constants one ks s h a b c number;

@@ -272,7 +272,8 @@ module _ (allocator : ℕ) (mid : List ℕ) (table : Table) (list : Place) (U no
           (rotated mid (target mid list.at) xs node (subst (IsRing mid (target mid list.at)) l_is l.ring.ring)));
       counted = let a : length l.nodes ≡ length (xs ++ node ∷ []) = ap length l_is in let b = length-append xs (node ∷ []) in let c = l.ring.counted in let d = still_counted in omega arith;
     };
-    are_nodes = turn (λ q. IsBlock new q (tag_of Kind.node list.type) (8 + size table U)) (Rattle.seg_spec.proofs.Values.PlaceFrameLaws.nodes-kept mid new (tag_of Kind.node list.type) (8 + size table U) (xs ++ node ∷ []) nodes_kept_too are_nodes);
+    are_nodes = turn (λ q. IsBlock new q (tag_of Kind.node list.type) (8 + size table U))
+        (Rattle.seg_spec.proofs.Values.PlaceFrameLaws.nodes-kept mid new (tag_of Kind.node list.type) (8 + size table U) (xs ++ node ∷ []) nodes_kept_too are_nodes);
     each = turned_values;
     blocks_are = refl;
   }

@@ -263,7 +263,8 @@ module _ {constants : List Constant} {one : OneEach constants} {class : Class} w
   bound s None f h = none s
   bound s (Some x) f h = h x refl
 
-  pub either : {A : Type 0} (s : State) (f : A → Outcome) (o : Option A) (d : Outcome) → ((x : A) → o ≡ Some x → Keeps constants one class s (f x)) → (o ≡ None → Keeps constants one class s d) → Keeps constants one class s (option_map_or f o d)
+  pub either : {A : Type 0} (s : State) (f : A → Outcome) (o : Option A) (d : Outcome) → ((x : A) → o ≡ Some x → Keeps constants one class s (f x)) → (o ≡ None
+      → Keeps constants one class s d) → Keeps constants one class s (option_map_or f o d)
   either s f None d h g = g refl
   either s f (Some x) d h g = h x refl
 
