@@ -91,8 +91,11 @@ laws Operation.Mov = record {
   goes = λ types constants one ks s h a b c number m. mov_goes types constants one ks s h a b c number;
   alike = λ types constants ks a b c number f. alike_bind (copy_needed (known ks b)) (λ k. gives a k ks) (λ k. alike_gives a k ks);
   bares = λ types constants ks b a c number b_is.
-      bare.binds ks (copy_needed (known ks b)) (copy_needed (known (bare ks) b)) _ _ (λ k e. (ap copy_needed (known_bare ks b ∙ b_is)
-      ∙ e, bare.gives_here a k (subst IsBare (copy_bare (known ks b) k e) b_is)));
+      bare.binds ks (copy_needed (known ks b)) (copy_needed (known (bare ks) b)) _ _ (λ k e. (
+        ap copy_needed (known_bare ks b ∙ b_is)
+            ∙ e,
+        bare.gives_here a k (subst IsBare (copy_bare (known ks b) k e) b_is),
+      ));
   kept = λ types constants one ks s h class a b c number room good bad e far. kept.bound s (copied s (register s b)) _ (λ x _. kept.given s success a x);
   spared = λ types constants ks class one s h a b c number good bad e b_is still. tt;
   same = mov_same;
@@ -367,7 +370,7 @@ laws Operation.Put = record {
       (λ t _. kept.bound s (owned_by (register s c)) _ (λ new _. kept.bound s
       (path_value s p >>= content_in) _ (λ o there. let v = bind_some (path_value s p) content_in o there in let later = put_at s p (Full new.0) in
       kept.shown s _ _ (kept.some s success _ (kept.onward constants one class s later (set_register later c Register.Undefined)
-          (kept.by_put constants one class s p v.0 (Full new.0) f.its v.1 f.within f.far) (kept.by_release constants one class later c Register.Undefined far.1)))))));
+      (kept.by_put constants one class s p v.0 (Full new.0) f.its v.1 f.within f.far) (kept.by_release constants one class later c Register.Undefined far.1)))))));
   spared = λ types constants ks class one s h a b c number good bad e b_is still.
       let end = λ (x : Class × ℕ). slice_set (ended (Class.Register c) (others_ended x.0 b ks)) c RegisterType.Undefined in
       let last = λ (x : Class × ℕ). typed.◌>>=◌ (required (not (same_class (sharing x.0) (Class.Register c))) Reason.PutIntoItself) (λ _. known_after (end x)) in
