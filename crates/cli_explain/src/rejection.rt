@@ -7,7 +7,7 @@ use crate::replay::{Change, OpenPart, Replay};
 use crate::text::line;
 use client_code::{Client, Ends, Gives, Instruction, REGISTERS, Role};
 use client_text::print;
-use client_verify::{Class, MOST_STEPS, Reason, RegisterType, Registers};
+use client_verify::{Class, MOST_STEPS, PackedRegister, Reason, RegisterType, Registers};
 use std::alloc::{AllocError, Global};
 use std::fmt::Write;
 
@@ -247,7 +247,10 @@ or if it was defined before the loop",
         before: RegisterType,
     ) -> Result<(), AllocError> {
         let after = self.registers().get(register);
-        if before.keeps(after).is_ok() {
+        if PackedRegister::pack(before)
+            .keeps(PackedRegister::pack(after))
+            .is_ok()
+        {
             return Ok(());
         }
         let (past, present) = (self.names.past(before), self.names.present(after));
@@ -278,7 +281,8 @@ or if it was defined before the loop",
         success: RegisterType,
     ) -> Result<(), AllocError> {
         let otherwise = self.registers().get(register);
-        if success.joined(otherwise).is_ok() {
+        let (_, is_lost) = PackedRegister::pack(success).joined(PackedRegister::pack(otherwise));
+        if !is_lost {
             return Ok(());
         }
         let (first, second) = (self.names.present(success), self.names.present(otherwise));
