@@ -14,7 +14,7 @@ import os
 import tempfile
 from functools import partial
 
-from clients import compiled_peer, made, own_count, own_time, row
+from clients import COUNTED, compiled_peer, made, own_count, own_time, row
 from operations import HERE, MEMORY, least, run
 
 # the works of calls.c, the client, if the call takes one, and the peers' works for comparison
@@ -33,8 +33,8 @@ WORKS = [
     ("run", "increment", ("sqlite-run",)),
 ]
 
-# how often a work is repeated, to count instructions and to measure times
-COUNTED, TIMED = 500, 5000
+# how often a work is repeated to measure its time
+TIMED = 5000
 
 
 def compiled(library, program):
