@@ -14,7 +14,7 @@ import os
 import tempfile
 from functools import partial
 
-from operations import HERE, instructions, least, run, seconds
+from operations import HERE, MEMORY, instructions, least, run, seconds
 
 # the texts of the clients
 CLIENTS = {
@@ -57,12 +57,25 @@ def counted(command):
     return (instructions(command(COUNTED, 2)) - instructions(command(COUNTED, 1))) / COUNTED
 
 
-def peer_count(peer, work):
-    return instructions([peer, work, str(COUNTED), "1"], ["--instr-atstart=no"]) / COUNTED
+def compiled_peer(folder):
+    """The program of clients.c."""
+    peer = f"{folder}/peer"
+    run("cc", "-O2", "-I/usr/include/lua5.4", f"{HERE}/clients.c", "-o", peer, "-lsqlite3", "-llua5.4")
+    return peer
+
+
+def own_count(command, times):
+    """The number of instructions of one repetition, by a C program, which counts only its repetitions."""
+    return instructions(command(times), ["--instr-atstart=no"]) / times
+
+
+def own_time(command, times):
+    """The nanoseconds of one repetition, as a C program prints them."""
+    return float(run(*command(times)).stdout.split()[-1])
 
 
 def row(work, who, count, time):
-    print(f"{work:20}{who:24}{count:12.0f}{time:12.1f}", flush=True)
+    print(f"{work:34}{who:24}{count:12.0f}{time:12.1f}", flush=True)
 
 
 def main():
@@ -72,25 +85,25 @@ def main():
     parser.add_argument("--time", type=int, default=7, metavar="ROUNDS")
     parser.add_argument("--no-count", action="store_true")
     words = parser.parse_args()
-    with tempfile.TemporaryDirectory(dir="/dev/shm" if os.path.isdir("/dev/shm") else None) as folder:
-        peer = f"{folder}/peer"
-        run("cc", "-O2", "-I/usr/include/lua5.4", f"{HERE}/clients.c", "-o", peer, "-lsqlite3", "-llua5.4")
+    with tempfile.TemporaryDirectory(dir=MEMORY) as folder:
+        peer = compiled_peer(folder)
         image, files = made(os.path.abspath(words.segtool), folder)
-        print(f"{'work':20}{'by':24}{'instr.':>12}{'ns':>12}")
+        print(f"{'work':34}{'by':24}{'instr.':>12}{'ns':>12}")
         for work, client, peers in WORKS:
             commands = [
                 lambda times, passes, it=it: [os.path.abspath(it), work, str(times), str(passes), image, files[client]]
                 for it in words.calls
             ]
             timers = [partial(seconds, command(TIMED, passes)) for command in commands for passes in (2, 1)]
-            timers += [partial(lambda it: float(run(peer, it, str(TIMED), "1").stdout.split()[1]), it) for it in peers]
+            others = [lambda times, it=it: [peer, it, str(times)] for it in peers]
+            timers += [partial(own_time, command, TIMED) for command in others]
             found = least(timers, words.time)
             ends = 2 * len(commands)
             ours = [(whole - base) / TIMED * 1e9 for whole, base in zip(found[:ends:2], found[1:ends:2])]
             for command, it, time in zip(commands, words.calls, ours):
                 row(f"{work} {client}", it[-22:], 0 if words.no_count else counted(command), time)
-            for it, time in zip(peers, found[ends:]):
-                row(f"{work} {client}", it, 0 if words.no_count else peer_count(peer, it), time)
+            for command, it, time in zip(others, peers, found[ends:]):
+                row(f"{work} {client}", it, 0 if words.no_count else own_count(command, COUNTED), time)
 
 
 if __name__ == "__main__":

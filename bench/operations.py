@@ -24,6 +24,9 @@ from functools import partial
 
 HERE = os.path.dirname(os.path.abspath(__file__))
 
+# a folder in memory, if the system has one, so that no disk takes time
+MEMORY = "/dev/shm" if os.path.isdir("/dev/shm") else None
+
 # callgrind counts one instruction per byte for rep stosb and rep movsb, which glibc uses for large clears and copies
 TUNABLES = "glibc.cpu.x86_rep_stosb_threshold=1000000000:glibc.cpu.x86_rep_movsb_threshold=1000000000"
 
@@ -232,8 +235,7 @@ def main():
     parser.add_argument("--no-count", action="store_true")
     words = parser.parse_args()
     only, configs = words.only.split(","), words.configs.split(",")
-    # in memory if the system has such a folder, so that no disk takes time
-    with tempfile.TemporaryDirectory(dir="/dev/shm" if os.path.isdir("/dev/shm") else None) as folder:
+    with tempfile.TemporaryDirectory(dir=MEMORY) as folder:
         peer = f"{folder}/peer"
         benches = [Bench(os.path.abspath(it), f"{folder}/{i}") for i, it in enumerate(words.segtool)]
         run("g++", "-O2", "-std=c++17", f"{HERE}/peer.cpp", "-o", peer, "-lpthread", "-lrt")

@@ -1,0 +1,68 @@
+#!/usr/bin/env python3
+"""Compares the calls of the library for C with what a host would use instead: statements of SQLite, and functions of Lua.
+
+    calls.py SEGTOOL LIBRARY.. [--time ROUNDS] [--no-count]
+
+LIBRARY is crates/lezgauri_c/out/liblezgauri.a, which build.py makes (lezgauri_c). Several of them, for example from before
+and after a change, run in turn, and each has its own rows. calls.c calls the library with an image of 4096 bytes, and clients.c
+uses a database of 4096 bytes. Callgrind counts the instructions of the calls alone, and a time is the shortest of ROUNDS rounds
+of processor time.
+
+Needs valgrind, cc, libsqlite3-dev and liblua5.4-dev."""
+import argparse
+import os
+import tempfile
+from functools import partial
+
+from clients import COUNTED, compiled_peer, made, own_count, own_time, row
+from operations import HERE, MEMORY, least, run
+
+# the works of calls.c, the client, if the call takes one, and the peers' works for comparison
+WORKS = [
+    ("check", None, ("sqlite-check",)),
+    ("open, close", None, ("sqlite-open",)),
+    ("save", None, ("sqlite-save",)),
+    ("verify", "increment", ("sqlite-prepare", "lua-load")),
+    ("prepare, client_close", "empty", ()),
+    ("prepare, client_close", "increment", ("sqlite-prepare", "lua-load")),
+    ("run_client", "empty", ("lua-empty",)),
+    ("run_client", "increment", ("sqlite-step", "lua-call")),
+    ("run_on", "empty", ()),
+    ("run_on", "increment", ("sqlite-select", "lua-do")),
+    ("run_whole", "increment", ("sqlite-update",)),
+    ("run", "increment", ("sqlite-run",)),
+]
+
+# how often a work is repeated to measure its time
+TIMED = 5000
+
+
+def compiled(library, program):
+    """The program of calls.c with this library."""
+    run("cc", "-O2", f"-I{HERE}/../crates/lezgauri_c/include", f"{HERE}/calls.c", "-o", program, library)
+    return program
+
+
+def main():
+    parser = argparse.ArgumentParser(description=__doc__, formatter_class=argparse.RawDescriptionHelpFormatter)
+    parser.add_argument("segtool")
+    parser.add_argument("library", nargs="+")
+    parser.add_argument("--time", type=int, default=7, metavar="ROUNDS")
+    parser.add_argument("--no-count", action="store_true")
+    words = parser.parse_args()
+    with tempfile.TemporaryDirectory(dir=MEMORY) as folder:
+        peer = compiled_peer(folder)
+        programs = [compiled(library, f"{folder}/calls{i}") for i, library in enumerate(words.library)]
+        image, files = made(os.path.abspath(words.segtool), folder)
+        print(f"{'call':34}{'by':24}{'instr.':>12}{'ns':>12}")
+        for work, client, peers in WORKS:
+            commands = [lambda n, it=it: [it, work, str(n), image, files[client or "empty"]] for it in programs]
+            commands += [lambda n, it=it: [peer, it, str(n)] for it in peers]
+            times = least([partial(own_time, command, TIMED) for command in commands], words.time)
+            for command, by, time in zip(commands, [*words.library, *peers], times):
+                name = f"{work} ({client})" if client else work
+                row(name, by[-22:], 0 if words.no_count else own_count(command, COUNTED), time)
+
+
+if __name__ == "__main__":
+    main()
