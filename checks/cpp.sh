@@ -1,0 +1,51 @@
+#!/usr/bin/env bash
+# Tests lezgauri.hpp. Builds checks/cpp.cpp with each installed compiler, for C++17, 20 and 23, without a warning, and runs it. Runs it
+# also under valgrind, with the address and undefined behaviour sanitizers, and without exceptions. Builds the example, runs it twice on
+# one file, with and without valgrind, and compares what it prints. Needs C and C++ compilers with sanitizers, make, and valgrind.
+#
+#   cpp.sh [LIBRARY]    another library than crates/lezgauri_c/out/liblezgauri.a
+set -eu
+here=$(cd "$(dirname "$0")" && pwd)
+root=$(dirname "$here")
+include=$root/crates/lezgauri_c/include
+library=$(realpath "${1:-$root/crates/lezgauri_c/out/liblezgauri.a}")
+work=$(mktemp -d)
+trap 'rm -rf "$work"' EXIT
+
+strict=(-Wall -Wextra -Wpedantic -Wconversion -Wshadow -Werror -g -I"$include" -pthread)
+wrapped=(-Wl,--wrap=malloc,--wrap=realloc)
+sanitized=(-fsanitize=address,undefined -fno-sanitize-recover=all)
+under=(valgrind --quiet --leak-check=full --errors-for-leak-kinds=all --error-exitcode=9)
+client=$root/examples/increment.client
+install -m 644 "$root/examples/counter.image" "$work/image"
+arguments=("$root/examples/counter.image" "$client" "$work/image")
+
+compilers=("${CXX:-c++}")
+for other in g++ clang++; do
+  if command -v "$other" > "$work/found" && [ "$other" != "${CXX-}" ]; then
+    compilers+=("$other")
+  fi
+done
+for compiler in "${compilers[@]}"; do
+  for standard in c++17 c++20 c++2b; do
+    "$compiler" -std=$standard "${strict[@]}" "${wrapped[@]}" -o "$work/cpp" "$here/cpp.cpp" "$library"
+    "$work/cpp" "${arguments[@]}" > "$work/out" || { cat "$work/out"; exit 1; }
+    echo "$compiler -std=$standard: $(cat "$work/out")"
+  done
+  "${under[@]}" "$work/cpp" "${arguments[@]}"
+done
+
+# lezgauri.c is compiled again here, since the library has it without the sanitizers
+${CC:-cc} -std=c11 -O1 -g "${sanitized[@]}" -I"$include" -c "$include/lezgauri.c" -o "$work/lezgauri.o"
+"${compilers[0]}" -std=c++17 -O1 "${strict[@]}" "${wrapped[@]}" "${sanitized[@]}" -o "$work/cpp" "$here/cpp.cpp" "$work/lezgauri.o" "$library"
+"$work/cpp" "${arguments[@]}"
+"${compilers[0]}" -std=c++17 -fno-exceptions "${strict[@]}" "${wrapped[@]}" -o "$work/cpp" "$here/cpp.cpp" "$library"
+"$work/cpp" "${arguments[@]}"
+
+make -s -C "$root/examples/cpp" OUT="$work" ARCHIVE="$library" all
+install -m 644 "$root/examples/counter.image" "$work/image"
+printf '6 steps: %s\n' 42 43 44 45 46 47 > "$work/wanted"
+"$work/counter" "$work/image" "$client" > "$work/out"
+"${under[@]}" "$work/counter" "$work/image" "$client" >> "$work/out"
+diff "$work/wanted" "$work/out"
+echo "the header for C++ works with ${compilers[*]}, by itself, under valgrind and with sanitizers"
