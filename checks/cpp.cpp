@@ -160,7 +160,9 @@ static Error why(lz::throwing, Got call)
     try {
         static_cast<void>(call());
     } catch (const lz::error &refused) {
-        expect("what of an error", refused.what() == words(refused.why()));
+        if (refused.what() != words(refused.why())) {
+            expect("what of an error", false);
+        }
         if constexpr (std::is_same_v<Error, lz::fault>) {
             return refused.why();
         }
@@ -246,7 +248,8 @@ static void views()
     static_assert(!std::is_copy_constructible_v<lz::client> && !std::is_copy_assignable_v<lz::client>);
     static_assert(!std::is_copy_constructible_v<lz::mapped_file> && std::is_nothrow_move_constructible_v<lz::mapped_file>);
     static_assert(std::is_constructible_v<lz::const_bytes, const Bytes &> && std::is_constructible_v<lz::const_bytes, std::string_view>);
-    static_assert(std::is_constructible_v<lz::const_bytes, lz::mutable_bytes> && !std::is_constructible_v<lz::mutable_bytes, lz::const_bytes>);
+    static_assert(std::is_constructible_v<lz::const_bytes, lz::mutable_bytes>);
+    static_assert(!std::is_constructible_v<lz::mutable_bytes, lz::const_bytes>);
     static_assert(!std::is_constructible_v<lz::const_bytes, const char (&)[4]>, "a literal has a byte too many");
     static_assert(!std::is_constructible_v<lz::const_bytes, const char *> && !std::is_constructible_v<lz::const_bytes, std::vector<int>>);
     static_assert(!std::is_constructible_v<lz::mutable_bytes, const Bytes &>, "it can't be written");

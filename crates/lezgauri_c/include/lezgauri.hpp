@@ -528,9 +528,15 @@ inline fault fault_of(std::uint32_t number) noexcept
     return fault{status(number), {}, 0, reason::none};
 }
 
-inline bool has_run(std::uint32_t number) noexcept
+// Returns what a run did, or why there was none.
+template <class Policy, class Ran>
+result_of<Policy, Ran> after_run(std::uint32_t number, const lezgauri_fault &told, Ran did) noexcept(Policy::is_noexcept)
 {
-    return number == LEZGAURI_OK || number == LEZGAURI_OUTPUT_FULL;
+    if (number != LEZGAURI_OK && number != LEZGAURI_OUTPUT_FULL) {
+        return Policy::template refuse<Ran>(fault_of(number, told));
+    }
+    did.is_full = number == LEZGAURI_OUTPUT_FULL;
+    return did;
 }
 
 struct close_segment {
@@ -577,11 +583,7 @@ public:
         lezgauri_fault told;
         const std::uint32_t number = lezgauri_run_client(segment.get(), get(), input.data(), input.size(), output.data(), output.size(),
                                                          &did.written, &did.report, &told);
-        if (!detail::has_run(number)) {
-            return Policy::template refuse<ran>(detail::fault_of(number, told));
-        }
-        did.is_full = number == LEZGAURI_OUTPUT_FULL;
-        return did;
+        return detail::after_run<Policy>(number, told, did);
     }
 
 private:
@@ -626,11 +628,7 @@ public:
         lezgauri_fault told;
         const std::uint32_t number = lezgauri_run_on(get(), client.data(), client.size(), input.data(), input.size(), output.data(),
                                                      output.size(), &did.written, &did.report, &told);
-        if (!detail::has_run(number)) {
-            return Policy::template refuse<ran>(detail::fault_of(number, told));
-        }
-        did.is_full = number == LEZGAURI_OUTPUT_FULL;
-        return did;
+        return detail::after_run<Policy>(number, told, did);
     }
 
     // lezgauri_run_whole: verifies a client and runs it on a copy, all or nothing.
@@ -641,11 +639,7 @@ public:
         lezgauri_fault told;
         const std::uint32_t number = lezgauri_run_whole(get(), client.data(), client.size(), input.data(), input.size(), output.data(),
                                                         output.size(), &did.needed, &did.report, &told);
-        if (!detail::has_run(number)) {
-            return Policy::template refuse<ran_whole>(detail::fault_of(number, told));
-        }
-        did.is_full = number == LEZGAURI_OUTPUT_FULL;
-        return did;
+        return detail::after_run<Policy>(number, told, did);
     }
 
     // The length of the segment's image, which stays the same while the segment is open.
@@ -659,7 +653,8 @@ public:
         return needed;
     }
 
-    // lezgauri_save: copies the image to the start of the buffer, and returns its length. Refused with `too_small` if the buffer is shorter.
+    // lezgauri_save: copies the image to the start of a buffer, and returns its length. Refused with `too_small` if the buffer is
+    // shorter.
     detail::result_of<Policy, std::size_t> save(mutable_bytes buffer) const noexcept(Policy::is_noexcept)
     {
         std::size_t needed = 0;
@@ -721,11 +716,7 @@ template <class Policy = default_policy>
     const std::uint32_t number =
         lezgauri_run(image.data(), image.size(), clients.data(), clients.size(), input.data(), input.size(), output.data(),
                      output.size(), &did.written, saved.data(), reports.size() > 0 ? reports.data() : nullptr, &told);
-    if (!detail::has_run(number)) {
-        return Policy::template refuse<ran_all>(detail::fault_of(number, told));
-    }
-    did.is_full = number == LEZGAURI_OUTPUT_FULL;
-    return did;
+    return detail::after_run<Policy>(number, told, did);
 }
 
 // lezgauri_open: copies an image, checks the copy and opens it.
@@ -845,16 +836,18 @@ inline std::error_code last_error() noexcept
 // Owns a shared mapping of a whole file: what is written to `room` is written to the file. It is empty if it was made without a file,
 // moved from or closed.
 //
-// No other process may write the file while a call reads it, except `open`, which checks its copy. If another process makes the file
-// shorter, using the bytes that are gone ends this process with SIGBUS. A machine that stops during `save` or `sync` can leave a file that is
-// half written: to be safe from that, save to a new file and rename it.
+// An open segment is a copy, so runs don't change the file that it was opened from; `save` does. While a call reads the file no other
+// process may write it, except during `open`, which checks its copy. If another process makes the file shorter, a call that uses the bytes
+// that are gone ends this process with SIGBUS. If the machine stops during `save` or `sync`, the file may be half written: to be safe from
+// that, save to a new file and rename it.
 template <class Policy>
 class basic_mapped_file {
 public:
     basic_mapped_file() noexcept = default;
 
     // Takes a mapping of `len` bytes from mmap.
-    basic_mapped_file(void *at, std::size_t len, file_access how) noexcept : at_(static_cast<std::byte *>(at), detail::unmap{len}), access_(how)
+    basic_mapped_file(void *at, std::size_t len, file_access how) noexcept
+        : at_(static_cast<std::byte *>(at), detail::unmap{len}), access_(how)
     {
     }
 
