@@ -12,7 +12,8 @@ library=$(realpath "${1:-$root/crates/lezgauri_c/out/liblezgauri.a}")
 work=$(mktemp -d)
 trap 'rm -rf "$work"' EXIT
 
-strict=(-Wall -Wextra -Wpedantic -Wconversion -Wshadow -Werror -g -I"$include" -pthread)
+# debug info that valgrind reads, also from clang++
+strict=(-Wall -Wextra -Wpedantic -Wconversion -Wshadow -Werror -gdwarf-4 -I"$include" -pthread)
 wrapped=(-Wl,--wrap=malloc,--wrap=realloc)
 sanitized=(-fsanitize=address,undefined -fno-sanitize-recover=all)
 under=(valgrind --quiet --leak-check=full --errors-for-leak-kinds=all --error-exitcode=9)
@@ -32,7 +33,9 @@ for compiler in "${compilers[@]}"; do
     "$work/cpp" "${arguments[@]}" > "$work/out" || { cat "$work/out"; exit 1; }
     echo "$compiler -std=$standard: $(cat "$work/out")"
   done
-  "${under[@]}" "$work/cpp" "${arguments[@]}"
+  if [ "$compiler" = "${compilers[0]}" ]; then
+    "${under[@]}" "$work/cpp" "${arguments[@]}"
+  fi
 done
 
 # lezgauri.c is compiled again here, since the library has it without the sanitizers
