@@ -1,7 +1,7 @@
 #!/usr/bin/env bash
 # Tests the library for C. Builds the examples for C and C++ and checks/calls.c, runs each with and without valgrind, and compares
-# what the examples print. Also runs checks/calls.c with the address and undefined behaviour sanitizers, checks/stack.c, and an
-# example with each request for memory refused. Needs a C and a C++ compiler with sanitizers, make, valgrind, the library that
+# what the examples print. Also runs checks/calls.c with the address and undefined behaviour sanitizers, checks/stack.c, an example
+# with each request for memory refused, and checks/cpp.sh. Needs a C and a C++ compiler with sanitizers, make, valgrind, the library that
 # `rt lib` builds in crates/lezgauri_c/out, and the program that `rt run` builds in crates/segtool/out, or another given program.
 set -eu
 here=$(cd "$(dirname "$0")" && pwd)
@@ -79,5 +79,6 @@ for n in $(seq 1 "$all"); do
   fi
 done
 [ "$faults" -gt 0 ]
+"$here/cpp.sh" "$library/out/liblezgauri.a"
 echo "of $all requests for memory, $faults are told as fault 1 where they are refused"
 echo "the examples for C and C++ print what they should, by themselves and under valgrind"

@@ -1,0 +1,917 @@
+// Lezgauri for C++17 and later, in one header over lezgauri.h. That header specifies each call: what it tests, what the caller
+// promises, and how much stack it touches. This one adds owners of handles, views of memory, names of statuses, and errors.
+//
+// Refused calls. A call is refused if its status is neither `ok` nor `output_full`. In namespace `lezgauri` a refused call throws
+// `error`. In namespace `lezgauri::results` the same calls are noexcept and return an `expected`: std::expected if the compiler has
+// it, and `result` otherwise. Both are the same templates, with the policy `throwing` or `returning`. With -fno-exceptions only the
+// second exists. `output_full` isn't a refusal: the caller reads `is_full` in what the call returns.
+//
+// Memory. `const_bytes`, `mutable_bytes` and `items` refer to the caller's memory and own nothing. No function here copies an image,
+// a client, an input or an output, or allocates memory; the calls of lezgauri.h copy and allocate what their comments say. Where a call
+// of lezgauri.h takes the length of its room for granted (the saved image and the reports of `run`), `run` checks it.
+//
+// Threads. Different segments and clients are independent. One call at a time uses a segment, and one runs a client: another is
+// refused with `busy` at once, and has done nothing. This includes the const functions `prepare` and `save`. Threads that run one
+// client on different segments at the same time prepare it once each. Moving, assigning, closing and destroying a segment or a client
+// isn't tested: do it when no other thread uses the object.
+#ifndef LEZGAURI_HPP
+#define LEZGAURI_HPP
+
+#include "lezgauri.h"
+
+#include <cstddef>
+#include <cstdint>
+#include <cstdio>
+#include <cstdlib>
+#include <exception>
+#include <iterator>
+#include <memory>
+#include <optional>
+#include <string_view>
+#include <system_error>
+#include <type_traits>
+#include <utility>
+#include <variant>
+
+#if __has_include(<version>)
+#include <version>
+#endif
+#ifdef __cpp_lib_expected
+#include <expected>
+#endif
+#ifdef __cpp_lib_span
+#include <span>
+#endif
+
+namespace lezgauri {
+
+// ---- statuses, reasons and faults
+
+// What a call returns. lezgauri.h describes each number, and docs/FORMATS.md the faults, which are below 100.
+enum class status : std::uint32_t {
+    ok = LEZGAURI_OK,
+    memory = LEZGAURI_MEMORY,
+    misplaced = LEZGAURI_MISPLACED,
+    bad_type = LEZGAURI_BAD_TYPE,
+    type_mismatch = LEZGAURI_TYPE_MISMATCH,
+    bad_header = LEZGAURI_BAD_HEADER,
+    bad_block = LEZGAURI_BAD_BLOCK,
+    bad_free = LEZGAURI_BAD_FREE,
+    bad_index = LEZGAURI_BAD_INDEX,
+    bad_pointer = LEZGAURI_BAD_POINTER,
+    double_owner = LEZGAURI_DOUBLE_OWNER,
+    unowned = LEZGAURI_UNOWNED,
+    bad_value = LEZGAURI_BAD_VALUE,
+    bad_code = LEZGAURI_BAD_CODE,
+    rejected = LEZGAURI_REJECTED,
+    too_long = LEZGAURI_TOO_LONG,
+    bad_argument = LEZGAURI_BAD_ARGUMENT,
+    output_full = LEZGAURI_OUTPUT_FULL,
+    too_small = LEZGAURI_TOO_SMALL,
+    busy = LEZGAURI_BUSY
+};
+
+// Why the verifier rejects an instruction: the reason of `rejected`. docs/FORMATS.md has the rules.
+enum class reason : std::uint32_t {
+    none = 0,            // the fault has no reason
+    wrong_operand = 1,   // register b or c doesn't contain what the instruction needs, or there is no such field
+    owner_lost = 2,      // an object that a register owns would be lost
+    put_into_itself = 3, // an object would be put into itself
+    changed_in_loop = 4  // a register has another state at the end of a loop's body than before the loop
+};
+
+// The name of a status. Faults have their names of docs/FORMATS.md. Empty if there is no such status.
+constexpr std::string_view name(status of) noexcept
+{
+    switch (of) {
+    case status::ok: return "Ok";
+    case status::memory: return "Memory";
+    case status::misplaced: return "Misplaced";
+    case status::bad_type: return "BadType";
+    case status::type_mismatch: return "TypeMismatch";
+    case status::bad_header: return "BadHeader";
+    case status::bad_block: return "BadBlock";
+    case status::bad_free: return "BadFree";
+    case status::bad_index: return "BadIndex";
+    case status::bad_pointer: return "BadPointer";
+    case status::double_owner: return "DoubleOwner";
+    case status::unowned: return "Unowned";
+    case status::bad_value: return "BadValue";
+    case status::bad_code: return "BadCode";
+    case status::rejected: return "Rejected";
+    case status::too_long: return "TooLong";
+    case status::bad_argument: return "BadArgument";
+    case status::output_full: return "OutputFull";
+    case status::too_small: return "TooSmall";
+    case status::busy: return "Busy";
+    }
+    return {};
+}
+
+// The name of a reason. Empty if there is no such reason.
+constexpr std::string_view name(reason of) noexcept
+{
+    switch (of) {
+    case reason::none: return "None";
+    case reason::wrong_operand: return "WrongOperand";
+    case reason::owner_lost: return "OwnerLost";
+    case reason::put_into_itself: return "PutIntoItself";
+    case reason::changed_in_loop: return "ChangedInLoop";
+    }
+    return {};
+}
+
+// Whether the position in a fault with this number means something. lezgauri.h describes what, beside the number.
+constexpr bool has_position(status of) noexcept
+{
+    switch (of) {
+    case status::bad_type:
+    case status::type_mismatch:
+    case status::bad_block:
+    case status::bad_free:
+    case status::bad_index:
+    case status::bad_pointer:
+    case status::double_owner:
+    case status::unowned:
+    case status::bad_value:
+    case status::bad_code:
+    case status::rejected: return true;
+    default: return false;
+    }
+}
+
+// Why a call was refused.
+struct fault {
+    status number = status::ok;
+    std::optional<std::uint64_t> client; // the client that has the fault, from 0; none if it isn't a client's
+    std::uint32_t position = 0;          // 0 if the number has no position
+    lezgauri::reason reason = lezgauri::reason::none;
+};
+
+constexpr bool operator==(const fault &a, const fault &b) noexcept
+{
+    return a.number == b.number && a.client == b.client && a.position == b.position && a.reason == b.reason;
+}
+
+constexpr bool operator!=(const fault &a, const fault &b) noexcept
+{
+    return !(a == b);
+}
+
+// A fault in words, such as "lezgauri: Rejected (22), client 0, position 3, reason 2 (OwnerLost)". It takes no memory.
+class fault_text {
+public:
+    explicit fault_text(const fault &of) noexcept
+    {
+        const std::string_view number = name(of.number);
+        add("lezgauri: %.*s (%lu)", static_cast<int>(number.size()), number.data(), static_cast<unsigned long>(of.number));
+        if (of.client) {
+            add(", client %llu", static_cast<unsigned long long>(*of.client));
+        }
+        if (has_position(of.number)) {
+            add(", position %lu", static_cast<unsigned long>(of.position));
+        }
+        if (of.reason != reason::none) {
+            const std::string_view why = name(of.reason);
+            add(", reason %lu (%.*s)", static_cast<unsigned long>(of.reason), static_cast<int>(why.size()), why.data());
+        }
+    }
+
+    const char *c_str() const noexcept { return text_; }
+    std::string_view view() const noexcept { return {text_, len_}; }
+
+private:
+    template <class... Arguments>
+    void add(const char *format, Arguments... arguments) noexcept
+    {
+        const int added = std::snprintf(text_ + len_, sizeof text_ - len_, format, arguments...);
+        if (added > 0) {
+            const std::size_t room = sizeof text_ - 1 - len_;
+            len_ += static_cast<std::size_t>(added) < room ? static_cast<std::size_t>(added) : room;
+        }
+    }
+
+    char text_[128] = {};
+    std::size_t len_ = 0;
+};
+
+#ifdef __cpp_exceptions
+// What a refused call throws in namespace `lezgauri`.
+class error : public std::exception {
+public:
+    explicit error(const fault &why) noexcept : why_(why), text_(why) {}
+
+    const fault &why() const noexcept { return why_; }
+    const char *what() const noexcept override { return text_.c_str(); }
+
+private:
+    fault why_;
+    fault_text text_;
+};
+#endif
+
+// ---- views of memory
+
+namespace detail {
+
+template <class T>
+inline constexpr bool is_byte = std::is_same_v<T, char> || std::is_same_v<T, signed char> || std::is_same_v<T, unsigned char> ||
+                                std::is_same_v<T, std::byte>;
+
+// The type of the items that `Memory` has one after the other, const if they can't be written. `Memory` may be a reference.
+template <class Memory>
+using item_of = std::remove_pointer_t<decltype(std::data(std::declval<Memory>()))>;
+
+template <class Memory, class = void>
+struct has_items : std::false_type {};
+template <class Memory>
+struct has_items<Memory, std::void_t<item_of<Memory>, decltype(std::size(std::declval<Memory>()))>> : std::true_type {};
+
+// Whether the memory is there as long as the caller's: an object with a name, or another view.
+template <class Memory>
+constexpr bool is_kept() noexcept
+{
+    if constexpr (std::is_lvalue_reference_v<Memory>) {
+        return true;
+    } else {
+        return std::is_same_v<item_of<Memory &>, item_of<const Memory &>>;
+    }
+}
+
+template <class Memory>
+constexpr bool has_bytes_to_read() noexcept
+{
+    if constexpr (has_items<const Memory &>::value) {
+        // a literal has a byte too many at its end: pass a std::string_view of it
+        return is_byte<std::remove_cv_t<item_of<const Memory &>>> && !std::is_same_v<std::remove_extent_t<Memory>, char>;
+    }
+    return false;
+}
+
+template <class Memory>
+constexpr bool has_bytes_to_write() noexcept
+{
+    if constexpr (has_items<Memory &>::value) {
+        return is_byte<item_of<Memory &>> && is_kept<Memory>();
+    }
+    return false;
+}
+
+template <class T, class Memory>
+constexpr bool has_items_of() noexcept
+{
+    if constexpr (has_items<Memory &>::value) {
+        return std::is_convertible_v<item_of<Memory &> (*)[], T (*)[]> && (std::is_const_v<T> || is_kept<Memory>());
+    }
+    return false;
+}
+
+} // namespace detail
+
+// Bytes that a call reads: {pointer, length}, or anything with data() and size() and items of one byte, such as std::span, std::vector,
+// std::array, std::string and std::string_view, or an array other than of char. It doesn't own them.
+class const_bytes {
+public:
+    constexpr const_bytes() noexcept = default;
+    const_bytes(const void *at, std::size_t len) noexcept : at_(static_cast<const std::byte *>(at)), len_(len) {}
+
+    template <class Memory, std::enable_if_t<!std::is_same_v<Memory, const_bytes> && detail::has_bytes_to_read<Memory>(), int> = 0>
+    const_bytes(const Memory &memory) noexcept : const_bytes(std::data(memory), std::size(memory))
+    {
+    }
+
+    constexpr const std::byte *data() const noexcept { return at_; }
+    constexpr std::size_t size() const noexcept { return len_; }
+    constexpr const std::byte *begin() const noexcept { return at_; }
+    constexpr const std::byte *end() const noexcept { return at_ + len_; }
+    std::string_view text() const noexcept { return {reinterpret_cast<const char *>(at_), len_}; }
+
+    // As an item of the list of clients that `run` takes.
+    operator lezgauri_bytes() const noexcept { return {reinterpret_cast<const std::uint8_t *>(at_), len_}; }
+
+private:
+    const std::byte *at_ = nullptr;
+    std::size_t len_ = 0;
+};
+
+// Room for bytes that a call writes: {pointer, length}, or an object with a name whose items are bytes that may be written, or a view of
+// such bytes, for example std::span. It doesn't own them.
+class mutable_bytes {
+public:
+    constexpr mutable_bytes() noexcept = default;
+    mutable_bytes(void *at, std::size_t len) noexcept : at_(static_cast<std::byte *>(at)), len_(len) {}
+
+    template <class Memory, std::enable_if_t<!std::is_same_v<std::decay_t<Memory>, mutable_bytes> &&
+                                                 detail::has_bytes_to_write<Memory>(),
+                                             int> = 0>
+    mutable_bytes(Memory &&memory) noexcept : mutable_bytes(std::data(memory), std::size(memory))
+    {
+    }
+
+    constexpr std::byte *data() const noexcept { return at_; }
+    constexpr std::size_t size() const noexcept { return len_; }
+    constexpr std::byte *begin() const noexcept { return at_; }
+    constexpr std::byte *end() const noexcept { return at_ + len_; }
+
+private:
+    std::byte *at_ = nullptr;
+    std::size_t len_ = 0;
+};
+
+// The items of T one after the other: {pointer, count}, an array, or anything with data() and size(). It doesn't own them.
+template <class T>
+class items {
+public:
+    constexpr items() noexcept = default;
+    constexpr items(T *at, std::size_t count) noexcept : at_(at), count_(count) {}
+
+    template <class Memory,
+              std::enable_if_t<!std::is_same_v<std::decay_t<Memory>, items> && detail::has_items_of<T, Memory>(), int> = 0>
+    constexpr items(Memory &&memory) noexcept : items(std::data(memory), std::size(memory))
+    {
+    }
+
+    constexpr T *data() const noexcept { return at_; }
+    constexpr std::size_t size() const noexcept { return count_; }
+
+private:
+    T *at_ = nullptr;
+    std::size_t count_ = 0;
+};
+
+// ---- what calls return
+
+using report = lezgauri_report;
+
+// What `run` did.
+struct [[nodiscard]] ran_all {
+    std::size_t written = 0; // the bytes that the clients printed to the output
+    bool is_full = false;    // the output had no room, and a client stopped there
+};
+
+// What a run of one client in place did.
+struct [[nodiscard]] ran {
+    std::size_t written = 0; // the bytes that the client printed to the output
+    bool is_full = false;    // the output had no room: the client stopped there, and the segment stays as it was then
+    lezgauri::report report{};
+};
+
+// What `run_whole` did.
+struct [[nodiscard]] ran_whole {
+    std::size_t needed = 0;    // the length of the whole output
+    bool is_full = false;      // the output has less room: the segment is unchanged, and the output's contents are unspecified
+    lezgauri::report report{}; // all 0 if `is_full`
+};
+
+// ---- refusals
+
+namespace detail {
+
+#ifdef __cpp_exceptions
+[[noreturn]] inline void raise(const fault &why)
+{
+    throw error(why);
+}
+
+[[noreturn]] inline void raise(const std::error_code &why)
+{
+    throw std::system_error(why);
+}
+#endif
+
+// result::value() without a value. Without exceptions the program ends.
+template <class E>
+[[noreturn]] void fail(const E &why)
+{
+#ifdef __cpp_exceptions
+    raise(why);
+#else
+    static_cast<void>(why);
+    std::abort();
+#endif
+}
+
+} // namespace detail
+
+// A value, or why there is none: a part of std::expected, for compilers that don't have it. value() throws `error`, or std::system_error
+// for a file. The others require that there is a value, or for error() that there is none.
+template <class T, class E>
+class [[nodiscard]] result {
+public:
+    result(T value) noexcept(std::is_nothrow_move_constructible_v<T>) : is_(std::in_place_index<0>, std::move(value)) {}
+    static result failure(const E &why) noexcept { return result(std::in_place_index<1>, why); }
+
+    bool has_value() const noexcept { return is_.index() == 0; }
+    explicit operator bool() const noexcept { return has_value(); }
+    T &operator*() &noexcept { return *std::get_if<0>(&is_); }
+    const T &operator*() const &noexcept { return *std::get_if<0>(&is_); }
+    T &&operator*() &&noexcept { return std::move(*std::get_if<0>(&is_)); }
+    T *operator->() noexcept { return std::get_if<0>(&is_); }
+    const T *operator->() const noexcept { return std::get_if<0>(&is_); }
+    const E &error() const noexcept { return *std::get_if<1>(&is_); }
+    T &value() & { return test(), **this; }
+    const T &value() const & { return test(), **this; }
+    T &&value() && { return test(), std::move(**this); }
+
+private:
+    result(std::in_place_index_t<1> at, const E &why) noexcept : is_(at, why) {}
+
+    void test() const
+    {
+        if (!has_value()) {
+            detail::fail(error());
+        }
+    }
+
+    std::variant<T, E> is_;
+};
+
+template <class E>
+class [[nodiscard]] result<void, E> {
+public:
+    result() noexcept = default;
+    static result failure(const E &why) noexcept { return result(why); }
+
+    bool has_value() const noexcept { return !why_; }
+    explicit operator bool() const noexcept { return has_value(); }
+    void operator*() const noexcept {}
+    const E &error() const noexcept { return *why_; }
+
+    void value() const
+    {
+        if (!has_value()) {
+            detail::fail(error());
+        }
+    }
+
+private:
+    explicit result(const E &why) noexcept : why_(why) {}
+
+    std::optional<E> why_;
+};
+
+#ifdef __cpp_exceptions
+// The policy of namespace `lezgauri`: a call returns its value, or throws.
+struct throwing {
+    static constexpr bool is_noexcept = false;
+
+    template <class T, class E = fault>
+    using result = T;
+
+    template <class T, class E>
+    [[noreturn]] static T refuse(const E &why)
+    {
+        detail::raise(why);
+    }
+};
+#endif
+
+// The policy of namespace `lezgauri::results`: a call returns its value or why there is none. It has another name with each type that it
+// returns, so files that are compiled for different standards may be linked.
+#ifdef __cpp_lib_expected
+struct returning_expected {
+    static constexpr bool is_noexcept = true;
+
+    template <class T, class E = fault>
+    using result = std::expected<T, E>;
+
+    template <class T, class E>
+    static result<T, E> refuse(const E &why) noexcept
+    {
+        return std::unexpected<E>(why);
+    }
+};
+using returning = returning_expected;
+#else
+struct returning_result {
+    static constexpr bool is_noexcept = true;
+
+    template <class T, class E = fault>
+    using result = lezgauri::result<T, E>;
+
+    template <class T, class E>
+    static result<T, E> refuse(const E &why) noexcept
+    {
+        return result<T, E>::failure(why);
+    }
+};
+using returning = returning_result;
+#endif
+
+// What a call returns in namespace `lezgauri::results`.
+template <class T, class E = fault>
+using expected = returning::result<T, E>;
+
+#ifdef __cpp_exceptions
+using default_policy = throwing;
+#else
+using default_policy = returning;
+#endif
+
+namespace detail {
+
+template <class Policy, class T, class E = fault>
+using result_of = typename Policy::template result<T, E>;
+
+inline fault fault_of(std::uint32_t number, const lezgauri_fault &told) noexcept
+{
+    fault made{status(number), {}, told.position, reason(told.reason)};
+    if (told.client != LEZGAURI_NO_CLIENT) {
+        made.client = told.client;
+    }
+    return made;
+}
+
+// A refusal without a client, a position or a reason.
+inline fault fault_of(std::uint32_t number) noexcept
+{
+    return fault{status(number), {}, 0, reason::none};
+}
+
+// Returns what a run did, or why there was none.
+template <class Policy, class Ran>
+result_of<Policy, Ran> after_run(std::uint32_t number, const lezgauri_fault &told, Ran did) noexcept(Policy::is_noexcept)
+{
+    if (number != LEZGAURI_OK && number != LEZGAURI_OUTPUT_FULL) {
+        return Policy::template refuse<Ran>(fault_of(number, told));
+    }
+    did.is_full = number == LEZGAURI_OUTPUT_FULL;
+    return did;
+}
+
+struct close_segment {
+    void operator()(lezgauri_handle *handle) const noexcept { lezgauri_close(handle); }
+};
+
+struct close_client {
+    void operator()(lezgauri_client *prepared) const noexcept { lezgauri_client_close(prepared); }
+};
+
+} // namespace detail
+
+// ---- segments and clients
+
+template <class Policy>
+class basic_segment;
+
+// Owns a prepared client, which runs on each open segment whose types agree with its own. It is empty if it was made without one, moved
+// from or closed; then its runs are refused with `bad_argument`.
+template <class Policy>
+class basic_client {
+public:
+    basic_client() noexcept = default;
+    explicit basic_client(lezgauri_client *owned) noexcept : prepared_(owned) {}
+
+    // The same client with the other policy.
+    template <class Other>
+    explicit basic_client(basic_client<Other> &&other) noexcept : prepared_(other.release())
+    {
+    }
+
+    explicit operator bool() const noexcept { return prepared_ != nullptr; }
+    lezgauri_client *get() const noexcept { return prepared_.get(); }
+    [[nodiscard]] lezgauri_client *release() noexcept { return prepared_.release(); }
+    void close() noexcept { prepared_.reset(); }
+
+    // lezgauri_run_client: runs the client in place on an open segment, and takes no memory. Refused with `type_mismatch` if the segment's
+    // types and the client's differ.
+    template <class Other>
+    [[nodiscard]] detail::result_of<Policy, ran> operator()(basic_segment<Other> &segment, const_bytes input = {},
+                                                            mutable_bytes output = {}) noexcept(Policy::is_noexcept)
+    {
+        ran did;
+        lezgauri_fault told;
+        const std::uint32_t number = lezgauri_run_client(segment.get(), get(), input.data(), input.size(), output.data(), output.size(),
+                                                         &did.written, &did.report, &told);
+        return detail::after_run<Policy>(number, told, did);
+    }
+
+private:
+    std::unique_ptr<lezgauri_client, detail::close_client> prepared_;
+};
+
+// Owns an open segment. It is empty if it was made without one, moved from or closed; then its calls are refused with `bad_argument`.
+template <class Policy>
+class basic_segment {
+public:
+    basic_segment() noexcept = default;
+    explicit basic_segment(lezgauri_handle *owned) noexcept : handle_(owned) {}
+
+    // The same segment with the other policy.
+    template <class Other>
+    explicit basic_segment(basic_segment<Other> &&other) noexcept : handle_(other.release())
+    {
+    }
+
+    explicit operator bool() const noexcept { return handle_ != nullptr; }
+    lezgauri_handle *get() const noexcept { return handle_.get(); }
+    [[nodiscard]] lezgauri_handle *release() noexcept { return handle_.release(); }
+    void close() noexcept { handle_.reset(); }
+
+    // lezgauri_prepare: verifies a client against the segment's types, copies it and decodes it.
+    [[nodiscard]] detail::result_of<Policy, basic_client<Policy>> prepare(const_bytes client) const noexcept(Policy::is_noexcept)
+    {
+        lezgauri_client *prepared = nullptr;
+        lezgauri_fault told;
+        const std::uint32_t number = lezgauri_prepare(get(), client.data(), client.size(), &prepared, &told);
+        if (number != LEZGAURI_OK) {
+            return Policy::template refuse<basic_client<Policy>>(detail::fault_of(number, told));
+        }
+        return basic_client<Policy>(prepared);
+    }
+
+    // lezgauri_run_on: verifies a client and runs it in place.
+    [[nodiscard]] detail::result_of<Policy, ran> run_on(const_bytes client, const_bytes input = {},
+                                                        mutable_bytes output = {}) noexcept(Policy::is_noexcept)
+    {
+        ran did;
+        lezgauri_fault told;
+        const std::uint32_t number = lezgauri_run_on(get(), client.data(), client.size(), input.data(), input.size(), output.data(),
+                                                     output.size(), &did.written, &did.report, &told);
+        return detail::after_run<Policy>(number, told, did);
+    }
+
+    // lezgauri_run_whole: verifies a client and runs it on a copy, all or nothing.
+    [[nodiscard]] detail::result_of<Policy, ran_whole> run_whole(const_bytes client, const_bytes input = {},
+                                                                 mutable_bytes output = {}) noexcept(Policy::is_noexcept)
+    {
+        ran_whole did;
+        lezgauri_fault told;
+        const std::uint32_t number = lezgauri_run_whole(get(), client.data(), client.size(), input.data(), input.size(), output.data(),
+                                                        output.size(), &did.needed, &did.report, &told);
+        return detail::after_run<Policy>(number, told, did);
+    }
+
+    // The length of the segment's image, which stays the same while the segment is open.
+    [[nodiscard]] detail::result_of<Policy, std::size_t> size() const noexcept(Policy::is_noexcept)
+    {
+        std::size_t needed = 0;
+        const std::uint32_t number = lezgauri_save(get(), nullptr, 0, &needed);
+        if (number != LEZGAURI_TOO_SMALL) {
+            return Policy::template refuse<std::size_t>(detail::fault_of(number));
+        }
+        return needed;
+    }
+
+    // lezgauri_save: copies the image to the start of a buffer, and returns its length. Refused with `too_small` if the buffer is
+    // shorter.
+    detail::result_of<Policy, std::size_t> save(mutable_bytes buffer) const noexcept(Policy::is_noexcept)
+    {
+        std::size_t needed = 0;
+        const std::uint32_t number = lezgauri_save(get(), buffer.data(), buffer.size(), &needed);
+        if (number != LEZGAURI_OK) {
+            return Policy::template refuse<std::size_t>(detail::fault_of(number));
+        }
+        return needed;
+    }
+
+private:
+    std::unique_ptr<lezgauri_handle, detail::close_segment> handle_;
+};
+
+// ---- images
+
+// lezgauri_check: refused with the image's first fault.
+template <class Policy = default_policy>
+detail::result_of<Policy, void> check(const_bytes image) noexcept(Policy::is_noexcept)
+{
+    lezgauri_fault told;
+    const std::uint32_t number = lezgauri_check(image.data(), image.size(), &told);
+    if (number != LEZGAURI_OK) {
+        return Policy::template refuse<void>(detail::fault_of(number, told));
+    }
+    return detail::result_of<Policy, void>();
+}
+
+// lezgauri_verify: returns the most steps that a run of the client takes.
+template <class Policy = default_policy>
+detail::result_of<Policy, std::uint64_t> verify(const_bytes image, const_bytes client) noexcept(Policy::is_noexcept)
+{
+    std::uint64_t bound = 0;
+    lezgauri_fault told;
+    const std::uint32_t number = lezgauri_verify(image.data(), image.size(), client.data(), client.size(), &bound, &told);
+    if (number != LEZGAURI_OK) {
+        return Policy::template refuse<std::uint64_t>(detail::fault_of(number, told));
+    }
+    return bound;
+}
+
+// lezgauri_run: runs clients on a copy of an image, which becomes `saved`. Refused with `too_small` if `saved` is shorter than the image,
+// and with `bad_argument` if there are reports, but fewer than clients. A list of clients is an array or a container of lezgauri_bytes:
+//
+//     const lezgauri_bytes clients[] = {lezgauri::const_bytes(first), lezgauri::const_bytes(second)};
+template <class Policy = default_policy>
+[[nodiscard]] detail::result_of<Policy, ran_all> run(const_bytes image, items<const lezgauri_bytes> clients, const_bytes input,
+                                                     mutable_bytes output, mutable_bytes saved,
+                                                     items<report> reports = {}) noexcept(Policy::is_noexcept)
+{
+    if (saved.size() < image.size()) {
+        return Policy::template refuse<ran_all>(detail::fault_of(LEZGAURI_TOO_SMALL));
+    }
+    if (reports.size() > 0 && reports.size() < clients.size()) {
+        return Policy::template refuse<ran_all>(detail::fault_of(LEZGAURI_BAD_ARGUMENT));
+    }
+    ran_all did;
+    lezgauri_fault told;
+    const std::uint32_t number =
+        lezgauri_run(image.data(), image.size(), clients.data(), clients.size(), input.data(), input.size(), output.data(),
+                     output.size(), &did.written, saved.data(), reports.size() > 0 ? reports.data() : nullptr, &told);
+    return detail::after_run<Policy>(number, told, did);
+}
+
+// lezgauri_open: copies an image, checks the copy and opens it.
+template <class Policy = default_policy>
+[[nodiscard]] detail::result_of<Policy, basic_segment<Policy>> open(const_bytes image) noexcept(Policy::is_noexcept)
+{
+    lezgauri_handle *handle = nullptr;
+    lezgauri_fault told;
+    const std::uint32_t number = lezgauri_open(image.data(), image.size(), &handle, &told);
+    if (number != LEZGAURI_OK) {
+        return Policy::template refuse<basic_segment<Policy>>(detail::fault_of(number, told));
+    }
+    return basic_segment<Policy>(handle);
+}
+
+// ---- the two namespaces
+
+using segment = basic_segment<default_policy>;
+using client = basic_client<default_policy>;
+
+namespace results {
+
+using segment = basic_segment<returning>;
+using client = basic_client<returning>;
+
+template <class Policy = returning>
+[[nodiscard]] expected<void> check(const_bytes image) noexcept
+{
+    return lezgauri::check<Policy>(image);
+}
+
+template <class Policy = returning>
+[[nodiscard]] expected<std::uint64_t> verify(const_bytes image, const_bytes client_bytes) noexcept
+{
+    return lezgauri::verify<Policy>(image, client_bytes);
+}
+
+template <class Policy = returning>
+[[nodiscard]] expected<ran_all> run(const_bytes image, items<const lezgauri_bytes> clients, const_bytes input, mutable_bytes output,
+                                    mutable_bytes saved, items<report> reports = {}) noexcept
+{
+    return lezgauri::run<Policy>(image, clients, input, output, saved, reports);
+}
+
+template <class Policy = returning>
+[[nodiscard]] expected<segment> open(const_bytes image) noexcept
+{
+    return lezgauri::open<Policy>(image);
+}
+
+} // namespace results
+
+} // namespace lezgauri
+
+#ifdef __cpp_lib_span
+// A std::span may be made of a view that has no name.
+template <>
+inline constexpr bool std::ranges::enable_borrowed_range<lezgauri::const_bytes> = true;
+template <>
+inline constexpr bool std::ranges::enable_borrowed_range<lezgauri::mutable_bytes> = true;
+#endif
+
+#endif
+
+// ---- files in memory, for POSIX: define LEZGAURI_MAPPED_FILE before this header is included
+
+#if defined(LEZGAURI_MAPPED_FILE) && !defined(LEZGAURI_MAPPED_FILE_HPP)
+#define LEZGAURI_MAPPED_FILE_HPP
+
+#include <cerrno>
+
+#include <fcntl.h>
+#include <sys/mman.h>
+#include <sys/stat.h>
+#include <unistd.h>
+
+namespace lezgauri {
+
+enum class file_access {
+    read,
+    read_write
+};
+
+namespace detail {
+
+struct unmap {
+    std::size_t len = 0;
+
+    void operator()(std::byte *at) const noexcept { ::munmap(at, len); }
+};
+
+class descriptor {
+public:
+    explicit descriptor(int number) noexcept : number_(number) {}
+    descriptor(const descriptor &) = delete;
+    descriptor &operator=(const descriptor &) = delete;
+    ~descriptor()
+    {
+        if (number_ >= 0) {
+            ::close(number_);
+        }
+    }
+
+    int number() const noexcept { return number_; }
+
+private:
+    int number_;
+};
+
+inline std::error_code last_error() noexcept
+{
+    return {errno, std::generic_category()};
+}
+
+} // namespace detail
+
+// Owns a shared mapping of a whole file: what is written to `room` is written to the file. It is empty if it was made without a file,
+// moved from or closed.
+//
+// An open segment is a copy, so runs don't change the file that it was opened from; `save` does. While a call reads the file no other
+// process may write it, except during `open`, which checks its copy. If another process makes the file shorter, a call that uses the bytes
+// that are gone ends this process with SIGBUS. If the machine stops during `save` or `sync`, the file may be half written: to be safe from
+// that, save to a new file and rename it.
+template <class Policy>
+class basic_mapped_file {
+public:
+    basic_mapped_file() noexcept = default;
+
+    // Takes a mapping of `len` bytes from mmap.
+    basic_mapped_file(void *at, std::size_t len, file_access how) noexcept
+        : at_(static_cast<std::byte *>(at), detail::unmap{len}), access_(how)
+    {
+    }
+
+    explicit operator bool() const noexcept { return at_ != nullptr; }
+    const_bytes bytes() const noexcept { return {at_.get(), size()}; }
+    std::size_t size() const noexcept { return at_ != nullptr ? at_.get_deleter().len : 0; }
+    void close() noexcept { at_.reset(); }
+
+    // The file's bytes, to be written. Empty if the file was mapped to be read, so `save` refuses it with `too_small`.
+    mutable_bytes room() noexcept { return access_ == file_access::read_write ? mutable_bytes(at_.get(), size()) : mutable_bytes(); }
+
+    // Waits until all that was written is in the file, on its device. Closing a mapping doesn't wait.
+    detail::result_of<Policy, void, std::error_code> sync() noexcept(Policy::is_noexcept)
+    {
+        if (at_ != nullptr && ::msync(at_.get(), size(), MS_SYNC) != 0) {
+            return Policy::template refuse<void>(detail::last_error());
+        }
+        return detail::result_of<Policy, void, std::error_code>();
+    }
+
+private:
+    std::unique_ptr<std::byte, detail::unmap> at_;
+    file_access access_ = file_access::read;
+};
+
+// Maps a whole file. The mapping of an empty file is empty. Throws std::system_error, or returns the error code of the call that failed.
+template <class Policy = default_policy>
+[[nodiscard]] detail::result_of<Policy, basic_mapped_file<Policy>, std::error_code>
+map_file(const char *path, file_access how) noexcept(Policy::is_noexcept)
+{
+    using file = basic_mapped_file<Policy>;
+    const detail::descriptor opened(::open(path, (how == file_access::read ? O_RDONLY : O_RDWR) | O_CLOEXEC));
+    struct ::stat about;
+    if (opened.number() < 0 || ::fstat(opened.number(), &about) != 0) {
+        return Policy::template refuse<file>(detail::last_error());
+    }
+    if (about.st_size == 0 && S_ISREG(about.st_mode)) {
+        return file();
+    }
+    if (about.st_size < 0 || static_cast<std::uintmax_t>(about.st_size) > PTRDIFF_MAX) {
+        return Policy::template refuse<file>(std::make_error_code(std::errc::file_too_large));
+    }
+    const auto len = static_cast<std::size_t>(about.st_size);
+    void *at = ::mmap(nullptr, len, how == file_access::read ? PROT_READ : PROT_READ | PROT_WRITE, MAP_SHARED, opened.number(), 0);
+    if (at == MAP_FAILED) {
+        return Policy::template refuse<file>(detail::last_error());
+    }
+    return file(at, len, how);
+}
+
+using mapped_file = basic_mapped_file<default_policy>;
+
+namespace results {
+
+using mapped_file = basic_mapped_file<returning>;
+
+template <class Policy = returning>
+[[nodiscard]] expected<mapped_file, std::error_code> map_file(const char *path, file_access how) noexcept
+{
+    return lezgauri::map_file<Policy>(path, how);
+}
+
+} // namespace results
+
+} // namespace lezgauri
+
+#endif
