@@ -606,18 +606,31 @@ class ThreadTest(Case):
         finish()
         self.assertEqual(client(other).ended, lezgauri.Ended.DONE)
 
+    def record_free(self, it, freed):
+        free = it._handle._free
+
+        def recorded(address):
+            freed.append(type(it).__name__)
+            free(address)
+
+        it._handle._free = recorded
+
     def test_closed_during_a_run(self):
-        """Closing doesn't disturb a call of another thread."""
+        """Closing doesn't disturb a call of another thread. The memory is freed when that call has ended."""
         segment = self.opened()
         client = segment.prepare(LONG)
         steps = []
         finish = self.start(lambda: steps.append(client(segment).steps))
         self.until_busy(lambda: segment.save())
-        segment.close()
-        client.close()
+        freed = []
+        for it in (segment, client):
+            self.record_free(it, freed)
+            it.close()
         with self.assertRaises(lezgauri.Closed):
             segment.save()
+        self.assertEqual(freed, [])
         finish()
+        self.assertEqual(sorted(freed), ["Client", "Segment"])
         self.assertEqual(steps, [LONG_TURNS + 2])
 
     def test_one_segment(self):
