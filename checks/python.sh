@@ -1,0 +1,47 @@
+#!/usr/bin/env bash
+# Tests the module for Python. Makes the shared library from the static one, compares its exports with lezgauri.h, runs
+# python/tests/test_lezgauri.py, and compares what the example prints. Needs Python 3.9 or later, a C compiler, nm, and the library that
+# `rt lib` builds in crates/lezgauri_c/out, or another given one, static or shared: python.sh [LIBRARY]. PYTHON may name the program.
+set -eu
+here=$(cd "$(dirname "$0")" && pwd)
+root=$(dirname "$here")
+library=$(realpath "${1:-$root/crates/lezgauri_c/out/liblezgauri.a}")
+python=${PYTHON:-python3}
+work=$(mktemp -d)
+trap 'rm -rf "$work"' EXIT
+
+case $library in
+  *.a) "$root/python/shared.sh" "$library" "$work/liblezgauri.so" ;;
+  *) cp "$library" "$work/liblezgauri.so" ;;
+esac
+export LEZGAURI_LIBRARY=$work/liblezgauri.so PYTHONPATH=$root/python PYTHONDONTWRITEBYTECODE=1
+
+sed -nE 's/^(uint32_t|void) (lezgauri_[a-z_]+)\(.*/\2/p' "$root/crates/lezgauri_c/include/lezgauri.h" | sort > "$work/calls"
+nm -D --defined-only "$LEZGAURI_LIBRARY" | awk '{ print $3 }' | sort > "$work/exports"
+diff "$work/calls" "$work/exports"
+
+"$python" -X dev -m unittest discover -s "$root/python/tests"
+
+# three runs of six steps, each of which adds 1 to the number, 41 at first
+cat > "$work/counter.wanted" <<'EOF'
+6 steps at most
+6 steps: 42
+6 steps: 43
+6 steps: 44
+EOF
+counter=("$python" -X dev "$root/examples/python/counter.py")
+cp "$root/examples/counter.image" "$work/image"
+"${counter[@]}" "$work/image" "$root/examples/increment.client" > "$work/out"
+diff "$work/counter.wanted" "$work/out"
+# the file has the new number, and the next runs continue there
+"${counter[@]}" "$work/image" "$root/examples/increment.client" > "$work/out"
+[ "$(tail -n 1 "$work/out")" = "6 steps: 47" ]
+# a client that isn't one, and an image that isn't one
+status=0
+"${counter[@]}" "$work/image" "$root/examples/increment.text" 2> "$work/err" || status=$?
+[ "$status" = 1 ] && grep -qx "BAD_CODE at byte 0 of client 0" "$work/err"
+cp "$root/examples/increment.client" "$work/image"
+status=0
+"${counter[@]}" "$work/image" "$root/examples/increment.client" 2> "$work/err" || status=$?
+[ "$status" = 1 ] && grep -qx "BAD_HEADER" "$work/err"
+echo "the shared library exports the calls of lezgauri.h, and the example for Python prints what it should"

@@ -1,0 +1,357 @@
+"""The calls on images, segments and clients."""
+import contextlib
+import enum
+import operator
+import threading
+import warnings
+from ctypes import byref, c_size_t, c_uint64, c_void_p
+from dataclasses import dataclass
+from types import TracebackType
+from typing import Any, Callable, Iterable, Optional, Tuple, Type, Union
+
+from ._buffers import Buffer, View, WritableBuffer
+from ._errors import Closed, OutputFull, Status, TooSmall
+from ._library import CBytes, CFault, CReport, library, refuse
+
+# The bytes of room for an output if the caller gives neither a buffer nor a capacity.
+CAPACITY = 65536
+
+
+class Ended(enum.IntEnum):
+    """How the run of a client ended."""
+
+    DONE = 0  # it ran to the end of its code
+    OUTPUT_FULL = 1  # the output had no room for what it printed, and it stopped there
+
+
+@dataclass(frozen=True)
+class Report:
+    """What a run of a client did.
+
+    steps   the steps that it took, at most the bound that `verify` returns
+    ended   Ended.DONE, or Ended.OUTPUT_FULL
+    read    the bytes of the input that it read
+    """
+
+    steps: int
+    ended: Ended
+    read: int
+
+
+@dataclass(frozen=True)
+class Result:
+    """What a run of one client printed and did.
+
+    output  what it printed: bytes, or if the call was given a buffer a memoryview of the printed part of that buffer
+    steps   the steps that it took, at most the bound that `verify` returns
+    ended   Ended.DONE, or Ended.OUTPUT_FULL: then `output` is what fits, and the segment has the client's changes up to there
+    read    the bytes of the input that it read
+    """
+
+    output: Union[bytes, memoryview]
+    steps: int
+    ended: Ended
+    read: int
+
+
+@dataclass(frozen=True)
+class Runs:
+    """What the runs of several clients printed and did.
+
+    output   what they printed: bytes, or if the call was given a buffer a memoryview of the printed part of that buffer
+    saved    the saved image: a bytearray, or if the call was given a buffer a memoryview of the image in that buffer
+    reports  a Report for each client that ran. If the last one ended with Ended.OUTPUT_FULL, the clients after it didn't run
+    """
+
+    output: Union[bytes, memoryview]
+    saved: Union[bytearray, memoryview]
+    reports: Tuple[Report, ...]
+
+
+class _Room(View):
+    """The room for an output inside a `with` block: the caller's buffer, or new memory."""
+
+    __slots__ = ("_given", "_memory")
+
+    def __init__(self, output: Optional[WritableBuffer], capacity: int) -> None:
+        self._given = output is not None
+        self._memory: WritableBuffer = bytearray(operator.index(capacity)) if output is None else output
+        super().__init__(self._memory, "output", writable=True)
+
+    def __enter__(self) -> "_Room":
+        return self
+
+    def printed(self, length: int) -> Union[bytes, memoryview]:
+        printed = memoryview(self._memory).cast("B")[:length]
+        return printed if self._given else bytes(printed)
+
+
+class _Handle:
+    """Memory of the library for a segment or a client. It is freed once: after it was closed and when no call uses it any more.
+    A `with` block is one use."""
+
+    def __init__(self, what: str, address: int, free: Callable[[int], None]) -> None:
+        self._what = what
+        self._address = address
+        self._free = free
+        self._uses = 0
+        self.closed = False
+        self._lock = threading.Lock()
+
+    def __enter__(self) -> int:
+        with self._lock:
+            if self.closed:
+                raise Closed(f"the {self._what} is closed")
+            self._uses += 1
+        return self._address
+
+    def __exit__(self, *error: object) -> None:
+        with self._lock:
+            self._uses -= 1
+            ends = self.closed and self._uses == 0
+        if ends:
+            self._free(self._address)
+
+    def close(self) -> None:
+        with self._lock:
+            ends = not self.closed and self._uses == 0
+            self.closed = True
+        if ends:
+            self._free(self._address)
+
+
+class _Closeable:
+    """What a segment and a client have in common: they are closed, also by the end of a `with` block."""
+
+    _handle: Optional[_Handle] = None
+
+    def close(self) -> None:
+        """Frees the memory. Closing twice is safe. If a call of another thread uses the object, that call ends as usual, and
+        the memory is freed then."""
+        if self._handle is not None:
+            self._handle.close()
+
+    @property
+    def closed(self) -> bool:
+        """Whether it was closed. Then each call with it raises Closed."""
+        return self._handle is None or self._handle.closed
+
+    def __enter__(self) -> Any:
+        if self.closed:
+            raise Closed(f"the {type(self).__name__.lower()} is closed")
+        return self
+
+    def __exit__(self, kind: Optional[Type[BaseException]], error: Optional[BaseException], trace: Optional[TracebackType]) -> None:
+        self.close()
+
+    def __del__(self) -> None:
+        if not self.closed:
+            warnings.warn(f"unclosed {self!r}", ResourceWarning, source=self)
+            self.close()
+
+
+class Segment(_Closeable):
+    """An open segment: a copy of an image, which is checked once for many runs. `close()` or the end of a `with` block frees it.
+
+    Raises Fault if the image isn't sound, and OutOfMemory if there is no memory for the copy. The image's bytes may change while
+    they are copied: the copy is checked."""
+
+    def __init__(self, image: Buffer) -> None:
+        calls = library()
+        address, fault = c_void_p(), CFault()
+        with View(image, "image") as of:
+            refuse(calls.lezgauri_open(of.address, of.size, byref(address), byref(fault)), fault)
+            self._size = of.size
+        self._handle = _Handle("segment", address.value or 0, calls.lezgauri_close)
+
+    @property
+    def size(self) -> int:
+        """The bytes of the segment's image."""
+        return self._size
+
+    def __enter__(self) -> "Segment":
+        super().__enter__()
+        return self
+
+    def prepare(self, client: Buffer) -> "Client":
+        """Verifies a client against the segment's types, and decodes it: the same as `Client(segment, client)`."""
+        return Client(self, client)
+
+    def save(self) -> bytearray:
+        """A copy of the segment's image. Raises Busy."""
+        image = bytearray(self._size)
+        self.save_into(image)
+        return image
+
+    def save_into(self, buffer: WritableBuffer) -> int:
+        """Copies the segment's image to the start of a buffer, such as a mapped file. Returns the image's length in bytes.
+
+        Raises TooSmall if the buffer is shorter than the image, TypeError if it is read-only, and Busy. Then nothing is written.
+        If a crash interrupts the copy to a file, the file is half written."""
+        needed = c_size_t()
+        with _held(self, Segment) as handle, View(buffer, "buffer", writable=True) as room:
+            status = library().lezgauri_save(handle, room.address, room.size, byref(needed))
+        if status == Status.TOO_SMALL:
+            raise TooSmall(needed.value)
+        refuse(status)
+        return needed.value
+
+
+class Client(_Closeable):
+    """A prepared client: verified against the types of an open segment, and decoded, once for many runs. It has a copy of the
+    client's bytes. It runs on each open segment whose types agree with its own, and may outlive the segment that it was prepared
+    for. `close()` or the end of a `with` block frees it.
+
+    Raises Fault if the client is refused, OutOfMemory, and Busy."""
+
+    def __init__(self, segment: Segment, client: Buffer) -> None:
+        calls = library()
+        address, fault = c_void_p(), CFault()
+        with _held(segment, Segment) as handle, View(client, "client") as of:
+            refuse(calls.lezgauri_prepare(handle, of.address, of.size, byref(address), byref(fault)), fault)
+        self._handle = _Handle("client", address.value or 0, calls.lezgauri_client_close)
+
+    def __enter__(self) -> "Client":
+        super().__enter__()
+        return self
+
+    def __call__(
+        self, segment: Segment, input: Buffer = b"", *, output: Optional[WritableBuffer] = None, capacity: int = CAPACITY
+    ) -> Result:
+        """Runs the client on an open segment, in place. It takes no memory of the library.
+
+        input     the bytes that the client reads
+        output    a writable buffer for what it prints
+        capacity  the bytes of room for the output, if no buffer is given
+
+        If the output has no room, the result's `ended` is Ended.OUTPUT_FULL. The client stopped there, and the segment has its
+        changes up to there.
+
+        Raises Fault with TYPE_MISMATCH if the segment's types and the client's differ, for example after another client added
+        types; BadArgument if the output overlaps the input; and Busy. Then nothing ran."""
+        with _held(segment, Segment) as handle, _held(self, Client) as prepared:
+            status, length, report, room = _run(library().lezgauri_run_client, (handle, prepared), input, output, capacity)
+        return _result(length, report, room)
+
+
+def _held(of: _Closeable, kind: Type[_Closeable]) -> _Handle:
+    """The memory of a segment or a client, for a `with` block. The library can't tell them apart."""
+    if not isinstance(of, kind):
+        raise TypeError(f"a {kind.__name__} is required, not {type(of).__name__!r}")
+    if of._handle is None:
+        raise Closed(f"the {kind.__name__.lower()} wasn't made")
+    return of._handle
+
+
+def _run(
+    call: Callable[..., int], first: Tuple[int, ...], input: Buffer, output: Optional[WritableBuffer], capacity: int
+) -> Tuple[int, int, CReport, _Room]:
+    """Makes a call that runs one client. Returns its status, the output's length, the report and the room."""
+    length, report, fault = c_size_t(), CReport(), CFault()
+    with View(input, "input") as given, _Room(output, capacity) as room:
+        status = call(*first, given.address, given.size, room.address, room.size, byref(length), byref(report), byref(fault))
+    refuse(status, fault)
+    return status, length.value, report, room
+
+
+def _result(length: int, report: CReport, room: _Room) -> Result:
+    return Result(room.printed(length), report.steps, Ended(report.ended), report.read)
+
+
+def check(image: Buffer) -> None:
+    """Checks an image. Returns if it is sound, and raises its first fault as Fault if not; OutOfMemory if there is no memory. An
+    image has 736 to 2^30 bytes, a multiple of 16."""
+    fault = CFault()
+    with View(image, "image") as of:
+        refuse(library().lezgauri_check(of.address, of.size, byref(fault)), fault)
+
+
+def verify(image: Buffer, client: Buffer) -> int:
+    """Checks an image, and verifies a client against its types. Returns the bound: the most steps that a run of the client takes.
+
+    Raises Fault if the image or the client is refused: its `client` is None for a fault of the image and 0 for one of the client."""
+    bound, fault = c_uint64(), CFault()
+    with View(image, "image") as of, View(client, "client") as code:
+        refuse(library().lezgauri_verify(of.address, of.size, code.address, code.size, byref(bound), byref(fault)), fault)
+    return bound.value
+
+
+def run(
+    image: Buffer,
+    clients: Iterable[Buffer],
+    input: Buffer = b"",
+    *,
+    output: Optional[WritableBuffer] = None,
+    capacity: int = CAPACITY,
+    saved: Optional[WritableBuffer] = None,
+) -> Runs:
+    """Checks an image, verifies clients, and runs them in order on a copy of the image. Each client is verified against the types
+    that include those of the clients before it, and continues reading the input where the one before stopped.
+
+    image     the image, which stays unchanged
+    clients   the clients' bytes
+    input     the bytes that the clients read
+    output    a writable buffer for what they print
+    capacity  the bytes of room for the output, if no buffer is given
+    saved     a writable buffer for the saved image, with at least as many bytes as the image
+
+    If the output has no room, the last report's `ended` is Ended.OUTPUT_FULL: no further client ran, and the saved image is the one
+    after the client that stopped.
+
+    Raises Fault if the image or a client is refused, TooSmall if `saved` is shorter than the image, and BadArgument if `output` or
+    `saved` overlaps other memory of the call. Then nothing ran."""
+    with contextlib.ExitStack() as held:
+        of = held.enter_context(View(image, "image"))
+        codes = [held.enter_context(View(client, f"client {i}")) for i, client in enumerate(clients)]
+        given = held.enter_context(View(input, "input"))
+        room = held.enter_context(_Room(output, capacity))
+        target = bytearray(of.size) if saved is None else saved
+        kept = held.enter_context(View(target, "saved", writable=True))
+        # the library can't test this length
+        if kept.size < of.size:
+            raise TooSmall(of.size)
+        listed = (CBytes * len(codes))(*(CBytes(code.address, code.size) for code in codes))
+        reports = (CReport * len(codes))()
+        length, fault = c_size_t(), CFault()
+        status = library().lezgauri_run(
+            of.address, of.size, listed, len(codes), given.address, given.size, room.address, room.size, byref(length),
+            kept.address, reports, byref(fault)
+        )
+        refuse(status, fault)
+        size = of.size
+    ran = []
+    for report in reports:
+        ran.append(Report(report.steps, Ended(report.ended), report.read))
+        if report.ended != Ended.DONE:
+            break
+    after = target if saved is None else memoryview(saved).cast("B")[:size]
+    return Runs(room.printed(length.value), after, tuple(ran))
+
+
+def run_on(
+    segment: Segment, client: Buffer, input: Buffer = b"", *, output: Optional[WritableBuffer] = None, capacity: int = CAPACITY
+) -> Result:
+    """Verifies a client and runs it on an open segment, in place. Like `segment.prepare(client)(segment, input)`: the arguments and
+    the result are those of a prepared client.
+
+    Raises Fault if the client is refused, OutOfMemory, BadArgument if the output overlaps other memory of the call, and Busy. Then
+    nothing ran. If a crash interrupts the run, the segment is half changed: save it before, or use `run_whole`."""
+    with _held(segment, Segment) as handle, View(client, "client") as code:
+        status, length, report, room = _run(library().lezgauri_run_on, (handle, code.address, code.size), input, output, capacity)
+    return _result(length, report, room)
+
+
+def run_whole(
+    segment: Segment, client: Buffer, input: Buffer = b"", *, output: Optional[WritableBuffer] = None, capacity: int = CAPACITY
+) -> Result:
+    """Like run_on, but all or nothing: the client runs to its end on a copy of the image, and the segment becomes the saved image
+    only if the output has room for all that the client prints. The arguments are those of run_on.
+
+    Raises OutputFull if the output has no room: then the segment is unchanged, and the call with `capacity=error.needed` succeeds,
+    unless the segment was changed meanwhile or there is no memory. A buffer that was given as `output` then has unspecified bytes.
+    Raises the exceptions of run_on too."""
+    with _held(segment, Segment) as handle, View(client, "client") as code:
+        status, length, report, room = _run(library().lezgauri_run_whole, (handle, code.address, code.size), input, output, capacity)
+    if status == Status.OUTPUT_FULL:
+        raise OutputFull(length)
+    return _result(length, report, room)

@@ -1,0 +1,145 @@
+"""The numbers that calls return, and the exceptions for them."""
+import enum
+from typing import Optional
+
+
+class Status(enum.IntEnum):
+    """What calls of lezgauri.h return. Numbers below 100 are faults."""
+
+    OK = 0
+    MEMORY = 1
+    MISPLACED = 2
+    BAD_TYPE = 3
+    TYPE_MISMATCH = 4
+    BAD_HEADER = 10
+    BAD_BLOCK = 11
+    BAD_FREE = 12
+    BAD_INDEX = 13
+    BAD_POINTER = 14
+    DOUBLE_OWNER = 15
+    UNOWNED = 16
+    BAD_VALUE = 17
+    BAD_CODE = 20
+    REJECTED = 22
+    TOO_LONG = 23
+    BAD_ARGUMENT = 100
+    OUTPUT_FULL = 101
+    TOO_SMALL = 102
+    BUSY = 103
+
+
+class Reason(enum.IntEnum):
+    """Why the verifier refuses an instruction (docs/FORMATS.md, "The verifier")."""
+
+    WRONG_OPERAND = 1
+    OWNER_LOST = 2
+    PUT_INTO_ITSELF = 3
+    CHANGED_IN_LOOP = 4
+
+
+# What the position of a fault counts. The other faults have no position.
+UNITS = {
+    Status.BAD_TYPE: "type",
+    Status.TYPE_MISMATCH: "type",
+    Status.BAD_BLOCK: "byte",
+    Status.BAD_FREE: "byte",
+    Status.BAD_INDEX: "byte",
+    Status.BAD_POINTER: "byte",
+    Status.DOUBLE_OWNER: "byte",
+    Status.UNOWNED: "byte",
+    Status.BAD_VALUE: "byte",
+    Status.BAD_CODE: "byte",
+    Status.REJECTED: "instruction",
+}
+
+
+def _name(table: "type[enum.IntEnum]", number: int) -> str:
+    """The name of a number, or the number itself if only a later version of the library has it."""
+    try:
+        return table(number).name
+    except ValueError:
+        return str(number)
+
+
+class Error(Exception):
+    """A call of this module failed."""
+
+
+class Fault(Error):
+    """An image or a client is refused. Nothing ran, and the segment is unchanged.
+
+    number    the fault's number, one of Status
+    name      its name, such as "BAD_POINTER"
+    client    the client that has the fault, from 0 in the order of the call, or None if the image has it
+    position  where the first fault is: in bytes from the start of the image or the client for BAD_BLOCK to BAD_CODE, the number of
+              a type for BAD_TYPE and TYPE_MISMATCH, the number of an instruction for REJECTED, each from 0. None for other faults.
+    reason    why the instruction of REJECTED is refused, one of Reason. None for other faults.
+    reason_name  the reason's name, such as "WRONG_OPERAND". None for other faults.
+    """
+
+    def __init__(self, number: int, client: Optional[int] = None, position: int = 0, reason: int = 0) -> None:
+        super().__init__(number, client, position, reason)
+        self.number = number
+        self.name = _name(Status, number)
+        self.client = client
+        self.position: Optional[int] = position if number in UNITS else None
+        self.reason: Optional[int] = reason if number == Status.REJECTED else None
+        self.reason_name: Optional[str] = _name(Reason, reason) if number == Status.REJECTED else None
+
+    def __str__(self) -> str:
+        text = self.name
+        if self.position is not None:
+            text += f" at {UNITS[Status(self.number)]} {self.position}"
+        if self.client is not None:
+            text += f" of client {self.client}"
+        if self.reason_name is not None:
+            text += f": {self.reason_name}"
+        return text
+
+
+class OutOfMemory(Fault, MemoryError):
+    """MEMORY: the library's request for memory was refused. Nothing ran."""
+
+
+class BadArgument(Error, ValueError):
+    """BAD_ARGUMENT: what the call writes overlaps other memory of the call. Nothing ran."""
+
+
+class OutputFull(Error):
+    """OUTPUT_FULL of run_whole: the output has no room for what the client prints. The segment is unchanged.
+
+    needed    the length of the whole output in bytes
+    """
+
+    def __init__(self, needed: int) -> None:
+        super().__init__(needed)
+        self.needed = needed
+
+    def __str__(self) -> str:
+        return f"the output needs {self.needed} bytes"
+
+
+class TooSmall(Error, ValueError):
+    """TOO_SMALL: a buffer is shorter than the image that the call writes there. Nothing was written, and nothing ran.
+
+    needed    the length of the image in bytes
+    """
+
+    def __init__(self, needed: int) -> None:
+        super().__init__(needed)
+        self.needed = needed
+
+    def __str__(self) -> str:
+        return f"the image needs {self.needed} bytes"
+
+
+class Busy(Error):
+    """BUSY: a call of another thread uses the segment or the prepared client. This call has done nothing."""
+
+
+class Closed(Error, ValueError):
+    """The segment or the prepared client was closed before."""
+
+
+class LibraryError(Error):
+    """The C library wasn't found, or can't be loaded."""

@@ -1,0 +1,102 @@
+"""The C library: where it is, its structs and its calls."""
+import ctypes
+import ctypes.util
+import functools
+import os
+from ctypes import POINTER, c_size_t, c_uint32, c_uint64, c_void_p
+from typing import Optional
+
+from ._errors import BadArgument, Busy, Fault, LibraryError, OutOfMemory, Status
+
+FILE = "liblezgauri.so"
+VARIABLE = "LEZGAURI_LIBRARY"
+NO_CLIENT = 2**64 - 1
+
+
+class CFault(ctypes.Structure):
+    """lezgauri_fault"""
+
+    _fields_ = [("client", c_uint64), ("number", c_uint32), ("position", c_uint32), ("reason", c_uint32)]
+
+
+class CBytes(ctypes.Structure):
+    """lezgauri_bytes"""
+
+    _fields_ = [("bytes", c_void_p), ("len", c_size_t)]
+
+
+class CReport(ctypes.Structure):
+    """lezgauri_report"""
+
+    _fields_ = [("steps", c_uint64), ("read", c_uint64), ("ended", c_uint32)]
+
+
+_BYTES = (c_void_p, c_size_t)
+_TOLD = (POINTER(c_size_t), POINTER(CReport), POINTER(CFault))
+
+# The result and the arguments of each call of lezgauri.h.
+CALLS = {
+    "lezgauri_check": (c_uint32, (*_BYTES, POINTER(CFault))),
+    "lezgauri_verify": (c_uint32, (*_BYTES, *_BYTES, POINTER(c_uint64), POINTER(CFault))),
+    "lezgauri_run": (
+        c_uint32,
+        (*_BYTES, POINTER(CBytes), c_size_t, *_BYTES, *_BYTES, POINTER(c_size_t), c_void_p, POINTER(CReport), POINTER(CFault)),
+    ),
+    "lezgauri_open": (c_uint32, (*_BYTES, POINTER(c_void_p), POINTER(CFault))),
+    "lezgauri_run_on": (c_uint32, (c_void_p, *_BYTES, *_BYTES, *_BYTES, *_TOLD)),
+    "lezgauri_run_whole": (c_uint32, (c_void_p, *_BYTES, *_BYTES, *_BYTES, *_TOLD)),
+    "lezgauri_prepare": (c_uint32, (c_void_p, *_BYTES, POINTER(c_void_p), POINTER(CFault))),
+    "lezgauri_run_client": (c_uint32, (c_void_p, c_void_p, *_BYTES, *_BYTES, *_TOLD)),
+    "lezgauri_client_close": (None, (c_void_p,)),
+    "lezgauri_save": (c_uint32, (c_void_p, *_BYTES, POINTER(c_size_t))),
+    "lezgauri_close": (None, (c_void_p,)),
+}
+
+
+def find() -> str:
+    """The library's path: from the environment variable LEZGAURI_LIBRARY, else in this package's folder, else where the system's
+    loader finds it. Raises LibraryError if there is none."""
+    given = os.environ.get(VARIABLE)
+    if given:
+        return os.path.abspath(given)
+    folder = os.path.dirname(os.path.abspath(__file__))
+    beside = os.path.join(folder, FILE)
+    if os.path.exists(beside):
+        return beside
+    found = ctypes.util.find_library("lezgauri")
+    if found is None:
+        raise LibraryError(
+            f"the library {FILE} wasn't found: set the environment variable {VARIABLE} to its path, or put it into {folder} or "
+            "into a folder of the system's loader"
+        )
+    return found
+
+
+@functools.lru_cache(maxsize=None)
+def library() -> ctypes.CDLL:
+    """The loaded library. Raises LibraryError if it isn't found, can't be loaded, or lacks a call."""
+    path = find()
+    try:
+        loaded = ctypes.CDLL(path)
+        for name, (result, arguments) in CALLS.items():
+            call = getattr(loaded, name)
+            call.restype = result
+            call.argtypes = arguments
+    except (OSError, AttributeError) as problem:
+        raise LibraryError(f"the library {path} can't be used: {problem}") from problem
+    return loaded
+
+
+def refuse(status: int, fault: Optional[CFault] = None) -> None:
+    """Raises the exception for a status. Does nothing for OK and OUTPUT_FULL, which the calls treat themselves."""
+    if status in (Status.OK, Status.OUTPUT_FULL):
+        return
+    if status == Status.BUSY:
+        raise Busy("another call uses the segment or the client")
+    if status == Status.BAD_ARGUMENT:
+        raise BadArgument("memory that the call writes overlaps other memory of the call")
+    if fault is None:
+        raise Fault(status)
+    client = None if fault.client == NO_CLIENT else fault.client
+    kind = OutOfMemory if status == Status.MEMORY else Fault
+    raise kind(status, client, fault.position, fault.reason)
