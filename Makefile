@@ -2,6 +2,7 @@
 #
 #   make                            proves and builds what isn't built yet
 #   make install PREFIX=/usr/local  installs it below PREFIX, and below DESTDIR if that is set
+#                                   (run ldconfig after it, if PREFIX/lib is one of the loader's folders)
 #   make uninstall                  removes what `make install` with the same variables installed
 #   make clean                      removes what was built, so that `make` proves and builds it anew
 #
@@ -27,6 +28,7 @@ OUT ?= out
 
 HEADER := crates/lezgauri_c/include/lezgauri.h
 VERSION := $(shell sed -n 's/^const VERSION: &str = "\([0-9.]*\) .*/\1/p' crates/cli_words/src/command_line.rt)
+$(if $(VERSION),,$(error crates/cli_words/src/command_line.rt has no VERSION))
 MAJOR := $(firstword $(subst ., ,$(VERSION)))
 SONAME := liblezgauri.so.$(MAJOR)
 SHARED := liblezgauri.so.$(VERSION)
@@ -81,9 +83,10 @@ install: all
 
 uninstall:
 	rm -f $(addprefix $(DESTDIR),$(BINDIR)/segtool $(addprefix $(LIBDIR)/,liblezgauri.a $(SHARED) $(SONAME) liblezgauri.so) \
-	  $(INCLUDEDIR)/lezgauri.h $(PKGCONFIGDIR)/lezgauri.pc $(MANDIR)/man1/segtool.1 $(MANDIR)/man3/lezgauri.3 \
-	  $(CALLS:%=$(MANDIR)/man3/%.3) $(BASHDIR)/segtool $(ZSHDIR)/_segtool $(FISHDIR)/segtool.fish)
-	rm -rf $(DESTDIR)$(CMAKEDIR) $(DESTDIR)$(DOCDIR)
+	  $(INCLUDEDIR)/lezgauri.h $(PKGCONFIGDIR)/lezgauri.pc $(CMAKEDIR)/lezgauriConfig.cmake $(CMAKEDIR)/lezgauriConfigVersion.cmake \
+	  $(MANDIR)/man1/segtool.1 $(MANDIR)/man3/lezgauri.3 $(CALLS:%=$(MANDIR)/man3/%.3) $(BASHDIR)/segtool $(ZSHDIR)/_segtool \
+	  $(FISHDIR)/segtool.fish $(addprefix $(DOCDIR)/,LICENSE FORMATS.md TUTORIAL.md))
+	-rmdir $(DESTDIR)$(CMAKEDIR) $(DESTDIR)$(DOCDIR)
 
 clean:
 	rm -rf $(OUT)

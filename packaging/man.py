@@ -186,11 +186,8 @@ def prototype(result, name, parameters):
 def constants(declaration):
     """The constants of an enum, with their values and comments, as a list."""
     lines = [".Bl -tag -width Ds"]
-    for name, value, text in re.findall(r"(\w+) = ([^,/]*?),? */\* (.*?) \*/|\Z", declaration):
-        if name:
-            lines += [f".It Dv {name} Pq {value.strip()}", *prose(first_large(text))]
-    if not re.search(r"/\* .*\*/", declaration):
-        raise SystemExit(f"no comments: {declaration}")
+    for name, value, text in re.findall(r"(?m)^ +(\w+) = ([^,/]*?),?(?: +/\* (.*) \*/)?$", declaration):
+        lines += [f".It Dv {name} Pq {value.strip()}", *prose(first_large(text))]
     return [*lines, ".El"]
 
 
