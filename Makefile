@@ -93,4 +93,6 @@ clean:
 	rm -f crates/segtool/out/segtool crates/lezgauri_c/out/liblezgauri.a
 
 .DELETE_ON_ERROR:
+# one proof at a time: it uses all processors
+.NOTPARALLEL:
 .PHONY: all install uninstall clean
