@@ -71,3 +71,4 @@ try upgrade counter.image
 try asm increment.text assembled.client
 try asm increment.text increment.client
 try print increment.client
+try --version

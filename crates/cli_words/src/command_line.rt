@@ -2,6 +2,9 @@ use crate::{Argument, CommandRow, FORCE, INPUT, RUN, Takes, parser, parser_of};
 use clap::Command;
 use std::alloc::{AllocError, Global};
 
+/// The version of Lezgauri, then the versions of files that it reads. `Makefile` takes the first word from here.
+const VERSION: &str = "0.1.0 (image versions 1 and 2, client versions 1 and 2)";
+
 /// The arguments that all commands have.
 const SHARED: &[Argument] = &[Argument {
     id: "explain",
@@ -198,6 +201,7 @@ Each command takes --explain, which explains its failure.";
 /// The parser of `segtool`'s command line.
 pub fn command_line<'a>(alloc: Global) -> Result<Command<'a>, AllocError> {
     let mut program = Command::new(alloc, "segtool")
+        .version(VERSION)
         .about("Checks images of managed segments, and runs verified clients on them")
         .after_help(STATUSES)
         .subcommand_required(true)

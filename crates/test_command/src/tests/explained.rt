@@ -92,3 +92,18 @@ fn help_has_an_example(rt: HostRuntime) {
             .ends_with(b"Example:\n  segtool stat shop.image\n")
     );
 }
+
+#[test]
+fn the_version_is_followed_by_those_of_the_formats(rt: HostRuntime) {
+    let mut files = Stored::new(rt.alloc());
+    let words = ["segtool", "--version"];
+    let printed = run(rt.alloc(), words.as_slice(), &mut files);
+    assert_eq!(rt; printed.status, 0);
+    assert!(rt; printed.out.as_slice().starts_with(b"segtool "));
+    assert!(rt;
+        printed
+            .out
+            .as_slice()
+            .ends_with(b" (image versions 1 and 2, client versions 1 and 2)\n")
+    );
+}
