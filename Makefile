@@ -27,6 +27,7 @@ ARCHIVE ?= crates/lezgauri_c/out/liblezgauri.a
 OUT ?= out
 
 HEADER := crates/lezgauri_c/include/lezgauri.h
+CPP_HEADER := crates/lezgauri_c/include/lezgauri.hpp
 VERSION := $(shell sed -n 's/^const VERSION: &str = "\([0-9.]*\) .*/\1/p' crates/cli_words/src/command_line.rt)
 $(if $(VERSION),,$(error crates/cli_words/src/command_line.rt has no VERSION))
 MAJOR := $(firstword $(subst ., ,$(VERSION)))
@@ -67,7 +68,7 @@ install: all
 	$(INSTALL) -m 755 $(OUT)/$(SHARED) $(DESTDIR)$(LIBDIR)/$(SHARED)
 	ln -sf $(SHARED) $(DESTDIR)$(LIBDIR)/$(SONAME)
 	ln -sf $(SONAME) $(DESTDIR)$(LIBDIR)/liblezgauri.so
-	$(INSTALL) -m 644 $(HEADER) $(DESTDIR)$(INCLUDEDIR)/lezgauri.h
+	$(INSTALL) -m 644 $(HEADER) $(CPP_HEADER) $(DESTDIR)$(INCLUDEDIR)
 	$(FILL) packaging/lezgauri.pc.in > $(DESTDIR)$(PKGCONFIGDIR)/lezgauri.pc
 	$(FILL) packaging/lezgauriConfig.cmake.in > $(DESTDIR)$(CMAKEDIR)/lezgauriConfig.cmake
 	$(FILL) packaging/lezgauriConfigVersion.cmake.in > $(DESTDIR)$(CMAKEDIR)/lezgauriConfigVersion.cmake
@@ -83,7 +84,8 @@ install: all
 
 uninstall:
 	rm -f $(addprefix $(DESTDIR),$(BINDIR)/segtool $(addprefix $(LIBDIR)/,liblezgauri.a $(SHARED) $(SONAME) liblezgauri.so) \
-	  $(INCLUDEDIR)/lezgauri.h $(PKGCONFIGDIR)/lezgauri.pc $(CMAKEDIR)/lezgauriConfig.cmake $(CMAKEDIR)/lezgauriConfigVersion.cmake \
+	  $(addprefix $(INCLUDEDIR)/,lezgauri.h lezgauri.hpp) $(PKGCONFIGDIR)/lezgauri.pc \
+	  $(addprefix $(CMAKEDIR)/,lezgauriConfig.cmake lezgauriConfigVersion.cmake) \
 	  $(MANDIR)/man1/segtool.1 $(MANDIR)/man3/lezgauri.3 $(CALLS:%=$(MANDIR)/man3/%.3) $(BASHDIR)/segtool $(ZSHDIR)/_segtool \
 	  $(FISHDIR)/segtool.fish $(addprefix $(DOCDIR)/,LICENSE FORMATS.md TUTORIAL.md))
 	-rmdir $(DESTDIR)$(CMAKEDIR) $(DESTDIR)$(DOCDIR)

@@ -21,6 +21,13 @@ from operations import HERE, MEMORY, least, run
 WORKS = [
     ("check", None, ("sqlite-check",)),
     ("open, close", None, ("sqlite-open",)),
+    ("open_in, close", None, ("sqlite-open",)),
+    ("create_in, close", None, ()),
+    ("grow, shrink", None, ()),
+    ("free_memory", None, ()),
+    ("types", None, ()),
+    ("assemble", "increment", ()),
+    ("print", "increment", ()),
     ("save", None, ("sqlite-save",)),
     ("verify", "increment", ("sqlite-prepare", "lua-load")),
     ("prepare, client_close", "empty", ()),

@@ -12,7 +12,7 @@ work=$(mktemp -d)
 trap 'rm -rf "$work"' EXIT
 
 "$library/build.sh" --link
-make -s -C "$root/examples/c" OUT="$work" SEGTOOL="$segtool" all "$work/cache.image" "$work/cache.client"
+make -s -C "$root/examples/c" OUT="$work" SEGTOOL="$segtool" all "$work/cache.image" "$work"/{cache,enter,sum}.client
 cc=(${CC:-cc} -std=c11 -Wall -Wextra -Wpedantic -Werror -O1 -g -I"$library/include" -pthread)
 wrapped=(-Wl,--wrap=malloc,--wrap=realloc)
 "${cc[@]}" "${wrapped[@]}" -o "$work/calls" "$here/calls.c" "$library/out/liblezgauri.a"
@@ -25,6 +25,7 @@ counter=("$work/counter" "$root/examples/counter.image" "$root/examples/incremen
 cache=("$work/cache" "$work/cache.image" "$work/cache.client")
 counted=("$root/examples/counter.image" "$root/examples/increment.client")
 calls=("$work/calls" "${counted[@]}")
+table=("$work/shared_table" "$work/table.image" "$work/enter.client" "$work/sum.client")
 
 # an image with a full type table, in which each struct contains the one before
 {
@@ -54,11 +55,16 @@ miss 4489
 -- hit 42.. and more
 EOF
 
+# a table that a writer and three readers share
+echo "3 readers saw 40 entries" > "$work/table.wanted"
+
 "${counter[@]}" > "$work/out" && diff "$work/counter.wanted" "$work/out"
 "${cache[@]}" > "$work/out" && diff "$work/cache.wanted" "$work/out"
+"${table[@]}" > "$work/out" && diff "$work/table.wanted" "$work/out"
 "${calls[@]}"
 "${under[@]}" "${counter[@]}" > "$work/out" && diff "$work/counter.wanted" "$work/out"
 "${under[@]}" "${cache[@]}" > "$work/out" && diff "$work/cache.wanted" "$work/out"
+"${under[@]}" "${table[@]}" > "$work/out" && diff "$work/table.wanted" "$work/out"
 "${under[@]}" "${calls[@]}"
 "$work/calls.sanitized" "${counted[@]}"
 "$work/stack" "${counted[@]}" "$work/cache.image" "$work/cache.client" "$work/deep.image" "$work/deep.client"

@@ -1,12 +1,15 @@
 /*
  * Calls the library with invalid and extreme arguments: null pointers, lengths that no memory has, pointers that aren't aligned,
  * overlap of what a call writes with each other memory of the call, memory that is a byte too small, an image that changes while
- * it is opened, and segments that two calls use at once. Prints each wrong result, and at the end how many results are wrong.
+ * it is opened, and segments that two calls use at once. Also creates, grows and shrinks segments, in memory from malloc and in
+ * memory of its own, which it makes read-only for a client that only reads. Prints each wrong result, and at the end how many
+ * results are wrong.
  *
  *   calls IMAGE CLIENT     the image of 784 bytes whose number `x`, at 720, is 41, and the client that adds 1 and prints it
  *
  * Link with -Wl,--wrap=malloc,--wrap=realloc: some calls are made, and bytes changed, during the library's requests for memory.
  */
+#define _DEFAULT_SOURCE
 #include <lezgauri.h>
 
 #include <pthread.h>
@@ -15,6 +18,7 @@
 #include <stdio.h>
 #include <stdlib.h>
 #include <string.h>
+#include <sys/mman.h>
 
 static int made;
 static int wrong;
@@ -98,6 +102,8 @@ static uint8_t *read_file(const char *name, size_t *len)
 static uint8_t *image;
 static uint8_t *client;
 static size_t client_len;
+static char *text; /* the client's canonical text */
+static size_t text_len;
 
 /* ---- each call alone */
 
@@ -526,6 +532,322 @@ static void save_calls(void)
     lezgauri_close(handle);
 }
 
+/* ---- segments in the caller's memory, new segments, and their size */
+
+static size_t size_of(const lezgauri_handle *handle)
+{
+    size_t size = 0;
+    expect("size", lezgauri_size(handle, &size), LEZGAURI_OK);
+    return size;
+}
+
+/* The image of a segment where it is. It must be sound, and as long as the segment. */
+static const uint8_t *image_of(const lezgauri_handle *handle)
+{
+    lezgauri_bytes bytes = {NULL, 0};
+    expect("image", lezgauri_image(handle, &bytes), LEZGAURI_OK);
+    expect("image: length", bytes.len, size_of(handle));
+    expect("image: sound", lezgauri_check(bytes.bytes, bytes.len, NULL), LEZGAURI_OK);
+    return bytes.bytes;
+}
+
+static bool are_all(const uint8_t *bytes, size_t len, uint8_t value)
+{
+    for (size_t i = 0; i < len; i++) {
+        if (bytes[i] != value) {
+            return false;
+        }
+    }
+    return true;
+}
+
+/* A segment in lent memory is there, and nowhere else. */
+static void open_in_calls(void)
+{
+    enum { ROOM = 64 };
+    uint8_t *bytes = room(image_len + ROOM);
+    memcpy(bytes, image, image_len);
+    memset(bytes + image_len, 0x55, ROOM);
+    lezgauri_handle *handle = (lezgauri_handle *)image;
+    lezgauri_fault fault;
+    expect("open in: room below the length", lezgauri_open_in(bytes, image_len, image_len - 1, &handle, &fault), LEZGAURI_BAD_ARGUMENT);
+    expect("open in: room below the length: no segment", handle != NULL, 0);
+    expect("open in of null and 0", lezgauri_open_in(NULL, 0, 0, &handle, &fault), LEZGAURI_BAD_HEADER);
+    expect("open in of a part", lezgauri_open_in(bytes, image_len - 16, image_len, &handle, &fault), LEZGAURI_BAD_HEADER);
+    expect("open in of a part: number", fault.number, LEZGAURI_BAD_HEADER);
+    bytes[708] ^= 1;
+    expect("open in of a changed image", lezgauri_open_in(bytes, image_len, image_len + ROOM, &handle, &fault), LEZGAURI_BAD_BLOCK);
+    expect("open in of a changed image: position", fault.position, 704);
+    expect("open in of a changed image: no segment", handle != NULL, 0);
+    bytes[708] ^= 1;
+    expect("open in: the image is as before", (uint64_t)memcmp(bytes, image, image_len), 0);
+    watch(NULL);
+    expect("open in", lezgauri_open_in(bytes, image_len, image_len + ROOM, &handle, &fault), LEZGAURI_OK);
+    expect("open in: no copy", image_requests, 0);
+    expect("open in: the image is as before", (uint64_t)memcmp(bytes, image, image_len), 0);
+    expect("open in: the image is there", image_of(handle) == bytes, 1);
+    char output[3];
+    expect("open in: run", lezgauri_run_on(handle, client, client_len, NULL, 0, output, 3, NULL, NULL, NULL), LEZGAURI_OK);
+    expect("open in: x", bytes[720], 42);
+    expect("open in: x of the saved image", x_of(handle), 42);
+    size_t needed;
+    expect("open in: run whole", lezgauri_run_whole(handle, client, client_len, NULL, 0, output, 3, &needed, NULL, NULL), LEZGAURI_OK);
+    expect("open in: x", bytes[720], 43);
+    expect("open in: the room is as before", are_all(bytes + image_len, ROOM, 0x55), 1);
+    expect("open in: an input in the room", lezgauri_run_on(handle, client, client_len, bytes + image_len, 1, output, 3, NULL, NULL, NULL),
+           LEZGAURI_BAD_ARGUMENT);
+    size_t size = 7;
+    expect("grow, 8 bytes", lezgauri_grow(handle, 8, &size), LEZGAURI_BAD_SIZE);
+    expect("grow past the room", lezgauri_grow(handle, ROOM + 16, &size), LEZGAURI_NO_HOST_ROOM);
+    expect("grow past the largest size", lezgauri_grow(handle, (size_t)1 << 30, &size), LEZGAURI_BAD_SIZE);
+    expect("grow by 2^32", lezgauri_grow(handle, (size_t)1 << 32, &size), LEZGAURI_BAD_SIZE);
+    expect("grow by the largest length", lezgauri_grow(handle, SIZE_MAX - 15, &size), LEZGAURI_BAD_SIZE);
+    expect("grow, refused: size", size, 7);
+    expect("grow, refused: the room is as before", are_all(bytes + image_len, ROOM, 0x55), 1);
+    expect("grow, refused: the size is as before", size_of(handle), image_len);
+    size_t all = 0, largest = 0;
+    expect("free memory", lezgauri_free_memory(handle, &all, &largest), LEZGAURI_OK);
+    size_t free_before = all;
+    expect("grow", lezgauri_grow(handle, ROOM - 16, &size), LEZGAURI_OK);
+    expect("grow: size", size, image_len + ROOM - 16);
+    expect("grow: the image is there", image_of(handle) == bytes, 1);
+    expect("grow: the rest is as before", are_all(bytes + image_len + ROOM - 16, 16, 0x55), 1);
+    expect("free memory, larger", lezgauri_free_memory(handle, &all, &largest), LEZGAURI_OK);
+    expect("free memory, larger: all", all, free_before + ROOM - 16);
+    expect("free memory: largest", largest >= ROOM - 16 && largest <= all, 1);
+    expect("grow, size null", lezgauri_grow(handle, 16, NULL), LEZGAURI_OK);
+    expect("grow by nothing", lezgauri_grow(handle, 0, &size), LEZGAURI_OK);
+    expect("grow by nothing: size", size, image_len + ROOM);
+    expect("grow: x", image_of(handle)[720], 43);
+    expect("shrink", lezgauri_shrink(handle, &size), LEZGAURI_OK);
+    expect("shrink: size", size == size_of(handle) && size <= image_len, 1);
+    expect("shrink, size null", lezgauri_shrink(handle, NULL), LEZGAURI_OK);
+    expect("shrink: x", image_of(handle)[720], 43);
+    lezgauri_close(handle);
+    expect("close: the image stays", lezgauri_open_in(bytes, size, size, &handle, NULL), LEZGAURI_OK);
+    lezgauri_handle *other;
+    expect("two handles", lezgauri_open_in(bytes, size, size, &other, NULL), LEZGAURI_OK);
+    expect("two handles: one", lezgauri_run_on(handle, client, client_len, NULL, 0, output, 3, NULL, NULL, NULL), LEZGAURI_OK);
+    expect("two handles: the other", lezgauri_run_on(other, client, client_len, NULL, 0, output, 3, NULL, NULL, NULL), LEZGAURI_OK);
+    expect("two handles: x", bytes[720], 45);
+    lezgauri_close(handle);
+    lezgauri_close(other);
+    uint8_t *shifted = room(image_len + 1);
+    memcpy(shifted + 1, image, image_len);
+    expect("open in at an odd address", lezgauri_open_in(shifted + 1, image_len, image_len, &handle, NULL), LEZGAURI_OK);
+    expect("run at an odd address", lezgauri_run_on(handle, client, client_len, NULL, 0, output, 3, NULL, NULL, NULL), LEZGAURI_OK);
+    lezgauri_close(handle);
+    free(shifted);
+    free(bytes);
+}
+
+/* A client that changes nothing runs on an image of version 2 that can't be written. */
+static void read_only(void)
+{
+    enum { STORE_AT = 71, CONST_AT = 55, INSTRUCTION = 8 };
+    uint8_t *reader = room(client_len);
+    memcpy(reader, client, client_len);
+    memcpy(reader + STORE_AT, client + CONST_AT, INSTRUCTION);
+    uint8_t *bytes = mmap(NULL, image_len, PROT_READ | PROT_WRITE, MAP_PRIVATE | MAP_ANONYMOUS, -1, 0);
+    lezgauri_handle *handle = NULL;
+    lezgauri_client *prepared = NULL;
+    char output[3];
+    memcpy(bytes, image, image_len);
+    bytes[8] = 2;
+    mprotect(bytes, image_len, PROT_READ);
+    expect("read-only: open in", lezgauri_open_in(bytes, image_len, image_len, &handle, NULL), LEZGAURI_OK);
+    expect("read-only: run on", lezgauri_run_on(handle, reader, client_len, NULL, 0, output, 3, NULL, NULL, NULL), LEZGAURI_OK);
+    expect("read-only: output", (uint64_t)memcmp(output, "42\n", 3), 0);
+    expect("read-only: prepare", lezgauri_prepare(handle, reader, client_len, &prepared, NULL), LEZGAURI_OK);
+    expect("read-only: run client", lezgauri_run_client(handle, prepared, NULL, 0, output, 3, NULL, NULL, NULL), LEZGAURI_OK);
+    size_t all;
+    expect("read-only: free memory", lezgauri_free_memory(handle, &all, NULL), LEZGAURI_OK);
+    expect("read-only: x", x_of(handle), 41);
+    lezgauri_client_close(prepared);
+    lezgauri_close(handle);
+    munmap(bytes, image_len);
+    free(reader);
+}
+
+static void create_calls(void)
+{
+    enum { SIZE = 4096, LEAST = 736, HEAP = 704 };
+    static const size_t sizes[] = {0, 16, LEAST - 16, LEAST - 1, LEAST + 8, ((size_t)1 << 30) + 16, ((size_t)1 << 32) + LEAST, SIZE_MAX};
+    lezgauri_handle *handle;
+    uint8_t *bytes = room(SIZE);
+    for (size_t i = 0; i < sizeof sizes / sizeof *sizes; i++) {
+        handle = (lezgauri_handle *)image;
+        expect("create, a wrong size", lezgauri_create(sizes[i], LEZGAURI_SEQ_FIT, LEZGAURI_FLAT_INDEX, &handle), LEZGAURI_BAD_SIZE);
+        expect("create, a wrong size: no segment", handle != NULL, 0);
+        handle = (lezgauri_handle *)image;
+        expect("create in, a wrong size", lezgauri_create_in(bytes, SIZE, sizes[i], LEZGAURI_SEQ_FIT, LEZGAURI_FLAT_INDEX, &handle),
+               LEZGAURI_BAD_SIZE);
+        expect("create in, a wrong size: no segment", handle != NULL, 0);
+    }
+    expect("create, no such allocator", lezgauri_create(SIZE, 2, LEZGAURI_FLAT_INDEX, &handle), LEZGAURI_BAD_ARGUMENT);
+    expect("create, no such index", lezgauri_create(SIZE, LEZGAURI_SEQ_FIT, 2, &handle), LEZGAURI_BAD_ARGUMENT);
+    expect("create, handle null", lezgauri_create(SIZE, LEZGAURI_SEQ_FIT, LEZGAURI_FLAT_INDEX, NULL), LEZGAURI_BAD_ARGUMENT);
+    expect("create in, handle null", lezgauri_create_in(bytes, SIZE, SIZE, LEZGAURI_SEQ_FIT, LEZGAURI_FLAT_INDEX, NULL),
+           LEZGAURI_BAD_ARGUMENT);
+    expect("create in of null", lezgauri_create_in(NULL, SIZE, SIZE, LEZGAURI_SEQ_FIT, LEZGAURI_FLAT_INDEX, &handle),
+           LEZGAURI_BAD_ARGUMENT);
+    expect("create in of null and 0", lezgauri_create_in(NULL, 0, SIZE, LEZGAURI_SEQ_FIT, LEZGAURI_FLAT_INDEX, &handle),
+           LEZGAURI_NO_HOST_ROOM);
+    expect("create in, no length", lezgauri_create_in(bytes, SIZE_MAX, SIZE, LEZGAURI_SEQ_FIT, LEZGAURI_FLAT_INDEX, &handle),
+           LEZGAURI_BAD_ARGUMENT);
+    memset(bytes, 0x55, SIZE);
+    expect("create in, too little room", lezgauri_create_in(bytes, SIZE - 1, SIZE, LEZGAURI_SEQ_FIT, LEZGAURI_FLAT_INDEX, &handle),
+           LEZGAURI_NO_HOST_ROOM);
+    expect("create in, the handle in the memory",
+           lezgauri_create_in(bytes, SIZE, SIZE, LEZGAURI_SEQ_FIT, LEZGAURI_FLAT_INDEX, (lezgauri_handle **)bytes), LEZGAURI_BAD_ARGUMENT);
+    expect("create in, refused: the memory is as before", are_all(bytes, SIZE, 0x55), 1);
+    for (uint32_t kinds = 0; kinds < 8; kinds++) {
+        uint32_t allocator = kinds & 1 ? LEZGAURI_BEST_FIT : LEZGAURI_SEQ_FIT;
+        uint32_t index = kinds & 2 ? LEZGAURI_TREE_INDEX : LEZGAURI_FLAT_INDEX;
+        size_t size = SIZE - 1024, all = 0, largest = 0;
+        memset(bytes, 0x55, SIZE);
+        if (kinds & 4) {
+            expect("create in", lezgauri_create_in(bytes, SIZE, size, allocator, index, &handle), LEZGAURI_OK);
+            expect("create in: the image is there", image_of(handle) == bytes, 1);
+            expect("create in: the rest is as before", are_all(bytes + size, SIZE - size, 0x55), 1);
+        } else {
+            expect("create", lezgauri_create(size, allocator, index, &handle), LEZGAURI_OK);
+        }
+        const uint8_t *made_image = image_of(handle);
+        expect("create: version, allocator, index", made_image[8] == 2 && made_image[16] == allocator && made_image[20] == index, 1);
+        expect("create: size", size_of(handle), size);
+        expect("create: free memory", lezgauri_free_memory(handle, &all, &largest), LEZGAURI_OK);
+        expect("create: free memory", all == size - HEAP && largest == all, 1);
+        expect("create: a client without objects", lezgauri_run_on(handle, client, client_len, NULL, 0, NULL, 0, NULL, NULL, NULL),
+               LEZGAURI_OK);
+        expect("create: shrink", lezgauri_shrink(handle, &size), LEZGAURI_OK);
+        expect("create: shrink: size", size, LEAST);
+        expect("create: shrink: sound", image_of(handle) != NULL, 1);
+        expect("create: grow", lezgauri_grow(handle, 1008, &size), LEZGAURI_OK);
+        expect("create: grow: size", size == size_of(handle) && size == LEAST + 1008, 1);
+        expect("create: grow: sound", image_of(handle) != NULL, 1);
+        lezgauri_close(handle);
+    }
+    free(bytes);
+}
+
+/* Memory from malloc grows as far as malloc allows. */
+static void grow_calls(void)
+{
+    lezgauri_handle *handle = opened();
+    size_t size = image_len;
+    /* a single unit would be added to the last block */
+    for (size_t extra = 32; extra <= 1 << 20; extra *= 2) {
+        size_t grown = 0;
+        expect("grow", lezgauri_grow(handle, extra, &grown), LEZGAURI_OK);
+        size += extra;
+        expect("grow: size", grown, size);
+        expect("grow: x", image_of(handle)[720], 41);
+    }
+    expect("grow: shrink", lezgauri_shrink(handle, &size), LEZGAURI_OK);
+    expect("grow: shrink: size", size <= image_len, 1);
+    watch(NULL);
+    expect("grow again", lezgauri_grow(handle, 1 << 20, &size), LEZGAURI_OK);
+    expect("grow again: no request for memory", requests, 0);
+    char output[3];
+    expect("grow: run", lezgauri_run_on(handle, client, client_len, NULL, 0, output, 3, NULL, NULL, NULL), LEZGAURI_OK);
+    expect("grow: x", image_of(handle)[720], 42);
+    expect("grow, no segment", lezgauri_grow(NULL, 16, &size), LEZGAURI_BAD_ARGUMENT);
+    expect("shrink, no segment", lezgauri_shrink(NULL, &size), LEZGAURI_BAD_ARGUMENT);
+    expect("shrink, a size that isn't aligned", lezgauri_shrink(handle, (size_t *)(output + ((uintptr_t)output + 1) % 2)),
+           LEZGAURI_BAD_ARGUMENT);
+    lezgauri_close(handle);
+}
+
+static void print_calls(void)
+{
+    lezgauri_fault fault;
+    expect("print, no room", lezgauri_print(client, client_len, NULL, 0, &text_len, &fault), LEZGAURI_TOO_SMALL);
+    expect("print, no room: number", fault.number, LEZGAURI_TOO_SMALL);
+    text = room(text_len + 1);
+    memset(text, 0x55, text_len + 1);
+    expect("print, a byte too small", lezgauri_print(client, client_len, text, text_len - 1, NULL, NULL), LEZGAURI_TOO_SMALL);
+    expect("print, a byte too small: as before", text[0], 0x55);
+    size_t needed;
+    expect("print", lezgauri_print(client, client_len, text, text_len + 1, &needed, &fault), LEZGAURI_OK);
+    expect("print: needed", needed, text_len);
+    expect("print: number", fault.number, 0);
+    expect("print: the last line ends", text[text_len - 1], '\n');
+    expect("print: nothing after it", text[text_len], 0x55);
+    char first[] = "type i64\nname x\n";
+    expect("print: the first lines", (uint64_t)memcmp(text, first, sizeof first - 1), 0);
+    expect("print of a cut client", lezgauri_print(client, client_len - 1, text, text_len, &needed, &fault), LEZGAURI_BAD_CODE);
+    expect("print of a cut client: position", fault.position, client_len - 8);
+    expect("print of a cut client: client", fault.client, 0);
+    expect("print of a cut client: needed", needed, 0);
+    expect("print of null and 0", lezgauri_print(NULL, 0, text, text_len, &needed, &fault), LEZGAURI_BAD_CODE);
+    expect("print: as before", (uint64_t)memcmp(text, first, sizeof first - 1), 0);
+}
+
+static void assemble_calls(void)
+{
+    lezgauri_fault fault;
+    size_t needed;
+    uint8_t *made_client = room(client_len);
+    memset(made_client, 0x55, client_len);
+    expect("assemble, a byte too small", lezgauri_assemble(text, text_len, made_client, client_len - 1, &needed, &fault),
+           LEZGAURI_TOO_SMALL);
+    expect("assemble, a byte too small: needed", needed, client_len);
+    expect("assemble, a byte too small: as before", made_client[0], 0x55);
+    expect("assemble", lezgauri_assemble(text, text_len, made_client, client_len, &needed, &fault), LEZGAURI_OK);
+    expect("assemble: needed", needed, client_len);
+    expect("assemble: number", fault.number, 0);
+    expect("assemble: the client", (uint64_t)memcmp(made_client, client, client_len), 0);
+    expect("assemble, all null", lezgauri_assemble(text, text_len, made_client, client_len, NULL, NULL), LEZGAURI_OK);
+    expect("assemble of a cut text", lezgauri_assemble(text, text_len - 4, made_client, client_len, &needed, &fault),
+           LEZGAURI_BAD_LINE);
+    expect("assemble of a cut text: line", fault.position, 10);
+    expect("assemble of a cut text: client", fault.client, LEZGAURI_NO_CLIENT);
+    expect("assemble of a cut text: needed", needed, 0);
+    expect("assemble of a cut text: as before", (uint64_t)memcmp(made_client, client, client_len), 0);
+    expect("assemble of null and 0", lezgauri_assemble(NULL, 0, made_client, client_len, &needed, NULL), LEZGAURI_OK);
+    expect("assemble of null and 0: a client without a line", needed, 20);
+    free(made_client);
+}
+
+static void types_calls(void)
+{
+    lezgauri_handle *handle = opened();
+    lezgauri_type types[LEZGAURI_MOST_TYPES];
+    uint8_t texts[TYPED_CLIENT];
+    size_t needed = 7;
+    expect("types", lezgauri_types(handle, types, LEZGAURI_MOST_TYPES, &needed), LEZGAURI_OK);
+    expect("types: needed", needed, 1);
+    expect("types: kind", types[0].kind, LEZGAURI_KIND_I64);
+    expect("types: count", types[0].count, 0);
+    put_typed_client(texts, LEZGAURI_KIND_STR);
+    expect("types: another client", lezgauri_run_on(handle, texts, TYPED_CLIENT, NULL, 0, NULL, 0, NULL, NULL, NULL), LEZGAURI_OK);
+    memset(types, 0x55, sizeof types);
+    expect("types, no room", lezgauri_types(handle, NULL, 0, &needed), LEZGAURI_TOO_SMALL);
+    expect("types, no room: needed", needed, 2);
+    expect("types, one too small", lezgauri_types(handle, types, 1, NULL), LEZGAURI_TOO_SMALL);
+    expect("types, one too small: as before", types[0].kind, 0x55);
+    expect("types of two", lezgauri_types(handle, types, 2, NULL), LEZGAURI_OK);
+    expect("types of two: kind", types[1].kind, LEZGAURI_KIND_STR);
+    expect("types of two: nothing after them", types[2].kind, 0x55);
+    expect("types of the entries", (uint64_t)memcmp(types, texts + 20, 2 * sizeof *types), 0);
+    expect("types of no segment", lezgauri_types(NULL, types, LEZGAURI_MOST_TYPES, &needed), LEZGAURI_BAD_ARGUMENT);
+    lezgauri_close(handle);
+}
+
+static void text_calls(void)
+{
+    expect("version", (uint64_t)strcmp(lezgauri_version(), LEZGAURI_VERSION), 0);
+    for (uint32_t number = 0; number < 200; number++) {
+        expect("a status has a text", strlen(lezgauri_status_text(number)) > 0, 1);
+        expect("a reason has a text", strlen(lezgauri_reason_text(number)) > 0, 1);
+    }
+    expect("text of a fault", (uint64_t)strcmp(lezgauri_status_text(LEZGAURI_DOUBLE_OWNER),
+           "one pointer should own the block, but two do"), 0);
+    expect("text of no status", (uint64_t)strcmp(lezgauri_status_text(UINT32_MAX), "unknown status"), 0);
+    expect("text of no reason", (uint64_t)strcmp(lezgauri_reason_text(0), "unknown reason"), 0);
+}
+
 /* ---- each invalid argument of each call */
 
 /* A pointer argument: the length of its memory, its alignment, and what the call does with it. */
@@ -582,6 +904,35 @@ static uint32_t make_open(const argument *a)
     return status;
 }
 
+static uint32_t make_open_in(const argument *a)
+{
+    uint32_t status = lezgauri_open_in(a[2].at, a[2].len, a[2].len, (lezgauri_handle **)a[1].at, (lezgauri_fault *)a[0].at);
+    if (status == LEZGAURI_OK) {
+        lezgauri_close(*(lezgauri_handle **)a[1].at);
+    }
+    return status;
+}
+
+static uint32_t make_grow(const argument *a)
+{
+    return lezgauri_grow((lezgauri_handle *)a[1].at, 0, (size_t *)a[0].at);
+}
+
+static uint32_t make_size(const argument *a)
+{
+    return lezgauri_size((lezgauri_handle *)a[1].at, (size_t *)a[0].at);
+}
+
+static uint32_t make_free_memory(const argument *a)
+{
+    return lezgauri_free_memory((lezgauri_handle *)a[2].at, (size_t *)a[0].at, (size_t *)a[1].at);
+}
+
+static uint32_t make_image(const argument *a)
+{
+    return lezgauri_image((lezgauri_handle *)a[1].at, (lezgauri_bytes *)a[0].at);
+}
+
 static uint32_t make_run_on(const argument *a)
 {
     return lezgauri_run_on((lezgauri_handle *)a[6].at, a[4].at, a[4].len, a[5].at, a[5].len, a[3].at, a[3].len,
@@ -615,6 +966,21 @@ static uint32_t make_save(const argument *a)
     return lezgauri_save((lezgauri_handle *)a[2].at, a[1].at, a[1].len, (size_t *)a[0].at);
 }
 
+static uint32_t make_types(const argument *a)
+{
+    return lezgauri_types((lezgauri_handle *)a[2].at, (lezgauri_type *)a[1].at, a[1].len / sizeof(lezgauri_type), (size_t *)a[0].at);
+}
+
+static uint32_t make_assemble(const argument *a)
+{
+    return lezgauri_assemble(a[3].at, a[3].len, a[2].at, a[2].len, (size_t *)a[1].at, (lezgauri_fault *)a[0].at);
+}
+
+static uint32_t make_print(const argument *a)
+{
+    return lezgauri_print(a[3].at, a[3].len, a[2].at, a[2].len, (size_t *)a[1].at, (lezgauri_fault *)a[0].at);
+}
+
 /* Whether a refused call wrote *fault, which then has the status, or *handle or *prepared, which then is null. */
 typedef enum telling { TOLD, UNTOLD, EITHER } telling;
 
@@ -640,7 +1006,7 @@ static void refused(const call *of, const char *how, const char *with, const arg
         lezgauri_fault *fault = (lezgauri_fault *)of->arguments[0].at;
         told_in(name, (uint8_t *)fault, sizeof *fault, fault->number == status && fault->client == LEZGAURI_NO_CLIENT, fault_is);
     }
-    if (of->make == make_open || of->make == make_prepare) {
+    if (of->make == make_open || of->make == make_open_in || of->make == make_prepare) {
         lezgauri_handle **handle = (lezgauri_handle **)of->arguments[1].at;
         told_in(name, (uint8_t *)handle, sizeof *handle, *handle == NULL, handle_is);
     }
@@ -735,6 +1101,8 @@ static void lay_out(call *of)
             memcpy(argument->at, image, image_len);
         } else if (strcmp(argument->name, "client") == 0) {
             memcpy(argument->at, client, client_len);
+        } else if (strcmp(argument->name, "text") == 0) {
+            memcpy(argument->at, text, text_len);
         } else if (strcmp(argument->name, "clients") == 0) {
             memcpy(argument->at, &(lezgauri_bytes){client, client_len}, sizeof(lezgauri_bytes));
         }
@@ -747,7 +1115,10 @@ static void lay_out(call *of)
 #define CLIENT {"client", NULL, client_len, 1, false, false, true, false}
 #define INPUT {"input", NULL, 16, 1, false, false, true, false}
 #define OUTPUT {"output", NULL, 16, 1, true, false, true, false}
-#define SEGMENT {"segment", (uint8_t *)handle, image_len, 1, true, false, false, false}
+#define SEGMENT {"segment", (uint8_t *)handle, 16, 1, true, false, false, false}
+/* isn't passed, but belongs to the segment */
+#define ITS_IMAGE {"image of the segment", (uint8_t *)image_of(handle), image_len, 1, true, true, false, false}
+#define HANDLE {"handle", NULL, sizeof(lezgauri_handle *), alignof(lezgauri_handle *), true, false, false, false}
 
 static void arguments(void)
 {
@@ -772,45 +1143,81 @@ static void arguments(void)
         {"open",
          make_open,
          3,
-         {FAULT, {"handle", NULL, sizeof(lezgauri_handle *), alignof(lezgauri_handle *), true, false, false, false}, IMAGE},
+         {FAULT, HANDLE, IMAGE},
          true,
          0},
+        {"open in", make_open_in, 3, {FAULT, HANDLE, {"memory", NULL, image_len, 1, true, false, true, true}}, true, 0},
+        {"grow", make_grow, 3, {PLACE(size_t, "size"), SEGMENT, ITS_IMAGE}, false, 2},
+        {"size", make_size, 3, {{"size", NULL, sizeof(size_t), alignof(size_t), true, false, false, false}, SEGMENT, ITS_IMAGE}, false, 2},
+        {"free memory", make_free_memory, 4, {PLACE(size_t, "all"), PLACE(size_t, "largest"), SEGMENT, ITS_IMAGE}, false, 2},
+        {"image",
+         make_image,
+         3,
+         {{"bytes", NULL, sizeof(lezgauri_bytes), alignof(lezgauri_bytes), true, false, false, false}, SEGMENT, ITS_IMAGE},
+         false,
+         2},
         {"run on",
          make_run_on,
-         7,
-         {FAULT, PLACE(size_t, "written"), PLACE(lezgauri_report, "report"), OUTPUT, CLIENT, INPUT, SEGMENT},
+         8,
+         {FAULT, PLACE(size_t, "written"), PLACE(lezgauri_report, "report"), OUTPUT, CLIENT, INPUT, SEGMENT, ITS_IMAGE},
          true,
-         1},
+         2},
         {"run whole",
          make_run_whole,
-         7,
-         {FAULT, PLACE(size_t, "needed"), PLACE(lezgauri_report, "report"), OUTPUT, CLIENT, INPUT, SEGMENT},
+         8,
+         {FAULT, PLACE(size_t, "needed"), PLACE(lezgauri_report, "report"), OUTPUT, CLIENT, INPUT, SEGMENT, ITS_IMAGE},
          true,
-         1},
+         2},
         {"prepare",
          make_prepare,
-         4,
-         {FAULT, {"prepared", NULL, sizeof(lezgauri_client *), alignof(lezgauri_client *), true, false, false, false}, CLIENT, SEGMENT},
+         5,
+         {FAULT,
+          {"prepared", NULL, sizeof(lezgauri_client *), alignof(lezgauri_client *), true, false, false, false},
+          CLIENT,
+          SEGMENT,
+          ITS_IMAGE},
          true,
-         1},
+         2},
         {"run client",
          make_run_client,
-         7,
+         8,
          {FAULT,
           PLACE(size_t, "written"),
           PLACE(lezgauri_report, "report"),
           OUTPUT,
           INPUT,
           {"prepared", (uint8_t *)prepared, client_len, 1, true, false, false, false},
-          SEGMENT},
+          SEGMENT,
+          ITS_IMAGE},
          true,
-         2},
+         3},
         {"save",
          make_save,
-         3,
-         {PLACE(size_t, "needed"), {"buffer", NULL, image_len, 1, true, false, true, false}, SEGMENT},
+         4,
+         {PLACE(size_t, "needed"), {"buffer", NULL, image_len, 1, true, false, true, false}, SEGMENT, ITS_IMAGE},
          false,
-         1},
+         2},
+        {"types",
+         make_types,
+         4,
+         {PLACE(size_t, "needed"), {"types", NULL, sizeof(lezgauri_type), 1, true, false, true, false}, SEGMENT, ITS_IMAGE},
+         false,
+         2},
+        {"assemble",
+         make_assemble,
+         4,
+         {FAULT,
+          PLACE(size_t, "needed"),
+          {"buffer", NULL, client_len, 1, true, false, true, false},
+          {"text", NULL, text_len, 1, false, false, true, false}},
+         true,
+         0},
+        {"print",
+         make_print,
+         4,
+         {FAULT, PLACE(size_t, "needed"), {"buffer", NULL, text_len, 1, true, false, true, false}, CLIENT},
+         true,
+         0},
     };
     block_len = 4 * image_len + 4096;
     block = aligned_alloc(16, (block_len + 15) / 16 * 16);
@@ -897,8 +1304,20 @@ static void use_meanwhile(size_t request)
            lezgauri_run_client(shared, shared_client, NULL, 0, output, 3, &count, NULL, &fault), LEZGAURI_BUSY);
     expect("run client on a busy segment: written", count, 7);
     expect("save of a busy segment, no room", lezgauri_save(shared, saved, 1, NULL), LEZGAURI_TOO_SMALL);
+    lezgauri_type types[LEZGAURI_MOST_TYPES];
+    expect("types of a busy segment", lezgauri_types(shared, types, LEZGAURI_MOST_TYPES, &count), LEZGAURI_BUSY);
+    expect("types of a busy segment: needed", count, 7);
     uint8_t whole[4096];
     expect("save of a busy segment", lezgauri_save(shared, whole, image_len, NULL), LEZGAURI_BUSY);
+    lezgauri_bytes bytes = {NULL, 7};
+    expect("image of a busy segment", lezgauri_image(shared, &bytes), LEZGAURI_BUSY);
+    expect("image of a busy segment: length", bytes.len, 7);
+    count = 7;
+    expect("grow of a busy segment", lezgauri_grow(shared, 16, &count), LEZGAURI_BUSY);
+    expect("shrink of a busy segment", lezgauri_shrink(shared, &count), LEZGAURI_BUSY);
+    expect("free memory of a busy segment", lezgauri_free_memory(shared, &count, NULL), LEZGAURI_BUSY);
+    expect("busy segment: count", count, 7);
+    expect("size of a busy segment", size_of(shared), image_len);
 }
 
 /* While a call that requests memory runs, each other call on its segment returns LEZGAURI_BUSY. */
@@ -1029,6 +1448,14 @@ int main(int argc, char **argv)
     run_client_calls();
     client_types();
     save_calls();
+    open_in_calls();
+    read_only();
+    create_calls();
+    grow_calls();
+    print_calls();
+    assemble_calls();
+    types_calls();
+    text_calls();
     arguments();
     changing_image();
     busy_calls();
@@ -1036,6 +1463,7 @@ int main(int argc, char **argv)
     client_threads();
     free(image);
     free(client);
+    free(text);
     printf("%d calls and results, %d wrong\n", made, wrong);
     return wrong > 0;
 }

@@ -205,6 +205,8 @@ static void names()
         {lz::status::misplaced, "Misplaced"},
         {lz::status::bad_type, "BadType"},
         {lz::status::type_mismatch, "TypeMismatch"},
+        {lz::status::bad_size, "BadSize"},
+        {lz::status::no_host_room, "NoHostRoom"},
         {lz::status::bad_header, "BadHeader"},
         {lz::status::bad_block, "BadBlock"},
         {lz::status::bad_free, "BadFree"},
@@ -214,6 +216,7 @@ static void names()
         {lz::status::unowned, "Unowned"},
         {lz::status::bad_value, "BadValue"},
         {lz::status::bad_code, "BadCode"},
+        {lz::status::bad_line, "BadLine"},
         {lz::status::rejected, "Rejected"},
         {lz::status::too_long, "TooLong"},
         {lz::status::bad_argument, "BadArgument"},
@@ -223,12 +226,18 @@ static void names()
     };
     for (const auto &[status, wanted] : statuses) {
         expect("name of a status", lz::name(status) == wanted);
+        expect("text of a status", lz::text(status) != std::string_view("unknown status"));
     }
     static const std::string_view reasons[] = {"None", "WrongOperand", "OwnerLost", "PutIntoItself", "ChangedInLoop"};
     for (std::uint32_t number = 0; number < std::size(reasons); number++) {
         expect("name of a reason", lz::name(lz::reason(number)) == reasons[number]);
     }
+    expect("text of a reason", lz::text(lz::reason::owner_lost) ==
+                                   std::string_view("an owned object must not be lost: PUT it into an own, FREEZE it or DROP it"));
     expect("no status", lz::name(lz::status(99)).empty() && lz::name(lz::reason(99)).empty());
+    expect("no status: text", lz::text(lz::status(99)) == std::string_view("unknown status"));
+    expect("no reason: text", lz::text(lz::reason::none) == std::string_view("unknown reason"));
+    expect("version", lz::version() == std::string_view(LEZGAURI_VERSION));
     expect("position", lz::has_position(lz::status::rejected) && !lz::has_position(lz::status::memory));
     expect("text: header", lz::fault_text(image_fault(lz::status::bad_header)).view() == "lezgauri: BadHeader (10)");
     expect("text: client", lz::fault_text(client_fault(lz::status::rejected, 3, lz::reason::owner_lost, 1)).view() ==
@@ -396,6 +405,48 @@ static void segments()
     expect("refused: as before", x_of<Policy>(segment) == 45);
 }
 
+// Segments in the caller's memory, new segments, and their size.
+template <class Policy>
+static void sizes()
+{
+    const lz::fault argument = image_fault(lz::status::bad_argument);
+    const lz::fault no_size = image_fault(lz::status::bad_size);
+    const lz::fault no_room = image_fault(lz::status::no_host_room);
+    char output[3];
+    Bytes lent = image;
+    lent.resize(image.size() + 64);
+    REFUSED(image_fault(lz::status::bad_header), lz::open_in<Policy>(lent));
+    REFUSED(argument, lz::open_in<Policy>(lent, lent.size() + 1));
+    {
+        auto segment = VALUE(lz::open_in<Policy>(lent, image.size()));
+        const lz::ran did = VALUE(segment.run_on(increment, {}, output));
+        expect("open in", did.written == 3 && lent[X] == 42 && x_of<Policy>(segment) == 42);
+        const lz::const_bytes bytes = VALUE(segment.image());
+        expect("image", static_cast<const void *>(bytes.data()) == lent.data() && bytes.size() == image.size());
+        const std::size_t all = VALUE(segment.free_memory()).all;
+        REFUSED(no_size, segment.grow(8));
+        REFUSED(no_room, segment.grow(80));
+        expect("grow", VALUE(segment.grow(64)) == lent.size() && VALUE(segment.size()) == lent.size());
+        expect("free memory", VALUE(segment.free_memory()).all == all + 64 && VALUE(segment.free_memory()).largest >= 64);
+        VALUE(lz::check<Policy>(lent));
+        expect("shrink", VALUE(segment.shrink()) <= image.size());
+    }
+    auto again = VALUE(lz::open_in<Policy>({lent.data(), image.size()}));
+    expect("open in: again", x_of<Policy>(again) == 42);
+
+    auto segment = VALUE(lz::create<Policy>(4096));
+    expect("create", VALUE(segment.size()) == 4096 && VALUE(segment.free_memory()).largest == 4096 - 704);
+    const lz::const_bytes made_image = VALUE(segment.image());
+    expect("create: kinds", made_image.data()[16] == std::byte{1} && made_image.data()[20] == std::byte{1});
+    expect("create: shrink", VALUE(segment.shrink()) == 736 && VALUE(segment.grow(1 << 20)) == 736 + (1 << 20));
+    REFUSED(no_size, lz::create<Policy>(735));
+    REFUSED(argument, lz::create<Policy>(4096, lz::allocator_kind(2)));
+    REFUSED(argument, lz::create<Policy>(4096, lz::allocator_kind::seq_fit, lz::index_kind(2)));
+    REFUSED(no_room, lz::create_in<Policy>({lent.data(), 735}, 736));
+    segment = VALUE(lz::create_in<Policy>(lent, 736, lz::allocator_kind::seq_fit, lz::index_kind::flat));
+    expect("create in", lent[16] == 0 && lent[20] == 0 && VALUE(segment.grow(64)) == 800);
+}
+
 template <class Policy>
 static void clients()
 {
@@ -431,6 +482,46 @@ static void clients()
     expect("run client: its segment is closed", x_of<Policy>(other) == 43);
 }
 
+// The client is printed, and its text assembled again.
+template <class Policy>
+static void conversions()
+{
+    Bytes text(1024);
+    lz::converted did = VALUE(lz::print<Policy>(increment, text));
+    expect("print", !did.is_full && did.needed <= text.size());
+    text.resize(did.needed);
+    Bytes file(increment.size());
+    did = VALUE(lz::assemble<Policy>(text, {file.data(), file.size() - 1}));
+    expect("assemble: too small", did.is_full && did.needed == increment.size() && file == Bytes(file.size()));
+    did = VALUE(lz::assemble<Policy>(text, file));
+    expect("assemble", !did.is_full && did.needed == increment.size() && file == increment);
+    did = VALUE(lz::print<Policy>(increment, {}));
+    expect("print: no room", did.is_full && did.needed == text.size());
+    const lz::fault argument = image_fault(lz::status::bad_argument);
+    REFUSED(image_fault(lz::status::bad_line, 2), lz::assemble<Policy>(std::string_view("type i64\nno line\n"), file));
+    REFUSED(client_fault(lz::status::bad_code), lz::print<Policy>(image, text));
+    REFUSED(argument, lz::assemble<Policy>({nullptr, 1}, file));
+    REFUSED(argument, lz::print<Policy>(increment, increment));
+}
+
+// A client adds a second type to the image's.
+template <class Policy>
+static void type_tables()
+{
+    auto segment = opened<Policy>();
+    lz::type_table table = VALUE(segment.types());
+    expect("types", table.size() == 1 && lz::kind_of(table[0]) == lz::kind::i64 && table[0].count == 0);
+    const lz::ran did = VALUE(segment.run_on(numbers_and_texts));
+    table = VALUE(segment.types());
+    std::string kinds;
+    for (const lz::type &type : table) {
+        kinds += static_cast<char>('0' + type.kind);
+    }
+    expect("types: another one", !did.is_full && kinds == "12" && table.data() == table.begin());
+    segment.close();
+    REFUSED(image_fault(lz::status::bad_argument), segment.types());
+}
+
 // Handles that are empty refuse each call. Handles that are moved keep what they own.
 template <class Policy, class Other>
 static void moves()
@@ -446,6 +537,10 @@ static void moves()
     expect("moved", moved_segment.get() == handle && moved_client.get() == prepared && bool(moved_segment) && bool(moved_client));
     expect("moved from", !segment && !client && segment.get() == nullptr && client.get() == nullptr);
     REFUSED(argument, segment.size());
+    REFUSED(argument, segment.grow(16));
+    REFUSED(argument, segment.shrink());
+    REFUSED(argument, segment.free_memory());
+    REFUSED(argument, segment.image());
     REFUSED(argument, segment.save(output));
     REFUSED(argument, segment.prepare(increment));
     REFUSED(argument, segment.run_on(increment, {}, output));
@@ -511,6 +606,14 @@ static void files()
         REFUSED(image_fault(lz::status::bad_header), lz::check<Policy>(file.bytes()));
     }
     {
+        auto file = VALUE(lz::map_file<Policy>(file_name, lz::file_access::read_write));
+        auto segment = VALUE(lz::open_in<Policy>(file.room()));
+        char output[24];
+        const int x = x_of<Policy>(segment);
+        const lz::ran did = VALUE(segment.run_on(increment, {}, output));
+        expect("map: open in", did.written == 3 && read_file(file_name)[X] == x + 1);
+    }
+    {
         auto file = VALUE(lz::map_file<Policy>(file_name, lz::file_access::read));
         auto segment = VALUE(lz::open<Policy>(file.bytes()));
         REFUSED(image_fault(lz::status::too_small), segment.save(file.room()));
@@ -567,6 +670,10 @@ static void memory()
     each_request<Policy>("memory of verify", [] { return lz::verify<Policy>(image, increment); });
     each_request<Policy>("memory of run", [&] { return lz::run<Policy>(image, one, {}, output, saved); });
     each_request<Policy>("memory of open", [] { return lz::open<Policy>(image); });
+    Bytes lent = image;
+    each_request<Policy>("memory of open in", [&] { return lz::open_in<Policy>(lent); });
+    each_request<Policy>("memory of create", [] { return lz::create<Policy>(4096); });
+    each_request<Policy>("memory of grow", [&] { return segment.grow(4096); });
     each_request<Policy>("memory of prepare", [&] { return segment.prepare(increment); });
     each_request<Policy>("memory of run on", [&] { return segment.run_on(increment, {}, output); });
     each_request<Policy>("memory of run whole", [&] { return segment.run_whole(increment, {}, output); });
@@ -588,6 +695,10 @@ struct shared {
         REFUSED(busy, segment.run_whole(increment, {}, output));
         REFUSED(busy, segment.prepare(increment));
         REFUSED(busy, segment.save(saved));
+        REFUSED(busy, segment.grow(16));
+        REFUSED(busy, segment.shrink());
+        REFUSED(busy, segment.free_memory());
+        REFUSED(busy, segment.image());
         REFUSED(busy, client(segment, {}, output));
         expect("size of a busy segment", VALUE(segment.size()) == image.size());
     }
@@ -649,7 +760,15 @@ static void results_namespace()
     lz::expected<quiet::client> client = segment->prepare(increment);
     static_assert(noexcept((*client)(*segment)) && noexcept(segment->save(saved)));
     expect("results: run client", (*client)(*segment, {}, output).value().written == 3);
+    Bytes lent(1600);
+    static_assert(noexcept(quiet::create(736)) && noexcept(segment->grow(16)) && noexcept(segment->image()));
+    expect("results: create", quiet::create(736)->size().value() == 736 && !quiet::create(735));
+    expect("results: create in", quiet::create_in(lent, 1600)->size().value() == 1600);
+    expect("results: open in", bool(quiet::open_in(lent)) && !quiet::open_in(lent, 800));
     expect("results: refused", !segment->prepare({}) && !segment->prepare({}).has_value());
+    char text[1024];
+    static_assert(noexcept(segment->types()) && noexcept(quiet::assemble({}, {})) && noexcept(quiet::print({}, {})));
+    expect("results: print", quiet::print(increment, text)->needed > 0 && quiet::assemble({}, {})->needed == 20);
     const lz::expected<quiet::mapped_file, std::error_code> file = quiet::map_file(file_name, lz::file_access::read);
     expect("results: map", file.has_value() && file->size() == image.size());
 }
@@ -708,7 +827,10 @@ static void all()
     images<Policy>();
     runs<Policy>();
     segments<Policy>();
+    sizes<Policy>();
     clients<Policy>();
+    conversions<Policy>();
+    type_tables<Policy>();
     moves<Policy, Other>();
     files<Policy>();
     memory<Policy>();

@@ -49,6 +49,11 @@ read -ra flags_of_static <<< "$(pkg-config --static --cflags --libs lezgauri)"
 cc -std=c11 -Wall -Wextra -Werror -o "$work/shared.counter" "$root/examples/c/counter.c" "${flags[@]}"
 c++ -std=c++11 -Wall -Wextra -Werror -o "$work/shared.cache" "$root/examples/c/cache.cpp" "${flags[@]}"
 LD_LIBRARY_PATH=$prefix/lib runs shared
+c++ -std=c++17 -Wall -Wextra -Werror -o "$work/shared.mapped" "$root/examples/cpp/counter.cpp" "${flags[@]}"
+cp "$root/examples/counter.image" "$work/mapped.image"
+chmod u+w "$work/mapped.image"
+LD_LIBRARY_PATH=$prefix/lib "$work/shared.mapped" "$work/mapped.image" "$root/examples/increment.client" > "$work/mapped.out"
+printf '%s\n' "6 steps: 42" "6 steps: 43" "6 steps: 44" | diff - "$work/mapped.out"
 cc -std=c11 -static -o "$work/static.counter" "$root/examples/c/counter.c" "${flags_of_static[@]}"
 c++ -std=c++11 -static -o "$work/static.cache" "$root/examples/c/cache.cpp" "${flags_of_static[@]}"
 runs static

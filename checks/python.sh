@@ -16,7 +16,7 @@ case $library in
 esac
 export LEZGAURI_LIBRARY=$work/liblezgauri.so PYTHONPATH=$root/python PYTHONDONTWRITEBYTECODE=1
 
-sed -nE 's/^(uint32_t|void) (lezgauri_[a-z_]+)\(.*/\2/p' "$root/crates/lezgauri_c/include/lezgauri.h" | sort > "$work/calls"
+sed -nE 's/^(uint32_t |void |const char \*)(lezgauri_[a-z_]+)\(.*/\2/p' "$root/crates/lezgauri_c/include/lezgauri.h" | sort > "$work/calls"
 nm -D --defined-only "$LEZGAURI_LIBRARY" | awk '{ print $3 }' | sort > "$work/exports"
 diff "$work/calls" "$work/exports"
 
@@ -39,9 +39,9 @@ diff "$work/counter.wanted" "$work/out"
 # a client that isn't one, and an image that isn't one
 status=0
 "${counter[@]}" "$work/image" "$root/examples/increment.text" 2> "$work/err" || status=$?
-[ "$status" = 1 ] && grep -qx "BAD_CODE at byte 0 of client 0" "$work/err"
+[ "$status" = 1 ] && grep -qx "BAD_CODE at byte 0 of client 0: a field .*" "$work/err"
 cp "$root/examples/increment.client" "$work/image"
 status=0
 "${counter[@]}" "$work/image" "$root/examples/increment.client" 2> "$work/err" || status=$?
-[ "$status" = 1 ] && grep -qx "BAD_HEADER" "$work/err"
+[ "$status" = 1 ] && grep -qx "BAD_HEADER: the image's header or its length is wrong" "$work/err"
 echo "the shared library exports the calls of lezgauri.h, and the example for Python prints what it should"

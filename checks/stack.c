@@ -25,6 +25,7 @@ typedef struct work {
     lezgauri_handle *segment;
     lezgauri_client *prepared;
     char *output;
+    size_t text_len; /* of the client's text, in `output` */
     uint32_t status;
 } work;
 
@@ -67,6 +68,66 @@ static void *open_segment(void *given)
     work *of = given;
     lezgauri_fault fault;
     of->status = lezgauri_open(of->image, of->len, &of->segment, &fault);
+    return NULL;
+}
+
+static void *open_in(void *given)
+{
+    work *of = given;
+    lezgauri_fault fault;
+    lezgauri_handle *there;
+    memcpy(of->saved, of->image, of->len);
+    of->status = lezgauri_open_in(of->saved, of->len, of->len, &there, &fault);
+    lezgauri_close(there);
+    return NULL;
+}
+
+static void *create(void *given)
+{
+    work *of = given;
+    lezgauri_handle *made;
+    of->status = lezgauri_create(of->len, LEZGAURI_BEST_FIT, LEZGAURI_TREE_INDEX, &made);
+    lezgauri_close(made);
+    return NULL;
+}
+
+static void *grow(void *given)
+{
+    work *of = given;
+    size_t size;
+    of->status = lezgauri_grow(of->segment, 4096, &size);
+    return NULL;
+}
+
+static void *free_memory(void *given)
+{
+    work *of = given;
+    size_t all, largest;
+    of->status = lezgauri_free_memory(of->segment, &all, &largest);
+    return NULL;
+}
+
+static void *shrink(void *given)
+{
+    work *of = given;
+    size_t size;
+    of->status = lezgauri_shrink(of->segment, &size);
+    return NULL;
+}
+
+static void *size_of(void *given)
+{
+    work *of = given;
+    size_t size;
+    of->status = lezgauri_size(of->segment, &size);
+    return NULL;
+}
+
+static void *image_of(void *given)
+{
+    work *of = given;
+    lezgauri_bytes bytes;
+    of->status = lezgauri_image(of->segment, &bytes);
     return NULL;
 }
 
@@ -125,6 +186,30 @@ static void *save(void *given)
     return NULL;
 }
 
+static void *types(void *given)
+{
+    work *of = given;
+    lezgauri_type found[LEZGAURI_MOST_TYPES];
+    of->status = lezgauri_types(of->segment, found, LEZGAURI_MOST_TYPES, NULL);
+    return NULL;
+}
+
+static void *print(void *given)
+{
+    work *of = given;
+    lezgauri_fault fault;
+    of->status = lezgauri_print(of->client.bytes, of->client.len, of->output, MOST_OUTPUT, &of->text_len, &fault);
+    return NULL;
+}
+
+static void *assemble(void *given)
+{
+    work *of = given;
+    lezgauri_fault fault;
+    of->status = lezgauri_assemble(of->output, of->text_len, of->saved, of->len, NULL, &fault);
+    return NULL;
+}
+
 static void *close_segment(void *given)
 {
     work *of = given;
@@ -143,12 +228,22 @@ static const struct {
     {"lezgauri_verify", verify, LEZGAURI_STACK_CHECK},
     {"lezgauri_run", run, LEZGAURI_STACK_CHECK},
     {"lezgauri_open", open_segment, LEZGAURI_STACK_CHECK},
+    {"lezgauri_open_in", open_in, LEZGAURI_STACK_CHECK},
+    {"lezgauri_create", create, LEZGAURI_STACK_RUN},
     {"lezgauri_run_on", run_on, LEZGAURI_STACK_RUN},
     {"lezgauri_run_whole", run_whole, LEZGAURI_STACK_RUN},
     {"lezgauri_prepare", prepare, LEZGAURI_STACK_RUN},
     {"lezgauri_run_client", run_client, LEZGAURI_STACK_RUN},
     {"lezgauri_client_close", close_client, LEZGAURI_STACK_SAVE},
     {"lezgauri_save", save, LEZGAURI_STACK_SAVE},
+    {"lezgauri_size", size_of, LEZGAURI_STACK_SAVE},
+    {"lezgauri_image", image_of, LEZGAURI_STACK_SAVE},
+    {"lezgauri_grow", grow, LEZGAURI_STACK_RUN},
+    {"lezgauri_free_memory", free_memory, LEZGAURI_STACK_RUN},
+    {"lezgauri_shrink", shrink, LEZGAURI_STACK_RUN},
+    {"lezgauri_types", types, LEZGAURI_STACK_SAVE},
+    {"lezgauri_print", print, LEZGAURI_STACK_TEXT},
+    {"lezgauri_assemble", assemble, LEZGAURI_STACK_TEXT},
     {"lezgauri_close", close_segment, LEZGAURI_STACK_SAVE},
 };
 

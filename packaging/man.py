@@ -175,8 +175,8 @@ def comment_text(found):
 
 def functions(declaration):
     """The prototypes of a declaration: the type of the result, the name, and the parameters."""
-    for result, name, parameters in re.findall(r"(?s)^(\w+) (\w+)\((.*?)\);", declaration):
-        yield result, name, [" ".join(it.split()) for it in parameters.split(",")]
+    for result, name, parameters in re.findall(r"(?s)^([\w ]+ \**)(\w+)\((.*?)\);", declaration):
+        yield result.strip(), name, [" ".join(it.split()) for it in parameters.split(",")]
 
 
 def prototype(result, name, parameters):
@@ -215,7 +215,7 @@ def kind_of(declaration):
         ("type", r"typedef struct (\w+) \w+;"),
         ("enum", r"enum (\{)"),
         ("define", r"#define (\w+) "),
-        ("function", r"\w+ (\w+)\("),
+        ("function", r"[\w ]+ \**(\w+)\("),
     ):
         found = re.match(pattern, declaration)
         if found:
@@ -235,17 +235,13 @@ def lezgauri():
     lines += [".Sh SYNOPSIS", ".In lezgauri.h"]
     lines += [line for it in prototypes for line in prototype(*it)]
     lines += [".Sh DESCRIPTION", *introduction(paragraphs(re.match(r"(?s)/\*(.*?)\*/", text)[1]))]
-    returned = []
+    # the first enum has the statuses
+    returned, *enums = [[*comment_text(comment), *constants(text)] for kind, _, comment, text in all_pieces if kind == "enum"]
+    defines = [line for kind, name, comment, _ in all_pieces if kind == "define" for line in (f".It Dv {name}", *comment_text(comment))]
+    lines += [".Ss Constants", *enums[0], *(line for it in enums[1:] for line in (".Pp", *it)), ".Pp", "Others:"]
+    lines += [".Bl -tag -width Ds", *defines, ".El"]
     for kind, name, comment, declaration in all_pieces:
-        if kind == "enum":
-            told = [*comment_text(comment), *constants(declaration)]
-            if returned:
-                lines += [".Ss Constants", *told]
-            else:
-                returned = told
-        elif kind == "define":
-            lines += [".Bl -tag -width Ds", f".It Dv {name}", *comment_text(comment), ".El"]
-        else:
+        if kind not in ("enum", "define"):
             lines += [f".Ss {name}", *comment_text(comment), *(fields(declaration) if kind == "struct" else [])]
     lines += [".Sh RETURN VALUES", *returned, ".Sh SEE ALSO", ".Xr segtool 1"]
     return "\n".join(lines) + "\n"

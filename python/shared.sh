@@ -7,7 +7,7 @@ work=$(mktemp -d)
 trap 'rm -rf "$work"' EXIT
 {
   echo "{ global:"
-  sed -nE 's/^(uint32_t|void) (lezgauri_[a-z_]+)\(.*/  \2;/p' "$header"
+  sed -nE 's/^(uint32_t |void |const char \*)(lezgauri_[a-z_]+)\(.*/  \2;/p' "$header"
   echo "local: *; };"
 } > "$work/public"
 ${CC:-cc} -shared -Wl,-Bsymbolic -Wl,-z,defs -Wl,--version-script="$work/public" -o "$2" \

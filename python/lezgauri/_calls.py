@@ -10,11 +10,16 @@ from types import TracebackType
 from typing import Any, Callable, Iterable, Optional, Tuple, Type, Union
 
 from ._buffers import Buffer, View, WritableBuffer
-from ._errors import Closed, OutputFull, Status, TooSmall
-from ._library import CBytes, CFault, CReport, library, refuse
+from ._errors import BadArgument, BadSize, Closed, OutputFull, Status, TooSmall
+from ._library import MOST_TYPES, CBytes, CFault, CReport, CType, library, refuse
+from ._types import Kind
+from ._types import Type as SegmentType
 
 # The bytes of room for an output if the caller gives neither a buffer nor a capacity.
 CAPACITY = 65536
+
+# No segment has as many bytes. A larger number isn't passed on, since it may not fit C's size_t.
+_MOST = 2**31
 
 
 class Ended(enum.IntEnum):
@@ -22,6 +27,32 @@ class Ended(enum.IntEnum):
 
     DONE = 0  # it ran to the end of its code
     OUTPUT_FULL = 1  # the output had no room for what it printed, and it stopped there
+
+
+class AllocatorKind(enum.IntEnum):
+    """The allocators of a segment."""
+
+    SEQ_FIT = 0  # sequential fit: the first free block that is large enough
+    BEST_FIT = 1  # best fit: the smallest one
+
+
+class IndexKind(enum.IntEnum):
+    """The indexes of a segment, which find objects by name."""
+
+    FLAT = 0  # a sorted array
+    TREE = 1
+
+
+@dataclass(frozen=True)
+class FreeMemory:
+    """The free memory of a segment in bytes, with 16 for the header of each free block.
+
+    all      all free blocks together
+    largest  the largest free block
+    """
+
+    all: int
+    largest: int
 
 
 @dataclass(frozen=True)
@@ -151,23 +182,119 @@ class _Closeable:
 
 
 class Segment(_Closeable):
-    """An open segment: a copy of an image, which is checked once for many runs. `close()` or the end of a `with` block frees it.
+    """An open segment, whose image is checked once for many runs. `close()` or the end of a `with` block frees it.
 
-    Raises Fault if the image isn't sound, and OutOfMemory if there is no memory for the copy. The image's bytes may change while
-    they are copied: the copy is checked."""
+    Segment(image)          a copy of an image
+    Segment.open_in(memory) an image where it is
+    Segment.create(size)    a new segment without objects or types
+
+    Segment(image) raises Fault if the image isn't sound, and OutOfMemory if there is no memory for the copy. The image's bytes may
+    change while they are copied: the copy is checked."""
 
     def __init__(self, image: Buffer) -> None:
         calls = library()
         address, fault = c_void_p(), CFault()
         with View(image, "image") as of:
             refuse(calls.lezgauri_open(of.address, of.size, byref(address), byref(fault)), fault)
-            self._size = of.size
         self._handle = _Handle("segment", address.value or 0, calls.lezgauri_close)
+
+    @classmethod
+    def open_in(cls, memory: WritableBuffer, size: Optional[int] = None) -> "Segment":
+        """Opens the image in the first `size` bytes of a writable buffer, or in all of it, where it is: it is checked there, and
+        nothing is copied. Runs change the buffer, for example a file of `open_file`, and `grow` uses the rest of it. Until the
+        segment is closed, the buffer can't be closed or resized.
+
+        Only calls of this library may write the buffer until then. Other segments on the same memory, also of other processes, may
+        be used between the calls of this one, if they don't change the image's size: lock the file, and open the segment anew if you
+        don't trust the others. If a crash interrupts a run, the buffer is half changed.
+
+        Raises Fault if the image isn't sound, OutOfMemory, and BadArgument if the buffer is shorter than `size`."""
+        calls = library()
+        address, fault = c_void_p(), CFault()
+        with contextlib.ExitStack() as held:
+            of = held.enter_context(View(memory, "memory", writable=True))
+            length = of.size if size is None else operator.index(size)
+            if not 0 <= length <= of.size:
+                raise BadArgument(f"the buffer has {of.size} bytes, and the image {length}")
+            refuse(calls.lezgauri_open_in(of.address, length, of.size, byref(address), byref(fault)), fault)
+            return cls._made(address, held.pop_all())
+
+    @classmethod
+    def create(
+        cls,
+        size: int,
+        allocator: AllocatorKind = AllocatorKind.BEST_FIT,
+        index: IndexKind = IndexKind.TREE,
+        *,
+        memory: Optional[WritableBuffer] = None,
+    ) -> "Segment":
+        """Makes a segment of `size` bytes without objects or types, in its own memory or at the start of a writable buffer, where it
+        stays as after `open_in`. All of the first `size` bytes of the buffer are written.
+
+        Raises BadSize if `size` isn't a multiple of 16 from 736 to 2^30, NoHostRoom if the buffer is shorter, and OutOfMemory. Then
+        the buffer is unchanged."""
+        calls = library()
+        address = c_void_p()
+        length = operator.index(size)
+        if length < 0:
+            raise BadSize(Status.BAD_SIZE)
+        length = min(length, _MOST)
+        kinds = (AllocatorKind(allocator), IndexKind(index))
+        with contextlib.ExitStack() as held:
+            if memory is None:
+                refuse(calls.lezgauri_create(length, *kinds, byref(address)))
+            else:
+                of = held.enter_context(View(memory, "memory", writable=True))
+                refuse(calls.lezgauri_create_in(of.address, of.size, length, *kinds, byref(address)))
+            return cls._made(address, held.pop_all())
+
+    @classmethod
+    def _made(cls, address: c_void_p, held: contextlib.ExitStack) -> "Segment":
+        """A segment whose memory is held until it is closed."""
+        close = library().lezgauri_close
+
+        def free(handle: int) -> None:
+            close(handle)
+            held.close()
+
+        segment = cls.__new__(cls)
+        segment._handle = _Handle("segment", address.value or 0, free)
+        return segment
 
     @property
     def size(self) -> int:
         """The bytes of the segment's image."""
-        return self._size
+        length = c_size_t()
+        with _held(self, Segment) as handle:
+            refuse(library().lezgauri_size(handle, byref(length)))
+        return length.value
+
+    @property
+    def free_memory(self) -> FreeMemory:
+        """The segment's free memory. Reads the header of each block. Raises Busy."""
+        whole, largest = c_size_t(), c_size_t()
+        with _held(self, Segment) as handle:
+            refuse(library().lezgauri_free_memory(handle, byref(whole), byref(largest)))
+        return FreeMemory(whole.value, largest.value)
+
+    def grow(self, extra: int) -> int:
+        """Adds `extra` bytes of free memory at the end, and returns the new size of the image in bytes.
+
+        Raises BadSize if `extra` isn't a multiple of 16, or the new size is above 2^30; NoHostRoom if the segment is in a buffer
+        that is shorter; OutOfMemory; and Busy. Then nothing changed."""
+        more, length = operator.index(extra), c_size_t()
+        if more < 0:
+            raise BadSize(Status.BAD_SIZE)
+        with _held(self, Segment) as handle:
+            refuse(library().lezgauri_grow(handle, min(more, _MOST), byref(length)))
+        return length.value
+
+    def shrink(self) -> int:
+        """Cuts the free block at the end, and returns the new size of the image in bytes. The memory keeps its size. Raises Busy."""
+        length = c_size_t()
+        with _held(self, Segment) as handle:
+            refuse(library().lezgauri_shrink(handle, byref(length)))
+        return length.value
 
     def __enter__(self) -> "Segment":
         super().__enter__()
@@ -179,7 +306,7 @@ class Segment(_Closeable):
 
     def save(self) -> bytearray:
         """A copy of the segment's image. Raises Busy."""
-        image = bytearray(self._size)
+        image = bytearray(self.size)
         self.save_into(image)
         return image
 
@@ -195,6 +322,14 @@ class Segment(_Closeable):
             raise TooSmall(needed.value)
         refuse(status)
         return needed.value
+
+    def types(self) -> Tuple[SegmentType, ...]:
+        """The segment's types, in the order of their numbers. A client may bring more types when it runs. Raises Busy."""
+        entries, count = (CType * MOST_TYPES)(), c_size_t()
+        with _held(self, Segment) as handle:
+            refuse(library().lezgauri_types(handle, entries, MOST_TYPES, byref(count)))
+        used = entries[: count.value]
+        return tuple(SegmentType(Kind(entry.kind), tuple(entry.components[: entry.count])) for entry in used)
 
 
 class Client(_Closeable):
@@ -355,3 +490,38 @@ def run_whole(
     if status == Status.OUTPUT_FULL:
         raise OutputFull(length)
     return _result(length, report, room)
+
+
+def assemble(text: Union[str, Buffer]) -> bytes:
+    """Assembles the text of a client (docs/FORMATS.md, "Assembler text"), and returns the client's bytes.
+
+    Raises Fault with BAD_LINE if the text isn't a client's: its `position` is the line, from 1. Raises OutOfMemory."""
+    return _converted(library().lezgauri_assemble, text.encode() if isinstance(text, str) else text, "text")
+
+
+def canonical_text(client: Buffer) -> str:
+    """The text of a client, without comments and with one space between words. `assemble` returns the same client for it.
+
+    Raises Fault with BAD_CODE if the bytes aren't a client's, and OutOfMemory."""
+    return _converted(library().lezgauri_print, client, "client").decode("ascii")
+
+
+def _converted(call: Callable[..., int], data: Buffer, name: str) -> bytes:
+    """What a call makes of a client's text or bytes. It is called again if there was too little room."""
+    needed, fault = c_size_t(), CFault()
+    with View(data, name) as of:
+        made = bytearray(of.size)
+        while True:
+            with View(made, "room", writable=True) as room:
+                status = call(of.address, of.size, room.address, room.size, byref(needed), byref(fault))
+            if status != Status.TOO_SMALL:
+                break
+            made = bytearray(needed.value)
+    refuse(status, fault)
+    return bytes(made[: needed.value])
+
+
+def version() -> str:
+    """The version of the C library."""
+    text: bytes = library().lezgauri_version()
+    return text.decode("ascii")

@@ -11,6 +11,8 @@ class Status(enum.IntEnum):
     MISPLACED = 2
     BAD_TYPE = 3
     TYPE_MISMATCH = 4
+    BAD_SIZE = 5
+    NO_HOST_ROOM = 6
     BAD_HEADER = 10
     BAD_BLOCK = 11
     BAD_FREE = 12
@@ -20,6 +22,7 @@ class Status(enum.IntEnum):
     UNOWNED = 16
     BAD_VALUE = 17
     BAD_CODE = 20
+    BAD_LINE = 21
     REJECTED = 22
     TOO_LONG = 23
     BAD_ARGUMENT = 100
@@ -49,6 +52,7 @@ UNITS = {
     Status.UNOWNED: "byte",
     Status.BAD_VALUE: "byte",
     Status.BAD_CODE: "byte",
+    Status.BAD_LINE: "line",
     Status.REJECTED: "instruction",
 }
 
@@ -66,15 +70,17 @@ class Error(Exception):
 
 
 class Fault(Error):
-    """An image or a client is refused. Nothing ran, and the segment is unchanged.
+    """An image, a client or a text is refused. Nothing ran, and the segment is unchanged.
 
     number    the fault's number, one of Status
     name      its name, such as "BAD_POINTER"
     client    the client that has the fault, from 0 in the order of the call, or None if the image has it
     position  where the first fault is: in bytes from the start of the image or the client for BAD_BLOCK to BAD_CODE, the number of
-              a type for BAD_TYPE and TYPE_MISMATCH, the number of an instruction for REJECTED, each from 0. None for other faults.
+              a type for BAD_TYPE and TYPE_MISMATCH, the number of an instruction for REJECTED, each from 0; the line for BAD_LINE, from
+              1. None for other faults.
     reason    why the instruction of REJECTED is refused, one of Reason. None for other faults.
     reason_name  the reason's name, such as "WRONG_OPERAND". None for other faults.
+    text      what the fault or its reason means, in words
     """
 
     def __init__(self, number: int, client: Optional[int] = None, position: int = 0, reason: int = 0) -> None:
@@ -86,19 +92,36 @@ class Fault(Error):
         self.reason: Optional[int] = reason if number == Status.REJECTED else None
         self.reason_name: Optional[str] = _name(Reason, reason) if number == Status.REJECTED else None
 
+    @property
+    def text(self) -> str:
+        from ._library import reason_text, status_text
+
+        return status_text(self.number) if self.reason is None else reason_text(self.reason)
+
     def __str__(self) -> str:
-        text = self.name
+        place = self.name
         if self.position is not None:
-            text += f" at {UNITS[Status(self.number)]} {self.position}"
+            place += f" at {UNITS[Status(self.number)]} {self.position}"
         if self.client is not None:
-            text += f" of client {self.client}"
+            place += f" of client {self.client}"
         if self.reason_name is not None:
-            text += f": {self.reason_name}"
-        return text
+            place += f", {self.reason_name}"
+        try:
+            return f"{place}: {self.text}"
+        except LibraryError:
+            return place
 
 
 class OutOfMemory(Fault, MemoryError):
     """MEMORY: the library's request for memory was refused. Nothing ran."""
+
+
+class BadSize(Fault, ValueError):
+    """BAD_SIZE: a segment can't have this size, or can't grow by it. Nothing changed."""
+
+
+class NoHostRoom(Fault, ValueError):
+    """NO_HOST_ROOM: the memory that was lent to the segment is too small. Nothing changed."""
 
 
 class BadArgument(Error, ValueError):

@@ -3,14 +3,15 @@ import ctypes
 import ctypes.util
 import functools
 import os
-from ctypes import POINTER, c_size_t, c_uint32, c_uint64, c_void_p
+from ctypes import POINTER, c_char_p, c_size_t, c_uint8, c_uint32, c_uint64, c_void_p
 from typing import Optional
 
-from ._errors import BadArgument, Busy, Fault, LibraryError, OutOfMemory, Status
+from ._errors import BadArgument, BadSize, Busy, Fault, LibraryError, NoHostRoom, OutOfMemory, Status
 
 FILE = "liblezgauri.so"
 VARIABLE = "LEZGAURI_LIBRARY"
 NO_CLIENT = 2**64 - 1
+MOST_TYPES = 32
 
 
 class CFault(ctypes.Structure):
@@ -31,7 +32,14 @@ class CReport(ctypes.Structure):
     _fields_ = [("steps", c_uint64), ("read", c_uint64), ("ended", c_uint32)]
 
 
+class CType(ctypes.Structure):
+    """lezgauri_type"""
+
+    _fields_ = [("kind", c_uint8), ("count", c_uint8), ("components", c_uint8 * 8), ("zeros", c_uint8 * 6)]
+
+
 _BYTES = (c_void_p, c_size_t)
+_CONVERSION = (c_uint32, (*_BYTES, *_BYTES, POINTER(c_size_t), POINTER(CFault)))
 _TOLD = (POINTER(c_size_t), POINTER(CReport), POINTER(CFault))
 
 # The result and the arguments of each call of lezgauri.h.
@@ -43,6 +51,14 @@ CALLS = {
         (*_BYTES, POINTER(CBytes), c_size_t, *_BYTES, *_BYTES, POINTER(c_size_t), c_void_p, POINTER(CReport), POINTER(CFault)),
     ),
     "lezgauri_open": (c_uint32, (*_BYTES, POINTER(c_void_p), POINTER(CFault))),
+    "lezgauri_open_in": (c_uint32, (*_BYTES, c_size_t, POINTER(c_void_p), POINTER(CFault))),
+    "lezgauri_create": (c_uint32, (c_size_t, c_uint32, c_uint32, POINTER(c_void_p))),
+    "lezgauri_create_in": (c_uint32, (*_BYTES, c_size_t, c_uint32, c_uint32, POINTER(c_void_p))),
+    "lezgauri_grow": (c_uint32, (c_void_p, c_size_t, POINTER(c_size_t))),
+    "lezgauri_shrink": (c_uint32, (c_void_p, POINTER(c_size_t))),
+    "lezgauri_size": (c_uint32, (c_void_p, POINTER(c_size_t))),
+    "lezgauri_free_memory": (c_uint32, (c_void_p, POINTER(c_size_t), POINTER(c_size_t))),
+    "lezgauri_image": (c_uint32, (c_void_p, POINTER(CBytes))),
     "lezgauri_run_on": (c_uint32, (c_void_p, *_BYTES, *_BYTES, *_BYTES, *_TOLD)),
     "lezgauri_run_whole": (c_uint32, (c_void_p, *_BYTES, *_BYTES, *_BYTES, *_TOLD)),
     "lezgauri_prepare": (c_uint32, (c_void_p, *_BYTES, POINTER(c_void_p), POINTER(CFault))),
@@ -50,7 +66,16 @@ CALLS = {
     "lezgauri_client_close": (None, (c_void_p,)),
     "lezgauri_save": (c_uint32, (c_void_p, *_BYTES, POINTER(c_size_t))),
     "lezgauri_close": (None, (c_void_p,)),
+    "lezgauri_types": (c_uint32, (c_void_p, POINTER(CType), c_size_t, POINTER(c_size_t))),
+    "lezgauri_assemble": _CONVERSION,
+    "lezgauri_print": _CONVERSION,
+    "lezgauri_status_text": (c_char_p, (c_uint32,)),
+    "lezgauri_reason_text": (c_char_p, (c_uint32,)),
+    "lezgauri_version": (c_char_p, ()),
 }
+
+
+_KINDS = {Status.MEMORY: OutOfMemory, Status.BAD_SIZE: BadSize, Status.NO_HOST_ROOM: NoHostRoom}
 
 
 def find() -> str:
@@ -87,6 +112,18 @@ def library() -> ctypes.CDLL:
     return loaded
 
 
+def status_text(status: int) -> str:
+    """A status in words."""
+    text: bytes = library().lezgauri_status_text(status)
+    return text.decode("ascii")
+
+
+def reason_text(reason: int) -> str:
+    """The reason of REJECTED in words."""
+    text: bytes = library().lezgauri_reason_text(reason)
+    return text.decode("ascii")
+
+
 def refuse(status: int, fault: Optional[CFault] = None) -> None:
     """Raises the exception for a status. Does nothing for OK and OUTPUT_FULL, which the calls treat themselves."""
     if status in (Status.OK, Status.OUTPUT_FULL):
@@ -95,8 +132,8 @@ def refuse(status: int, fault: Optional[CFault] = None) -> None:
         raise Busy("another call uses the segment or the client")
     if status == Status.BAD_ARGUMENT:
         raise BadArgument("memory that the call writes overlaps other memory of the call")
+    kind = _KINDS.get(status, Fault)
     if fault is None:
-        raise Fault(status)
+        raise kind(status)
     client = None if fault.client == NO_CLIENT else fault.client
-    kind = OutOfMemory if status == Status.MEMORY else Fault
     raise kind(status, client, fault.position, fault.reason)

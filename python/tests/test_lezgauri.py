@@ -122,25 +122,38 @@ class HeaderTest(Case):
         "lezgauri_handle **": ctypes.POINTER(ctypes.c_void_p), "lezgauri_client **": ctypes.POINTER(ctypes.c_void_p),
         "uint64_t *": ctypes.POINTER(ctypes.c_uint64), "size_t *": ctypes.POINTER(ctypes.c_size_t),
         "lezgauri_bytes *": ctypes.POINTER(_library.CBytes), "lezgauri_report *": ctypes.POINTER(_library.CReport),
-        "lezgauri_fault *": ctypes.POINTER(_library.CFault),
+        "lezgauri_fault *": ctypes.POINTER(_library.CFault), "lezgauri_type *": ctypes.POINTER(_library.CType),
+        "char *": ctypes.c_char_p, "uint8_t": ctypes.c_uint8,
     }
 
     def declared(self, text):
         """The type and the name of a declaration."""
-        found = re.fullmatch(r"(?:const )?(\w+) (\**)(\w+)", " ".join(text.split()))
-        return self.C_TYPES[f"{found[1]} {found[2]}".strip()], found[3]
+        found = re.fullmatch(r"(?:const )?(\w+) (\**)(\w+)(?:\[(\d+)\])?", " ".join(text.split()))
+        kind = self.C_TYPES[f"{found[1]} {found[2]}".strip()]
+        return kind * int(found[4]) if found[4] else kind, found[3]
 
     def test_calls(self):
         found = {}
-        for result, name, arguments in re.findall(r"^(\w+) (lezgauri_\w+)\(([^)]*)\);", HEADER, re.MULTILINE):
-            found[name] = (self.C_TYPES[result], tuple(self.declared(argument)[0] for argument in arguments.split(",")))
+        for call, arguments in re.findall(r"^((?:const )?\w+ \**lezgauri_\w+)\(([^)]*)\);", HEADER, re.MULTILINE):
+            result, name = self.declared(call)
+            listed = [] if arguments == "void" else arguments.split(",")
+            found[name] = (result, tuple(self.declared(argument)[0] for argument in listed))
         self.assertEqual(found, _library.CALLS)
 
     def test_structs(self):
-        for name, mirror in (("fault", _library.CFault), ("bytes", _library.CBytes), ("report", _library.CReport)):
+        for name, mirror in (
+            ("fault", _library.CFault), ("bytes", _library.CBytes), ("report", _library.CReport), ("type", _library.CType),
+        ):
             body = re.search(rf"typedef struct lezgauri_{name} {{(.*?)}}", HEADER, re.DOTALL)[1]
-            fields = [self.declared(field) for field in re.findall(r"^\s*([\w *]+);", body, re.MULTILINE)]
+            fields = [self.declared(field) for field in re.findall(r"^\s*([\w *]+(?:\[\d+\])?);", body, re.MULTILINE)]
             self.assertEqual([(field, kind) for kind, field in fields], mirror._fields_)
+
+    def test_kinds(self):
+        self.assertEqual(self.enumeration("KIND_I64"), {f"KIND_{kind.name}": kind.value for kind in lezgauri.Kind})
+        self.assertIn(f"#define LEZGAURI_MOST_TYPES {_library.MOST_TYPES}\n", HEADER)
+
+    def test_version(self):
+        self.assertIn(f'#define LEZGAURI_VERSION "{lezgauri.version()}"\n', HEADER)
 
 
 class CheckTest(Case):
@@ -168,13 +181,24 @@ class CheckTest(Case):
 
     def test_text(self):
         for arguments, text in (
-            ((10, None, 0, 0), "BAD_HEADER"),
-            ((14, None, 32, 0), "BAD_POINTER at byte 32"),
-            ((22, 1, 3, 4), "REJECTED at instruction 3 of client 1: CHANGED_IN_LOOP"),
-            ((23, 0, 0, 0), "TOO_LONG of client 0"),
-            ((99, None, 0, 0), "99"),
+            ((10, None, 0, 0), "BAD_HEADER: the image's header or its length is wrong"),
+            ((15, None, 704, 0), "DOUBLE_OWNER at byte 704: one pointer should own the block, but two do"),
+            ((21, None, 3, 0), "BAD_LINE at line 3: a line of the text is outside the grammar, or breaks a rule of clients"),
+            (
+                (22, 1, 3, 1),
+                "REJECTED at instruction 3 of client 1, WRONG_OPERAND: each register has to contain what the instruction needs, "
+                "whichever parts ran before it",
+            ),
+            ((22, 0, 3, 99), "REJECTED at instruction 3 of client 0, 99: unknown reason"),
+            ((99, None, 0, 0), "99: unknown status"),
         ):
             self.assertEqual(str(lezgauri.Fault(*arguments)), text)
+        for status in lezgauri.Status:
+            self.assertNotEqual(lezgauri.Fault(status).text, "unknown status")
+
+    def test_text_without_the_library(self):
+        with unittest.mock.patch.object(_library, "library", side_effect=lezgauri.LibraryError("none")):
+            self.assertEqual(str(lezgauri.Fault(23, 0)), "TOO_LONG of client 0")
 
 
 class VerifyTest(Case):
@@ -216,6 +240,30 @@ class VerifyTest(Case):
                     with self.subTest(f"{name} {reason}"), self.refused(name, position, 0, reason):
                         call()
             self.assertEqual(segment.save()[12:], IMAGE[12:])
+
+
+class TextTest(Case):
+    TEXT = (ROOT / "examples/increment.text").read_text(encoding="ascii")
+
+    def test_assemble(self):
+        for text in (self.TEXT, self.TEXT.encode(), bytearray(self.TEXT.encode()), f"; \u00e9\n\n{self.TEXT}"):
+            self.assertEqual(lezgauri.assemble(text), CLIENT)
+        self.assertEqual(len(lezgauri.assemble("")), 20)
+
+    def test_canonical_text(self):
+        for client in (CLIENT, bytearray(CLIENT)):
+            self.assertEqual(lezgauri.canonical_text(client), self.TEXT)
+        longest = client_of([], *[(CONST, 0, 0, 0, -(2**31))] * 4096)
+        text = lezgauri.canonical_text(longest)
+        self.assertEqual((text, lezgauri.assemble(text)), ("CONST r0 -2147483648\n" * 4096, longest))
+
+    def test_faults(self):
+        with self.refused("BAD_LINE", 2):
+            lezgauri.assemble("type i64\nno line\n")
+        with self.refused("BAD_CODE", len(CLIENT) - 8, 0):
+            lezgauri.canonical_text(CLIENT[:-1])
+        with self.assertRaises(TypeError):
+            lezgauri.canonical_text(self.TEXT)
 
 
 class RunTest(Case):
@@ -334,6 +382,17 @@ class SegmentTest(Case):
             client(segment)
         self.assertEqual(client(other).steps, 0)
 
+    def test_types(self):
+        segment = self.opened()
+        number = lezgauri.Type(lezgauri.Kind.I64, ())
+        self.assertEqual(segment.types(), (number,))
+        lezgauri.run_on(segment, lezgauri.assemble("type i64\ntype vec t2\ntype struct t0 t0\n"))
+        more = (lezgauri.Type(lezgauri.Kind.VEC, (2,)), lezgauri.Type(lezgauri.Kind.STRUCT, (0, 0)))
+        self.assertEqual(segment.types(), (number, *more))
+        full = self.opened()
+        lezgauri.run_on(full, lezgauri.assemble("type i64\n" * 32))
+        self.assertEqual(full.types(), (number,) * 32)
+
     def test_client_outlives_its_segment(self):
         segment = self.opened()
         client = self.prepared(segment)
@@ -376,6 +435,7 @@ class SegmentTest(Case):
             lambda: lezgauri.run_whole(segment, CLIENT),
             lambda: segment.save(),
             lambda: segment.save_into(bytearray(len(IMAGE))),
+            lambda: segment.types(),
             lambda: segment.__enter__(),
             lambda: client.__enter__(),
         ):
@@ -460,6 +520,126 @@ class SegmentTest(Case):
         struct.pack_into("<4I", image, 704, (size - 704) // 16, 0, 0, 1)
         lezgauri.check(image)
         return image
+
+
+class PlaceTest(Case):
+    """Segments in a buffer of the caller's, new segments, and their size."""
+
+    HEAP = 704
+    LEAST = 736
+
+    def made(self, *arguments, **named):
+        segment = lezgauri.Segment.create(*arguments, **named)
+        self.addCleanup(segment.close)
+        return segment
+
+    def test_open_in(self):
+        room = bytearray(IMAGE) + bytearray(64)
+        with lezgauri.Segment.open_in(room, len(IMAGE)) as segment, segment.prepare(CLIENT) as client:
+            self.assertEqual(client(segment).output, b"42\n")
+            self.assertEqual((segment.size, number_in(room), number_in(segment.save())), (len(IMAGE), 42, 42))
+            with self.assertRaises(BufferError):
+                room.append(1)
+            with self.assertRaises(lezgauri.BadArgument):
+                lezgauri.run_on(segment, CLIENT, output=memoryview(room)[-8:])
+            self.assertEqual(segment.grow(64), len(room))
+            with self.assertRaises(lezgauri.NoHostRoom):
+                segment.grow(16)
+            lezgauri.check(room)
+        room.append(1)
+        self.assertEqual(number_in(room), 42)
+
+    def test_open_in_whole(self):
+        room = bytearray(IMAGE)
+        with lezgauri.Segment.open_in(memoryview(room)) as segment:
+            lezgauri.run_on(segment, CLIENT)
+        with self.assertRaises(lezgauri.Closed):
+            segment.size
+        self.assertEqual(number_in(room), 42)
+
+    def test_open_in_refused(self):
+        room = bytearray(IMAGE)
+        for call, error in (
+            (lambda: lezgauri.Segment.open_in(IMAGE), TypeError),
+            (lambda: lezgauri.Segment.open_in(7), TypeError),
+            (lambda: lezgauri.Segment.open_in(room, len(room) + 1), lezgauri.BadArgument),
+            (lambda: lezgauri.Segment.open_in(room, -1), lezgauri.BadArgument),
+            (lambda: lezgauri.Segment.open_in(room, 2**64), lezgauri.BadArgument),
+            (lambda: lezgauri.Segment.open_in(room, 1.5), TypeError),
+        ):
+            with self.assertRaises(error):
+                call()
+        with self.refused("BAD_HEADER"):
+            lezgauri.Segment.open_in(room, len(room) - 16)
+        spoilt = changed((704, 1))
+        with self.refused("BAD_BLOCK", 704):
+            lezgauri.Segment.open_in(spoilt)
+        spoilt.append(1)
+        self.assertEqual(room, IMAGE)
+
+    def test_closed_during_a_use(self):
+        """The buffer is held until the last use of the segment has ended."""
+        room = bytearray(IMAGE)
+        segment = lezgauri.Segment.open_in(room)
+        with segment._handle:
+            segment.close()
+            with self.assertRaises(BufferError):
+                room.append(1)
+        room.append(1)
+
+    def test_create(self):
+        for allocator in lezgauri.AllocatorKind:
+            for index in lezgauri.IndexKind:
+                room = bytearray(b"\x55" * 4096)
+                for segment in (self.made(2048, allocator, index), self.made(2048, allocator, index, memory=room)):
+                    image = segment.save()
+                    lezgauri.check(image)
+                    self.assertEqual(struct.unpack_from("<2I", image, 16), (allocator, index))
+                    free = 2048 - self.HEAP
+                    self.assertEqual((segment.size, segment.free_memory), (2048, lezgauri.FreeMemory(free, free)))
+                    self.assertEqual(segment.shrink(), self.LEAST)
+                    self.assertEqual((segment.grow(1024), segment.size), (self.LEAST + 1024, self.LEAST + 1024))
+                    lezgauri.check(segment.save())
+                self.assertEqual(room[2048:], b"\x55" * 2048)
+        self.assertEqual(struct.unpack_from("<2I", self.made(self.LEAST).save(), 16), (1, 1))
+
+    def test_create_refused(self):
+        room = bytearray(b"\x55" * 1024)
+        for size in (-16, 0, 735, 744, 2**30 + 16, 2**32 + 736, 2**64 + 736):
+            with self.subTest(size):
+                with self.assertRaises(lezgauri.BadSize) as caught:
+                    lezgauri.Segment.create(size)
+                self.assertEqual(caught.exception.name, "BAD_SIZE")
+                with self.assertRaises(ValueError):
+                    lezgauri.Segment.create(size, memory=room)
+        with self.assertRaises(lezgauri.NoHostRoom):
+            lezgauri.Segment.create(1040, memory=room)
+        for wrong in ((4096, 2), (4096, 0, 2)):
+            with self.assertRaises(ValueError):
+                lezgauri.Segment.create(*wrong)
+        with self.assertRaisesRegex(TypeError, "read-only"):
+            lezgauri.Segment.create(736, memory=bytes(1024))
+        self.assertEqual(room, b"\x55" * 1024)
+        room.append(1)
+
+    def test_size(self):
+        segment = self.opened()
+        before = segment.free_memory
+        size = segment.grow(4096)
+        self.assertEqual((size, segment.size), (len(IMAGE) + 4096, size))
+        self.assertEqual(segment.free_memory.all, before.all + 4096)
+        self.assertGreaterEqual(segment.free_memory.largest, 4096)
+        self.assertEqual((len(segment.save()), number_in(segment.save())), (size, 41))
+        for extra in (8, -16, 2**30, 2**64):
+            with self.subTest(extra), self.assertRaises(lezgauri.BadSize):
+                segment.grow(extra)
+        self.assertEqual(segment.size, size)
+        self.assertLessEqual(segment.shrink(), len(IMAGE))
+        self.assertEqual(lezgauri.run_on(segment, CLIENT).output, b"42\n")
+        segment.close()
+        for call in (lambda: segment.size, lambda: segment.free_memory, lambda: segment.grow(16), lambda: segment.shrink()):
+            with self.assertRaises(lezgauri.Closed):
+                call()
 
 
 class BufferTest(Case):
@@ -591,6 +771,8 @@ class ThreadTest(Case):
             lambda: lezgauri.run_whole(segment, CLIENT),
             lambda: segment.prepare(CLIENT).close(),
             lambda: segment.save(),
+            lambda: segment.free_memory,
+            lambda: segment.shrink(),
         ):
             self.until_busy(call)
         finish()
@@ -681,6 +863,16 @@ class FileTest(Case):
             self.assertEqual(number_in(self.path.read_bytes()), 42)
         with lezgauri.open_file(str(self.path), writable=False) as file:
             self.assertEqual(number_in(file), 42)
+
+    def test_open_in(self):
+        with lezgauri.open_file(self.path, lock=True) as file, lezgauri.Segment.open_in(file) as segment:
+            lezgauri.run_on(segment, CLIENT)
+            self.assertEqual(number_in(file), 42)
+            with self.assertRaises(BufferError):
+                file.close()
+        self.assertEqual(number_in(self.path.read_bytes()), 42)
+        with lezgauri.open_file(self.path, writable=False) as file, self.assertRaisesRegex(TypeError, "read-only"):
+            lezgauri.Segment.open_in(file)
 
     def test_read_only(self):
         with lezgauri.open_file(self.path, writable=False) as file, lezgauri.Segment(file) as segment:

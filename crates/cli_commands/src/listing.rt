@@ -31,11 +31,7 @@ pub(crate) fn objects(alloc: Global, image: &Image<Global>) -> Result<Vec<u8>, A
 }
 
 fn add_named(lines: &mut Vec<u8>, alloc: Global, image: &Image<Global>) -> Result<(), AllocError> {
-    let mut next = image.first_name();
-    for _ in 0..image.num_named() {
-        let Some(named) = next else {
-            break;
-        };
+    for named in image.names() {
         let Named {
             name,
             type_id,
@@ -43,7 +39,6 @@ fn add_named(lines: &mut Vec<u8>, alloc: Global, image: &Image<Global>) -> Resul
         } = named;
         lines.extend_from_slice(name)?;
         lines.extend_from_slice(format!(in alloc; " {type_id} {count}\n")?.as_bytes())?;
-        next = image.next_name(name);
     }
     Ok(())
 }

@@ -116,7 +116,7 @@ its base should be a multiple of 16 from which the segment ends within its room\
 /// The rule as a line, for a fault whose rule has no numbers.
 fn rule(fault: Fault) -> &'static str {
     match fault {
-        Fault::Memory => "the host refused memory that the command asked for\n",
+        Fault::Memory => "the host refused a request for memory\n",
         Fault::NoHostRoom => "the region is too small for the larger segment\n",
         Fault::TypeMismatch(_) =>
             "a client has to declare the types of the image with the same numbers; new types come after them\n",

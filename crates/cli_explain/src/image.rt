@@ -39,7 +39,7 @@ impl ImageReader {
 
     /// Whether the image's version has frozen objects.
     pub(crate) fn shares(&self) -> bool {
-        header::shares(self.window())
+        header::shares(self.window().view())
     }
 
     /// Whether a frozen object's payload begins at a byte.

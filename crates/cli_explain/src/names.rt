@@ -1,7 +1,7 @@
 use crate::quoted::Quoted;
 use crate::types::NumberedType;
 use client_code::{Client, Constant, ConstantKind, TypeId, TypeTable};
-use client_verify::{Class, RegisterType};
+use client_verify::{Class, PackedRegister, RegisterType};
 use std::fmt;
 
 /// The types and the constants of a client, for descriptions.
@@ -27,19 +27,19 @@ impl<'a> Names<'a> {
     }
 
     /// A description of what a register contains.
-    pub(crate) fn present(&self, holds: RegisterType) -> Known<'a> {
+    pub(crate) fn present(&self, holds: PackedRegister) -> Known<'a> {
         self.known(holds, Tense::Present)
     }
 
     /// A description of what a register contained.
-    pub(crate) fn past(&self, held: RegisterType) -> Known<'a> {
+    pub(crate) fn past(&self, held: PackedRegister) -> Known<'a> {
         self.known(held, Tense::Past)
     }
 
-    fn known(&self, holds: RegisterType, tense: Tense) -> Known<'a> {
+    fn known(&self, holds: PackedRegister, tense: Tense) -> Known<'a> {
         Known {
             names: *self,
-            holds,
+            holds: holds.unpacked(),
             tense,
         }
     }

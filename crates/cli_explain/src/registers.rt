@@ -1,7 +1,7 @@
 use crate::names::Names;
 use crate::types::NumberedType;
 use client_code::{Instruction, Kinds, Need, Operand, REGISTERS, Type, TypeId};
-use client_verify::{Reason, RegisterType, Registers, Rule};
+use client_verify::{PackedRegister, Reason, RegisterType, Registers, Rule};
 use std::fmt;
 
 /// The registers b and c of an instruction, without repetition.
@@ -36,7 +36,7 @@ impl Demand {
     /// What register b or c should contain: the first of them that doesn't contain what the instruction needs.
     pub(crate) fn unmet(names: &Names, registers: &Registers, instruction: Instruction) -> Demand {
         let row = instruction.operation.row();
-        let content = held_content(names, registers.get(instruction.b));
+        let content = held_content(names, registers.packed(instruction.b));
         let (register, need) = if is_first_met(names, registers, instruction, content) {
             (instruction.c, row.needs_c)
         } else {
@@ -53,7 +53,7 @@ impl Demand {
 }
 
 /// The type of the value in the own or shared cell that a register refers to.
-fn held_content(names: &Names, holds: RegisterType) -> Option<TypeId> {
+fn held_content(names: &Names, holds: PackedRegister) -> Option<TypeId> {
     let (_, to) = holds.referred()?;
     match names.types().kind(to)? {
         Type::Own(content) | Type::Shared(content) => Some(content),
@@ -77,15 +77,15 @@ fn is_first_met(
     let c = u8::from(instruction.b == 0);
     let mut right = *registers;
     let right_c = match instruction.operation.row().needs_c {
-        Need::Int | Need::IntOrNone => Some(RegisterType::Int),
-        Need::Content => content.map(RegisterType::Owner),
-        Need::Alike => Some(registers.get(instruction.b)),
+        Need::Int | Need::IntOrNone => Some(PackedRegister::int()),
+        Need::Content => content.map(PackedRegister::owner),
+        Need::Alike => Some(registers.packed(instruction.b)),
         Need::Nothing | Need::Copyable | Need::Owner | Need::Reference(_) | Need::Changeable(_) =>
             None,
     };
     let tried = match right_c {
         Some(holds) => {
-            right.set(c, holds);
+            right.set_packed(c, holds);
             Instruction {
                 operation: instruction.operation,
                 a: instruction.a,

@@ -5,9 +5,9 @@ use crate::quoted::Quoted;
 use crate::registers::{Demand, used};
 use crate::replay::{Change, OpenPart, Replay};
 use crate::text::line;
-use client_code::{Client, Ends, Gives, Instruction, REGISTERS, Role};
+use client_code::{Client, Gives, Instruction, REGISTERS, Role};
 use client_text::print;
-use client_verify::{Class, MOST_STEPS, PackedRegister, Reason, RegisterType, Registers};
+use client_verify::{Class, MOST_STEPS, PackedRegister, Reason, Registers};
 use std::alloc::{AllocError, Global};
 use std::fmt::Write;
 
@@ -38,7 +38,7 @@ pub(crate) fn add_rejection(
     if let Some(instruction) = client.instruction(number) {
         refusal.add_registers(text, instruction, reason)?;
     }
-    text.push_str(rule(reason, client.instruction(number)))
+    text.push_str(rule(reason))
 }
 
 /// Adds the bound of a client's steps.
@@ -76,27 +76,16 @@ fn lines_before(client: &Client) -> u32 {
     client.type_count().saturating_add(constants)
 }
 
-/// The rule for a reason, at an instruction.
-fn rule(reason: u8, instruction: Option<Instruction>) -> &'static str {
+/// The rule for a reason.
+fn rule(reason: u8) -> &'static str {
     if reason == Reason::WrongOperand.number() {
         "each register has to contain what the instruction needs, whichever parts ran before it\n"
     } else if reason == Reason::OwnerLost.number() {
         "an owned object must not be lost: PUT it into an own, FREEZE it or DROP it\n"
     } else if reason == Reason::PutIntoItself.number() {
-        of_holding(instruction)
+        "an object can't own or share itself: PUT or FREEZE it into a place outside it\n"
     } else {
         "a register that is defined before a loop has to contain the same kind of value at the end of its body\n"
-    }
-}
-
-/// Why an object can't be put or frozen into itself.
-fn of_holding(instruction: Option<Instruction>) -> &'static str {
-    match instruction.map(|it| it.operation.row().ends) {
-        Some(Ends::Frozen) => {
-            "an object can't share itself: FREEZE it into a place outside it\n"
-        }
-        Some(Ends::Nothing | Ends::Others | Ends::Name | Ends::Unique | Ends::Dropped | Ends::Moved)
-        | None => "an object can't own itself: PUT it into a place outside it\n",
     }
 }
 
@@ -166,11 +155,11 @@ impl<'a> Refusal<'a> {
 
     /// Describes what is known of a register. If nothing is known, describes what it contained before.
     fn add_known(&self, text: &mut String, register: u8) -> Result<(), AllocError> {
-        let holds = self.registers().get(register);
+        let holds = self.registers().packed(register);
         let known = self.names.present(holds);
         write!(text, "r{register} {known}\n")?;
         match self.replay.change(register) {
-            Some(change) if holds == RegisterType::Undefined => {
+            Some(change) if holds == PackedRegister::undefined() => {
                 self.add_ended(text, register, change)
             }
             Some(_) | None => Ok(()),
@@ -217,7 +206,7 @@ or if it was defined before the loop",
             | Gives::Content
             | Gives::Part => instruction.a,
         };
-        let owned = self.names.present(self.registers().get(register));
+        let owned = self.names.present(self.registers().packed(register));
         write!(text, "r{register} {owned}, and would be overwritten\n")
     }
 
@@ -228,10 +217,10 @@ or if it was defined before the loop",
                 Some(OpenPart::Body(before)) => self.add_kept(
                     text,
                     register,
-                    before.get(register),
+                    before.packed(register),
                 )?,
                 Some(OpenPart::Else(success)) => {
-                    self.add_joined(text, register, success.get(register))?;
+                    self.add_joined(text, register, success.packed(register))?;
                 }
                 Some(OpenPart::Success) | None => {}
             }
@@ -244,13 +233,10 @@ or if it was defined before the loop",
         &self,
         text: &mut String,
         register: u8,
-        before: RegisterType,
+        before: PackedRegister,
     ) -> Result<(), AllocError> {
-        let after = self.registers().get(register);
-        if PackedRegister::pack(before)
-            .keeps(PackedRegister::pack(after))
-            .is_ok()
-        {
+        let after = self.registers().packed(register);
+        if before.keeps(after).is_ok() {
             return Ok(());
         }
         let (past, present) = (self.names.past(before), self.names.present(after));
@@ -278,10 +264,10 @@ or if it was defined before the loop",
         &self,
         text: &mut String,
         register: u8,
-        success: RegisterType,
+        success: PackedRegister,
     ) -> Result<(), AllocError> {
-        let otherwise = self.registers().get(register);
-        let (_, is_lost) = PackedRegister::pack(success).joined(PackedRegister::pack(otherwise));
+        let otherwise = self.registers().packed(register);
+        let (_, is_lost) = success.joined(otherwise);
         if !is_lost {
             return Ok(());
         }
@@ -293,18 +279,16 @@ or if it was defined before the loop",
     }
 
     /// Explains how to get a reference again that has ended.
-    fn add_again(&self, text: &mut String, held: RegisterType) -> Result<(), AllocError> {
-        match held.referred() {
-            Some((Class::Name(_), _)) => text.push_str(
-                "; get it again, by FIND or from its container",
-            ),
-            Some((Class::Unique(_), _)) => text.push_str(
-                "; get it again, by UFIND or from its container",
-            ),
-            Some((Class::Register(owner), _)) if self.registers().get(owner).is_owner() => {
+    fn add_again(&self, text: &mut String, held: PackedRegister) -> Result<(), AllocError> {
+        match held.referred().map(|(class, _)| class.unpacked()) {
+            Some(Class::Name(_)) => text.push_str("; get it again, by FIND or from its container"),
+            Some(Class::Unique(_)) => {
+                text.push_str("; get it again, by UFIND or from its container")
+            }
+            Some(Class::Register(owner)) if self.registers().packed(owner).is_owner() => {
                 write!(text, "; get it again, by REF r{owner}")
             }
-            Some((Class::Register(_), _)) | None => Ok(()),
+            Some(Class::Register(_)) | None => Ok(()),
         }
     }
 }

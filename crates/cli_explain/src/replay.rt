@@ -1,11 +1,11 @@
 use client_code::{Client, REGISTERS, Role};
-use client_verify::{RegisterType, Registers, Verifier};
+use client_verify::{PackedRegister, Registers, Verifier};
 use std::alloc::{AllocError, Global};
 
 /// What a register contained before its last change, and the number of the instruction that changed it.
 #[derive(Clone, Copy)]
 pub(crate) struct Change {
-    pub(crate) held: RegisterType,
+    pub(crate) held: PackedRegister,
     pub(crate) by: u32,
 }
 
@@ -89,8 +89,8 @@ impl Replay {
     /// Records what is known after the instruction with this number.
     fn know(&mut self, number: u32, after: &Registers) {
         for register in 0..REGISTERS {
-            let held = self.registers.get(register);
-            if held != after.get(register) {
+            let held = self.registers.packed(register);
+            if held != after.packed(register) {
                 self.changes[usize::from(register)] = Some(Change { held, by: number });
             }
         }

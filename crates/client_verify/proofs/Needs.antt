@@ -10,7 +10,8 @@ use Rattle.std.specs.Option.{is_some, option_and_then}
 use Rattle.seg_spec.specs.Types.{Form, Table, form_at}
 use Rattle.client_spec.specs.Syntax.{Constant}
 use Rattle.client_spec.specs.Grammar.{NamesBy, IsTextConstant}
-use Rattle.client_spec.specs.Typed.{Class, RegisterType, RegisterTypes, Reason, Checked, ◌>>=◌, Rule, known, is_owner, integer_needed, reference_needed, owner_needed, copy_needed, some_needed, name_needed, text_needed, integer_or_none, form_needed, required, changeable_needed, sharing, is_frozen}
+use Rattle.client_spec.specs.Typed.{Class, RegisterType, RegisterTypes, Reason, Checked, ◌>>=◌, Rule, known, is_owner, integer_needed, reference_needed, owner_needed}
+use Rattle.client_spec.specs.Typed.{copy_needed, some_needed, name_needed, text_needed, integer_or_none, form_needed, required, changeable_needed, sharing, is_frozen}
 use Rattle.client_spec.specs.Answer.{shared_type}
 use Rattle.client_spec.specs.declared.table.Kinds.{Kinds}
 use Rattle.client_spec.specs.declared.table.Kinds.TheVariants as kinds

@@ -7,7 +7,8 @@ use Rattle.client_spec.specs.Answer.{type_operand, constant_operand}
 use Rattle.client_spec.specs.Syntax.{Constant, Instruction}
 use Rattle.client_spec.specs.declared.table.Number.{Number}
 use Rattle.client_spec.specs.Grammar.{IsInstruction}
-use Rattle.client_spec.specs.Typed.{Class, RegisterType, RegisterTypes, Reason, ◌>>=◌, Rule, known, same_class, sharing, is_owner, required, ended, others_ended, combines, content_known, item_known, rule, sharing_rule, known_after, owner_needed, gives, opens, freezes}
+use Rattle.client_spec.specs.Typed.{Class, RegisterType, RegisterTypes, Reason, ◌>>=◌, Rule, known, same_class, sharing, is_owner, required, ended}
+use Rattle.client_spec.specs.Typed.{others_ended, combines, content_known, item_known, rule, sharing_rule, known_after, owner_needed, gives, opens, freezes}
 use Rattle.client_spec.specs.declared.table.Operation.{Operation}
 use Rattle.client_spec.specs.declared.table.Operation.TheVariants as op
 use Rattle.client_spec.specs.declared.table.Kinds.TheVariants as kinds
@@ -18,7 +19,8 @@ use Rattle.client_verify.proofs.Shapes.{unless_lost, following, led_first, from_
 use Rattle.client_verify.proofs.Numbers.{AreNamed}
 use Rattle.client_verify.proofs.Owners.{owner_kept, owner_kept_but}
 use Rattle.client_verify.proofs.Needs.{integer_same, optional_same, name_same, text_same, reference_same, changeable_same, any_changeable_same, alike_same, owner_same, content_same, copy_same}
-use Rattle.client_verify.proofs.Forms.{i64_forms, str_forms, list_forms, own_forms, shared_forms, holder_forms, sequence_forms, item_forms, pop_forms, buffered_forms, map_forms, value_forms, sized_forms, struct_forms, owned_part, shared_part, content_part, sequence_part, list_part, value_part, field_part, item_part}
+use Rattle.client_verify.proofs.Forms.{i64_forms, str_forms, list_forms, own_forms, shared_forms, holder_forms, sequence_forms, item_forms, pop_forms, buffered_forms, map_forms}
+use Rattle.client_verify.proofs.Forms.{value_forms, sized_forms, struct_forms, owned_part, shared_part, content_part, sequence_part, list_part, value_part, field_part, item_part}
 
 module _ (types : Table) (constants : List Constant) (a b c t k : ℕ) (ks : RegisterTypes) where
   abbrev step : Operation → ℤ → RuleInput

@@ -1,9 +1,9 @@
 -- What is known of a register, packed into a number: its kind, its type and its class. The lowest
 -- byte is the kind, the next one the type, and the two highest bytes are the class: its kind, and
 -- the constant, the type or the register that it names.
---     class_in n, known_in n     the class, or what is known, that a number stands for
---     IsPackedClass, IsPacked    a number that stands for a class, or for what is known of a
---                                register: there is one for each
+--     class_in n, known_in n     the class, or what is known of a register, that n encodes
+--     IsPackedClass, IsPacked    n encodes a class, or what is known of a register; no other
+--                                number encodes the same
 use Rattle.std.specs.Prelude.{ℕ, ◌≡◌, ◌<◌, ◌≤◌, ◌/◌, ◌%◌, ◌==◌, if◌then◌else◌}
 use Rattle.client_spec.specs.Typed.{Class, RegisterType}
 

@@ -248,7 +248,8 @@ impl PackedRegister {
     /// `shared`.
     #[inline]
     pub fn part(self, of: &Type, part: TypeId) -> PackedRegister
-        ensures { register_type_of result ≡ part_below (form_of of.now) part (register_type_of self) }
+        ensures { register_type_of result
+            ≡ part_below (form_of of.now) part (register_type_of self) }
     {
         match (self.kind(), of) {
             (REFERENCE, Type::Shared(_)) | (READ_ONLY, _) => {
@@ -263,7 +264,8 @@ impl PackedRegister {
     /// object that the class shares.
     #[inline]
     pub fn without(self, class: PackedClass) -> PackedRegister
-        ensures { register_type_of result ≡ typed.without_class (class_of class) (register_type_of self) }
+        ensures { register_type_of result
+            ≡ typed.without_class (class_of class) (register_type_of self) }
     {
         if self.bits >> 16 == u32::from(class.bits) {
             PackedRegister::undefined()
@@ -276,7 +278,8 @@ impl PackedRegister {
     /// an object after one part only.
     #[inline]
     pub fn joined(self, other: PackedRegister) -> (PackedRegister, bool)
-        ensures { joined_to result ≡ typed.joined_one (register_type_of self) (register_type_of other) }
+        ensures { joined_to result
+            ≡ typed.joined_one (register_type_of self) (register_type_of other) }
     {
         let same = self == other;
         let lost = !same & (self.is_owner() | other.is_owner());
@@ -291,7 +294,8 @@ impl PackedRegister {
     /// Tests at the `END` of a loop's body, where `after` is known, that what was known before the loop is still true.
     #[inline]
     pub fn keeps(self, after: PackedRegister) -> Result<(), Reason>
-        ensures { checked (λ x. x) result ≡ typed.kept_one (register_type_of self) (register_type_of after) }
+        ensures { checked (λ x. x) result
+            ≡ typed.kept_one (register_type_of self) (register_type_of after) }
     {
         if self.bits == 0 {
             if after.is_owner() {

@@ -1,8 +1,5 @@
 ghost use Rattle.std.specs.Prelude.{◌≡◌};
-ghost use Rattle.std.specs.Option.{option_map};
-ghost use Rattle.client_spec.specs.Typed as typed;
-ghost use Rattle.client_verify.specs.Views.{class_of, class_shown, known_shown};
-ghost use Rattle.client_verify.specs.Checking.{referred};
+ghost use Rattle.client_verify.specs.Views.{class_of, class_shown};
 
 use crate::packed::PackedClass;
 use seg_layout::TypeId;
@@ -44,25 +41,4 @@ pub enum RegisterType {
     ReadOnly(Class, TypeId),
     /// It owns an object of this type.
     Owner(TypeId),
-}
-
-impl RegisterType {
-    /// Whether the register owns an object.
-    pub fn is_owner(self) -> bool
-        ensures { result ≡ typed.is_owner (known_shown self) }
-    {
-        matches!(self, RegisterType::Owner(_))
-    }
-
-    /// The class and the type of what a reference refers to, read-only or not.
-    pub fn referred(self) -> Option<(Class, TypeId)>
-        ensures { option_map (λ x. (class_shown x.0, x.1)) result ≡ referred (known_shown self) }
-    {
-        match self {
-            RegisterType::Reference(class, to) | RegisterType::ReadOnly(class, to) => {
-                Some((class, to))
-            }
-            RegisterType::Undefined | RegisterType::Int | RegisterType::Owner(_) => None,
-        }
-    }
 }

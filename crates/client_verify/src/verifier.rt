@@ -19,9 +19,9 @@ use seg_layout::TypeTable;
 #[derive(Debug, Clone, Copy)]
 enum PartState {
     Success,
-    /// An else part, after a success part of so many steps.
+    /// An else part, after a success part of at most `steps` steps.
     Else { steps: u64 },
-    /// The body of a loop of so many turns.
+    /// The body of a loop with at most `turns` iterations.
     Body { turns: u64 },
 }
 

@@ -251,7 +251,7 @@ fn admit<'a, A: Allocator + Copy>(
         AreAccepted it.types (map (λ c. c.now) clients.now) trees) }
     ensures refused { IfErr result (IsWrong window.now.bytes (map (λ c. c.now) clients.now)) }
 {
-    let types = check(alloc, window)?;
+    let types = check(alloc, window.view())?;
     let (programs, reports) = prepared(alloc, clients, &types)?;
     Ok(Admitted {
         types,

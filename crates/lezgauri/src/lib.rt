@@ -7,7 +7,7 @@
 
 mod clients;
 
-pub use client_code::{Client, parse};
+pub use client_code::{Client, parse, parse_typed};
 pub use client_text::{assemble, print};
 pub use client_verify::Verified;
 pub use client_vm::{
@@ -16,7 +16,7 @@ pub use client_vm::{
 };
 pub use clients::{run, verify};
 pub use seg_image::{
-    AllocatorKind, BestFit, Code, ENTRY, Error, Fault, Fields, Fit, Heap, Image, IndexKind,
-    MAX_LEN, MAX_NAME, MAX_TYPES, MIN_LEN, Named, Numbers, Place, Region, Segment, SeqFit, Type,
-    TypeId, TypeTable, Unopened, Window, check, type_table,
+    AllocatorKind, BestFit, Code, ENTRY, Entries, Error, Fault, Fields, Fit, Heap, Image,
+    IndexKind, Keys, MAX_LEN, MAX_NAME, MAX_TYPES, MIN_LEN, Named, Names, Numbers, Place, Region,
+    Segment, SeqFit, Type, TypeId, TypeTable, Unopened, Window, check, is_size, type_table,
 };

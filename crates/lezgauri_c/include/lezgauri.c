@@ -10,7 +10,8 @@
 #include <string.h>
 
 /* Memory that a call lends to the library: its start, the number of bytes in use, and its capacity in bytes. It is `Lent` of the
- * crate lezgauri_c. The library uses the memory in place, and sets the number of bytes in use. An image keeps its length. */
+ * crate lezgauri_c. The library uses the memory in place, and sets the number of bytes in use. Only the calls that create, grow or
+ * shrink a segment change the length of an image. */
 typedef struct lent {
     uint8_t *at;
     size_t len;
@@ -34,10 +35,19 @@ uint32_t lezgauri_raw_run_on(lent *image, const uint8_t *client, size_t client_l
                              lent *output, lezgauri_report *report, lezgauri_fault *fault);
 uint32_t lezgauri_raw_run_whole(lent *image, const uint8_t *client, size_t client_len, const uint8_t *input, size_t input_len,
                                 lent *output, size_t *needed, lezgauri_report *report, lezgauri_fault *fault);
+uint32_t lezgauri_raw_create(lent *memory, uint32_t size, uint32_t allocator, uint32_t index);
+uint32_t lezgauri_raw_grow(lent *image, uint32_t extra);
+uint32_t lezgauri_raw_shrink(lent *image);
+uint32_t lezgauri_raw_free_memory(lent *image, uint32_t *all, uint32_t *largest);
 uint32_t lezgauri_raw_prepare(lent *image, const uint8_t *client, size_t client_len, kept *prepared, lezgauri_fault *fault);
 uint32_t lezgauri_raw_run_client(lent *image, kept *prepared, const uint8_t *input, size_t input_len, lent *output,
                                  lezgauri_report *report, lezgauri_fault *fault);
 void lezgauri_raw_client_close(kept *prepared);
+uint32_t lezgauri_raw_types(const uint8_t *image, size_t len, uint8_t *entries, size_t entries_len, size_t *count);
+uint32_t lezgauri_raw_assemble(const uint8_t *text, size_t text_len, uint8_t *file, size_t file_len, size_t *needed,
+                               lezgauri_fault *fault);
+uint32_t lezgauri_raw_print(const uint8_t *file, size_t file_len, uint8_t *text, size_t text_len, size_t *needed,
+                            lezgauri_fault *fault);
 
 /* The most bytes of an image. */
 #define MOST_IMAGE ((size_t)1 << 30)
@@ -268,15 +278,29 @@ uint32_t lezgauri_run(const void *image, size_t image_len, const lezgauri_bytes 
 
 /* ---- segments that stay open */
 
+/* The first three members are atomic because a call reads them before it knows whether another call uses the segment. */
 struct lezgauri_handle {
-    size_t len;
-    atomic_flag busy; /* while a call uses the segment */
-    _Alignas(16) uint8_t image[];
+    _Atomic(uint8_t *) image;
+    atomic_size_t len;
+    atomic_size_t room; /* the bytes from `image` on that the segment may grow into */
+    bool is_lent;       /* the caller's memory, which isn't freed */
+    atomic_flag busy;   /* while a call uses the segment */
 };
+
+static span handle_at(const lezgauri_handle *handle)
+{
+    return one(handle, sizeof *handle);
+}
 
 static span segment_at(const lezgauri_handle *handle)
 {
-    return (span){handle, handle != NULL ? sizeof *handle + handle->len : 0};
+    return handle != NULL ? (span){handle->image, handle->room} : (span){NULL, 0};
+}
+
+/* The image of a segment, for calls that keep its length. */
+static lent image_of(const lezgauri_handle *handle)
+{
+    return (lent){handle->image, handle->len, handle->len};
 }
 
 /* Marks a segment or a client as busy. Returns false if another call uses it. */
@@ -288,6 +312,52 @@ static bool acquire(atomic_flag *busy)
 static void release(atomic_flag *busy)
 {
     atomic_flag_clear_explicit(busy, memory_order_release);
+}
+
+/* The handle of a segment that a call only reads. For the caller it is const: the image isn't changed, and the flag isn't visible. */
+static lezgauri_handle *flagged(const lezgauri_handle *handle)
+{
+    return (lezgauri_handle *)handle;
+}
+
+/* A block from malloc, also for 0 bytes. */
+static uint8_t *block_of(size_t len)
+{
+    return malloc(len > 0 ? len : 1);
+}
+
+/* A handle of a segment in this memory, or null if malloc refuses. */
+static lezgauri_handle *new_handle(uint8_t *place, size_t len, size_t room, bool is_lent)
+{
+    lezgauri_handle *made = malloc(sizeof *made);
+    if (made != NULL) {
+        atomic_init(&made->image, place);
+        atomic_init(&made->len, len);
+        atomic_init(&made->room, room);
+        made->is_lent = is_lent;
+        atomic_flag_clear(&made->busy);
+    }
+    return made;
+}
+
+/* Opens the image in this memory. If it isn't opened, memory that isn't lent is freed. */
+static uint32_t open_at(uint8_t *place, size_t len, size_t room, bool is_lent, lezgauri_handle **handle, lezgauri_fault *told)
+{
+    *told = (lezgauri_fault){.client = LEZGAURI_NO_CLIENT, .number = LEZGAURI_MEMORY};
+    uint32_t status = LEZGAURI_MEMORY;
+    lezgauri_handle *made = new_handle(place, len, room, is_lent);
+    if (made != NULL) {
+        status = lezgauri_raw_check(place, len, told);
+    }
+    if (status == LEZGAURI_OK) {
+        *handle = made;
+        return status;
+    }
+    free(made);
+    if (!is_lent) {
+        free(place);
+    }
+    return status;
 }
 
 uint32_t lezgauri_open(const void *image, size_t len, lezgauri_handle **handle, lezgauri_fault *fault)
@@ -307,23 +377,201 @@ uint32_t lezgauri_open(const void *image, size_t len, lezgauri_handle **handle, 
     if (!are_apart(of)) {
         return refuse(LEZGAURI_BAD_ARGUMENT, fault, of);
     }
-    lezgauri_handle *opened = malloc(sizeof *opened + len);
-    if (opened == NULL) {
+    uint8_t *copy = block_of(len);
+    if (copy == NULL) {
         return refuse(LEZGAURI_MEMORY, fault, of);
     }
     /* check the copy, because another process may write the caller's bytes */
-    memcpy(opened->image, or_empty(image), len);
+    memcpy(copy, or_empty(image), len);
     lezgauri_fault told;
-    uint32_t status = lezgauri_raw_check(opened->image, len, &told);
-    if (status == LEZGAURI_OK) {
-        opened->len = len;
-        atomic_flag_clear(&opened->busy);
-        *handle = opened;
-    } else {
-        free(opened);
-    }
+    uint32_t status = open_at(copy, len, len, false, handle, &told);
     tell(fault, &told);
     return status;
+}
+
+uint32_t lezgauri_open_in(void *memory_lent, size_t len, size_t room, lezgauri_handle **handle, lezgauri_fault *fault)
+{
+    span spans[] = {one(fault, sizeof *fault), one(handle, sizeof *handle), one(memory_lent, room)};
+    memory of = MEMORY(spans, 3);
+    bool is_handle = handle != NULL && may_tell(handle, _Alignof(lezgauri_handle *));
+    if (is_handle && is_apart(spans[1], of, 1)) {
+        *handle = NULL;
+    }
+    if (!is_handle || !may_be_bytes(memory_lent, room) || room < len || !may_tell(fault, _Alignof(lezgauri_fault))) {
+        return refuse(LEZGAURI_BAD_ARGUMENT, fault, of);
+    }
+    if (len > MOST_IMAGE) {
+        return refuse(LEZGAURI_BAD_HEADER, fault, of);
+    }
+    if (!are_apart(of)) {
+        return refuse(LEZGAURI_BAD_ARGUMENT, fault, of);
+    }
+    lezgauri_fault told;
+    uint32_t status = open_at(or_room(memory_lent), len, room, true, handle, &told);
+    tell(fault, &told);
+    return status;
+}
+
+/* Makes a segment in this memory. If none is made, memory that isn't lent is freed. */
+static uint32_t create_at(uint8_t *place, size_t room, size_t size, uint32_t allocator, uint32_t index, bool is_lent,
+                          lezgauri_handle **handle)
+{
+    lent memory_lent = {place, room, room};
+    uint32_t status = LEZGAURI_MEMORY;
+    lezgauri_handle *made = new_handle(place, size, room, is_lent);
+    if (made != NULL) {
+        status = lezgauri_raw_create(&memory_lent, (uint32_t)size, allocator, index);
+    }
+    if (status == LEZGAURI_OK) {
+        *handle = made;
+        return status;
+    }
+    free(made);
+    if (!is_lent) {
+        free(place);
+    }
+    return status;
+}
+
+uint32_t lezgauri_create(size_t size, uint32_t allocator, uint32_t index, lezgauri_handle **handle)
+{
+    if (handle == NULL || !may_tell(handle, _Alignof(lezgauri_handle *))) {
+        return LEZGAURI_BAD_ARGUMENT;
+    }
+    *handle = NULL;
+    if (size > MOST_IMAGE) {
+        return LEZGAURI_BAD_SIZE;
+    }
+    uint8_t *block = block_of(size);
+    if (block == NULL) {
+        return LEZGAURI_MEMORY;
+    }
+    return create_at(block, size, size, allocator, index, false, handle);
+}
+
+uint32_t lezgauri_create_in(void *memory_lent, size_t room, size_t size, uint32_t allocator, uint32_t index, lezgauri_handle **handle)
+{
+    span spans[] = {one(handle, sizeof *handle), one(memory_lent, room)};
+    if (handle == NULL || !may_tell(handle, _Alignof(lezgauri_handle *)) || !are_apart(MEMORY(spans, 2))) {
+        return LEZGAURI_BAD_ARGUMENT;
+    }
+    *handle = NULL;
+    if (!may_be_bytes(memory_lent, room)) {
+        return LEZGAURI_BAD_ARGUMENT;
+    }
+    if (size > MOST_IMAGE) {
+        return LEZGAURI_BAD_SIZE;
+    }
+    return create_at(or_room(memory_lent), room, size, allocator, index, true, handle);
+}
+
+/* Grows a segment that the call has marked as busy. A block from malloc that is too small is made larger. */
+static uint32_t grow(lezgauri_handle *handle, uint32_t extra)
+{
+    lent image = {handle->image, handle->len, handle->room};
+    uint32_t status = lezgauri_raw_grow(&image, extra);
+    if (status == LEZGAURI_NO_HOST_ROOM && !handle->is_lent) {
+        size_t room = handle->len + extra;
+        uint8_t *block = realloc(handle->image, room);
+        if (block == NULL) {
+            return LEZGAURI_MEMORY;
+        }
+        handle->image = block;
+        handle->room = room;
+        image = (lent){block, handle->len, room};
+        status = lezgauri_raw_grow(&image, extra);
+    }
+    handle->len = image.len;
+    return status;
+}
+
+uint32_t lezgauri_grow(lezgauri_handle *handle, size_t extra, size_t *size)
+{
+    span spans[] = {one(size, sizeof *size), handle_at(handle), segment_at(handle)};
+    if (handle == NULL || !may_tell(size, _Alignof(size_t)) || !are_apart(MEMORY(spans, 3))) {
+        return LEZGAURI_BAD_ARGUMENT;
+    }
+    if (extra > MOST_IMAGE) {
+        return LEZGAURI_BAD_SIZE;
+    }
+    if (!acquire(&handle->busy)) {
+        return LEZGAURI_BUSY;
+    }
+    uint32_t status = grow(handle, (uint32_t)extra);
+    size_t len = handle->len;
+    release(&handle->busy);
+    if (size != NULL && status == LEZGAURI_OK) {
+        *size = len;
+    }
+    return status;
+}
+
+uint32_t lezgauri_shrink(lezgauri_handle *handle, size_t *size)
+{
+    span spans[] = {one(size, sizeof *size), handle_at(handle), segment_at(handle)};
+    if (handle == NULL || !may_tell(size, _Alignof(size_t)) || !are_apart(MEMORY(spans, 3))) {
+        return LEZGAURI_BAD_ARGUMENT;
+    }
+    if (!acquire(&handle->busy)) {
+        return LEZGAURI_BUSY;
+    }
+    lent image = image_of(handle);
+    uint32_t status = lezgauri_raw_shrink(&image);
+    handle->len = image.len;
+    release(&handle->busy);
+    if (size != NULL && status == LEZGAURI_OK) {
+        *size = image.len;
+    }
+    return status;
+}
+
+uint32_t lezgauri_size(const lezgauri_handle *handle, size_t *size)
+{
+    span spans[] = {one(size, sizeof *size), handle_at(handle), segment_at(handle)};
+    if (handle == NULL || size == NULL || !may_tell(size, _Alignof(size_t)) || !are_apart(MEMORY(spans, 1))) {
+        return LEZGAURI_BAD_ARGUMENT;
+    }
+    *size = handle->len;
+    return LEZGAURI_OK;
+}
+
+uint32_t lezgauri_free_memory(const lezgauri_handle *handle, size_t *all, size_t *largest)
+{
+    span spans[] = {one(all, sizeof *all), one(largest, sizeof *largest), handle_at(handle), segment_at(handle)};
+    if (handle == NULL || !may_tell(all, _Alignof(size_t)) || !may_tell(largest, _Alignof(size_t)) ||
+        !are_apart(MEMORY(spans, 2))) {
+        return LEZGAURI_BAD_ARGUMENT;
+    }
+    if (!acquire(&flagged(handle)->busy)) {
+        return LEZGAURI_BUSY;
+    }
+    lent image = image_of(handle);
+    uint32_t bytes[2];
+    uint32_t status = lezgauri_raw_free_memory(&image, &bytes[0], &bytes[1]);
+    release(&flagged(handle)->busy);
+    if (status == LEZGAURI_OK) {
+        if (all != NULL) {
+            *all = bytes[0];
+        }
+        if (largest != NULL) {
+            *largest = bytes[1];
+        }
+    }
+    return status;
+}
+
+uint32_t lezgauri_image(const lezgauri_handle *handle, lezgauri_bytes *image)
+{
+    span spans[] = {one(image, sizeof *image), handle_at(handle), segment_at(handle)};
+    if (handle == NULL || image == NULL || !may_tell(image, _Alignof(lezgauri_bytes)) || !are_apart(MEMORY(spans, 1))) {
+        return LEZGAURI_BAD_ARGUMENT;
+    }
+    if (!acquire(&flagged(handle)->busy)) {
+        return LEZGAURI_BUSY;
+    }
+    *image = (lezgauri_bytes){handle->image, handle->len};
+    release(&flagged(handle)->busy);
+    return LEZGAURI_OK;
 }
 
 /* A prepared client, and its bytes, which the prepared client refers to. */
@@ -342,8 +590,9 @@ static span client_at(const lezgauri_client *prepared)
 uint32_t lezgauri_prepare(const lezgauri_handle *handle, const void *client, size_t client_len, lezgauri_client **prepared,
                           lezgauri_fault *fault)
 {
-    span spans[] = {one(fault, sizeof *fault), one(prepared, sizeof *prepared), segment_at(handle), one(client, client_len)};
-    memory of = MEMORY(spans, 3);
+    span spans[] = {one(fault, sizeof *fault), one(prepared, sizeof *prepared), handle_at(handle), segment_at(handle),
+                    one(client, client_len)};
+    memory of = MEMORY(spans, 4);
     bool is_place = prepared != NULL && may_tell(prepared, _Alignof(lezgauri_client *));
     if (is_place && is_apart(spans[1], of, 1)) {
         *prepared = NULL;
@@ -352,24 +601,22 @@ uint32_t lezgauri_prepare(const lezgauri_handle *handle, const void *client, siz
         !are_apart(of)) {
         return refuse(LEZGAURI_BAD_ARGUMENT, fault, of);
     }
-    /* const is true for the caller: the library doesn't write to the image, and the flag isn't visible */
-    lezgauri_handle *flagged = (lezgauri_handle *)handle;
-    if (!acquire(&flagged->busy)) {
+    if (!acquire(&flagged(handle)->busy)) {
         return refuse(LEZGAURI_BUSY, fault, of);
     }
     lezgauri_client *made = malloc(sizeof *made + client_len);
     if (made == NULL) {
-        release(&flagged->busy);
+        release(&flagged(handle)->busy);
         return refuse(LEZGAURI_MEMORY, fault, of);
     }
     made->prepared = (kept){NULL, false};
     made->len = client_len;
     atomic_flag_clear(&made->busy);
     memcpy(made->bytes, or_empty(client), client_len);
-    lent image = {flagged->image, flagged->len, flagged->len};
+    lent image = image_of(handle);
     lezgauri_fault told;
     uint32_t status = lezgauri_raw_prepare(&image, made->bytes, client_len, &made->prepared, &told);
-    release(&flagged->busy);
+    release(&flagged(handle)->busy);
     if (status == LEZGAURI_OK) {
         *prepared = made;
     } else {
@@ -430,11 +677,12 @@ static uint32_t run_on(const run_arguments *with, run_kind kind)
                     one(with->length, sizeof *with->length),
                     one(with->report, sizeof *with->report),
                     one(with->output, with->capacity),
+                    handle_at(with->handle),
                     segment_at(with->handle),
                     client_at(with->prepared),
                     one(with->client, with->client_len),
                     one(with->input, with->input_len)};
-    memory of = MEMORY(spans, 6);
+    memory of = MEMORY(spans, 7);
     if (with->handle == NULL || (kind == RUN_CLIENT && with->prepared == NULL) || !may_be_bytes(with->client, with->client_len) ||
         !may_be_bytes(with->input, with->input_len) || !may_be_bytes(with->output, with->capacity) ||
         !may_tell(with->length, _Alignof(size_t)) || !may_tell(with->report, _Alignof(lezgauri_report)) ||
@@ -444,7 +692,7 @@ static uint32_t run_on(const run_arguments *with, run_kind kind)
     if (!acquire_both(with)) {
         return refuse(LEZGAURI_BUSY, with->fault, of);
     }
-    lent image = {with->handle->image, with->handle->len, with->handle->len};
+    lent image = image_of(with->handle);
     lent printed = {or_room(with->output), 0, with->capacity};
     size_t length = 0;
     lezgauri_report reported = {0};
@@ -504,30 +752,184 @@ void lezgauri_client_close(lezgauri_client *prepared)
     }
 }
 
+/* Whether the image has no room in a buffer. *needed is its length. */
+static bool is_too_small(const lezgauri_handle *handle, size_t capacity, size_t *needed)
+{
+    size_t len = handle->len;
+    if (needed != NULL) {
+        *needed = len;
+    }
+    return capacity < len;
+}
+
 uint32_t lezgauri_save(const lezgauri_handle *handle, void *buffer, size_t capacity, size_t *needed)
 {
-    span spans[] = {one(needed, sizeof *needed), one(buffer, capacity), segment_at(handle)};
+    span spans[] = {one(needed, sizeof *needed), one(buffer, capacity), handle_at(handle), segment_at(handle)};
     if (handle == NULL || !may_be_bytes(buffer, capacity) || !may_tell(needed, _Alignof(size_t)) ||
         !are_apart(MEMORY(spans, 2))) {
         return LEZGAURI_BAD_ARGUMENT;
     }
-    if (needed != NULL) {
-        *needed = handle->len;
-    }
-    if (capacity < handle->len) {
+    if (is_too_small(handle, capacity, needed)) {
         return LEZGAURI_TOO_SMALL;
     }
-    /* const is true for the caller: the flag isn't visible */
-    lezgauri_handle *flagged = (lezgauri_handle *)handle;
-    if (!acquire(&flagged->busy)) {
+    if (!acquire(&flagged(handle)->busy)) {
         return LEZGAURI_BUSY;
     }
-    memcpy(buffer, handle->image, handle->len);
-    release(&flagged->busy);
-    return LEZGAURI_OK;
+    /* another call may have changed the length meanwhile */
+    uint32_t status = LEZGAURI_TOO_SMALL;
+    if (!is_too_small(handle, capacity, needed)) {
+        memcpy(buffer, handle->image, handle->len);
+        status = LEZGAURI_OK;
+    }
+    release(&flagged(handle)->busy);
+    return status;
 }
 
 void lezgauri_close(lezgauri_handle *handle)
 {
+    if (handle != NULL && !handle->is_lent) {
+        free(handle->image);
+    }
     free(handle);
+}
+
+/* ---- types */
+
+_Static_assert(sizeof(lezgauri_type) == 16 && _Alignof(lezgauri_type) == 1, "a type is an entry of the type table");
+
+uint32_t lezgauri_types(const lezgauri_handle *handle, lezgauri_type *types, size_t capacity, size_t *needed)
+{
+    bool are_types = may_be(types, capacity, sizeof *types, _Alignof(lezgauri_type));
+    size_t room = are_types ? capacity * sizeof *types : 0;
+    span spans[] = {one(needed, sizeof *needed), one(types, room), handle_at(handle), segment_at(handle)};
+    if (handle == NULL || !are_types || !may_tell(needed, _Alignof(size_t)) || !are_apart(MEMORY(spans, 2))) {
+        return LEZGAURI_BAD_ARGUMENT;
+    }
+    if (!acquire(&flagged(handle)->busy)) {
+        return LEZGAURI_BUSY;
+    }
+    size_t count = 0;
+    uint32_t status = lezgauri_raw_types(handle->image, handle->len, or_room(types), room, &count);
+    release(&flagged(handle)->busy);
+    if (needed != NULL) {
+        *needed = count;
+    }
+    return status;
+}
+
+/* ---- texts of clients */
+
+/* An export that converts the text of a client to its file, or back. */
+typedef uint32_t conversion(const uint8_t *from, size_t from_len, uint8_t *to, size_t to_len, size_t *needed, lezgauri_fault *fault);
+
+static uint32_t convert(conversion *call, const void *from, size_t len, void *buffer, size_t capacity, size_t *needed,
+                        lezgauri_fault *fault)
+{
+    span spans[] = {one(fault, sizeof *fault), one(needed, sizeof *needed), one(buffer, capacity), one(from, len)};
+    memory of = MEMORY(spans, 3);
+    if (!may_be_bytes(from, len) || !may_be_bytes(buffer, capacity) || !may_tell(needed, _Alignof(size_t)) ||
+        !may_tell(fault, _Alignof(lezgauri_fault)) || !are_apart(of)) {
+        return refuse(LEZGAURI_BAD_ARGUMENT, fault, of);
+    }
+    size_t length = 0;
+    lezgauri_fault told;
+    uint32_t status = call(or_empty(from), len, or_room(buffer), capacity, &length, &told);
+    if (needed != NULL) {
+        *needed = length;
+    }
+    tell(fault, &told);
+    return status;
+}
+
+uint32_t lezgauri_assemble(const void *text, size_t text_len, void *buffer, size_t capacity, size_t *needed,
+                           lezgauri_fault *fault)
+{
+    return convert(lezgauri_raw_assemble, text, text_len, buffer, capacity, needed, fault);
+}
+
+uint32_t lezgauri_print(const void *client, size_t client_len, void *buffer, size_t capacity, size_t *needed,
+                        lezgauri_fault *fault)
+{
+    return convert(lezgauri_raw_print, client, client_len, buffer, capacity, needed, fault);
+}
+
+/* ---- statuses and reasons in words */
+
+/* A status or a reason, and what it means. */
+typedef struct meaning {
+    uint32_t number;
+    const char *text;
+} meaning;
+
+/* The texts that `segtool --explain` prints too are the same there: checks/texts.py compares them. Some faults are only segtool's. */
+static const meaning statuses[] = {
+    {LEZGAURI_OK, "success"},
+    {LEZGAURI_MEMORY, "the host refused a request for memory"},
+    {LEZGAURI_MISPLACED, "the base should be a multiple of 16, and the segment should end within the room, at 1073741824 bytes at most"},
+    {LEZGAURI_BAD_TYPE, "an entry of the type table is wrong"},
+    {LEZGAURI_TYPE_MISMATCH,
+     "a client has to declare the types of the image with the same numbers; new types come after them"},
+    {5, "a segment has 736 to 1073741824 bytes, a multiple of 16"},
+    {6, "the region is too small for the larger segment"},
+    {LEZGAURI_BAD_HEADER, "the image's header or its length is wrong"},
+    {LEZGAURI_BAD_BLOCK,
+     "a block's header should have a size of 2 units or more within the heap, the size of the block before, a valid tag, "
+     "and a null link if the block is allocated; two free blocks should not be adjacent"},
+    {LEZGAURI_BAD_FREE,
+     "the free blocks should form a list in ascending order (sequential fit), or a red-black tree ordered by size (best fit)"},
+    {LEZGAURI_BAD_INDEX,
+     "the names should be in ascending order, as many as the number at byte 36, each of 1 to 63 visible bytes "
+     "and with 1 to 65535 values"},
+    {LEZGAURI_BAD_POINTER,
+     "a pointer is wrong: "
+     "it should point to the first payload byte of an allocated block of the right kind and type, with enough room"},
+    {LEZGAURI_DOUBLE_OWNER, "one pointer should own the block, but two do"},
+    {LEZGAURI_UNOWNED, "a pointer of the index, of a unique object or of a value should own the block, but none does"},
+    {LEZGAURI_BAD_VALUE,
+     "a value is wrong: a list isn't a ring, a map isn't a red-black tree with ascending keys, or a count isn't right"},
+    {LEZGAURI_BAD_CODE, "a field of the client file is wrong, or cut off by the end of the file"},
+    {LEZGAURI_BAD_LINE, "a line of the text is outside the grammar, or breaks a rule of clients"},
+    {LEZGAURI_REJECTED, "the verifier rejects an instruction"},
+    {LEZGAURI_TOO_LONG,
+     "a run could take more than 1000000000 steps: "
+     "a loop takes 1 step, and in each turn 1 step and the steps of its body, so the turns of nested loops multiply"},
+    {24,
+     "a move should come at step 1 or later, and later than the move before; "
+     "its base should be a multiple of 16 from which the segment ends within its room"},
+    {LEZGAURI_BAD_ARGUMENT, "a pointer or a length isn't allowed"},
+    {LEZGAURI_OUTPUT_FULL, "the output has no room for what a client prints"},
+    {LEZGAURI_TOO_SMALL, "the caller's memory is too small"},
+    {LEZGAURI_BUSY, "another call uses the open segment or the prepared client"},
+};
+
+static const meaning reasons[] = {
+    {1, "each register has to contain what the instruction needs, whichever parts ran before it"},
+    {2, "an owned object must not be lost: PUT it into an own, FREEZE it or DROP it"},
+    {3, "an object can't own or share itself: PUT or FREEZE it into a place outside it"},
+    {4, "a register that is defined before a loop has to contain the same kind of value at the end of its body"},
+};
+
+static const char *text_of(uint32_t number, const meaning *meanings, size_t count, const char *unknown)
+{
+    for (size_t i = 0; i < count; i++) {
+        if (meanings[i].number == number) {
+            return meanings[i].text;
+        }
+    }
+    return unknown;
+}
+
+const char *lezgauri_status_text(uint32_t status)
+{
+    return text_of(status, statuses, sizeof statuses / sizeof *statuses, "unknown status");
+}
+
+const char *lezgauri_reason_text(uint32_t reason)
+{
+    return text_of(reason, reasons, sizeof reasons / sizeof *reasons, "unknown reason");
+}
+
+const char *lezgauri_version(void)
+{
+    return LEZGAURI_VERSION;
 }

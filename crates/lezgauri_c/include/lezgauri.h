@@ -3,17 +3,17 @@
  * verified before they run. docs/FORMATS.md specifies images, clients and their text. Lengths and positions are in bytes, unless
  * stated otherwise.
  *
- * Status: each call returns LEZGAURI_OK, the number of a fault, or one of the numbers from 100 on below. After a fault,
+ * Status: a call that can fail returns LEZGAURI_OK, the number of a fault, or one of the numbers from 100 on below. After a fault,
  * LEZGAURI_BAD_ARGUMENT or LEZGAURI_BUSY nothing ran, and the caller's memory is unchanged except *fault, *written, *needed, *handle and
  * *prepared. No call aborts, unwinds, prints, or reads or writes beyond the lengths that it is given. A call takes memory from malloc
  * and frees it before it returns, except the memory of an open segment and of a prepared client. LEZGAURI_MEMORY means that malloc
  * refused.
  *
  * Tested by each call: null pointers with a length other than 0, lengths above PTRDIFF_MAX, pointers to numbers or structs that
- * aren't aligned, and overlap of what the call writes (*fault, *bound, *written, *needed, reports, *handle, *prepared, an output, a
- * saved image, an open segment, a prepared client) with any other memory of the call. Each returns LEZGAURI_BAD_ARGUMENT. A pointer
- * with a length of 0 may be null, unless stated otherwise. If an image's length is above 2^30, the call returns LEZGAURI_BAD_HEADER and
- * reads nothing of the image. If *fault overlaps other memory of the call, it isn't written.
+ * aren't aligned, and overlap of what the call writes (numbers and structs that it returns, reports, an output, a saved image, an open
+ * segment with its room, a prepared client) with any other memory of the call. Each returns LEZGAURI_BAD_ARGUMENT. A pointer with a
+ * length of 0 may be null, unless stated otherwise. If an image's length is above 2^30, the call returns LEZGAURI_BAD_HEADER and reads
+ * nothing of the image. If *fault overlaps other memory of the call, it isn't written.
  *
  * Promised by the caller, since no call can test it: each pointer points to as many bytes as its length states; they may be written
  * unless the pointer is to const; and while a call runs, no other thread or process writes what it reads or uses what it writes.
@@ -44,6 +44,8 @@ enum {
     LEZGAURI_MISPLACED = 2,      /* the segment can't be at this base; no call here returns it */
     LEZGAURI_BAD_TYPE = 3,       /* position: the first wrong entry of the image's type table, from 0 */
     LEZGAURI_TYPE_MISMATCH = 4,  /* position: the first entry that differs between the client's types and the image's */
+    LEZGAURI_BAD_SIZE = 5,       /* a segment can't have this size */
+    LEZGAURI_NO_HOST_ROOM = 6,   /* the segment's memory ends before a segment of this size would */
     LEZGAURI_BAD_HEADER = 10,    /* the image's header, or its length */
     LEZGAURI_BAD_BLOCK = 11,     /* position: of the block, in bytes from the image's start, like the next six */
     LEZGAURI_BAD_FREE = 12,      /* position: of the pointer word in the free structure */
@@ -53,19 +55,22 @@ enum {
     LEZGAURI_UNOWNED = 16,       /* position: of the allocated block without an owner */
     LEZGAURI_BAD_VALUE = 17,     /* position: of the value */
     LEZGAURI_BAD_CODE = 20,      /* position: of the first field of the client that is wrong or cut, in bytes from its start */
+    LEZGAURI_BAD_LINE = 21,      /* position: the first wrong line of a client's text, from 1 */
     LEZGAURI_REJECTED = 22,      /* position: the instruction that is refused, from 0; reason: why (docs/FORMATS.md) */
     LEZGAURI_TOO_LONG = 23,      /* a run of the client could take more than 1,000,000,000 steps */
     LEZGAURI_BAD_ARGUMENT = 100, /* a pointer or a length isn't allowed; nothing else was examined */
     LEZGAURI_OUTPUT_FULL = 101,  /* the output has no room for what a client prints */
-    LEZGAURI_TOO_SMALL = 102,    /* the memory for a saved image is shorter than the image */
+    LEZGAURI_TOO_SMALL = 102,    /* the caller's memory is too small for what the call writes there */
     LEZGAURI_BUSY = 103          /* another call uses the open segment or the prepared client */
 };
 
 /* The most bytes of stack that a call touches. */
 enum {
-    LEZGAURI_STACK_CHECK = 32 * 1024, /* the calls that check an image: lezgauri_check, lezgauri_verify, lezgauri_run, lezgauri_open */
-    LEZGAURI_STACK_RUN = 20 * 1024,   /* lezgauri_run_on, lezgauri_run_whole, lezgauri_prepare, lezgauri_run_client */
-    LEZGAURI_STACK_SAVE = 4 * 1024    /* lezgauri_save, lezgauri_close, lezgauri_client_close */
+    LEZGAURI_STACK_CHECK = 32 * 1024, /* lezgauri_check, lezgauri_verify, lezgauri_run, lezgauri_open, lezgauri_open_in */
+    LEZGAURI_STACK_RUN = 20 * 1024,   /* all other calls */
+    LEZGAURI_STACK_TEXT = 40 * 1024,  /* lezgauri_assemble, lezgauri_print */
+    LEZGAURI_STACK_SAVE = 4 * 1024    /* lezgauri_save, lezgauri_size, lezgauri_image, lezgauri_types, lezgauri_close, lezgauri_client_close, the
+                                       * calls that return a text */
 };
 
 /* The fault isn't a client's. */
@@ -95,6 +100,9 @@ typedef struct lezgauri_report {
 /*
  * Checks an image: LEZGAURI_OK if it is sound, otherwise its first fault. An image has 736 to 2^30 bytes, a multiple of 16. `fault` may be
  * null.
+ *
+ * The image is read where it lies, and may be mapped read-only. malloc is asked for 9 bytes for each 16 of the image, or for 13 if it
+ * has a shared type.
  */
 uint32_t lezgauri_check(const void *image, size_t len, lezgauri_fault *fault);
 
@@ -126,8 +134,9 @@ uint32_t lezgauri_run(const void *image, size_t image_len, const lezgauri_bytes 
                       lezgauri_report *reports, lezgauri_fault *fault);
 
 /*
- * A segment that stays open, so that its image is checked once for many runs. It is a copy of the image, and lezgauri_close frees it.
- * Only the calls below may write it: a run relies on the image being sound.
+ * A segment that stays open, so that its image is checked once for many runs. Its memory is a block from malloc (lezgauri_open,
+ * lezgauri_create), or it is lent by the caller (lezgauri_open_in, lezgauri_create_in). Only the calls below may write it until
+ * lezgauri_close: a run relies on the image being sound.
  */
 typedef struct lezgauri_handle lezgauri_handle;
 
@@ -136,6 +145,80 @@ typedef struct lezgauri_handle lezgauri_handle;
  * null, isn't aligned, or overlaps other memory of the call. `handle` isn't null; `fault` may be.
  */
 uint32_t lezgauri_open(const void *image, size_t len, lezgauri_handle **handle, lezgauri_fault *fault);
+
+/*
+ * Opens an image where it is, for example in a file that is mapped with MAP_SHARED: checks it in the caller's memory, and copies
+ * nothing. All calls on the segment read and change it there, and lezgauri_close leaves it there. The image has `len` bytes, and
+ * lezgauri_grow may use `room` bytes from the same address on; `room` isn't less than `len`. The result and the pointers are as for
+ * lezgauri_open.
+ *
+ * The caller promises that the memory stays at its address and may be written until lezgauri_close, and that others write it only
+ * between calls, as follows. Another handle on the same memory, of this process or of another one, may be used for calls that don't
+ * change the image's length: each call finds the sound image that the call before it left. So processes that share a segment take
+ * turns by a lock of their own. One that doesn't trust the others opens the segment anew whenever it gets the lock.
+ *
+ * If a crash interrupts a run, the image in the memory is half changed. Opening it finds out whether it is still sound, but not whether
+ * the run ended. lezgauri_run_whole changes the image only after the client's end, by one copy of all its bytes.
+ *
+ * Opening writes nothing. A run writes only bytes of blocks that its client changes, and of the header; the first run on an image of
+ * version 1 sets its version to 2. So a client that only reads leaves every page of a mapped file clean.
+ */
+uint32_t lezgauri_open_in(void *memory, size_t len, size_t room, lezgauri_handle **handle, lezgauri_fault *fault);
+
+/* The allocators of a segment: the first free block that is large enough, or the smallest one. */
+enum {
+    LEZGAURI_SEQ_FIT = 0, /* sequential fit */
+    LEZGAURI_BEST_FIT = 1 /* best fit */
+};
+
+/* The indexes of a segment, which find objects by name. */
+enum {
+    LEZGAURI_FLAT_INDEX = 0, /* a sorted array */
+    LEZGAURI_TREE_INDEX = 1  /* a tree */
+};
+
+/*
+ * Makes and opens a segment of `size` bytes without objects or types, in memory from malloc: LEZGAURI_OK, and *handle is the segment.
+ * Otherwise *handle is null, unless `handle` is null or isn't aligned. LEZGAURI_BAD_SIZE if `size` isn't a multiple of 16 from 736 to
+ * 2^30. LEZGAURI_BAD_ARGUMENT if there is no such allocator or index. `handle` isn't null.
+ */
+uint32_t lezgauri_create(size_t size, uint32_t allocator, uint32_t index, lezgauri_handle **handle);
+
+/*
+ * Like lezgauri_create, but the segment is in the caller's memory, as after lezgauri_open_in. It has `size` bytes from `memory` on, all of
+ * which are written, and may grow up to `room` bytes. LEZGAURI_NO_HOST_ROOM if `room` is less than `size`. If the status isn't
+ * LEZGAURI_OK, the memory is unchanged.
+ */
+uint32_t lezgauri_create_in(void *memory, size_t room, size_t size, uint32_t allocator, uint32_t index, lezgauri_handle **handle);
+
+/*
+ * Adds `extra` bytes of free memory at the end of an open segment: LEZGAURI_OK, and *size is the image's new length. `size` may be null.
+ * LEZGAURI_BAD_SIZE if `extra` isn't a multiple of 16, or the new length would be above 2^30. LEZGAURI_NO_HOST_ROOM if the room of lent
+ * memory is less than the new length. Memory from malloc grows by realloc, and so may move; LEZGAURI_MEMORY if that is refused. If the
+ * status isn't LEZGAURI_OK, the segment and *size are unchanged.
+ */
+uint32_t lezgauri_grow(lezgauri_handle *handle, size_t extra, size_t *size);
+
+/*
+ * Cuts the free block at the end of an open segment: LEZGAURI_OK, and *size is the image's new length, at least 736. `size` may be null.
+ * The segment can grow again: a block from malloc keeps its size, and lent memory its room. The bytes after the image are unspecified.
+ */
+uint32_t lezgauri_shrink(lezgauri_handle *handle, size_t *size);
+
+/* *size is the length of an open segment's image, also while another call uses the segment. `size` isn't null. */
+uint32_t lezgauri_size(const lezgauri_handle *handle, size_t *size);
+
+/*
+ * Counts the free memory of an open segment, in bytes, with 16 for the header of each free block: *all is the size of all free blocks,
+ * and *largest that of the largest one. Both may be null. It reads the header of each block.
+ */
+uint32_t lezgauri_free_memory(const lezgauri_handle *handle, size_t *all, size_t *largest);
+
+/*
+ * The bytes of an open segment's image, to be read where they are, until the next call on the segment that may change it. Nobody may
+ * write them. `image` isn't null.
+ */
+uint32_t lezgauri_image(const lezgauri_handle *handle, lezgauri_bytes *image);
 
 /*
  * Verifies a client and runs it on an open segment. The arguments are as for lezgauri_run; `report`, `written` and `fault` may be null.
@@ -193,8 +276,70 @@ void lezgauri_client_close(lezgauri_client *prepared);
  */
 uint32_t lezgauri_save(const lezgauri_handle *handle, void *buffer, size_t capacity, size_t *needed);
 
-/* Frees an open segment, which no call may be using. Does nothing if it is null. */
+/* Frees an open segment, which no call may be using, but not memory that the caller lent. Does nothing if it is null. */
 void lezgauri_close(lezgauri_handle *handle);
+
+/* The kinds of types. */
+enum {
+    LEZGAURI_KIND_I64 = 1,      /* a signed number of 64 bits; it has no component, like the next kind */
+    LEZGAURI_KIND_STR = 2,      /* a text */
+    LEZGAURI_KIND_VEC = 3,      /* a vector; its component is the type of its items, like that of the next three */
+    LEZGAURI_KIND_LIST = 4,     /* a linked list */
+    LEZGAURI_KIND_FLAT_MAP = 5, /* a map from numbers, in one buffer */
+    LEZGAURI_KIND_MAP = 6,      /* a map from numbers, as a tree */
+    LEZGAURI_KIND_OWN = 7,      /* null, or a pointer to an object of its own; its component is the object's type */
+    LEZGAURI_KIND_STRUCT = 8,   /* a struct; its components are the types of its fields */
+    LEZGAURI_KIND_SHARED = 9    /* null, or a pointer to a frozen object; its component is the object's type */
+};
+
+/* The most types of a segment. Types are numbered from 0. */
+#define LEZGAURI_MOST_TYPES 32
+
+/* A type of a segment: an entry of its type table. */
+typedef struct lezgauri_type {
+    uint8_t kind;          /* one of LEZGAURI_KIND_.. */
+    uint8_t count;         /* the number of components, 0 to 8 */
+    uint8_t components[8]; /* the number of each component's type; 0 after the last */
+    uint8_t zeros[6];      /* 0 */
+} lezgauri_type;
+
+/*
+ * Copies the types of an open segment to `types`, which has room for `capacity` types, in the order of their numbers. *needed is the
+ * number of types, at most LEZGAURI_MOST_TYPES; `needed` may be null. LEZGAURI_TOO_SMALL if the room is less; then nothing is copied.
+ */
+uint32_t lezgauri_types(const lezgauri_handle *handle, lezgauri_type *types, size_t capacity, size_t *needed);
+
+/*
+ * Assembles the text of a client (docs/FORMATS.md, "Assembler text"): writes the client's file to `buffer`, which has room for
+ * `capacity` bytes. *needed is the file's length. `needed` and `fault` may be null.
+ *
+ * LEZGAURI_TOO_SMALL if the room is less; then nothing is written to it. LEZGAURI_BAD_LINE if the text isn't a client's; then *needed
+ * is 0, as after each fault. The call takes memory for the file.
+ */
+uint32_t lezgauri_assemble(const void *text, size_t text_len, void *buffer, size_t capacity, size_t *needed,
+                           lezgauri_fault *fault);
+
+/*
+ * Writes the text of a client to `buffer`, as lezgauri_assemble writes its file. It is the canonical text, which has no comments, and
+ * which lezgauri_assemble turns into the same bytes. No zero follows its last line. LEZGAURI_BAD_CODE if the bytes aren't a client's.
+ */
+uint32_t lezgauri_print(const void *client, size_t client_len, void *buffer, size_t capacity, size_t *needed,
+                        lezgauri_fault *fault);
+
+/*
+ * Describes a status in words, such as "one pointer should own the block, but two do". The text is never null, lasts until the program
+ * ends, and has no line end. "unknown status" if there is no such status.
+ */
+const char *lezgauri_status_text(uint32_t status);
+
+/* Describes the reason of LEZGAURI_REJECTED, as lezgauri_status_text describes a status. "unknown reason" if there is no such reason. */
+const char *lezgauri_reason_text(uint32_t reason);
+
+/* The version of this header. */
+#define LEZGAURI_VERSION "0.1.0"
+
+/* Returns the version of the library, which lasts until the program ends. */
+const char *lezgauri_version(void);
 
 #ifdef __cplusplus
 }

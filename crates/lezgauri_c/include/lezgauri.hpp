@@ -4,14 +4,15 @@
 // Refused calls. A call is refused if its status is neither `ok` nor `output_full`. In namespace `lezgauri` a refused call throws
 // `error`. In namespace `lezgauri::results` the same calls are noexcept and return an `expected`: std::expected if the compiler has
 // it, and `result` otherwise. Both are the same templates, with the policy `throwing` or `returning`. With -fno-exceptions only the
-// second exists. `output_full` isn't a refusal: the caller reads `is_full` in what the call returns.
+// second exists. `output_full` isn't a refusal, nor is `too_small` of `assemble` and `print`: the caller reads `is_full` in what the
+// call returns.
 //
 // Memory. `const_bytes`, `mutable_bytes` and `items` refer to the caller's memory and own nothing. No function here copies an image,
 // a client, an input or an output, or allocates memory; the calls of lezgauri.h copy and allocate what their comments say. Where a call
 // of lezgauri.h takes the length of its room for granted (the saved image and the reports of `run`), `run` checks it.
 //
 // Threads. Different segments and clients are independent. One call at a time uses a segment, and one runs a client: another is
-// refused with `busy` at once, and has done nothing. This includes the const functions `prepare` and `save`. Threads that run one
+// refused with `busy` at once, and has done nothing. This includes the const functions other than `size`. Threads that run one
 // client on different segments at the same time prepare it once each. Moving, assigning, closing and destroying a segment or a client
 // isn't tested: do it when no other thread uses the object.
 #ifndef LEZGAURI_HPP
@@ -54,6 +55,8 @@ enum class status : std::uint32_t {
     misplaced = LEZGAURI_MISPLACED,
     bad_type = LEZGAURI_BAD_TYPE,
     type_mismatch = LEZGAURI_TYPE_MISMATCH,
+    bad_size = LEZGAURI_BAD_SIZE,
+    no_host_room = LEZGAURI_NO_HOST_ROOM,
     bad_header = LEZGAURI_BAD_HEADER,
     bad_block = LEZGAURI_BAD_BLOCK,
     bad_free = LEZGAURI_BAD_FREE,
@@ -63,6 +66,7 @@ enum class status : std::uint32_t {
     unowned = LEZGAURI_UNOWNED,
     bad_value = LEZGAURI_BAD_VALUE,
     bad_code = LEZGAURI_BAD_CODE,
+    bad_line = LEZGAURI_BAD_LINE,
     rejected = LEZGAURI_REJECTED,
     too_long = LEZGAURI_TOO_LONG,
     bad_argument = LEZGAURI_BAD_ARGUMENT,
@@ -89,6 +93,8 @@ constexpr std::string_view name(status of) noexcept
     case status::misplaced: return "Misplaced";
     case status::bad_type: return "BadType";
     case status::type_mismatch: return "TypeMismatch";
+    case status::bad_size: return "BadSize";
+    case status::no_host_room: return "NoHostRoom";
     case status::bad_header: return "BadHeader";
     case status::bad_block: return "BadBlock";
     case status::bad_free: return "BadFree";
@@ -98,6 +104,7 @@ constexpr std::string_view name(status of) noexcept
     case status::unowned: return "Unowned";
     case status::bad_value: return "BadValue";
     case status::bad_code: return "BadCode";
+    case status::bad_line: return "BadLine";
     case status::rejected: return "Rejected";
     case status::too_long: return "TooLong";
     case status::bad_argument: return "BadArgument";
@@ -121,6 +128,23 @@ constexpr std::string_view name(reason of) noexcept
     return {};
 }
 
+// lezgauri_status_text, lezgauri_reason_text: a status or a reason in words, which last until the program ends.
+inline const char *text(status of) noexcept
+{
+    return lezgauri_status_text(static_cast<std::uint32_t>(of));
+}
+
+inline const char *text(reason of) noexcept
+{
+    return lezgauri_reason_text(static_cast<std::uint32_t>(of));
+}
+
+// lezgauri_version: the version of the library. LEZGAURI_VERSION is the version of the header.
+inline const char *version() noexcept
+{
+    return lezgauri_version();
+}
+
 // Whether the position in a fault with this number means something. lezgauri.h describes what, beside the number.
 constexpr bool has_position(status of) noexcept
 {
@@ -135,6 +159,7 @@ constexpr bool has_position(status of) noexcept
     case status::unowned:
     case status::bad_value:
     case status::bad_code:
+    case status::bad_line:
     case status::rejected: return true;
     default: return false;
     }
@@ -339,6 +364,20 @@ private:
     std::size_t count_ = 0;
 };
 
+// ---- kinds of segments
+
+// The allocators of a segment: the first free block that is large enough, or the smallest one.
+enum class allocator_kind : std::uint32_t {
+    seq_fit = LEZGAURI_SEQ_FIT,
+    best_fit = LEZGAURI_BEST_FIT
+};
+
+// The indexes of a segment, which find objects by name.
+enum class index_kind : std::uint32_t {
+    flat = LEZGAURI_FLAT_INDEX,
+    tree = LEZGAURI_TREE_INDEX
+};
+
 // ---- what calls return
 
 using report = lezgauri_report;
@@ -356,11 +395,55 @@ struct [[nodiscard]] ran {
     lezgauri::report report{};
 };
 
+// The free memory of a segment in bytes, with 16 for the header of each free block.
+struct [[nodiscard]] free_bytes {
+    std::size_t all = 0;
+    std::size_t largest = 0; // of the largest free block
+};
+
 // What `run_whole` did.
 struct [[nodiscard]] ran_whole {
     std::size_t needed = 0;    // the length of the whole output
     bool is_full = false;      // the output has less room: the segment is unchanged, and the output's contents are unspecified
     lezgauri::report report{}; // all 0 if `is_full`
+};
+
+// What `assemble` and `print` did.
+struct [[nodiscard]] converted {
+    std::size_t needed = 0; // the length of the file or of the text
+    bool is_full = false;   // the buffer has less room: nothing is written to it
+};
+
+// The kind of a type. docs/FORMATS.md describes each.
+enum class kind : std::uint8_t {
+    i64 = LEZGAURI_KIND_I64,
+    str = LEZGAURI_KIND_STR,
+    vec = LEZGAURI_KIND_VEC,
+    list = LEZGAURI_KIND_LIST,
+    flat_map = LEZGAURI_KIND_FLAT_MAP,
+    map = LEZGAURI_KIND_MAP,
+    own = LEZGAURI_KIND_OWN,
+    structure = LEZGAURI_KIND_STRUCT,
+    shared = LEZGAURI_KIND_SHARED
+};
+
+using type = lezgauri_type;
+
+constexpr kind kind_of(const type &of) noexcept
+{
+    return kind(of.kind);
+}
+
+// The types of a segment, in the order of their numbers.
+struct [[nodiscard]] type_table {
+    type entries[LEZGAURI_MOST_TYPES] = {};
+    std::size_t count = 0;
+
+    std::size_t size() const noexcept { return count; }
+    const type *data() const noexcept { return entries; }
+    const type *begin() const noexcept { return entries; }
+    const type *end() const noexcept { return entries + count; }
+    const type &operator[](std::size_t number) const noexcept { return entries[number]; }
 };
 
 // ---- refusals
@@ -539,6 +622,16 @@ result_of<Policy, Ran> after_run(std::uint32_t number, const lezgauri_fault &tol
     return did;
 }
 
+// Returns a value, or why there is none, for a call that reports no fault.
+template <class Policy, class T>
+result_of<Policy, T> if_ok(std::uint32_t number, T value) noexcept(Policy::is_noexcept)
+{
+    if (number != LEZGAURI_OK) {
+        return Policy::template refuse<T>(fault_of(number));
+    }
+    return value;
+}
+
 struct close_segment {
     void operator()(lezgauri_handle *handle) const noexcept { lezgauri_close(handle); }
 };
@@ -590,7 +683,8 @@ private:
     std::unique_ptr<lezgauri_client, detail::close_client> prepared_;
 };
 
-// Owns an open segment. It is empty if it was made without one, moved from or closed; then its calls are refused with `bad_argument`.
+// Owns an open segment: its memory, or if that was lent by the caller only the right to use it. It is empty if it was made without one,
+// moved from or closed; then its calls are refused with `bad_argument`.
 template <class Policy>
 class basic_segment {
 public:
@@ -642,15 +736,45 @@ public:
         return detail::after_run<Policy>(number, told, did);
     }
 
-    // The length of the segment's image, which stays the same while the segment is open.
+    // lezgauri_size: the length of the segment's image, also while another call uses the segment.
     [[nodiscard]] detail::result_of<Policy, std::size_t> size() const noexcept(Policy::is_noexcept)
     {
-        std::size_t needed = 0;
-        const std::uint32_t number = lezgauri_save(get(), nullptr, 0, &needed);
-        if (number != LEZGAURI_TOO_SMALL) {
-            return Policy::template refuse<std::size_t>(detail::fault_of(number));
-        }
-        return needed;
+        std::size_t len = 0;
+        const std::uint32_t number = lezgauri_size(get(), &len);
+        return detail::if_ok<Policy>(number, len);
+    }
+
+    // lezgauri_grow: adds free memory at the end, and returns the new length of the image. Refused with `bad_size`, `no_host_room` or
+    // `memory`; then the segment is unchanged.
+    detail::result_of<Policy, std::size_t> grow(std::size_t extra) noexcept(Policy::is_noexcept)
+    {
+        std::size_t len = 0;
+        const std::uint32_t number = lezgauri_grow(get(), extra, &len);
+        return detail::if_ok<Policy>(number, len);
+    }
+
+    // lezgauri_shrink: cuts the free block at the end, and returns the new length of the image.
+    detail::result_of<Policy, std::size_t> shrink() noexcept(Policy::is_noexcept)
+    {
+        std::size_t len = 0;
+        const std::uint32_t number = lezgauri_shrink(get(), &len);
+        return detail::if_ok<Policy>(number, len);
+    }
+
+    // lezgauri_free_memory.
+    [[nodiscard]] detail::result_of<Policy, free_bytes> free_memory() const noexcept(Policy::is_noexcept)
+    {
+        free_bytes counted;
+        const std::uint32_t number = lezgauri_free_memory(get(), &counted.all, &counted.largest);
+        return detail::if_ok<Policy>(number, counted);
+    }
+
+    // lezgauri_image: the image where it is, to be read until the next call that may change the segment.
+    [[nodiscard]] detail::result_of<Policy, const_bytes> image() const noexcept(Policy::is_noexcept)
+    {
+        lezgauri_bytes bytes{};
+        const std::uint32_t number = lezgauri_image(get(), &bytes);
+        return detail::if_ok<Policy>(number, const_bytes(bytes.bytes, bytes.len));
     }
 
     // lezgauri_save: copies the image to the start of a buffer, and returns its length. Refused with `too_small` if the buffer is
@@ -659,10 +783,18 @@ public:
     {
         std::size_t needed = 0;
         const std::uint32_t number = lezgauri_save(get(), buffer.data(), buffer.size(), &needed);
+        return detail::if_ok<Policy>(number, needed);
+    }
+
+    // lezgauri_types: copies the segment's types.
+    [[nodiscard]] detail::result_of<Policy, type_table> types() const noexcept(Policy::is_noexcept)
+    {
+        type_table found;
+        const std::uint32_t number = lezgauri_types(get(), found.entries, LEZGAURI_MOST_TYPES, &found.count);
         if (number != LEZGAURI_OK) {
-            return Policy::template refuse<std::size_t>(detail::fault_of(number));
+            return Policy::template refuse<type_table>(detail::fault_of(number));
         }
-        return needed;
+        return found;
     }
 
 private:
@@ -732,6 +864,88 @@ template <class Policy = default_policy>
     return basic_segment<Policy>(handle);
 }
 
+// lezgauri_open_in: opens the image at the start of the caller's memory, and copies nothing. The segment may grow into the rest of the
+// memory, which must outlive it.
+template <class Policy = default_policy>
+[[nodiscard]] detail::result_of<Policy, basic_segment<Policy>> open_in(mutable_bytes memory, std::size_t len) noexcept(Policy::is_noexcept)
+{
+    lezgauri_handle *handle = nullptr;
+    lezgauri_fault told;
+    const std::uint32_t number = lezgauri_open_in(memory.data(), len, memory.size(), &handle, &told);
+    if (number != LEZGAURI_OK) {
+        return Policy::template refuse<basic_segment<Policy>>(detail::fault_of(number, told));
+    }
+    return basic_segment<Policy>(handle);
+}
+
+template <class Policy = default_policy>
+[[nodiscard]] detail::result_of<Policy, basic_segment<Policy>> open_in(mutable_bytes memory) noexcept(Policy::is_noexcept)
+{
+    return open_in<Policy>(memory, memory.size());
+}
+
+// lezgauri_create: makes and opens a segment of `size` bytes without objects or types.
+template <class Policy = default_policy>
+[[nodiscard]] detail::result_of<Policy, basic_segment<Policy>>
+create(std::size_t size, allocator_kind allocator = allocator_kind::best_fit,
+       index_kind index = index_kind::tree) noexcept(Policy::is_noexcept)
+{
+    lezgauri_handle *handle = nullptr;
+    const std::uint32_t number = lezgauri_create(size, std::uint32_t(allocator), std::uint32_t(index), &handle);
+    return detail::if_ok<Policy>(number, basic_segment<Policy>(handle));
+}
+
+// lezgauri_create_in: the same at the start of the caller's memory. The segment may grow into the rest of the memory, which must outlive
+// it.
+template <class Policy = default_policy>
+[[nodiscard]] detail::result_of<Policy, basic_segment<Policy>>
+create_in(mutable_bytes memory, std::size_t size, allocator_kind allocator = allocator_kind::best_fit,
+          index_kind index = index_kind::tree) noexcept(Policy::is_noexcept)
+{
+    lezgauri_handle *handle = nullptr;
+    const std::uint32_t number =
+        lezgauri_create_in(memory.data(), memory.size(), size, std::uint32_t(allocator), std::uint32_t(index), &handle);
+    return detail::if_ok<Policy>(number, basic_segment<Policy>(handle));
+}
+
+// ---- texts of clients
+
+namespace detail {
+
+template <class Policy>
+result_of<Policy, converted> after_conversion(std::uint32_t number, const lezgauri_fault &told,
+                                              std::size_t needed) noexcept(Policy::is_noexcept)
+{
+    if (number != LEZGAURI_OK && number != LEZGAURI_TOO_SMALL) {
+        return Policy::template refuse<converted>(fault_of(number, told));
+    }
+    return converted{needed, number == LEZGAURI_TOO_SMALL};
+}
+
+} // namespace detail
+
+// lezgauri_assemble: writes the file of the client that a text spells to the start of a buffer.
+template <class Policy = default_policy>
+[[nodiscard]] detail::result_of<Policy, converted> assemble(const_bytes source, mutable_bytes buffer) noexcept(Policy::is_noexcept)
+{
+    std::size_t needed = 0;
+    lezgauri_fault told;
+    const std::uint32_t number = lezgauri_assemble(source.data(), source.size(), buffer.data(), buffer.size(), &needed, &told);
+    return detail::after_conversion<Policy>(number, told, needed);
+}
+
+// lezgauri_print: writes the canonical text of a client to the start of a buffer.
+template <class Policy = default_policy>
+[[nodiscard]] detail::result_of<Policy, converted> print(const_bytes client_bytes,
+                                                         mutable_bytes buffer) noexcept(Policy::is_noexcept)
+{
+    std::size_t needed = 0;
+    lezgauri_fault told;
+    const std::uint32_t number =
+        lezgauri_print(client_bytes.data(), client_bytes.size(), buffer.data(), buffer.size(), &needed, &told);
+    return detail::after_conversion<Policy>(number, told, needed);
+}
+
 // ---- the two namespaces
 
 using segment = basic_segment<default_policy>;
@@ -765,6 +979,45 @@ template <class Policy = returning>
 [[nodiscard]] expected<segment> open(const_bytes image) noexcept
 {
     return lezgauri::open<Policy>(image);
+}
+
+template <class Policy = returning>
+[[nodiscard]] expected<segment> open_in(mutable_bytes memory, std::size_t len) noexcept
+{
+    return lezgauri::open_in<Policy>(memory, len);
+}
+
+template <class Policy = returning>
+[[nodiscard]] expected<segment> open_in(mutable_bytes memory) noexcept
+{
+    return lezgauri::open_in<Policy>(memory);
+}
+
+template <class Policy = returning>
+[[nodiscard]] expected<segment> create(std::size_t size, allocator_kind allocator = allocator_kind::best_fit,
+                                       index_kind index = index_kind::tree) noexcept
+{
+    return lezgauri::create<Policy>(size, allocator, index);
+}
+
+template <class Policy = returning>
+[[nodiscard]] expected<segment> create_in(mutable_bytes memory, std::size_t size,
+                                          allocator_kind allocator = allocator_kind::best_fit,
+                                          index_kind index = index_kind::tree) noexcept
+{
+    return lezgauri::create_in<Policy>(memory, size, allocator, index);
+}
+
+template <class Policy = returning>
+[[nodiscard]] expected<converted> assemble(const_bytes source, mutable_bytes buffer) noexcept
+{
+    return lezgauri::assemble<Policy>(source, buffer);
+}
+
+template <class Policy = returning>
+[[nodiscard]] expected<converted> print(const_bytes client_bytes, mutable_bytes buffer) noexcept
+{
+    return lezgauri::print<Policy>(client_bytes, buffer);
 }
 
 } // namespace results
@@ -836,10 +1089,10 @@ inline std::error_code last_error() noexcept
 // Owns a shared mapping of a whole file: what is written to `room` is written to the file. It is empty if it was made without a file,
 // moved from or closed.
 //
-// An open segment is a copy, so runs don't change the file that it was opened from; `save` does. While a call reads the file no other
-// process may write it, except during `open`, which checks its copy. If another process makes the file shorter, a call that uses the bytes
-// that are gone ends this process with SIGBUS. If the machine stops during `save` or `sync`, the file may be half written: to be safe from
-// that, save to a new file and rename it.
+// A segment of `open` is a copy, so runs don't change the file that it was opened from; `save` does. A segment of `open_in(file.room())` is
+// the file: runs change it in place. While a call uses the file no other process may write it, except during `open`, which checks its
+// copy. If another process makes the file shorter, a call that uses the bytes that are gone ends this process with SIGBUS. If the machine
+// stops during a run in place, `save` or `sync`, the file may be half written: to be safe from that, save to a new file and rename it.
 template <class Policy>
 class basic_mapped_file {
 public:

@@ -14,7 +14,7 @@ use Rattle.seg_spec.specs.Window.{Placement}
 use Rattle.client_spec.specs.Syntax.{Client}
 use Rattle.client_spec.specs.Grammar.{SpellsClient}
 use Rattle.client_spec.specs.Clients.{IsVerified}
-use Rattle.client_code.specs.Clients.{bytes_of}
+use Rattle.lezgauri.specs.ClientFiles.{bytes_of}
 use Rattle.client_vm.specs.declared.ready.Ready.{Ready}
 use Rattle.client_vm.specs.ReadyClients.{client_in}
 use Rattle.client_vm.specs.Jobs.{Effect}

@@ -5,6 +5,7 @@ mod accepting;
 mod box_parts;
 mod buffer;
 mod checking;
+mod creating;
 mod fault;
 mod kept;
 mod lent;
@@ -15,7 +16,10 @@ mod preparing;
 mod report;
 mod run_in_place;
 mod running;
+mod size;
 mod status;
+mod texts;
+mod types;
 mod whole;
 
 pub use fault::Fault;

@@ -2,10 +2,10 @@ ghost use Rattle.std.specs.Prelude.{◌≡◌, ◌↔◌, true, false, Ok, [], �
 ghost use Rattle.seg_spec.specs.Bytes.{word};
 ghost use Rattle.seg_spec.specs.Header.{allocator_word};
 ghost use Rattle.seg_spec.specs.Types.{Table};
-ghost use Rattle.seg_spec.specs.Images.{IsSound};
-ghost use Rattle.seg_spec.specs.Window.{region_of};
+ghost use Rattle.seg_spec.specs.Images.{IsSound, upgraded};
+ghost use Rattle.seg_spec.specs.Window.{region_of, with_bytes};
 ghost use Rattle.seg_check.specs.Faults.{IsImageOf, IsFaultOf};
-ghost use Rattle.client_code.specs.Clients.{OfTree};
+ghost use Rattle.lezgauri.specs.ClientFiles.{OfTree};
 ghost use Rattle.client_vm.specs.ReadyClients.{client_in};
 ghost use Rattle.client_output.specs.declared.report.Ended.{Ended};
 ghost use Rattle.client_vm.specs.Admitted.{IsWrong};
@@ -132,10 +132,10 @@ fn window_of<A: Allocator>(image: Vec<u8, A>) -> Result<Window<A>, Vec<u8, A>>
 }
 
 /// The types of the image in a window.
-fn types_of<A: Allocator>(window: &Window<A>) -> Result<TypeTable, Reason>
+pub(crate) fn types_of<A: Allocator>(window: &Window<A>) -> Result<TypeTable, Reason>
     ensures { (table : Table) → IsImageOf window.now.bytes table → result ≡ Ok table }
 {
-    read_types(window)
+    read_types(window.view())
 }
 
 /// Runs a client on the segment in a window, with the image's allocator, and returns the image's memory.
@@ -174,8 +174,18 @@ fn run_on<F: Fit, A: Allocator, W: Sink>(
         (effect_of_one (W.taken sink.old) (W.taken sink.new) result.1.items result.0) }
     ensures ended { (result.0.ended ≡ Ended.OutputFailed) ↔ (W.has_failed sink.new ≡ true) }
 {
-    header::upgrade(&mut window);
+    upgrade(&mut window);
     let mut segment: Segment<F, A> = Segment::new(window, types);
     let told = run(&mut segment, client, input, &[], sink);
     (told, segment.into_window().into_bytes())
+}
+
+/// Makes an image one of the version that may have frozen objects. Writes nothing to an image of that version, so that a run that
+/// only reads leaves the pages of a mapped file as they are.
+fn upgrade<A: Allocator>(window: &mut Window<A>)
+    ensures { window.new ≡ with_bytes window.old (upgraded window.old.bytes) }
+{
+    if !header::shares(window.view()) {
+        header::upgrade(window);
+    }
 }

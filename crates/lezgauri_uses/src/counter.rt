@@ -1,10 +1,13 @@
-ghost use Rattle.std.specs.Prelude.{◌≡◌, false};
+ghost use Rattle.std.specs.Prelude.{◌≡◌, false, IfOk};
+ghost use Rattle.lezgauri.specs.SoundImages.{IsSound};
 
 use lezgauri::{AllocatorKind, Error, Image, IndexKind, Sink, prepare, run, verify};
 use std::alloc::Global;
 
 /// An image with room for a counter. The first client makes the counter.
-pub fn new_counter(alloc: Global) -> Result<Vec<u8>, Error> {
+pub fn new_counter(alloc: Global) -> Result<Vec<u8>, Error>
+    ensures sound { IfOk result (λ image. IsSound image.items) }
+{
     let image = Image::create(alloc, 1024, AllocatorKind::Seq, IndexKind::Flat)?;
     Ok(image.into_bytes())
 }

@@ -27,7 +27,7 @@ pub(crate) struct BySize;
 fn size(view: View, node: NodeAt) -> u32
     ensures { result ≡ node_units view.entry.bytes.now node }
 {
-    units_in(view.get32(node.saturating_sub(UNIT) as usize))
+    units_in(view, node.saturating_sub(UNIT))
 }
 
 /// The size in units and the position of the free block with this node, in one number that orders like the pair.

@@ -41,14 +41,21 @@ pub fn block_of(payload: PayloadAt) -> BlockAt
 pub fn units<A: Allocator>(w: &Window<A>, block: BlockAt) -> u32
     ensures { result ≡ units_at w.now.bytes block }
 {
-    units_in(w.get32(block as usize))
+    units_of(w.get32(block as usize))
+}
+
+/// Like [`units`], from the segment's bytes.
+pub fn units_in(view: View, block: BlockAt) -> u32
+    ensures { result ≡ units_at view.entry.bytes.now block }
+{
+    units_of(view.get32(block as usize))
 }
 
 /// Whether the block at a position is allocated.
 pub fn is_live<A: Allocator>(w: &Window<A>, block: BlockAt) -> bool
     ensures { result ≡ is_live_at w.now.bytes block }
 {
-    is_live_in(w.get32(block as usize))
+    is_live_of(w.get32(block as usize))
 }
 
 /// The size in units of the block before, as the header at a position states it. 0 for the first block.
@@ -65,11 +72,25 @@ pub fn tag_word<A: Allocator>(w: &Window<A>, block: BlockAt) -> u32
     w.get32(block as usize + TAG)
 }
 
+/// Like [`tag_word`], from the segment's bytes.
+pub fn tag_word_in(view: View, block: BlockAt) -> u32
+    ensures { result ≡ tag_at view.entry.bytes.now block }
+{
+    view.get32(block as usize + TAG)
+}
+
 /// The position that the block's link points to.
 pub fn link<A: Allocator>(w: &Window<A>, block: BlockAt) -> Option<u32>
     ensures { result ≡ link_at w.now.bytes block }
 {
     w.target(block as usize + LINK)
+}
+
+/// Like [`link`], from the segment's bytes.
+pub fn link_in(view: View, block: BlockAt) -> Option<u32>
+    ensures { result ≡ link_at view.entry.bytes.now block }
+{
+    view.target(block as usize + LINK)
 }
 
 /// The size of the block's payload in bytes.
@@ -80,14 +101,14 @@ pub fn payload<A: Allocator>(w: &Window<A>, block: BlockAt) -> u64
 }
 
 /// The size in units in a header's first word.
-pub fn units_in(size: u32) -> u32
+pub fn units_of(size: u32) -> u32
     ensures { result ≡ size % 2 ^ 31 }
 {
     size % LIVE
 }
 
 /// Whether a header's first word marks the block as allocated.
-fn is_live_in(size: u32) -> bool
+fn is_live_of(size: u32) -> bool
     ensures { result ≡ nat_le (2 ^ 31) size }
 {
     size >= LIVE
@@ -118,8 +139,8 @@ impl Header {
         let header = view.part(block as usize, UNIT as usize);
         let size = header.get32(0);
         Header {
-            units: units_in(size),
-            is_live: is_live_in(size),
+            units: units_of(size),
+            is_live: is_live_of(size),
             units_before: header.get32(UNITS_BEFORE),
             tag: header.get32(TAG),
             link: view.target(block as usize + LINK),

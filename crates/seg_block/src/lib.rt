@@ -19,7 +19,7 @@ pub use free_structure::{FreeStructure, cut, resize};
 pub use grant::{Grant, request, request_at, request_new};
 pub use header::{
     BlockAt, HEAP_START, Header, LINK, PayloadAt, TAG, UNIT, UNITS_BEFORE, block_of, is_live, link,
-    payload, tag_word, units, units_before, units_in,
+    link_in, payload, tag_word, tag_word_in, units, units_before, units_in, units_of,
 };
 pub use rules::{expanded, granted, preferred, shrunk};
 pub use seg_ptr::{Code, Fault, MAX_LEN, MIN_LEN, Region, View, Window};

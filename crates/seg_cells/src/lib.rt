@@ -9,7 +9,7 @@ mod entry;
 mod place;
 mod search;
 
-pub use cell::{CellAt, count, load, start};
+pub use cell::{CellAt, count, count_in, load, load_in, start, start_in};
 pub use cells::{Cells, IDS, point_each_again, set_default};
 pub use content::{Content, FROZEN_WORDS, Shape};
 pub use entry::{Entry, Held, KEY, LIST_LINKS, PREVIOUS};

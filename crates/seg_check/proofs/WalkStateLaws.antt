@@ -6,7 +6,6 @@ use Rattle.std.proofs.lemmas.List.{append_assoc, append-nil}
 use Rattle.std.proofs.Math.Pow.{pow_mono}
 use Rattle.seg_spec.specs.Shapes.{Tree, leaf, fork, nodes_of}
 use Rattle.seg_spec.specs.Sound.{times, SameBlocks}
-use Rattle.seg_spec.specs.Window.{Placement}
 use Rattle.seg_spec.proofs.Heap.LiveBlockLaws.{times-append}
 use Rattle.seg_spec.proofs.TreeSearchLaws.{many_nodes}
 use Rattle.seg_check.specs.declared.walk.Stage.{Stage}
@@ -129,16 +128,14 @@ module _ (bytes : List ℕ) (root wanted : ℕ) where
             absurd (omega arith)
 
 -- the step of a walk over the same bytes
-pub steps_on : {E : Type 0} (bytes : List ℕ) (was now same : Placement) (old new : Stage) (turns less : ℕ) (r : Result (Option Visit) E) (visit : Visit) → r ≡ Ok (Some visit) → same.bytes ≡ bytes → now ≡ was → was ≡ same
+pub steps_on : {E : Type 0} (bytes was now : List ℕ) (old new : Stage) (turns less : ℕ) (r : Result (Option Visit) E) (visit : Visit) → r ≡ Ok (Some visit) → now ≡ was → was ≡ bytes
     → IsSteady bytes old turns → OnOk r (less + 1 ≡ turns)
-    → (IsSteady was.bytes old turns → IfOk r (λ v. IfSome v (λ _. IsSteady now.bytes new less)))
-    → (IsSteady was.bytes old turns → IfOk r (Proceeds was.bytes old new))
+    → (IsSteady was old turns → IfOk r (λ v. IfSome v (λ _. IsSteady now new less)))
+    → (IsSteady was old turns → IfOk r (Proceeds was old new))
     → IsSteady bytes new less × (less + 1 ≡ turns) × Proceeds bytes old new (Some visit)
-steps_on bytes was now same old new turns less r visit is here window as_was steady fewer keeps goes =
-    let old_bytes : was.bytes ≡ bytes = ap (λ (p : Placement). p.bytes) as_was ∙ here in
-    let new_bytes : now.bytes ≡ bytes = ap (λ (p : Placement). p.bytes) window ∙ old_bytes in
-    let before = subst (λ bs. IsSteady bs old turns) (sym old_bytes) steady in
-    let kept = subst (λ x. IfOk x (λ v. IfSome v (λ _. IsSteady now.bytes new less))) is (keeps before) in
-    let gone = subst (λ x. IfOk x (Proceeds was.bytes old new)) is (goes before) in
+steps_on bytes was now old new turns less r visit is as_was here steady fewer keeps goes =
+    let before = subst (λ bs. IsSteady bs old turns) (sym here) steady in
+    let kept = subst (λ x. IfOk x (λ v. IfSome v (λ _. IsSteady now new less))) is (keeps before) in
+    let gone = subst (λ x. IfOk x (Proceeds was old new)) is (goes before) in
     let spent = subst (λ x. OnOk x (less + 1 ≡ turns)) is fewer in
-    (subst (λ bs. IsSteady bs new less) new_bytes kept, spent, subst (λ bs. Proceeds bs old new (Some visit)) old_bytes gone)
+    (subst (λ bs. IsSteady bs new less) (as_was ∙ here) kept, spent, subst (λ bs. Proceeds bs old new (Some visit)) here gone)

@@ -15,7 +15,7 @@ use crate::fault::ContentFault;
 use crate::header::check_header;
 use crate::image::TypedImage;
 use seg_layout::{ENTRY, MAX_TYPES, Type, TypeId, TypeTable};
-use seg_ptr::{Window, header};
+use seg_ptr::{View, header};
 use seg_raw::Fault;
 use std::alloc::{AllocError, Allocator};
 
@@ -25,25 +25,25 @@ use std::alloc::{AllocError, Allocator};
 ///
 /// It allocates all its memory before it reads the heap: nine bytes for each unit of the heap, and four more if a type
 /// shares objects.
-pub fn check<A: Allocator, B: Allocator>(alloc: B, w: &Window<A>) -> Result<TypeTable, Fault>
-    ensures image { IfOk result (IsImageOf w.now.bytes) }
-    ensures fault { IfErr result (IsFaultOf w.now.bytes) }
-    ensures memory { result ≡ Err Memory → IsFrontRight w.now.bytes }
+pub fn check<A: Allocator>(alloc: A, view: View) -> Result<TypeTable, Fault>
+    ensures image { IfOk result (IsImageOf view.entry.bytes.now) }
+    ensures fault { IfErr result (IsFaultOf view.entry.bytes.now) }
+    ensures memory { result ≡ Err Memory → IsFrontRight view.entry.bytes.now }
 {
-    check_header(w)?;
-    let types = read_types(w)?;
-    check_heap(&alloc, w, &types)?;
+    check_header(view)?;
+    let types = read_types(view)?;
+    check_heap(&alloc, view, &types)?;
     Ok(types)
 }
 
 /// The types in an image's type table. Shared types are allowed only if the image's version may have frozen objects.
-pub fn read_types<A: Allocator>(w: &Window<A>) -> Result<TypeTable, Fault>
-    ensures { HasHeader w.now.bytes →
-        IsReading (word w.now.bytes version_word)
-        (slice w.now.bytes types_start types_size) result }
+pub fn read_types(view: View) -> Result<TypeTable, Fault>
+    ensures { HasHeader view.entry.bytes.now →
+        IsReading (word view.entry.bytes.now version_word)
+        (slice view.entry.bytes.now types_start types_size) result }
 {
-    let bytes = w.slice(header::TYPES, ENTRY * MAX_TYPES);
-    if header::shares(w) {
+    let bytes = view.slice(header::TYPES, ENTRY * MAX_TYPES);
+    if header::shares(view) {
         TypeTable::read_shared(bytes)
     } else {
         TypeTable::read(bytes)
@@ -70,21 +70,14 @@ fn is_shared(kind: Option<Type>) -> bool
     matches!(kind, Some(Type::Shared(_)))
 }
 
-fn check_heap<A: Allocator, B: Allocator + Copy>(
-    alloc: B,
-    w: &Window<A>,
-    types: &TypeTable,
-) -> Result<(), Fault>
-    ensures image { HasFront w.now.bytes types.now →
-        OnOk result (IsImageOf w.now.bytes types.now) }
-    ensures fault { HasFront w.now.bytes types.now → IfErr result (IsFaultOf w.now.bytes) }
+fn check_heap<A: Allocator + Copy>(alloc: A, bytes: View, types: &TypeTable) -> Result<(), Fault>
+    ensures image { HasFront bytes.entry.bytes.now types.now →
+        OnOk result (IsImageOf bytes.entry.bytes.now types.now) }
+    ensures fault { HasFront bytes.entry.bytes.now types.now →
+        IfErr result (IsFaultOf bytes.entry.bytes.now) }
 {
-    let mut claims = no_claims(alloc, w, types)?;
-    let image = TypedImage {
-        w,
-        bytes: w.view(),
-        types,
-    };
+    let mut claims = no_claims(alloc, bytes, types)?;
+    let image = TypedImage { bytes, types };
     image.check_structure(&mut claims)?;
     image.check_content(&mut claims)?;
     match claims.first_unowned() {
@@ -94,36 +87,36 @@ fn check_heap<A: Allocator, B: Allocator + Copy>(
 }
 
 /// The claims of an image whose blocks aren't known yet.
-fn no_claims<A: Allocator, B: Allocator + Copy>(
-    alloc: B,
-    w: &Window<A>,
+fn no_claims<A: Allocator + Copy>(
+    alloc: A,
+    bytes: View,
     types: &TypeTable,
-) -> Result<Claims<B>, AllocError>
-    ensures { HasFront w.now.bytes types.now →
-        IfOk result (KnowsNothing w.now.bytes types.now) }
+) -> Result<Claims<A>, AllocError>
+    ensures { HasFront bytes.entry.bytes.now types.now →
+        IfOk result (KnowsNothing bytes.entry.bytes.now types.now) }
 {
-    Claims::new(alloc, w, shares(types))
+    Claims::new(alloc, bytes, shares(types))
 }
 
-impl<A: Allocator> TypedImage<'_, A> {
+impl TypedImage<'_> {
     /// Checks the blocks of the heap, and the free structure.
-    fn check_structure<B: Allocator>(&self, claims: &mut Claims<B>) -> Result<(), Fault>
-        ensures { HasFront self.now.w.now.bytes self.now.types.now →
-            KnowsNothing self.now.w.now.bytes self.now.types.now claims.old →
-            FindsHeap self.now.w.now.bytes self.now.types.now claims.new result }
+    fn check_structure<A: Allocator>(&self, claims: &mut Claims<A>) -> Result<(), Fault>
+        ensures { HasFront self.now.bytes.bytes.now self.now.types.now →
+            KnowsNothing self.now.bytes.bytes.now self.now.types.now claims.old →
+            FindsHeap self.now.bytes.bytes.now self.now.types.now claims.new result }
     {
         let free_list = self.check_tiles(claims).map_err(Fault::BadBlock)?;
         self.check_free(claims, free_list).map_err(Fault::BadFree)
     }
 
     /// Checks what owns the blocks: the names, the unique objects, the values, and the counts of frozen objects.
-    fn check_content<B: Allocator>(&self, claims: &mut Claims<B>) -> Result<(), ContentFault>
-        ensures { KnowsHeap self.now.w.now.bytes self.now.types.now claims.old →
-            FindsOwners self.now.w.now.bytes self.now.types.now claims.new result }
+    fn check_content<A: Allocator>(&self, claims: &mut Claims<A>) -> Result<(), ContentFault>
+        ensures { KnowsHeap self.now.bytes.bytes.now self.now.types.now claims.old →
+            FindsOwners self.now.bytes.bytes.now self.now.types.now claims.new result }
     {
         self.check_index(claims)?;
         self.check_uniques(claims)?;
         self.check_values(claims)?;
-        claims.check_counts(self.bytes, self.w.get32(header::NEXT_NUMBER))
+        claims.check_counts(self.bytes, self.bytes.get32(header::NEXT_NUMBER))
     }
 }

@@ -14,7 +14,7 @@ use crate::fault::ContentFault;
 use crate::marks::{Mark, Turn, Waiting};
 use seg_block::{BlockAt, HEAP_START, PayloadAt, Tag, UNIT, block_of};
 use seg_cells::CellAt;
-use seg_ptr::{View, Window};
+use seg_ptr::View;
 use std::alloc::{AllocError, Allocator};
 use std::marker::Model;
 
@@ -52,18 +52,14 @@ impl<A: Allocator> Model for Claims<A> {
 
 impl<A: Allocator> Claims<A> {
     /// No block is known yet. `counts` is only allocated if cells share objects.
-    pub(crate) fn new<B: Allocator>(
-        alloc: A,
-        w: &Window<B>,
-        shares: bool,
-    ) -> Result<Claims<A>, AllocError>
+    pub(crate) fn new(alloc: A, bytes: View, shares: bool) -> Result<Claims<A>, AllocError>
     where
         A: Copy,
         ensures { IfOk result (λ claims.
-            claims ≡ nothing_known ((length w.now.bytes - heap_start) / UNIT)
-            (slots_in shares ((length w.now.bytes - heap_start) / UNIT))) }
+            claims ≡ nothing_known ((length bytes.entry.bytes.now - heap_start) / UNIT)
+            (slots_in shares ((length bytes.entry.bytes.now - heap_start) / UNIT))) }
     {
-        let units = (w.len().saturating_sub(HEAP_START) / UNIT) as usize;
+        let units = bytes.len().saturating_sub(HEAP_START as usize) / UNIT as usize;
         let slots = if shares {
             units.saturating_add(1) / 2
         } else {

@@ -13,34 +13,31 @@ use crate::marks::Turn;
 use seg_block::{PayloadAt, Tag};
 use seg_cells::{Content, Entry, Held};
 use seg_layout::TypeTable;
-use seg_ptr::{View, Window, header};
+use seg_ptr::{View, header};
 use std::alloc::Allocator;
 
 /// An image whose header and types are right.
 #[derive(Drop)]
-pub(crate) struct TypedImage<'a, A: Allocator> {
-    pub(crate) w: &'a Window<A>,
-    /// The bytes of the window.
+pub(crate) struct TypedImage<'a> {
     pub(crate) bytes: View<'a>,
     pub(crate) types: &'a TypeTable,
-    ghost same: { bytes.bytes.now ≡ w.now.bytes },
 }
 
-impl<A: Allocator> TypedImage<'_, A> {
+impl TypedImage<'_> {
     /// Checks the free structure of the image's allocator. `Err` has the position of the wrong pointer.
-    pub(crate) fn check_free<B: Allocator>(
+    pub(crate) fn check_free<A: Allocator>(
         &self,
-        claims: &Claims<B>,
+        claims: &Claims<A>,
         free_list: FreeList,
     ) -> Result<(), u32>
-        ensures gaps { HasFront self.now.w.now.bytes self.now.types.now
-            → HasTiles self.now.w.now.bytes self.now.types.now
-            → KnowsTiles self.now.w.now.bytes claims.now
-            → KnowsGaps self.now.w.now.bytes free_list (gaps self.now.w.now.bytes)
-            → IsOk result ↔ HoldsGaps (word self.now.w.now.bytes allocator_word)
-            self.now.w.now.bytes (gaps self.now.w.now.bytes) }
+        ensures gaps { HasFront self.now.bytes.bytes.now self.now.types.now
+            → HasTiles self.now.bytes.bytes.now self.now.types.now
+            → KnowsTiles self.now.bytes.bytes.now claims.now
+            → KnowsGaps self.now.bytes.bytes.now free_list (gaps self.now.bytes.bytes.now)
+            → IsOk result ↔ HoldsGaps (word self.now.bytes.bytes.now allocator_word)
+            self.now.bytes.bytes.now (gaps self.now.bytes.bytes.now) }
     {
-        match self.w.get32(header::ALLOCATOR) {
+        match self.bytes.get32(header::ALLOCATOR) {
             0 => free_list.end(self.bytes),
             _ => self.check_free_tree(claims),
         }
@@ -52,7 +49,7 @@ impl<A: Allocator> TypedImage<'_, A> {
 
     /// How a cell claims the blocks of its content.
     pub(crate) fn owner(&self, content: &Content) -> Claimant<'_>
-        ensures bytes { result.bytes.bytes.now ≡ self.now.w.now.bytes }
+        ensures bytes { result.bytes.bytes.now ≡ self.now.bytes.bytes.now }
         ensures tag { result.tag ≡ content.now.tag }
         ensures entry_size { result.entry_size ≡ content.now.entry.size }
         ensures has_turns { result.has_turns ≡ has_turns self.now.types.now content.now.entry.held }
@@ -67,20 +64,20 @@ impl<A: Allocator> TypedImage<'_, A> {
 
     /// Claims the block that a pointer points to, which must have room for `n` entries, and returns the position of its
     /// payload.
-    pub(crate) fn claim_entries<B: Allocator>(
+    pub(crate) fn claim_entries<A: Allocator>(
         &self,
-        claims: &mut Claims<B>,
+        claims: &mut Claims<A>,
         pointer: u32,
         content: &Content,
         count: u32,
     ) -> Result<PayloadAt, ContentFault>
         ensures taken { claims.new.taken ≡ claims.old.taken }
-        ensures claimed { HaveLiveHeaders self.now.w.now.bytes claims.old.unclaimed →
-            IfOk result (λ start. ClaimsBlock self.now.w.now.bytes claims.old claims.new pointer
+        ensures claimed { HaveLiveHeaders self.now.bytes.bytes.now claims.old.unclaimed →
+            IfOk result (λ start. ClaimsBlock self.now.bytes.bytes.now claims.old claims.new pointer
             (word_of content.now.tag) (count * content.now.entry.size)
             (turns_where (has_turns self.now.types.now content.now.entry.held) start count) start) }
-        ensures refused { HaveLiveHeaders self.now.w.now.bytes claims.old.unclaimed →
-            IfErr result (λ fault. Refutes fault (CanClaim self.now.w.now.bytes claims.old pointer
+        ensures refused { HaveLiveHeaders self.now.bytes.bytes.now claims.old.unclaimed →
+            IfErr result (λ fault. Refutes fault (CanClaim self.now.bytes.bytes.now claims.old pointer
             (word_of content.now.tag) (count * content.now.entry.size))) }
     {
         self.owner(content).claim(claims, pointer, count)
@@ -116,9 +113,9 @@ impl Claimant<'_> {
     /// Claims the block that a pointer points to, which must have room for `n` entries, and returns the position of its
     /// payload.
     #[inline(always)]
-    pub(crate) fn claim<B: Allocator>(
+    pub(crate) fn claim<A: Allocator>(
         self,
-        claims: &mut Claims<B>,
+        claims: &mut Claims<A>,
         pointer: u32,
         count: u32,
     ) -> Result<PayloadAt, ContentFault>

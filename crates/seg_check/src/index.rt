@@ -18,7 +18,7 @@ use crate::image::TypedImage;
 use crate::marks::Turn;
 use crate::walk::{Tree, Visit};
 use seg_cells::Content;
-use seg_entry::{ENTRY, IndexKind, MAX_NAME, NameEntry, name_count, named_tag};
+use seg_entry::{ENTRY, IndexKind, MAX_NAME, NameEntry, name_count_in, named_tag};
 use seg_layout::TypeId;
 use seg_ptr::header;
 use seg_rbtree::NodeAt;
@@ -27,37 +27,37 @@ use std::alloc::Allocator;
 /// The position of the pointer to the entries, or to the root node.
 const INDEX: u32 = header::INDEX as u32;
 
-impl<'w, A: Allocator> TypedImage<'w, A> {
+impl<'a> TypedImage<'a> {
     /// Checks the index, flat or a tree, and each entry with its object.
-    pub(crate) fn check_index<B: Allocator>(
+    pub(crate) fn check_index<A: Allocator>(
         &self,
-        claims: &mut Claims<B>,
+        claims: &mut Claims<A>,
     ) -> Result<(), ContentFault>
-        ensures { IsReady self.now.w.now.bytes self.now.types.now claims.old →
-            word self.now.w.now.bytes index_kind_word ≤ 1 →
-            StepsIndex self.now.w.now.bytes self.now.types.now claims.old claims.new result }
+        ensures { IsReady self.now.bytes.bytes.now self.now.types.now claims.old →
+            word self.now.bytes.bytes.now index_kind_word ≤ 1 →
+            StepsIndex self.now.bytes.bytes.now self.now.types.now claims.old claims.new result }
     {
-        let count = name_count(self.w);
-        match (self.w.target(header::INDEX), count) {
+        let count = name_count_in(self.bytes);
+        match (self.bytes.target(header::INDEX), count) {
             (None, 0) => Ok(()),
             (None, _) => Err(ContentFault::BadPointer(INDEX)),
-            (Some(_), _) => match IndexKind::of(self.w) {
+            (Some(_), _) => match IndexKind::read_in(self.bytes) {
                 IndexKind::Flat => self.check_flat_index(claims, count),
                 IndexKind::Tree => self.check_tree_index(claims, count),
             },
         }
     }
 
-    fn check_flat_index<B: Allocator>(
+    fn check_flat_index<A: Allocator>(
         &self,
-        claims: &mut Claims<B>,
+        claims: &mut Claims<A>,
         count: u32,
     ) -> Result<(), ContentFault>
-        ensures { (p : ℕ) → target self.now.w.now.bytes index_cell ≡ Some p →
-            count ≡ count_at self.now.w.now.bytes index_cell →
-            IsReady self.now.w.now.bytes self.now.types.now claims.old →
-            word self.now.w.now.bytes index_kind_word ≡ 0 →
-            StepsIndex self.now.w.now.bytes self.now.types.now claims.old claims.new result }
+        ensures { (p : ℕ) → target self.now.bytes.bytes.now index_cell ≡ Some p →
+            count ≡ count_at self.now.bytes.bytes.now index_cell →
+            IsReady self.now.bytes.bytes.now self.now.types.now claims.old →
+            word self.now.bytes.bytes.now index_kind_word ≡ 0 →
+            StepsIndex self.now.bytes.bytes.now self.now.types.now claims.old claims.new result }
     {
         let content = Content::index_buffer();
         let start = self.claim_entries(claims, INDEX, &content, count)?;
@@ -71,22 +71,22 @@ impl<'w, A: Allocator> TypedImage<'w, A> {
         Ok(())
     }
 
-    fn check_tree_index<B: Allocator>(
+    fn check_tree_index<A: Allocator>(
         &self,
-        claims: &mut Claims<B>,
+        claims: &mut Claims<A>,
         count: u32,
     ) -> Result<(), ContentFault>
-        ensures { count ≡ count_at self.now.w.now.bytes index_cell →
-            IsReady self.now.w.now.bytes self.now.types.now claims.old →
-            word self.now.w.now.bytes index_kind_word ≡ 1 →
-            StepsIndex self.now.w.now.bytes self.now.types.now claims.old claims.new result }
+        ensures { count ≡ count_at self.now.bytes.bytes.now index_cell →
+            IsReady self.now.bytes.bytes.now self.now.types.now claims.old →
+            word self.now.bytes.bytes.now index_kind_word ≡ 1 →
+            StepsIndex self.now.bytes.bytes.now self.now.types.now claims.old claims.new result }
     {
         let tree = Tree {
             root: INDEX,
             nodes: count as usize,
         };
         self.claim_index_nodes(claims, tree)?;
-        let mut walk = tree.walk(self.w);
+        let mut walk = tree.walk(self.bytes);
         let mut before: &[u8] = &[];
         while let Some(visit) = walk.next().map_err(ContentFault::BadIndex)? {
             if let Visit::Pass(node) = visit {
@@ -97,23 +97,23 @@ impl<'w, A: Allocator> TypedImage<'w, A> {
     }
 
     /// Claims the nodes of the index. This is before any entry is read.
-    fn claim_index_nodes<B: Allocator>(
+    fn claim_index_nodes<A: Allocator>(
         &self,
-        claims: &mut Claims<B>,
+        claims: &mut Claims<A>,
         tree: Tree,
     ) -> Result<(), ContentFault>
         ensures claimed { tree.root ≡ index_cell →
-            tree.nodes ≡ count_at self.now.w.now.bytes index_cell →
-            IsReady self.now.w.now.bytes self.now.types.now claims.old →
-            OnOk result (ClaimsTree self.now.w.now.bytes claims.old claims.new) }
+            tree.nodes ≡ count_at self.now.bytes.bytes.now index_cell →
+            IsReady self.now.bytes.bytes.now self.now.types.now claims.old →
+            OnOk result (ClaimsTree self.now.bytes.bytes.now claims.old claims.new) }
         ensures refused { tree.root ≡ index_cell →
-            tree.nodes ≡ count_at self.now.w.now.bytes index_cell →
-            IsReady self.now.w.now.bytes self.now.types.now claims.old →
+            tree.nodes ≡ count_at self.now.bytes.bytes.now index_cell →
+            IsReady self.now.bytes.bytes.now self.now.types.now claims.old →
             IfErr result (λ fault. Refutes fault
-            (CanClaimTree self.now.w.now.bytes claims.old.unclaimed)) }
+            (CanClaimTree self.now.bytes.bytes.now claims.old.unclaimed)) }
     {
         let content = Content::index_node();
-        let mut walk = tree.walk(self.w);
+        let mut walk = tree.walk(self.bytes);
         while let Some(visit) = walk.next().map_err(ContentFault::BadIndex)? {
             if let Visit::Enter(pointer) = visit {
                 self.claim_entries(claims, pointer, &content, 1)?;
@@ -124,29 +124,29 @@ impl<'w, A: Allocator> TypedImage<'w, A> {
 
     /// Checks the entry at a position and claims its object. Returns the entry's name, which must be above the name
     /// before.
-    fn check_entry<B: Allocator>(
+    fn check_entry<A: Allocator>(
         &self,
-        claims: &mut Claims<B>,
+        claims: &mut Claims<A>,
         at: u32,
         before: &[u8],
-    ) -> Result<&'w [u8], ContentFault>
+    ) -> Result<&'a [u8], ContentFault>
         ensures claimed { (rest : List ℕ) →
-            IsReady self.now.w.now.bytes self.now.types.now claims.old → IfOk result (λ name.
-            AdvancesRoots self.now.w.now.bytes self.now.types.now claims.old claims.new
+            IsReady self.now.bytes.bytes.now self.now.types.now claims.old → IfOk result (λ name.
+            AdvancesRoots self.now.bytes.bytes.now self.now.types.now claims.old claims.new
             (names_ahead (at ∷ rest) before.now) (names_ahead rest name.now)) }
         ensures refused { (rest : List ℕ) →
-            IsReady self.now.w.now.bytes self.now.types.now claims.old →
+            IsReady self.now.bytes.bytes.now self.now.types.now claims.old →
             IfErr result (λ fault. Refutes fault
-            (CanResolveRoots self.now.w.now.bytes self.now.types.now claims.old
+            (CanResolveRoots self.now.bytes.bytes.now self.now.types.now claims.old
             (names_ahead (at ∷ rest) before.now))) }
     {
-        let entry = NameEntry::read(self.w, at as usize);
+        let entry = NameEntry::read_in(self.bytes, at as usize);
         let len = entry.name_len;
         if entry.count == 0 || len == 0 || len > MAX_NAME || entry.zero != 0 {
             return Err(ContentFault::BadIndex(at));
         }
         self.claim_named(claims, at, &entry)?;
-        let name = entry.name(self.w, self.types);
+        let name = entry.name_in(self.bytes, self.types);
         if is_before(before, name) && is_printable(name) {
             Ok(name)
         } else {
@@ -155,22 +155,22 @@ impl<'w, A: Allocator> TypedImage<'w, A> {
     }
 
     /// Claims the object of the entry at a position. Its block must have room for its values and its name.
-    fn claim_named<B: Allocator>(
+    fn claim_named<A: Allocator>(
         &self,
-        claims: &mut Claims<B>,
+        claims: &mut Claims<A>,
         at: u32,
         entry: &NameEntry,
     ) -> Result<(), ContentFault>
-        ensures claimed { IsReady self.now.w.now.bytes self.now.types.now claims.old →
-            entry.now.object ≡ target self.now.w.now.bytes at →
-            OnOk result (ClaimsNamed self.now.w.now.bytes self.now.types.now claims.old claims.new
+        ensures claimed { IsReady self.now.bytes.bytes.now self.now.types.now claims.old →
+            entry.now.object ≡ target self.now.bytes.bytes.now at →
+            OnOk result (ClaimsNamed self.now.bytes.bytes.now self.now.types.now claims.old claims.new
             at entry.now.count entry.now.name_len) }
-        ensures refused { IsReady self.now.w.now.bytes self.now.types.now claims.old →
-            entry.now.object ≡ target self.now.w.now.bytes at →
-            IfErr result (λ fault. Refutes fault (CanClaimNamed self.now.w.now.bytes
+        ensures refused { IsReady self.now.bytes.bytes.now self.now.types.now claims.old →
+            entry.now.object ≡ target self.now.bytes.bytes.now at →
+            IfErr result (λ fault. Refutes fault (CanClaimNamed self.now.bytes.bytes.now
             self.now.types.now claims.old at entry.now.count entry.now.name_len)) }
     {
-        let Some(type_id) = entry.type_id(self.w) else {
+        let Some(type_id) = entry.type_in(self.bytes) else {
             return Err(ContentFault::BadPointer(at));
         };
         let size = entry.values_len(self.types.size(type_id)) as u64 + u64::from(entry.name_len);
@@ -181,9 +181,9 @@ impl<'w, A: Allocator> TypedImage<'w, A> {
 
     /// Puts a claimed object in the queue if its values may have pointers.
     #[inline]
-    fn await_values<B: Allocator>(
+    fn await_values<A: Allocator>(
         &self,
-        claims: &mut Claims<B>,
+        claims: &mut Claims<A>,
         type_id: TypeId,
         turn: Turn,
     ) -> Result<(), ContentFault>

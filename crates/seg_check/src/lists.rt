@@ -13,19 +13,19 @@ use seg_ptr::View;
 use seg_rbtree::NodeAt;
 use std::alloc::Allocator;
 
-impl<A: Allocator> TypedImage<'_, A> {
+impl TypedImage<'_> {
     /// Checks a list: claims its nodes along the pointers to the next, and then checks that they are a ring, in which
     /// each node points to the previous one.
-    pub(crate) fn check_list<B: Allocator>(
+    pub(crate) fn check_list<A: Allocator>(
         &self,
-        claims: &mut Claims<B>,
+        claims: &mut Claims<A>,
         content: &Content,
         cell: CellAt,
     ) -> Result<(), ContentFault>
         ensures taken { claims.new.taken ≡ claims.old.taken }
         ensures steps { (T U : ℕ) → CellsPointTo self.now.types.now T (Form.list U) content.now →
-            IsReady self.now.w.now.bytes self.now.types.now claims.old →
-            Steps self.now.w.now.bytes self.now.types.now claims.old claims.new
+            IsReady self.now.bytes.bytes.now self.now.types.now claims.old →
+            Steps self.now.bytes.bytes.now self.now.types.now claims.old claims.new
             (object_at cell T ∷ []) result }
     {
         let Some(count) = self.counted_blocks(cell)? else {

@@ -12,19 +12,19 @@ use crate::walk::{Tree, Visit};
 use seg_cells::{CellAt, Content, KEY, ValueAt};
 use std::alloc::Allocator;
 
-impl<A: Allocator> TypedImage<'_, A> {
+impl TypedImage<'_> {
     /// Checks a flat map: its buffer, and then the order of its keys.
-    pub(crate) fn check_flat_map<B: Allocator>(
+    pub(crate) fn check_flat_map<A: Allocator>(
         &self,
-        claims: &mut Claims<B>,
+        claims: &mut Claims<A>,
         content: &Content,
         cell: CellAt,
     ) -> Result<(), ContentFault>
         ensures taken { claims.new.taken ≡ claims.old.taken }
         ensures steps { (T U : ℕ) →
             CellsPointTo self.now.types.now T (Form.flat_map U) content.now →
-            IsReady self.now.w.now.bytes self.now.types.now claims.old →
-            Steps self.now.w.now.bytes self.now.types.now claims.old claims.new
+            IsReady self.now.bytes.bytes.now self.now.types.now claims.old →
+            Steps self.now.bytes.bytes.now self.now.types.now claims.old claims.new
             (object_at cell T ∷ []) result }
     {
         let Some(count) = self.counted(cell)? else {
@@ -39,16 +39,16 @@ impl<A: Allocator> TypedImage<'_, A> {
     }
 
     /// Checks a map: claims its nodes, and then checks the tree and the order of its keys.
-    pub(crate) fn check_map<B: Allocator>(
+    pub(crate) fn check_map<A: Allocator>(
         &self,
-        claims: &mut Claims<B>,
+        claims: &mut Claims<A>,
         content: &Content,
         cell: CellAt,
     ) -> Result<(), ContentFault>
         ensures taken { claims.new.taken ≡ claims.old.taken }
         ensures steps { (T U : ℕ) → CellsPointTo self.now.types.now T (Form.map U) content.now →
-            IsReady self.now.w.now.bytes self.now.types.now claims.old →
-            Steps self.now.w.now.bytes self.now.types.now claims.old claims.new
+            IsReady self.now.bytes.bytes.now self.now.types.now claims.old →
+            Steps self.now.bytes.bytes.now self.now.types.now claims.old claims.new
             (object_at cell T ∷ []) result }
     {
         let Some(count) = self.counted_blocks(cell)? else {
@@ -58,7 +58,7 @@ impl<A: Allocator> TypedImage<'_, A> {
             root: cell,
             nodes: count as usize,
         };
-        let mut walk = tree.walk(self.w);
+        let mut walk = tree.walk(self.bytes);
         let mut keys = Keys::new();
         while let Some(visit) = walk.next().map_err(ContentFault::BadValue)? {
             match visit {
@@ -74,9 +74,11 @@ impl<A: Allocator> TypedImage<'_, A> {
     /// The key right before the value at a position.
     #[tactic(auto, unfolding(seg_spec::specs::Bytes::signed))]
     fn key(&self, value: ValueAt) -> i64
-        ensures { KEY ≤ value → result ≡ signed_long self.now.w.now.bytes (value - KEY) }
+        ensures { KEY ≤ value → result ≡ signed_long self.now.bytes.bytes.now (value - KEY) }
     {
-        self.w.get64(value.wrapping_sub(KEY) as usize).cast_signed()
+        self.bytes
+            .get64(value.wrapping_sub(KEY) as usize)
+            .cast_signed()
     }
 }
 

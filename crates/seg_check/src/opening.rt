@@ -27,7 +27,7 @@ pub fn open<F: Fit, A: Allocator, B: Allocator>(
     ensures memory { IfErr result (λ fault. fault ≡ Memory → IsFrontRight window.old.bytes) }
     ensures unchanged { OnErr result (window.new ≡ window.old) }
 {
-    let types = check(alloc, window)?;
+    let types = check(alloc, window.view())?;
     if window.get32(header::ALLOCATOR) != F::word() {
         return Err(Fault::BadHeader);
     }

@@ -32,27 +32,27 @@ const BEFORE_ALL: Header = Header {
     link: None,
 };
 
-impl<A: Allocator> TypedImage<'_, A> {
+impl TypedImage<'_> {
     /// Checks the blocks, one after the other to the end of the image: each has at least two units and states the size
     /// of the block before; an allocated one has a tag that the types allow, and no link; no two free ones are
     /// adjacent. `Err` has the position of the first wrong header. Returns the check of sequential fit's list, for
     /// which it collects the free blocks.
-    pub(crate) fn check_tiles<B: Allocator>(&self, claims: &mut Claims<B>) -> Result<FreeList, u32>
-        ensures tiles { HasFront self.now.w.now.bytes self.now.types.now
-            → IsOk result ↔ HasTiles self.now.w.now.bytes self.now.types.now }
-        ensures free_list { HasFront self.now.w.now.bytes self.now.types.now
+    pub(crate) fn check_tiles<A: Allocator>(&self, claims: &mut Claims<A>) -> Result<FreeList, u32>
+        ensures tiles { HasFront self.now.bytes.bytes.now self.now.types.now
+            → IsOk result ↔ HasTiles self.now.bytes.bytes.now self.now.types.now }
+        ensures free_list { HasFront self.now.bytes.bytes.now self.now.types.now
             → IfOk result (λ list.
-            KnowsGaps self.now.w.now.bytes list (gaps self.now.w.now.bytes)) }
-        ensures known { HasFront self.now.w.now.bytes self.now.types.now
+            KnowsGaps self.now.bytes.bytes.now list (gaps self.now.bytes.bytes.now)) }
+        ensures known { HasFront self.now.bytes.bytes.now self.now.types.now
             → (slots : ℕ)
-            → claims.old ≡ nothing_known ((length self.now.w.now.bytes - heap_start) / UNIT) slots
-            → OnOk result (KnowsTiles self.now.w.now.bytes claims.new
+            → claims.old ≡ nothing_known ((length self.now.bytes.bytes.now - heap_start) / UNIT) slots
+            → OnOk result (KnowsTiles self.now.bytes.bytes.now claims.new
             × (length claims.new.naming.counts ≡ slots)) }
     {
         let bytes = self.bytes;
-        let tags = LiveTags::of(self.types, header::shares(self.w));
+        let tags = LiveTags::of(self.types, header::shares(bytes));
         let mut free_list = FreeList::new();
-        let end = self.w.len();
+        let end = bytes.len() as u32;
         let mut at = HEAP_START;
         let mut before = BEFORE_ALL;
         while at < end {

@@ -5,23 +5,23 @@ use crate::claims::Claims;
 use crate::fault::ContentFault;
 use crate::image::TypedImage;
 use seg_cells::Content;
-use seg_entry::{unique, unique_word};
+use seg_entry::{unique_in, unique_word};
 use seg_layout::{MAX_TYPES, TypeId};
 use std::alloc::Allocator;
 
-impl<A: Allocator> TypedImage<'_, A> {
+impl TypedImage<'_> {
     /// Checks the pointers to the unique objects, and claims them. No allocated block has an unused type, so the
     /// pointer of an unused type must be null.
-    pub(crate) fn check_uniques<B: Allocator>(
+    pub(crate) fn check_uniques<A: Allocator>(
         &self,
-        claims: &mut Claims<B>,
+        claims: &mut Claims<A>,
     ) -> Result<(), ContentFault>
-        ensures { IsReady self.now.w.now.bytes self.now.types.now claims.old →
-            StepsUniques self.now.w.now.bytes self.now.types.now claims.old claims.new result }
+        ensures { IsReady self.now.bytes.bytes.now self.now.types.now claims.old →
+            StepsUniques self.now.bytes.bytes.now self.now.types.now claims.old claims.new result }
     {
         for t in 0..MAX_TYPES {
             let t = t as TypeId;
-            if unique(self.w, t).is_some() {
+            if unique_in(self.bytes, t).is_some() {
                 let content = Content::object(self.types, t);
                 self.claim_entries(claims, unique_word(t) as u32, &content, 1)?;
             }

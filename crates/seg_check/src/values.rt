@@ -13,20 +13,20 @@ use crate::claims::Claims;
 use crate::fault::ContentFault;
 use crate::image::TypedImage;
 use crate::marks::Turn;
-use seg_block::{BlockAt, Kind, Tag, block_of, tag_word};
-use seg_cells::{CellAt, Content, Entry, Place, count};
+use seg_block::{BlockAt, Kind, Tag, block_of, tag_word_in};
+use seg_cells::{CellAt, Content, Entry, Place, count_in};
 use seg_layout::{Type, TypeId};
 use std::alloc::Allocator;
 
-impl<A: Allocator> TypedImage<'_, A> {
+impl TypedImage<'_> {
     /// Checks the values in the claimed blocks, and in the blocks that their cells claim.
-    pub(crate) fn check_values<B: Allocator>(
+    pub(crate) fn check_values<A: Allocator>(
         &self,
-        claims: &mut Claims<B>,
+        claims: &mut Claims<A>,
     ) -> Result<(), ContentFault>
-        ensures { IsReady self.now.w.now.bytes self.now.types.now claims.old →
-            AreWaiting self.now.w.now.bytes self.now.types.now claims.old.turns →
-            ResolvesTurns self.now.w.now.bytes self.now.types.now claims.old claims.new result }
+        ensures { IsReady self.now.bytes.bytes.now self.now.types.now claims.old →
+            AreWaiting self.now.bytes.bytes.now self.now.types.now claims.old.turns →
+            ResolvesTurns self.now.bytes.bytes.now self.now.types.now claims.old claims.new result }
     {
         while let Some(turn) = claims.next_turn() {
             self.check_block(claims, turn)?;
@@ -35,16 +35,16 @@ impl<A: Allocator> TypedImage<'_, A> {
     }
 
     /// Checks the values in a claimed block.
-    fn check_block<B: Allocator>(
+    fn check_block<A: Allocator>(
         &self,
-        claims: &mut Claims<B>,
+        claims: &mut Claims<A>,
         turn: Turn,
     ) -> Result<(), ContentFault>
         ensures taken { claims.new.taken ≡ claims.old.taken }
-        ensures steps { IsReady self.now.w.now.bytes self.now.types.now claims.old →
-            IsTurn self.now.w.now.bytes self.now.types.now turn →
-            Steps self.now.w.now.bytes self.now.types.now claims.old claims.new
-            (places_in self.now.w.now.bytes self.now.types.now turn) result }
+        ensures steps { IsReady self.now.bytes.bytes.now self.now.types.now claims.old →
+            IsTurn self.now.bytes.bytes.now self.now.types.now turn →
+            Steps self.now.bytes.bytes.now self.now.types.now claims.old claims.new
+            (places_in self.now.bytes.bytes.now self.now.types.now turn) result }
     {
         let Some(entry) = self.entry_of(block_of(turn.start)) else {
             return Ok(());
@@ -60,10 +60,10 @@ impl<A: Allocator> TypedImage<'_, A> {
     /// The layout of the entries in a claimed block of the queue.
     fn entry_of(&self, block: BlockAt) -> Option<Entry>
         ensures { IsTable self.now.types.now →
-            IsOwnable self.now.w.now.bytes self.now.types.now block →
-            HoldsEntries self.now.w.now.bytes self.now.types.now block result }
+            IsOwnable self.now.bytes.bytes.now self.now.types.now block →
+            HoldsEntries self.now.bytes.bytes.now self.now.types.now block result }
     {
-        let tag = Tag::read(tag_word(self.w, block))?;
+        let tag = Tag::read(tag_word_in(self.bytes, block))?;
         let content = match tag.kind {
             Kind::Named => Content::object(self.types, tag.type_id),
             Kind::Object
@@ -78,16 +78,16 @@ impl<A: Allocator> TypedImage<'_, A> {
 
     /// Checks the cells of a value, by ascending position. The cells of a struct are its fields' cells, and fields have
     /// lower types, so the recursion is no deeper than the table is long.
-    fn check_value<B: Allocator>(
+    fn check_value<A: Allocator>(
         &self,
-        claims: &mut Claims<B>,
+        claims: &mut Claims<A>,
         value: Place,
     ) -> Result<(), ContentFault>
         ensures taken { claims.new.taken ≡ claims.old.taken }
-        ensures steps { IsReady self.now.w.now.bytes self.now.types.now claims.old →
+        ensures steps { IsReady self.now.bytes.bytes.now self.now.types.now claims.old →
             value.type_id < length self.now.types.now →
             value.at + size self.now.types.now value.type_id ≤ 2 ^ 32 →
-            Steps self.now.w.now.bytes self.now.types.now claims.old claims.new
+            Steps self.now.bytes.bytes.now self.now.types.now claims.old claims.new
             (place_of value ∷ []) result }
     {
         if !self.types.has_pointers(value.type_id) {
@@ -106,16 +106,16 @@ impl<A: Allocator> TypedImage<'_, A> {
     }
 
     /// Checks a cell, and claims the blocks that it points to.
-    fn check_cell<B: Allocator>(
+    fn check_cell<A: Allocator>(
         &self,
-        claims: &mut Claims<B>,
+        claims: &mut Claims<A>,
         place: Place,
     ) -> Result<(), ContentFault>
         ensures taken { claims.new.taken ≡ claims.old.taken }
-        ensures steps { IsReady self.now.w.now.bytes self.now.types.now claims.old →
+        ensures steps { IsReady self.now.bytes.bytes.now self.now.types.now claims.old →
             place.type_id < length self.now.types.now →
             length (fields_of self.now.types.now place.type_id) ≡ 0 →
-            Steps self.now.w.now.bytes self.now.types.now claims.old claims.new
+            Steps self.now.bytes.bytes.now self.now.types.now claims.old claims.new
             (place_of place ∷ []) result }
     {
         let Some(kind) = self.types.kind(place.type_id) else {
@@ -138,17 +138,17 @@ impl<A: Allocator> TypedImage<'_, A> {
     }
 
     /// Checks a string or a vector, and claims its buffer.
-    fn check_buffer<B: Allocator>(
+    fn check_buffer<A: Allocator>(
         &self,
-        claims: &mut Claims<B>,
+        claims: &mut Claims<A>,
         content: &Content,
         cell: CellAt,
     ) -> Result<(), ContentFault>
         ensures taken { claims.new.taken ≡ claims.old.taken }
         ensures steps { (T : ℕ) (form : Form) → IsStringOrVector form →
             CellsPointTo self.now.types.now T form content.now →
-            IsReady self.now.w.now.bytes self.now.types.now claims.old →
-            Steps self.now.w.now.bytes self.now.types.now claims.old claims.new
+            IsReady self.now.bytes.bytes.now self.now.types.now claims.old →
+            Steps self.now.bytes.bytes.now self.now.types.now claims.old claims.new
             (object_at cell T ∷ []) result }
     {
         if let Some(count) = self.counted(cell)? {
@@ -158,19 +158,19 @@ impl<A: Allocator> TypedImage<'_, A> {
     }
 
     /// Checks an own, and claims its object.
-    fn check_own<B: Allocator>(
+    fn check_own<A: Allocator>(
         &self,
-        claims: &mut Claims<B>,
+        claims: &mut Claims<A>,
         content: &Content,
         cell: CellAt,
     ) -> Result<(), ContentFault>
         ensures taken { claims.new.taken ≡ claims.old.taken }
         ensures steps { (T U : ℕ) → CellsPointTo self.now.types.now T (Form.own U) content.now →
-            IsReady self.now.w.now.bytes self.now.types.now claims.old →
-            Steps self.now.w.now.bytes self.now.types.now claims.old claims.new
+            IsReady self.now.bytes.bytes.now self.now.types.now claims.old →
+            Steps self.now.bytes.bytes.now self.now.types.now claims.old claims.new
             (object_at cell T ∷ []) result }
     {
-        if count(self.w, cell) > 1 {
+        if count_in(self.bytes, cell) > 1 {
             return Err(ContentFault::BadValue(cell));
         }
         if self.counted_blocks(cell)?.is_some() {
@@ -181,19 +181,19 @@ impl<A: Allocator> TypedImage<'_, A> {
 
     /// Checks a shared cell, and counts it for the frozen object that it points to. If a frozen object owns the cell,
     /// the one that the cell points to must have a lower number.
-    fn check_shared<B: Allocator>(
+    fn check_shared<A: Allocator>(
         &self,
-        claims: &mut Claims<B>,
+        claims: &mut Claims<A>,
         held: TypeId,
         cell: CellAt,
     ) -> Result<(), ContentFault>
         ensures taken { claims.new.taken ≡ claims.old.taken }
         ensures steps { (T : ℕ) → form_at self.now.types.now T ≡ Some (Form.shared held) →
-            IsReady self.now.w.now.bytes self.now.types.now claims.old →
-            Steps self.now.w.now.bytes self.now.types.now claims.old claims.new
+            IsReady self.now.bytes.bytes.now self.now.types.now claims.old →
+            Steps self.now.bytes.bytes.now self.now.types.now claims.old claims.new
             (object_at cell T ∷ []) result }
     {
-        if count(self.w, cell) > 1 {
+        if count_in(self.bytes, cell) > 1 {
             return Err(ContentFault::BadValue(cell));
         }
         if self.counted_blocks(cell)?.is_none() {
@@ -212,10 +212,10 @@ impl<A: Allocator> TypedImage<'_, A> {
     /// The count of a cell, or `None` if the cell is empty. `BadPointer` if it counts something and its pointer is
     /// null.
     pub(crate) fn counted(&self, cell: CellAt) -> Result<Option<u32>, ContentFault>
-        ensures { result ≡ counted_by cell (target self.now.w.now.bytes cell)
-            (count_at self.now.w.now.bytes cell) }
+        ensures { result ≡ counted_by cell (target self.now.bytes.bytes.now cell)
+            (count_at self.now.bytes.bytes.now cell) }
     {
-        match (self.w.target(cell as usize), count(self.w, cell)) {
+        match (self.bytes.target(cell as usize), count_in(self.bytes, cell)) {
             (None, 0) => Ok(None),
             (None, _) => Err(ContentFault::BadPointer(cell)),
             (Some(_), count) => Ok(Some(count)),
@@ -225,8 +225,8 @@ impl<A: Allocator> TypedImage<'_, A> {
     /// Like [`counted`](TypedImage::counted), of a cell that counts the blocks it points to: `BadValue` if it points to one
     /// and counts none.
     pub(crate) fn counted_blocks(&self, cell: CellAt) -> Result<Option<u32>, ContentFault>
-        ensures { result ≡ blocks_counted_by cell (target self.now.w.now.bytes cell)
-            (count_at self.now.w.now.bytes cell) }
+        ensures { result ≡ blocks_counted_by cell (target self.now.bytes.bytes.now cell)
+            (count_at self.now.bytes.bytes.now cell) }
     {
         match self.counted(cell)? {
             Some(0) => Err(ContentFault::BadValue(cell)),

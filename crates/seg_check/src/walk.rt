@@ -4,9 +4,8 @@ ghost use Rattle.seg_check.specs.Colours.{is_red, may_stand, is_height};
 
 use arrayvec::ArrayVec;
 use seg_block::UNIT;
-use seg_ptr::Window;
+use seg_ptr::View;
 use seg_rbtree::{Colour, NodeAt, Side, child_word, node_colour};
-use std::alloc::Allocator;
 
 /// The longest path in a tree, in nodes. An image has fewer than 2^26 nodes, so a red-black tree of them has at most 52
 /// on a path. The tree's own paths may be longer, since their bound is for trees of 2^32 nodes. Which path is too long
@@ -28,18 +27,18 @@ impl Tree {
     /// Walks through the tree. If it isn't a red-black tree with the right number of nodes, the walk ends with `Err`,
     /// which has the position of the pointer to the root: at once before a node that would be too deep, else after the
     /// last node.
-    pub(crate) fn walk<A: Allocator>(self, w: &Window<A>) -> Walk<'_, A>
+    pub(crate) fn walk(self, bytes: View<'_>) -> Walk<'_>
         ensures starts { (height : ℕ) (nodes entering : List ℕ)
-            → Completes w.now.bytes height result.stage nodes entering
-            ↔ Hangs w.now.bytes self.root self.nodes height nodes entering }
-        ensures turns { result.turns ≡ length w.now.bytes / UNIT }
-        ensures steady { IsSteady w.now.bytes result.stage result.turns }
-        ensures window { result.w.now ≡ w.now }
+            → Completes bytes.entry.bytes.now height result.stage nodes entering
+            ↔ Hangs bytes.entry.bytes.now self.root self.nodes height nodes entering }
+        ensures turns { result.turns ≡ length bytes.entry.bytes.now / UNIT }
+        ensures steady { IsSteady bytes.entry.bytes.now result.stage result.turns }
+        ensures bytes { result.bytes.bytes.now ≡ bytes.entry.bytes.now }
     {
         Walk {
-            w,
+            bytes,
             root: self.root,
-            turns: w.len() / UNIT,
+            turns: bytes.len() as u32 / UNIT,
             stage: Stage::new(self),
         }
     }
@@ -206,8 +205,8 @@ impl Stage {
 
 /// A walk through a tree, from left to right.
 #[derive(Drop)]
-pub(crate) struct Walk<'w, A: Allocator> {
-    w: &'w Window<A>,
+pub(crate) struct Walk<'a> {
+    bytes: View<'a>,
     /// The position of the pointer to the root.
     root: u32,
     /// An upper bound on the steps of a walk through a tree in this segment: two for each node, and one.
@@ -215,31 +214,31 @@ pub(crate) struct Walk<'w, A: Allocator> {
     stage: Stage,
 }
 
-impl<A: Allocator> Walk<'_, A> {
+impl Walk<'_> {
     ghost use Rattle.std.specs.Prelude.{ℕ, ◌+◌, List, length, IfErr, IfOk, IfSome};
     ghost use Rattle.seg_check.specs.Walks.{Completes, IsSteady, Proceeds};
 
     /// The next step of the walk, or `None` at its end.
     pub(crate) fn next(&mut self) -> Result<Option<Visit>, u32>
         ensures fewer { OnOk result (self.new.turns + 1 ≡ self.old.turns) }
-        ensures steady { IsSteady self.old.w.now.bytes self.old.stage self.old.turns
+        ensures steady { IsSteady self.old.bytes.bytes.now self.old.stage self.old.turns
             → IfOk result (λ visit. IfSome visit (λ _.
-            IsSteady self.new.w.now.bytes self.new.stage self.new.turns)) }
-        ensures goes_on { IsSteady self.old.w.now.bytes self.old.stage self.old.turns
-            → IfOk result (Proceeds self.old.w.now.bytes self.old.stage self.new.stage) }
-        ensures refused { IsSteady self.old.w.now.bytes self.old.stage self.old.turns
+            IsSteady self.new.bytes.bytes.now self.new.stage self.new.turns)) }
+        ensures goes_on { IsSteady self.old.bytes.bytes.now self.old.stage self.old.turns
+            → IfOk result (Proceeds self.old.bytes.bytes.now self.old.stage self.new.stage) }
+        ensures refused { IsSteady self.old.bytes.bytes.now self.old.stage self.old.turns
             → IfErr result (λ _. (height : ℕ) (rest entering : List ℕ)
-            → Completes self.old.w.now.bytes height self.old.stage rest entering → height < 30
+            → Completes self.old.bytes.bytes.now height self.old.stage rest entering → height < 30
             → length rest + length entering < self.old.turns → ⊥) }
-        ensures window { self.new.w.now ≡ self.old.w.now }
+        ensures bytes { self.new.bytes.bytes.now ≡ self.old.bytes.bytes.now }
     {
         if self.turns == 0 {
             return Err(self.root);
         }
         self.turns -= 1;
         let pointer = self.stage.pointer;
-        if let Some(node) = self.w.target(pointer as usize) {
-            if self.stage.enter(node, node_colour(self.w, node)) {
+        if let Some(node) = self.bytes.target(pointer as usize) {
+            if self.stage.enter(node, node_colour(self.bytes, node)) {
                 return Ok(Some(Visit::Enter(pointer)));
             }
             return Err(self.root);

@@ -1,4 +1,4 @@
--- The first difference of two names decides how they compare. If there is none, their lengths do.
+-- The first difference of two names decides how they compare. Without a difference, their lengths decide.
 use Rattle.std.proofs.Common.{◌≡◌, ℕ, zero, suc, ◌<◌, List, [], ◌∷◌, length, get_or, refl, sym, ap, ◌∙◌, arith}
 use Rattle.std.specs.Ordering.{nat_cmp, ordering_then, MatchOrdering}
 use Rattle.std.specs.Cmp.Lexicographic.{slice_cmp}

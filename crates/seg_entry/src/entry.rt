@@ -73,13 +73,6 @@ impl NameEntry {
     }
 
     /// The entry at a position.
-    pub fn read<A: Allocator>(w: &Window<A>, at: usize) -> NameEntry
-        ensures { at + ENTRY ≤ 2 ^ 64 → result ≡ entry_read w.now.bytes at }
-    {
-        NameEntry::read_in(w.view(), at)
-    }
-
-    /// Like [`read`](NameEntry::read), from the segment's bytes.
     pub fn read_in(view: View, at: usize) -> NameEntry
         ensures { at + ENTRY ≤ 2 ^ 64 → result ≡ entry_read view.entry.bytes.now at }
     {
@@ -112,7 +105,7 @@ impl NameEntry {
     }
 
     /// Like [`type_id`](NameEntry::type_id), from the segment's bytes.
-    fn type_in(&self, view: View) -> Option<TypeId>
+    pub fn type_in(&self, view: View) -> Option<TypeId>
         ensures { result ≡ type_of view.entry.bytes.now self.now.object }
     {
         let block = self.object?.checked_sub(UNIT)?;

@@ -2,7 +2,7 @@ ghost use Rattle.std.specs.Prelude.{◌≡◌, ◌↔◌};
 ghost use Rattle.seg_spec.specs.Bytes.{word};
 ghost use Rattle.seg_spec.specs.Reads.{count_at};
 
-use seg_ptr::{Window, header};
+use seg_ptr::{View, Window, header};
 use std::alloc::Allocator;
 
 /// The position of the index's cell in the header: its pointer, and the number of names.
@@ -22,7 +22,14 @@ impl IndexKind {
     pub fn of<A: Allocator>(w: &Window<A>) -> IndexKind
         ensures { (result ≡ IndexKind.Tree) ↔ (word w.now.bytes 20 ≡ 1) }
     {
-        match w.get32(header::INDEX_KIND) {
+        IndexKind::read_in(w.view())
+    }
+
+    /// Like [`of`](IndexKind::of), from the segment's bytes.
+    pub fn read_in(view: View) -> IndexKind
+        ensures { (result ≡ IndexKind.Tree) ↔ (word view.entry.bytes.now 20 ≡ 1) }
+    {
+        match view.get32(header::INDEX_KIND) {
             1 => IndexKind::Tree,
             _ => IndexKind::Flat,
         }
@@ -41,5 +48,12 @@ impl IndexKind {
 pub fn name_count<A: Allocator>(w: &Window<A>) -> u32
     ensures { result ≡ count_at w.now.bytes 32 }
 {
-    w.get32(header::INDEX + 4)
+    name_count_in(w.view())
+}
+
+/// Like [`name_count`], from the segment's bytes.
+pub fn name_count_in(view: View) -> u32
+    ensures { result ≡ count_at view.entry.bytes.now 32 }
+{
+    view.get32(header::INDEX + 4)
 }

@@ -6,5 +6,5 @@ mod kind;
 mod uniques;
 
 pub use entry::{ENTRY, MAX_NAME, NameEntry, named_tag};
-pub use kind::{INDEX_CELL, IndexKind, name_count};
-pub use uniques::{set_unique, unique, word_of as unique_word};
+pub use kind::{INDEX_CELL, IndexKind, name_count, name_count_in};
+pub use uniques::{set_unique, unique, unique_in, word_of as unique_word};

@@ -1,2 +1,3 @@
 pub mod NamedItems
 pub mod PutContent
+pub mod IteratorLaws

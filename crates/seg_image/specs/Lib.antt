@@ -2,3 +2,13 @@ pub mod Growth
 pub mod Images
 pub mod Places
 pub mod Owners
+pub mod Iterators
+-- the words of the crates below that the contracts cite
+pub use Rattle.seg_value.specs.Stored
+pub use Rattle.seg_space.specs.NewSegments
+pub use Rattle.seg_check.specs.Faults
+pub use Rattle.seg_manager.specs.Segments
+pub use Rattle.seg_manager.specs.NamedObjects
+pub use Rattle.seg_seq.specs.Sequences
+pub use Rattle.seg_seq.specs.Lists
+pub use Rattle.seg_map.specs.Maps

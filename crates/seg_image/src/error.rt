@@ -5,14 +5,26 @@ ghost use Rattle.seg_image.specs.declared.error.Error.TheVariants as error;
 use crate::opening::Unopened;
 use seg_raw::{Code, Fault};
 use std::alloc::{AllocError, Allocator};
+use std::fmt;
 
 /// Why a host's work on an image ends, for functions that meet both kinds: a call of the host failed ([`Fault`]), or a
-/// request within the image ([`Code`]). `?` converts either.
+/// request within the image ([`Code`]). `?` converts either. `Display` writes which, and then the fault or the code.
 #[derive(Debug, Clone, Copy, PartialEq, Eq)]
 pub enum Error {
     Fault(Fault),
     Code(Code),
 }
+
+impl fmt::Display for Error {
+    fn fmt<W: fmt::Write>(&self, f: &mut fmt::Formatter<W>) -> fmt::Result {
+        match self {
+            Error::Fault(fault) => write!(f, "the call failed: {fault}"),
+            Error::Code(code) => write!(f, "the request was refused: {code}"),
+        }
+    }
+}
+
+impl std::error::Error for Error {}
 
 impl From<Fault> for Error {
     ghost from_gives = { λ fault made. made ≡ error.Fault fault };

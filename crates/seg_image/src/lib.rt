@@ -8,6 +8,7 @@
 mod creating;
 mod error;
 mod image;
+mod iterators;
 mod maps;
 mod named;
 mod opening;
@@ -22,11 +23,12 @@ mod values;
 pub use creating::AllocatorKind;
 pub use error::Error;
 pub use image::Image;
+pub use iterators::{Entries, Keys, Names};
 pub use opening::{Unopened, check};
 pub use seg_bestfit::BestFit;
 pub use seg_manager::{
     Code, ENTRY, Fault, Fields, Fit, Heap, IndexKind, MAX_LEN, MAX_NAME, MAX_TYPES, MIN_LEN, Named,
-    Place, Region, Segment, Type, TypeId, TypeTable, Window,
+    Place, Region, Segment, Type, TypeId, TypeTable, Window, is_size,
 };
 pub use seg_seq::Numbers;
 pub use seg_seqfit::SeqFit;

@@ -9,7 +9,7 @@ ghost use Rattle.seg_image.specs.Images.{segment_of, allocator_of};
 use crate::image::Image;
 use seg_bestfit::BestFit;
 use seg_layout::TypeTable;
-use seg_manager::{Fit, MAX_LEN, Segment, Window, header};
+use seg_manager::{Fit, MAX_LEN, Segment, View, Window, header};
 use seg_raw::{Fault, Region};
 use seg_seqfit::SeqFit;
 use std::alloc::Allocator;
@@ -29,20 +29,23 @@ impl<A: Allocator> From<Unopened<A>> for Fault {
     }
 }
 
-/// The types of an image, or its first fault. It works on a copy. [`Image::open`] opens exactly the images that this
-/// accepts.
-pub fn check<A: Allocator + Copy>(alloc: A, bytes: &[u8]) -> Result<TypeTable, Fault>
+/// The types of an image, or its first fault, or `Memory` if host memory for the check is refused: 9 bytes for each 16
+/// of the image, or 13 if it has a shared type, freed before the call returns. Nothing of the image is copied.
+/// [`Image::open`] opens exactly the images that this accepts.
+pub fn check<A: Allocator>(alloc: A, bytes: &[u8]) -> Result<TypeTable, Fault>
     ensures image { IfOk result (IsImageOf bytes.now) }
     ensures fault { IfErr result (IsFaultOf bytes.now) }
 {
-    let window = window_of(Vec::from_slice(alloc, bytes)?)?;
-    seg_check::check(alloc, &window)
+    if bytes.len() > MAX_LEN as usize {
+        return Err(Fault::BadHeader);
+    }
+    seg_check::check(alloc, View::new(bytes))
 }
 
 impl<A: Allocator + Copy> Image<A> {
     /// Opens a sound image in its own memory. It then is one of the version that may have frozen objects. Otherwise it
-    /// returns the bytes with the image's first fault, or with `Memory` if host memory for the check is refused: 9
-    /// bytes for each 16 of the image, or 13 if it has a shared type, freed before the call returns.
+    /// returns the bytes with the image's first fault, or with `Memory` if host memory for the check is refused: as
+    /// much as for [`check`].
     pub fn open(alloc: A, bytes: Vec<u8, A>) -> Result<Image<A>, Unopened<A>>
         ensures opened { IfOk result
             (λ image. (segment_of image).window.bytes ≡ upgraded bytes.items) }

@@ -1,17 +1,13 @@
-ghost use Rattle.std.specs.Prelude.{◌≡◌, ℕ, ◌<◌, ◌≤◌, ◌==◌, ◌↔◌, ◌%◌, ◌*◌, ◌+◌, ◌++◌, [], map, sum_by, length, slice_get, IsOk, IfOk, IfErr, IfSome, IsTrue};
-ghost use Rattle.arrayvec.specs.ArrayVec.{array_vec_len};
-ghost use Rattle.seg_spec.specs.Types.{Table, Agree, IsFirstDifference, longer, fields_of, fields_from, pointers, IsTable, form_at, entry_at, AreOfVersion, size, Spells, IsWrongEntry, IsFirstWrong};
+ghost use Rattle.std.specs.Prelude.{◌≡◌, ℕ, ◌<◌, ◌≤◌, ◌==◌, ◌↔◌, ◌%◌, ◌*◌, [], length, slice_get, IsOk, IfOk, IfErr, IfSome};
+ghost use Rattle.seg_spec.specs.Types.{Table, Agree, IsFirstDifference, longer, fields_of, IsTable, form_at, entry_at, AreOfVersion, size, Spells, IsWrongEntry, IsFirstWrong};
 ghost use Rattle.seg_layout.specs.Forms.{cell_of, form_of, map_option, has_cells};
 ghost use Rattle.seg_layout.specs.Reading.{IsReading};
 
 use crate::entry::{Entries, Entry, MAX_TYPES, Slot};
-use crate::kind::{Cell, ENTRY, Fields, Type, TypeId};
+use crate::kind::{Cell, ENTRY, Type, TypeId};
 use arrayvec::ArrayVec;
 use seg_raw::Fault;
 use std::marker::Model;
-
-/// The largest number of cells in a value.
-const MAX_CELLS: usize = 512;
 
 /// The types of a segment, at most 32. It allocates no memory.
 #[derive(Drop)]
@@ -152,50 +148,6 @@ impl TypeTable {
         let type_id = fields.get(place)?;
         let from = Entry::total(&self.entries, &fields.as_slice()[..place]);
         Some(Cell { from, type_id })
-    }
-
-    /// The cells of a value of this type that have pointers, by ascending position: all cells but numbers.
-    pub fn pointers(&self, t: TypeId) -> ArrayVec<Cell, 512>
-        ensures { map cell_of result.items ≡ pointers self.now t }
-    {
-        // This opens the invariant: the sizes of a valid table bound the numbers of found and pending parts.
-        let _ = &self.entries;
-        let mut found = ArrayVec::new();
-        let mut pending = ArrayVec::new();
-        pending.push(Cell {
-            from: 0,
-            type_id: t,
-        });
-        while let Some(part) = pending.pop() {
-            let Some(kind) = self.kind(part.type_id) else {
-                continue;
-            };
-            match kind {
-                Type::I64 => {}
-                Type::Struct(fields) => self.push_fields(&mut pending, part.from, &fields),
-                _ => found.push(part),
-            }
-        }
-        // the loop takes the last part first
-        found.reverse();
-        found
-    }
-
-    /// Pushes the fields of a struct that begins at this offset.
-    fn push_fields(&self, pending: &mut ArrayVec<Cell, MAX_CELLS>, start: u32, fields: &Fields)
-        requires room { array_vec_len pending.old + length fields.now ≤ 512 }
-        requires fits { start + sum_by (size self.now) fields.now ≤ 4096 }
-        ensures { map cell_of pending.new.items
-            ≡ map cell_of pending.old.items ++ fields_from self.now start fields.now }
-    {
-        let mut from = start;
-        for field in fields.as_slice() {
-            pending.push(Cell {
-                from,
-                type_id: *field,
-            });
-            from += self.size(*field);
-        }
     }
 
     /// The bytes of this type's entry, all zero if the table lacks the type.

@@ -5,10 +5,8 @@ ghost use Rattle.seg_index.specs.Lists.{IsNamed, entry_of, root_after};
 ghost use Rattle.seg_manager.specs.Segments.{IsSegment};
 ghost use Rattle.seg_manager.specs.NamedObjects.{DescribesRoot};
 
-use crate::Segment;
-use seg_index::{NameEntry, name_count};
-use seg_value::{Fit, TypeId};
-use std::alloc::Allocator;
+use seg_index::{NameEntry, name_count_in};
+use seg_value::{SegmentRead, TypeId};
 
 /// A name of a segment, with the type of its object and the number of its values.
 #[derive(Debug, Clone, Copy, PartialEq, Eq)]
@@ -19,45 +17,47 @@ pub struct Named<'a> {
 }
 
 /// How many named objects there are.
-pub fn num_named<F: Fit, A: Allocator>(segment: &Segment<F, A>) -> u32
-    ensures { (picture : Picture) → IsSegment F.allocator segment.now picture →
+pub fn num_named<S: SegmentRead>(source: &S) -> u32
+    ensures { (picture : Picture) →
+        IsSegment (S.allocator source.now) (S.stored source.now) picture →
         result ≡ length picture.names }
 {
-    name_count(segment.window())
+    name_count_in(source.view())
 }
 
 /// The first name in order.
-pub fn first_name<F: Fit, A: Allocator>(segment: &Segment<F, A>) -> Option<Named<'_>>
-    ensures { (picture : Picture) → IsSegment F.allocator segment.now picture →
+pub fn first_name<S: SegmentRead>(source: &S) -> Option<Named<'_>>
+    ensures { (picture : Picture) →
+        IsSegment (S.allocator source.now) (S.stored source.now) picture →
         MatchOption result (slice_get picture.names 0 ≡ None)
         (λ it. IsSomeAnd (slice_get picture.names 0)
         (DescribesRoot it.name.now it.type_id it.count)) }
 {
-    read_entry(segment, seg_index::first_name(segment.heap())?)
+    read_entry(source, seg_index::first_name(source)?)
 }
 
 /// The first name after another one, which need not exist.
-pub fn next_name<'s, F: Fit, A: Allocator>(
-    segment: &'s Segment<F, A>,
-    after: &[u8],
-) -> Option<Named<'s>>
-    ensures { (picture : Picture) → IsSegment F.allocator segment.now picture →
+pub fn next_name<'s, S: SegmentRead>(source: &'s S, after: &[u8]) -> Option<Named<'s>>
+    ensures { (picture : Picture) →
+        IsSegment (S.allocator source.now) (S.stored source.now) picture →
         MatchOption result (root_after picture.names after.now ≡ None)
         (λ it. IsSomeAnd (root_after picture.names after.now)
         (DescribesRoot it.name.now it.type_id it.count)) }
 {
-    read_entry(segment, seg_index::next_name(segment.heap(), after)?)
+    read_entry(source, seg_index::next_name(source, after)?)
 }
 
 /// The name, the type and the count in an entry.
-fn read_entry<F: Fit, A: Allocator>(segment: &Segment<F, A>, entry: NameEntry) -> Option<Named<'_>>
-    ensures { (root : Root) → IsNamed segment.now.window.bytes segment.now.types root →
+fn read_entry<S: SegmentRead>(source: &S, entry: NameEntry) -> Option<Named<'_>>
+    ensures { (root : Root) →
+        IsNamed (S.stored source.now).window.bytes (S.stored source.now).types root →
         root.type < 32 → entry ≡ entry_of root →
         IsSomeAnd result (λ it. DescribesRoot it.name.now it.type_id it.count root) }
 {
+    let view = source.view();
     Some(Named {
-        name: entry.name(segment.window(), segment.types()),
-        type_id: entry.type_id(segment.window())?,
+        name: entry.name_in(view, source.types()),
+        type_id: entry.type_in(view)?,
         count: entry.count,
     })
 }

@@ -20,9 +20,9 @@ ghost use Rattle.seg_manager.specs.LeavingNamed.{IsUnlisted, LosesNamed};
 ghost use Rattle.seg_manager.specs.Segments.{IsSegment, new_root};
 
 use crate::segment::Segment;
-use seg_index::{MAX_NAME, NameEntry, Vacant, find, look_up};
+use seg_index::{MAX_NAME, NameEntry, Vacant, look_up};
 use seg_raw::Code;
-use seg_value::{Fit, Kind, PayloadAt, Place, Tag, TypeId, UNIT, need};
+use seg_value::{Fit, Kind, PayloadAt, Place, SegmentRead, Tag, TypeId, UNIT, need};
 use std::alloc::Allocator;
 
 /// A named object: the position of its first value, and the number of its values.
@@ -176,27 +176,7 @@ impl<F: Fit, A: Allocator> Segment<F, A> {
         ensures { (picture : Picture) → IsSegment F.allocator self.now picture →
             result ≡ found_as t (root_named picture.names name.now) }
     {
-        match find(self.heap(), name) {
-            Some(entry) => self.found(entry, t),
-            None => Err(Code::Absent),
-        }
-    }
-
-    /// The object of an entry. `OtherType` if it has another type.
-    fn found(&self, entry: NameEntry, t: TypeId) -> Result<Found, Code>
-        ensures { (root : Root) → IsNamed self.now.window.bytes self.now.types root →
-            root.type < 32 → entry ≡ entry_of root → result ≡ found_as t (Some root) }
-    {
-        let Some(at) = entry.object else {
-            return Err(Code::Absent);
-        };
-        if entry.type_id(self.window()) != Some(t) {
-            return Err(Code::OtherType);
-        }
-        Ok(Found {
-            at,
-            count: entry.count,
-        })
+        find(self, name, t)
     }
 
     /// The position of the first value of the object with this name. If there is none, it is made with one default
@@ -219,7 +199,7 @@ impl<F: Fit, A: Allocator> Segment<F, A> {
             (object_asks self.old.window.bytes self.old.types t 1 name.now) }
     {
         match look_up(self.heap(), name) {
-            Ok(occupied) => match self.found(occupied.entry(), t) {
+            Ok(occupied) => match named_object(self, occupied.entry(), t) {
                 Ok(found) => Ok(found.at),
                 Err(code) => Err(code),
             },
@@ -246,7 +226,7 @@ impl<F: Fit, A: Allocator> Segment<F, A> {
         let Ok(occupied) = look_up(self.heap(), name) else {
             return false;
         };
-        let Ok(found) = self.found(occupied.entry(), t) else {
+        let Ok(found) = named_object(self, occupied.entry(), t) else {
             return false;
         };
         occupied.remove(self.heap_mut());
@@ -272,6 +252,36 @@ impl<F: Fit, A: Allocator> Segment<F, A> {
         }
         self.heap_mut().free_block(found.at);
     }
+}
+
+/// Like [`Segment::find`], in any source of values.
+pub fn find<S: SegmentRead>(source: &S, name: &[u8], t: TypeId) -> Result<Found, Code>
+    ensures { (picture : Picture) →
+        IsSegment (S.allocator source.now) (S.stored source.now) picture →
+        result ≡ found_as t (root_named picture.names name.now) }
+{
+    match seg_index::find(source, name) {
+        Some(entry) => named_object(source, entry, t),
+        None => Err(Code::Absent),
+    }
+}
+
+/// The object of an entry. `OtherType` if it has another type.
+fn named_object<S: SegmentRead>(source: &S, entry: NameEntry, t: TypeId) -> Result<Found, Code>
+    ensures { (root : Root) →
+        IsNamed (S.stored source.now).window.bytes (S.stored source.now).types root →
+        root.type < 32 → entry ≡ entry_of root → result ≡ found_as t (Some root) }
+{
+    let Some(at) = entry.object else {
+        return Err(Code::Absent);
+    };
+    if entry.type_in(source.view()) != Some(t) {
+        return Err(Code::OtherType);
+    }
+    Ok(Found {
+        at,
+        count: entry.count,
+    })
 }
 
 /// The place of a value of an object, by its index. Each value has `size` bytes.

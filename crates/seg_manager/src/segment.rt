@@ -8,7 +8,10 @@ ghost use Rattle.seg_manager.specs.Segments.{IsSegment, AddsTypes};
 
 use crate::cursor::Cursor;
 use seg_raw::{Fault, Region};
-use seg_value::{ENTRY, Fit, Heap, MAX_TYPES, TypeId, TypeTable, Window, header};
+use seg_value::{
+    CellAt, Content, ENTRY, Fit, Heap, MAX_TYPES, PayloadAt, SegmentRead, TypeId, TypeTable, View,
+    Window, header,
+};
 use std::alloc::Allocator;
 use std::marker::Model;
 
@@ -113,6 +116,36 @@ impl<F: Fit, A: Allocator> Segment<F, A> {
         ensures { result ≡ region_of self.window }
     {
         self.into_window().into_region()
+    }
+}
+
+impl<F: Fit, A: Allocator> SegmentRead for Segment<F, A> {
+    ghost stored = { λ segment. segment };
+
+    ghost allocator = { λ _. F.allocator };
+
+    fn view(&self) -> View<'_> {
+        self.heap.view()
+    }
+
+    fn types(&self) -> &TypeTable {
+        self.heap.types()
+    }
+
+    fn content(&self, t: TypeId) -> Option<Content> {
+        self.heap.content(t)
+    }
+
+    fn count(&self, cell: CellAt) -> u32 {
+        self.heap.count(cell)
+    }
+
+    fn start(&self, cell: CellAt) -> PayloadAt {
+        self.heap.start(cell)
+    }
+
+    fn load(&self, at: CellAt) -> i64 {
+        self.heap.load(at)
     }
 }
 

@@ -4,9 +4,9 @@ ghost use Rattle.seg_spec.specs.Sound.{Picture};
 ghost use Rattle.seg_manager.specs.Segments.{IsSegment, unique_at, MakesUnique, FindsOrMakes, RefusesUnique, LosesUnique};
 
 use crate::segment::Segment;
-use seg_index::{set_unique, unique};
+use seg_index::{set_unique, unique, unique_in};
 use seg_raw::Code;
-use seg_value::{Fit, MAX_TYPES, PayloadAt, TypeId};
+use seg_value::{Fit, MAX_TYPES, PayloadAt, SegmentRead, TypeId};
 use std::alloc::Allocator;
 
 /// Unique objects: at most one for each type.
@@ -35,7 +35,7 @@ impl<F: Fit, A: Allocator> Segment<F, A> {
             MatchResult result (λ at. unique_at picture t ≡ Some at)
             (λ code. (code ≡ Code.Absent) × (unique_at picture t ≡ None)) }
     {
-        unique(self.window(), t).ok_or(Code::Absent)
+        find_unique(self, t)
     }
 
     /// The position of the unique object of a type, which is made if it doesn't exist. `BadAlloc` if there is no room.
@@ -78,12 +78,32 @@ impl<F: Fit, A: Allocator> Segment<F, A> {
         ensures { (picture : Picture) → IsSegment F.allocator self.now picture →
             result ≡ length picture.uniques }
     {
-        let mut count = 0;
-        for t in 0..MAX_TYPES as TypeId {
-            if unique(self.window(), t).is_some() {
-                count += 1;
-            }
-        }
-        count
+        num_unique(self)
     }
+}
+
+/// Like [`Segment::find_unique`], in any source of values.
+pub fn find_unique<S: SegmentRead>(source: &S, t: TypeId) -> Result<PayloadAt, Code>
+    ensures { (picture : Picture) →
+        IsSegment (S.allocator source.now) (S.stored source.now) picture → t < MAX_TYPES →
+        MatchResult result (λ at. unique_at picture t ≡ Some at)
+        (λ code. (code ≡ Code.Absent) × (unique_at picture t ≡ None)) }
+{
+    unique_in(source.view(), t).ok_or(Code::Absent)
+}
+
+/// How many unique objects there are.
+pub fn num_unique<S: SegmentRead>(source: &S) -> usize
+    ensures { (picture : Picture) →
+        IsSegment (S.allocator source.now) (S.stored source.now) picture →
+        result ≡ length picture.uniques }
+{
+    let view = source.view();
+    let mut count = 0;
+    for t in 0..MAX_TYPES as TypeId {
+        if unique_in(view, t).is_some() {
+            count += 1;
+        }
+    }
+    count
 }

@@ -12,40 +12,38 @@ ghost use Rattle.seg_value.specs.Entries.{NamesFlatMap, flat_asks};
 ghost use Rattle.seg_map.specs.Maps.{WhereMap, FindsValue, PutsKey, RemovesKey, KeepsLowerKeys, first_of, keys_above};
 
 use seg_raw::Code;
-use seg_value::{CellAt, Content, Entry, Fit, Heap, ValueAt, binary_search};
+use seg_value::{CellAt, Content, Entry, Fit, Heap, SegmentRead, ValueAt, binary_search};
 use std::alloc::Allocator;
 
 /// `Ok` with the index of a key's entry, or `Err` with the index to insert it at.
-fn search<F: Fit, A: Allocator>(
-    heap: &Heap<F, A>,
-    entry: Entry,
-    cell: CellAt,
-    key: i64,
-) -> Result<u32, u32>
-    ensures { WhereMap Form.flat_map F.allocator heap.now.window.bytes heap.now.types cell
-        (λ T U keys vs blocks. IsEntryOf heap.now.types 8 U entry →
+fn search<S: SegmentRead>(source: &S, entry: Entry, cell: CellAt, key: i64) -> Result<u32, u32>
+    ensures { WhereMap Form.flat_map (S.allocator source.now) (S.stored source.now).window.bytes
+        (S.stored source.now).types cell
+        (λ T U keys vs blocks. IsEntryOf (S.stored source.now).types 8 U entry →
         MatchResult result (λ index. key_place keys key ≡ Some index)
         (λ index. (key_place keys key ≡ None) × (index ≡ keys_below keys key))) }
 {
-    let entries = heap.start(cell);
-    binary_search(heap.count(cell), |index| {
-        heap.load(entry.at(entries, index)).cmp(&key)
+    let entries = source.start(cell);
+    binary_search(source.count(cell), |index| {
+        source.load(entry.at(entries, index)).cmp(&key)
     })
 }
 
 /// The position of a key's value.
-pub(crate) fn get<F: Fit, A: Allocator>(
-    heap: &Heap<F, A>,
+pub(crate) fn get<S: SegmentRead>(
+    source: &S,
     entry: Entry,
     cell: CellAt,
     key: i64,
 ) -> Option<ValueAt>
-    ensures { WhereMap Form.flat_map F.allocator heap.now.window.bytes heap.now.types cell
-        (λ T U keys vs blocks. IsEntryOf heap.now.types 8 U entry →
-        FindsValue heap.now.window.bytes heap.now.types (object_at cell T) U keys key result) }
+    ensures { WhereMap Form.flat_map (S.allocator source.now) (S.stored source.now).window.bytes
+        (S.stored source.now).types cell
+        (λ T U keys vs blocks. IsEntryOf (S.stored source.now).types 8 U entry →
+        FindsValue (S.stored source.now).window.bytes (S.stored source.now).types
+        (object_at cell T) U keys key result) }
 {
-    let index = search(heap, entry, cell, key).ok()?;
-    Some(entry.value_at(heap.start(cell), index))
+    let index = search(source, entry, cell, key).ok()?;
+    Some(entry.value_at(source.start(cell), index))
 }
 
 /// The position of a key's value. A missing key is added.
@@ -125,49 +123,45 @@ pub(crate) fn remove<F: Fit, A: Allocator>(
 }
 
 /// The key of the entry with this index, if the map has one.
-fn key_of<F: Fit, A: Allocator>(
-    heap: &Heap<F, A>,
-    entry: Entry,
-    cell: CellAt,
-    index: u32,
-) -> Option<i64>
-    ensures { WhereMap Form.flat_map F.allocator heap.now.window.bytes heap.now.types cell
-        (λ T U keys vs blocks. IsEntryOf heap.now.types 8 U entry → result ≡ slice_get keys index) }
+fn key_of<S: SegmentRead>(source: &S, entry: Entry, cell: CellAt, index: u32) -> Option<i64>
+    ensures { WhereMap Form.flat_map (S.allocator source.now) (S.stored source.now).window.bytes
+        (S.stored source.now).types cell
+        (λ T U keys vs blocks. IsEntryOf (S.stored source.now).types 8 U entry →
+        result ≡ slice_get keys index) }
 {
-    if index < heap.count(cell) {
-        Some(heap.load(entry.at(heap.start(cell), index)))
+    if index < source.count(cell) {
+        Some(source.load(entry.at(source.start(cell), index)))
     } else {
         None
     }
 }
 
 /// The least key.
-pub(crate) fn first_key<F: Fit, A: Allocator>(
-    heap: &Heap<F, A>,
-    entry: Entry,
-    cell: CellAt,
-) -> Option<i64>
-    ensures { WhereMap Form.flat_map F.allocator heap.now.window.bytes heap.now.types cell
-        (λ T U keys vs blocks. IsEntryOf heap.now.types 8 U entry → result ≡ first_of keys) }
+pub(crate) fn first_key<S: SegmentRead>(source: &S, entry: Entry, cell: CellAt) -> Option<i64>
+    ensures { WhereMap Form.flat_map (S.allocator source.now) (S.stored source.now).window.bytes
+        (S.stored source.now).types cell
+        (λ T U keys vs blocks. IsEntryOf (S.stored source.now).types 8 U entry →
+        result ≡ first_of keys) }
 {
-    key_of(heap, entry, cell, 0)
+    key_of(source, entry, cell, 0)
 }
 
 /// The least key above another.
 #[inline(never)]
-pub(crate) fn next_key<F: Fit, A: Allocator>(
-    heap: &Heap<F, A>,
+pub(crate) fn next_key<S: SegmentRead>(
+    source: &S,
     entry: Entry,
     cell: CellAt,
     after: i64,
 ) -> Option<i64>
-    ensures { WhereMap Form.flat_map F.allocator heap.now.window.bytes heap.now.types cell
-        (λ T U keys vs blocks. IsEntryOf heap.now.types 8 U entry →
+    ensures { WhereMap Form.flat_map (S.allocator source.now) (S.stored source.now).window.bytes
+        (S.stored source.now).types cell
+        (λ T U keys vs blocks. IsEntryOf (S.stored source.now).types 8 U entry →
         result ≡ first_of (keys_above keys after)) }
 {
-    let index = match search(heap, entry, cell, after) {
+    let index = match search(source, entry, cell, after) {
         Ok(index) => index.saturating_add(1),
         Err(index) => index,
     };
-    key_of(heap, entry, cell, index)
+    key_of(source, entry, cell, index)
 }

@@ -14,7 +14,7 @@ ghost use Rattle.seg_map.specs.Maps.{FindsValue, PutsKey, RemovesKey, first_of, 
 use crate::{flat, tree};
 use seg_raw::Code;
 use seg_rbtree::Path;
-use seg_value::{Content, Fit, Heap, KEY, Place, Shape, ValueAt};
+use seg_value::{Content, Fit, Heap, KEY, Place, SegmentRead, Shape, ValueAt};
 use std::alloc::Allocator;
 
 /// The two kinds of maps, with the layout of what the map's cell points to.
@@ -27,10 +27,11 @@ impl MapKind {
     ghost use Rattle.seg_map.specs.EitherMap.{MapKindOf};
 
     /// The kind of the map at a place. `OtherType` if the place isn't a map.
-    fn of<F: Fit, A: Allocator>(heap: &Heap<F, A>, map: Place) -> Result<MapKind, Code>
-        ensures { MapKindOf heap.now.types map.type_id (form_at heap.now.types map.type_id) result }
+    fn of<S: SegmentRead>(source: &S, map: Place) -> Result<MapKind, Code>
+        ensures { MapKindOf (S.stored source.now).types map.type_id
+            (form_at (S.stored source.now).types map.type_id) result }
     {
-        let content = heap.content(map.type_id).ok_or(Code::OtherType)?;
+        let content = source.content(map.type_id).ok_or(Code::OtherType)?;
         match content.shape {
             Shape::Buffer => {
                 if content.entry.before == KEY {
@@ -46,32 +47,33 @@ impl MapKind {
 }
 
 /// How many keys a map has. `OtherType` if the place isn't a map.
-pub fn len<F: Fit, A: Allocator>(heap: &Heap<F, A>, map: Place) -> Result<u32, Code>
-    ensures other { has_keys (form_at heap.now.types map.type_id) ≡ false →
+pub fn len<S: SegmentRead>(source: &S, map: Place) -> Result<u32, Code>
+    ensures other { has_keys (form_at (S.stored source.now).types map.type_id) ≡ false →
         result ≡ Err Code.OtherType }
-    ensures counted { has_keys (form_at heap.now.types map.type_id) ≡ true →
-        result ≡ Ok (count_at heap.now.window.bytes map.at) }
-    ensures keys { WhereMaps F.allocator heap.now.window.bytes heap.now.types (place_of map)
-        (λ U keys vs blocks. result ≡ Ok (length keys)) }
+    ensures counted { has_keys (form_at (S.stored source.now).types map.type_id) ≡ true →
+        result ≡ Ok (count_at (S.stored source.now).window.bytes map.at) }
+    ensures keys { WhereMaps (S.allocator source.now) (S.stored source.now).window.bytes
+        (S.stored source.now).types (place_of map) (λ U keys vs blocks. result ≡ Ok (length keys)) }
 {
-    match MapKind::of(heap, map)? {
-        MapKind::Flat(_) | MapKind::Tree(_) => Ok(heap.count(map.at)),
+    match MapKind::of(source, map)? {
+        MapKind::Flat(_) | MapKind::Tree(_) => Ok(source.count(map.at)),
     }
 }
 
 /// The position of a key's value. `OtherType` if the place isn't a map, `Absent` if the map doesn't have the key.
-pub fn get<F: Fit, A: Allocator>(heap: &Heap<F, A>, map: Place, key: i64) -> Result<ValueAt, Code>
-    ensures other { has_keys (form_at heap.now.types map.type_id) ≡ false →
+pub fn get<S: SegmentRead>(source: &S, map: Place, key: i64) -> Result<ValueAt, Code>
+    ensures other { has_keys (form_at (S.stored source.now).types map.type_id) ≡ false →
         result ≡ Err Code.OtherType }
-    ensures code { has_keys (form_at heap.now.types map.type_id) ≡ true →
+    ensures code { has_keys (form_at (S.stored source.now).types map.type_id) ≡ true →
         IsOkUnless result Code.Absent }
-    ensures finds { WhereMaps F.allocator heap.now.window.bytes heap.now.types (place_of map)
-        (λ U keys vs blocks. FindsValue heap.now.window.bytes heap.now.types (place_of map)
-        U keys key (result_ok result)) }
+    ensures finds { WhereMaps (S.allocator source.now) (S.stored source.now).window.bytes
+        (S.stored source.now).types (place_of map)
+        (λ U keys vs blocks. FindsValue (S.stored source.now).window.bytes
+        (S.stored source.now).types (place_of map) U keys key (result_ok result)) }
 {
-    match MapKind::of(heap, map)? {
-        MapKind::Flat(content) => flat::get(heap, content.entry, map.at, key),
-        MapKind::Tree(content) => tree::get(heap, content.entry, map.at, key),
+    match MapKind::of(source, map)? {
+        MapKind::Flat(content) => flat::get(source, content.entry, map.at, key),
+        MapKind::Tree(content) => tree::get(source, content.entry, map.at, key),
     }
     .ok_or(Code::Absent)
 }
@@ -128,78 +130,74 @@ pub fn remove<F: Fit, A: Allocator>(heap: &mut Heap<F, A>, map: Place, key: i64)
 }
 
 /// The least key. `OtherType` if the place isn't a map, `Null` if the map is empty.
-pub fn first_key<F: Fit, A: Allocator>(heap: &Heap<F, A>, map: Place) -> Result<i64, Code>
-    ensures other { has_keys (form_at heap.now.types map.type_id) ≡ false →
+pub fn first_key<S: SegmentRead>(source: &S, map: Place) -> Result<i64, Code>
+    ensures other { has_keys (form_at (S.stored source.now).types map.type_id) ≡ false →
         result ≡ Err Code.OtherType }
-    ensures code { has_keys (form_at heap.now.types map.type_id) ≡ true →
+    ensures code { has_keys (form_at (S.stored source.now).types map.type_id) ≡ true →
         IsOkUnless result Code.Null }
-    ensures first { WhereMaps F.allocator heap.now.window.bytes heap.now.types (place_of map)
+    ensures first { WhereMaps (S.allocator source.now) (S.stored source.now).window.bytes
+        (S.stored source.now).types (place_of map)
         (λ U keys vs blocks. result_ok result ≡ first_of keys) }
 {
     let mut cursor = Path::new(map.at as usize);
-    first_key_by(heap, &mut cursor, map)
+    first_key_by(source, &mut cursor, map)
 }
 
 /// Like [`first_key`]. In a tree map the cursor is left at the key.
-pub fn first_key_by<F: Fit, A: Allocator>(
-    heap: &Heap<F, A>,
-    cursor: &mut Path,
-    map: Place,
-) -> Result<i64, Code>
-    ensures other { has_keys (form_at heap.now.types map.type_id) ≡ false →
+pub fn first_key_by<S: SegmentRead>(source: &S, cursor: &mut Path, map: Place) -> Result<i64, Code>
+    ensures other { has_keys (form_at (S.stored source.now).types map.type_id) ≡ false →
         result ≡ Err Code.OtherType }
-    ensures code { has_keys (form_at heap.now.types map.type_id) ≡ true →
+    ensures code { has_keys (form_at (S.stored source.now).types map.type_id) ≡ true →
         IsOkUnless result Code.Null }
-    ensures first { WhereMaps F.allocator heap.now.window.bytes heap.now.types (place_of map)
+    ensures first { WhereMaps (S.allocator source.now) (S.stored source.now).window.bytes
+        (S.stored source.now).types (place_of map)
         (λ U keys vs blocks. result_ok result ≡ first_of keys) }
-    ensures inside { LeadsInside heap.now.window.bytes cursor.old
-        → LeadsInside heap.now.window.bytes cursor.new }
+    ensures inside { LeadsInside (S.stored source.now).window.bytes cursor.old
+        → LeadsInside (S.stored source.now).window.bytes cursor.new }
 {
-    match MapKind::of(heap, map)? {
-        MapKind::Flat(content) => flat::first_key(heap, content.entry, map.at),
-        MapKind::Tree(_) => tree::first_key(heap, cursor, map.at),
+    match MapKind::of(source, map)? {
+        MapKind::Flat(content) => flat::first_key(source, content.entry, map.at),
+        MapKind::Tree(_) => tree::first_key(source, cursor, map.at),
     }
     .ok_or(Code::Null)
 }
 
 /// The least key above another, which need not exist. `OtherType` if the place isn't a map, `Null` if no key is above
 /// it.
-pub fn next_key<F: Fit, A: Allocator>(
-    heap: &Heap<F, A>,
-    map: Place,
-    after: i64,
-) -> Result<i64, Code>
-    ensures other { has_keys (form_at heap.now.types map.type_id) ≡ false →
+pub fn next_key<S: SegmentRead>(source: &S, map: Place, after: i64) -> Result<i64, Code>
+    ensures other { has_keys (form_at (S.stored source.now).types map.type_id) ≡ false →
         result ≡ Err Code.OtherType }
-    ensures code { has_keys (form_at heap.now.types map.type_id) ≡ true →
+    ensures code { has_keys (form_at (S.stored source.now).types map.type_id) ≡ true →
         IsOkUnless result Code.Null }
-    ensures next { WhereMaps F.allocator heap.now.window.bytes heap.now.types (place_of map)
+    ensures next { WhereMaps (S.allocator source.now) (S.stored source.now).window.bytes
+        (S.stored source.now).types (place_of map)
         (λ U keys vs blocks. result_ok result ≡ first_of (keys_above keys after)) }
 {
     let mut cursor = Path::new(map.at as usize);
-    next_key_by(heap, &mut cursor, map, after)
+    next_key_by(source, &mut cursor, map, after)
 }
 
 /// Like [`next_key`]. In a tree map the cursor is left at the key, so the following call is one step.
-pub fn next_key_by<F: Fit, A: Allocator>(
-    heap: &Heap<F, A>,
+pub fn next_key_by<S: SegmentRead>(
+    source: &S,
     cursor: &mut Path,
     map: Place,
     after: i64,
 ) -> Result<i64, Code>
-    ensures other { has_keys (form_at heap.now.types map.type_id) ≡ false →
+    ensures other { has_keys (form_at (S.stored source.now).types map.type_id) ≡ false →
         result ≡ Err Code.OtherType }
-    ensures code { has_keys (form_at heap.now.types map.type_id) ≡ true →
+    ensures code { has_keys (form_at (S.stored source.now).types map.type_id) ≡ true →
         IsOkUnless result Code.Null }
-    ensures next { LeadsInside heap.now.window.bytes cursor.old
-        → WhereMaps F.allocator heap.now.window.bytes heap.now.types (place_of map)
+    ensures next { LeadsInside (S.stored source.now).window.bytes cursor.old
+        → WhereMaps (S.allocator source.now) (S.stored source.now).window.bytes
+        (S.stored source.now).types (place_of map)
         (λ U keys vs blocks. result_ok result ≡ first_of (keys_above keys after)) }
-    ensures inside { LeadsInside heap.now.window.bytes cursor.old
-        → LeadsInside heap.now.window.bytes cursor.new }
+    ensures inside { LeadsInside (S.stored source.now).window.bytes cursor.old
+        → LeadsInside (S.stored source.now).window.bytes cursor.new }
 {
-    match MapKind::of(heap, map)? {
-        MapKind::Flat(content) => flat::next_key(heap, content.entry, map.at, after),
-        MapKind::Tree(_) => tree::next_key(heap, cursor, map.at, after),
+    match MapKind::of(source, map)? {
+        MapKind::Flat(content) => flat::next_key(source, content.entry, map.at, after),
+        MapKind::Tree(_) => tree::next_key(source, cursor, map.at, after),
     }
     .ok_or(Code::Null)
 }

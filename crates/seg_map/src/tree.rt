@@ -26,7 +26,7 @@ ghost use Rattle.seg_map.specs.Trees.{VALUE, NamesTree, KeepsOtherKeys};
 
 use seg_raw::Code;
 use seg_rbtree::{NodeAt, NodeOrder, Path, TREE_WORDS, Tree, UniqueKeys};
-use seg_value::{CellAt, Content, Entry, Fit, Heap, ValueAt, View};
+use seg_value::{CellAt, Content, Entry, Fit, Heap, SegmentRead, ValueAt, View};
 use std::alloc::Allocator;
 use std::cmp::Ordering;
 
@@ -93,17 +93,19 @@ fn tree_of(cell: CellAt) -> Tree
 }
 
 /// The position of a key's value.
-pub(crate) fn get<F: Fit, A: Allocator>(
-    heap: &Heap<F, A>,
+pub(crate) fn get<S: SegmentRead>(
+    source: &S,
     entry: Entry,
     cell: CellAt,
     key: i64,
 ) -> Option<ValueAt>
-    ensures { WhereMap Form.map F.allocator heap.now.window.bytes heap.now.types cell
-        (λ T U keys vs blocks. IsEntryOf heap.now.types VALUE U entry
-        → FindsValue heap.now.window.bytes heap.now.types (object_at cell T) U keys key result) }
+    ensures { WhereMap Form.map (S.allocator source.now) (S.stored source.now).window.bytes
+        (S.stored source.now).types cell
+        (λ T U keys vs blocks. IsEntryOf (S.stored source.now).types VALUE U entry
+        → FindsValue (S.stored source.now).window.bytes (S.stored source.now).types
+        (object_at cell T) U keys key result) }
 {
-    let node = tree_of(cell).find(heap.window(), &ByKey, key)?;
+    let node = tree_of(cell).find(source.view(), &ByKey, key)?;
     Some(entry.value_at(node, 0))
 }
 
@@ -171,32 +173,31 @@ pub(crate) fn remove<F: Fit, A: Allocator>(
 }
 
 /// The least key. The cursor is left at it.
-pub(crate) fn first_key<F: Fit, A: Allocator>(
-    heap: &Heap<F, A>,
-    cursor: &mut Path,
-    cell: CellAt,
-) -> Option<i64>
-    ensures first { WhereMap Form.map F.allocator heap.now.window.bytes heap.now.types cell
-        (λ T U keys vs blocks. result ≡ first_of keys) }
-    ensures inside { LeadsInside heap.now.window.bytes cursor.new }
+pub(crate) fn first_key<S: SegmentRead>(source: &S, cursor: &mut Path, cell: CellAt) -> Option<i64>
+    ensures first { WhereMap Form.map (S.allocator source.now) (S.stored source.now).window.bytes
+        (S.stored source.now).types cell (λ T U keys vs blocks. result ≡ first_of keys) }
+    ensures inside { LeadsInside (S.stored source.now).window.bytes cursor.new }
 {
-    let node = cursor.first(heap.window(), tree_of(cell))?;
-    Some(key_of(heap.window().view(), node))
+    let view = source.view();
+    let node = cursor.first(view, tree_of(cell))?;
+    Some(key_of(view, node))
 }
 
 /// The least key above another. The cursor is left at it. It takes one step if the cursor was at the other key.
-pub(crate) fn next_key<F: Fit, A: Allocator>(
-    heap: &Heap<F, A>,
+pub(crate) fn next_key<S: SegmentRead>(
+    source: &S,
     cursor: &mut Path,
     cell: CellAt,
     after: i64,
 ) -> Option<i64>
-    ensures next { LeadsInside heap.now.window.bytes cursor.old
-        → WhereMap Form.map F.allocator heap.now.window.bytes heap.now.types cell
+    ensures next { LeadsInside (S.stored source.now).window.bytes cursor.old
+        → WhereMap Form.map (S.allocator source.now) (S.stored source.now).window.bytes
+        (S.stored source.now).types cell
         (λ T U keys vs blocks. result ≡ first_of (keys_above keys after)) }
-    ensures inside { LeadsInside heap.now.window.bytes cursor.old
-        → LeadsInside heap.now.window.bytes cursor.new }
+    ensures inside { LeadsInside (S.stored source.now).window.bytes cursor.old
+        → LeadsInside (S.stored source.now).window.bytes cursor.new }
 {
-    let node = cursor.next_after(heap.window(), tree_of(cell), &ByKey, after)?;
-    Some(key_of(heap.window().view(), node))
+    let view = source.view();
+    let node = cursor.next_after(view, tree_of(cell), &ByKey, after)?;
+    Some(key_of(view, node))
 }

@@ -5,6 +5,7 @@ ghost use Rattle.seg_spec.specs.Header.{IsVersion};
 ghost use Rattle.seg_spec.specs.Images.{upgraded};
 ghost use Rattle.seg_spec.specs.Window.{with_bytes};
 
+use crate::view::View;
 use crate::window::Window;
 use std::alloc::Allocator;
 
@@ -49,22 +50,22 @@ pub const UNIQUES: usize = 576;
 
 /// Whether a segment begins like an image of a version that this library reads, with a next number that this version
 /// allows.
-pub fn is_current<A: Allocator>(w: &Window<A>) -> bool
-    ensures { IsTrue result ↔ ((slice w.now.bytes 0 8 ≡ codes "SEGIMAGE")
-        × IsVersion (word w.now.bytes 8) (word w.now.bytes 28)) }
+pub fn is_current(view: View) -> bool
+    ensures { IsTrue result ↔ ((slice view.entry.bytes.now 0 8 ≡ codes "SEGIMAGE")
+        × IsVersion (word view.entry.bytes.now 8) (word view.entry.bytes.now 28)) }
 {
-    w.slice(0, MAGIC.len()) == MAGIC
-        && match w.get32(VERSION) {
-            FIRST_VERSION => w.get32(NEXT_NUMBER) == 0,
+    view.slice(0, MAGIC.len()) == MAGIC
+        && match view.get32(VERSION) {
+            FIRST_VERSION => view.get32(NEXT_NUMBER) == 0,
             version => version == SHARING_VERSION,
         }
 }
 
 /// Whether an image's version may have frozen objects.
-pub fn shares<A: Allocator>(w: &Window<A>) -> bool
-    ensures { IsTrue result ↔ (word w.now.bytes 8 ≡ 2) }
+pub fn shares(view: View) -> bool
+    ensures { IsTrue result ↔ (word view.entry.bytes.now 8 ≡ 2) }
 {
-    w.get32(VERSION) == SHARING_VERSION
+    view.get32(VERSION) == SHARING_VERSION
 }
 
 /// Writes the first bytes of a new image, of the version that may have frozen objects.
@@ -83,8 +84,8 @@ pub fn upgrade<A: Allocator>(w: &mut Window<A>)
 }
 
 /// Whether the bytes of the header that are always 0 are 0.
-pub fn has_zeros<A: Allocator>(w: &Window<A>) -> bool
-    ensures { IsTrue result ↔ (slice w.now.bytes 40 24 ≡ replicate 24 0) }
+pub fn has_zeros(view: View) -> bool
+    ensures { IsTrue result ↔ (slice view.entry.bytes.now 40 24 ≡ replicate 24 0) }
 {
-    w.slice(RESERVED, TYPES - RESERVED) == [0; TYPES - RESERVED].as_slice()
+    view.slice(RESERVED, TYPES - RESERVED) == [0; TYPES - RESERVED].as_slice()
 }

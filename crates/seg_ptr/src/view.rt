@@ -5,8 +5,8 @@ ghost use Rattle.seg_ptr.specs.declared.window.TheConstants.{MAX_LEN};
 
 use crate::pointer::named;
 
-/// The bytes of a segment, to read. It reads like its [`Window`](crate::Window): a number that doesn't lie in the bytes
-/// is 0.
+/// The bytes of a segment's [`Window`](crate::Window), or of an image that a host borrows, to read. It reads like a
+/// window: a number that doesn't lie in the bytes is 0.
 // A copy of this stays in registers. A window behind a reference doesn't if other memory is written meanwhile.
 #[derive(Debug, Clone, Copy)]
 pub struct View<'a> {
@@ -16,7 +16,8 @@ pub struct View<'a> {
 }
 
 impl<'a> View<'a> {
-    pub(crate) fn new(bytes: &'a [u8]) -> View<'a>
+    /// The view of at most [`MAX_LEN`](crate::MAX_LEN) bytes.
+    pub fn new(bytes: &'a [u8]) -> View<'a>
         requires { length bytes.now ≤ MAX_LEN }
         ensures { result.bytes.now ≡ bytes.now }
     {

@@ -85,3 +85,10 @@ module _ (bytes : List ℕ) (root : ℕ) (turn : ℕ → Ordering) (shape : Tree
   -- the path has room for one step more
   pub walking_room : (steps : List Step) (word count : ℕ) → IsWalking root turn shape steps word count → length steps ≡ count
   walking_room steps word count s = ap length s.steps_are ∙ length-steps s.layers ∙ s.count_is
+
+-- a search in equal bytes, from an equal root
+pub walked_same : (turn : List ℕ → ℕ → Ordering) (path : Path) {now bytes : List ℕ} {begun root : ℕ} → now ≡ bytes → begun ≡ root → ((shape : Tree) → IsSearchTree now begun shape → LeadsTo (turn now) shape path)
+    → (shape : Tree) → IsSearchTree bytes root shape → LeadsTo (turn bytes) shape path
+walked_same turn path {now = now} {root = root} same begins leads =
+    subst (λ (bs : List ℕ). (shape : Tree) → IsSearchTree bs root shape → LeadsTo (turn bs) shape path) same
+    (subst (λ (r : ℕ). (shape : Tree) → IsSearchTree now r shape → LeadsTo (turn now) shape path) begins leads)

@@ -1,5 +1,5 @@
 -- Searches in a tree, and changes at the end of a path.
---     WhereOrdered compare w root claim      the claim is true of each search tree at a pointer word whose nodes are in order
+--     WhereOrdered compare bytes root claim  the claim is true of each search tree at a pointer word whose nodes are in order
 --     before_first found                     how the empty place before all nodes at or above a key compares with a node
 --     sought_by nodes key sought             how the sought node or key compares with a node
 --     end_word path, word_after steps path   the position of the pointer at the end of a path, and after some of its steps
@@ -20,16 +20,15 @@ use Rattle.std.specs.declared.cmp.Ordering.TheVariants.{Less, Equal, Greater}
 use Rattle.seg_spec.specs.Pointer.{target}
 use Rattle.seg_spec.specs.Shapes.{Tree, nodes_of}
 use Rattle.seg_spec.specs.Search.{Ascend, IsSearchTree}
-use Rattle.seg_spec.specs.Window.{Placement}
 use Rattle.seg_rbtree.specs.declared.order.Sought.{Sought}
 use Rattle.seg_rbtree.specs.declared.order.Sought.TheVariants.{Node, Key, First}
 use Rattle.seg_rbtree.specs.declared.path.Path.{Path}
 use Rattle.seg_rbtree.specs.Ways.{last_word, LeadsTo}
 use Rattle.seg_rbtree.specs.Changes.{StandApart, IsNew, with_node, without_node, renamed, Leaves}
 
-abbrev pub WhereOrdered : (List ℕ → ℕ → ℕ → Ordering) → Placement → ℕ → (Tree → Type 0) → Type 0
-WhereOrdered compare w root claim =
-    (shape : Tree) → IsSearchTree w.bytes root shape → Ascend (compare w.bytes) (nodes_of shape)
+abbrev pub WhereOrdered : (List ℕ → ℕ → ℕ → Ordering) → List ℕ → ℕ → (Tree → Type 0) → Type 0
+WhereOrdered compare bytes root claim =
+    (shape : Tree) → IsSearchTree bytes root shape → Ascend (compare bytes) (nodes_of shape)
     → claim shape
 
 -- how the empty place before all nodes at or above a key compares with a node, by how the node

@@ -24,7 +24,7 @@ impl Tree {
         node: NodeAt,
     )
         ensures host { KeepsHost w.old w.new }
-        ensures added { O.exact → WhereOrdered (O.compare order.now) w.old (root_word self)
+        ensures added { O.exact → WhereOrdered (O.compare order.now) w.old.bytes (root_word self)
             (λ shape. IsNew (O.compare order.now w.old.bytes) node (nodes_of shape)
             → StandApart (length w.old.bytes) (root_word self) (node ∷ nodes_of shape)
             → length (nodes_of shape) + 1 < 2 ^ 32
@@ -32,7 +32,7 @@ impl Tree {
             (with_node (O.compare order.now w.old.bytes) node (nodes_of shape))) }
     {
         let mut path = Path::new(self.root);
-        path.descend(w, order, Sought::Node(node));
+        path.descend(w.view(), order, Sought::Node(node));
         path.insert(w, node);
     }
 }

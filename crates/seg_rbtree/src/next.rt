@@ -21,13 +21,13 @@ use std::cmp::Ordering;
 
 impl Path {
     /// Goes to the first node of a tree. `None` if the tree is empty.
-    pub fn first<A: Allocator>(&mut self, w: &Window<A>, tree: Tree) -> Option<NodeAt>
-        ensures node { (shape : _) → IsSearchTree w.now.bytes (root_word tree) shape
+    pub fn first(&mut self, view: View, tree: Tree) -> Option<NodeAt>
+        ensures node { (shape : _) → IsSearchTree view.entry.bytes.now (root_word tree) shape
             → result ≡ first_where (λ _. true) (nodes_of shape) }
-        ensures inside { LeadsInside w.now.bytes self.new }
+        ensures inside { LeadsInside view.entry.bytes.now self.new }
     {
         self.begin(tree);
-        descend_to_first(w.view(), self)
+        descend_to_first(view, self)
     }
 
     /// Whether the node at the path's end is the last of the tree.
@@ -44,25 +44,23 @@ impl Path {
     /// Goes to the first node of a tree above a key. This is one step if the path ends at the tree's node with that
     /// key, otherwise a search from the root. `None` if no node is above the key.
     #[inline]
-    pub fn next_after<K: Copy, O: UniqueKeys<K>, A: Allocator>(
+    pub fn next_after<K: Copy, O: UniqueKeys<K>>(
         &mut self,
-        w: &Window<A>,
+        view: View,
         tree: Tree,
         order: &O,
         key: K,
     ) -> Option<NodeAt>
-        ensures node { O.exact → LeadsInside w.now.bytes self.old
-            → WhereOrdered (O.compare order.now) w.now (root_word tree)
-            (λ shape. result ≡ first_where
-            (λ node. reaches Ordering.Greater (O.compare_key order.now w.now.bytes node key))
-            (nodes_of shape)) }
-        ensures inside { O.exact → LeadsInside w.now.bytes self.old
-            → LeadsInside w.now.bytes self.new }
+        ensures node { O.exact → LeadsInside view.entry.bytes.now self.old
+            → WhereOrdered (O.compare order.now) view.entry.bytes.now (root_word tree)
+            (λ shape. result ≡ first_where (λ node. reaches Ordering.Greater
+            (O.compare_key order.now view.entry.bytes.now node key)) (nodes_of shape)) }
+        ensures inside { O.exact → LeadsInside view.entry.bytes.now self.old
+            → LeadsInside view.entry.bytes.now self.new }
     {
-        let view = w.view();
         match self.node_with_key(view, tree, order, key) {
             Some(node) => self.go_on_from(view, node),
-            None => self.search_after(w, tree, order, key),
+            None => self.search_after(view, tree, order, key),
         }
     }
 
@@ -94,22 +92,22 @@ impl Path {
     /// Searches from the root for the first node of a tree above a key. `None` if no node is above it.
     // Not inlined, so that `next_after` has few registers to save.
     #[inline(never)]
-    fn search_after<K: Copy, O: UniqueKeys<K>, A: Allocator>(
+    fn search_after<K: Copy, O: UniqueKeys<K>>(
         &mut self,
-        w: &Window<A>,
+        view: View,
         tree: Tree,
         order: &O,
         key: K,
     ) -> Option<NodeAt>
-        ensures node { O.exact → WhereOrdered (O.compare order.now) w.now (root_word tree)
-            (λ shape. result ≡ first_where
-            (λ node. reaches Ordering.Greater (O.compare_key order.now w.now.bytes node key))
-            (nodes_of shape)) }
-        ensures inside { O.exact → LeadsInside w.now.bytes self.new }
+        ensures node { O.exact
+            → WhereOrdered (O.compare order.now) view.entry.bytes.now (root_word tree)
+            (λ shape. result ≡ first_where (λ node. reaches Ordering.Greater
+            (O.compare_key order.now view.entry.bytes.now node key)) (nodes_of shape)) }
+        ensures inside { O.exact → LeadsInside view.entry.bytes.now self.new }
     {
         self.begin(tree);
-        self.descend(w, order, Sought::Key(key));
-        self.go_on(w.view())
+        self.descend(view, order, Sought::Key(key));
+        self.go_on(view)
     }
 
     /// Goes to the next node: the one after the node at the path's end, or after the empty place there. `None` if there

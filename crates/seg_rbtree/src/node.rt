@@ -78,14 +78,14 @@ pub(crate) fn set_child<A: Allocator>(
 }
 
 /// The colour of a node, or `None` if its words don't encode a colour.
-pub fn node_colour<A: Allocator>(w: &Window<A>, node: NodeAt) -> Option<Colour>
-    ensures { MatchOption result ((c : _) → HasColour w.now.bytes node c → ⊥)
-        (λ c. HasColour w.now.bytes node (shade c)) }
+pub fn node_colour(view: View, node: NodeAt) -> Option<Colour>
+    ensures { MatchOption result ((c : _) → HasColour view.entry.bytes.now node c → ⊥)
+        (λ c. HasColour view.entry.bytes.now node (shade c)) }
 {
-    if w.get32(node as usize + ZERO) != 0 {
+    if view.get32(node as usize + ZERO) != 0 {
         return None;
     }
-    match w.get32(node as usize + COLOUR) {
+    match view.get32(node as usize + COLOUR) {
         0 => Some(Colour::Black),
         1 => Some(Colour::Red),
         _ => None,

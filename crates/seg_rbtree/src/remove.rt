@@ -28,15 +28,15 @@ impl Tree {
         node: NodeAt,
     )
         ensures host { KeepsHost w.old w.new }
-        ensures removed { O.exact → WhereOrdered (O.compare order.now) w.old (root_word self)
+        ensures removed { O.exact → WhereOrdered (O.compare order.now) w.old.bytes (root_word self)
             (λ shape. StandApart (length w.old.bytes) (root_word self) (nodes_of shape)
             → Leaves w.old.bytes w.new.bytes (root_word self) (nodes_of shape)
             (without_node node (nodes_of shape))) }
-        ensures stays { O.exact → WhereOrdered (O.compare order.now) w.old (root_word self)
+        ensures stays { O.exact → WhereOrdered (O.compare order.now) w.old.bytes (root_word self)
             (λ shape. AllByRecursion (λ x. node ≢ x) (nodes_of shape) → w.new ≡ w.old) }
     {
         let mut path = Path::new(self.root);
-        path.descend(w, order, Sought::Node(node));
+        path.descend(w.view(), order, Sought::Node(node));
         if path.node(w) != Some(node) {
             return;
         }

@@ -13,7 +13,7 @@ use crate::node::{Side, child_in, child_word};
 use crate::order::{NodeOrder, Sought, UniqueKeys};
 use crate::path::{DEPTH, Path};
 use crate::tree::Tree;
-use seg_ptr::{NodeAt, Window};
+use seg_ptr::{NodeAt, View, Window};
 use std::alloc::Allocator;
 use std::cmp::Ordering;
 
@@ -39,17 +39,12 @@ fn is_reached(least: Ordering, found: Ordering) -> bool
 
 impl Tree {
     /// The first node that equals a key.
-    pub fn find<K: Copy, O: UniqueKeys<K>, A: Allocator>(
-        self,
-        w: &Window<A>,
-        order: &O,
-        key: K,
-    ) -> Option<NodeAt>
-        ensures { O.exact → WhereOrdered (O.compare order.now) w.now (root_word self)
+    pub fn find<K: Copy, O: UniqueKeys<K>>(self, view: View, order: &O, key: K) -> Option<NodeAt>
+        ensures { O.exact → WhereOrdered (O.compare order.now) view.entry.bytes.now (root_word self)
             (λ shape. result ≡ first_where
-            (λ node. is_eq (O.compare_key order.now w.now.bytes node key)) (nodes_of shape)) }
+            (λ node. is_eq (O.compare_key order.now view.entry.bytes.now node key))
+            (nodes_of shape)) }
     {
-        let view = w.view();
         let mut place = view.target(self.root);
         for _ in 0..DEPTH {
             let node = place?;
@@ -64,59 +59,61 @@ impl Tree {
     }
 
     /// The first node that is at or above a key.
-    pub fn first_at_least<K: Copy, O: NodeOrder<K>, A: Allocator>(
-        self,
-        w: &Window<A>,
-        order: &O,
-        key: K,
-    ) -> Looked
-        ensures node { O.exact → WhereOrdered (O.compare order.now) w.now (root_word self)
+    pub fn first_at_least<K: Copy, O: NodeOrder<K>>(self, view: View, order: &O, key: K) -> Looked
+        ensures node { O.exact
+            → WhereOrdered (O.compare order.now) view.entry.bytes.now (root_word self)
             (λ shape. result.node ≡ first_where
-            (λ node. reaches Ordering.Equal (O.compare_key order.now w.now.bytes node key))
+            (λ node. reaches Ordering.Equal (O.compare_key order.now view.entry.bytes.now node key))
             (nodes_of shape)) }
-        ensures looks { O.exact → WhereOrdered (O.compare order.now) w.now (root_word self)
+        ensures looks { O.exact
+            → WhereOrdered (O.compare order.now) view.entry.bytes.now (root_word self)
             (λ shape. result.looks ≡ looks
-            (λ node. reaches Ordering.Equal (O.compare_key order.now w.now.bytes node key)) shape) }
+            (λ node. reaches Ordering.Equal (O.compare_key order.now view.entry.bytes.now node key))
+            shape) }
         ensures at_most { result.looks ≤ DEPTH }
-        ensures bound { O.exact → WhereOrdered (O.compare order.now) w.now (root_word self)
+        ensures bound { O.exact
+            → WhereOrdered (O.compare order.now) view.entry.bytes.now (root_word self)
             (λ shape. 2 ^ result.looks ≤ (length (nodes_of shape) + 1) ^ 2) }
     {
-        self.first_from(w, order, key, Ordering::Equal)
+        self.first_from(view, order, key, Ordering::Equal)
     }
 
     /// The first node that is above a key.
-    pub fn next_after<K: Copy, O: NodeOrder<K>, A: Allocator>(
+    pub fn next_after<K: Copy, O: NodeOrder<K>>(
         self,
-        w: &Window<A>,
+        view: View,
         order: &O,
         key: K,
     ) -> Option<NodeAt>
-        ensures { O.exact → WhereOrdered (O.compare order.now) w.now (root_word self)
+        ensures { O.exact → WhereOrdered (O.compare order.now) view.entry.bytes.now (root_word self)
             (λ shape. result ≡ first_where
-            (λ node. reaches Ordering.Greater (O.compare_key order.now w.now.bytes node key))
+            (λ node. reaches Ordering.Greater
+            (O.compare_key order.now view.entry.bytes.now node key))
             (nodes_of shape)) }
     {
-        self.first_from(w, order, key, Ordering::Greater).node
+        self.first_from(view, order, key, Ordering::Greater).node
     }
 
     /// The first node that is far enough up from a key.
-    fn first_from<K: Copy, O: NodeOrder<K>, A: Allocator>(
+    fn first_from<K: Copy, O: NodeOrder<K>>(
         self,
-        w: &Window<A>,
+        view: View,
         order: &O,
         key: K,
         least: Ordering,
     ) -> Looked
-        ensures node { O.exact → WhereOrdered (O.compare order.now) w.now (root_word self)
+        ensures node { O.exact
+            → WhereOrdered (O.compare order.now) view.entry.bytes.now (root_word self)
             (λ shape. result.node ≡ first_where
-            (λ node. reaches least (O.compare_key order.now w.now.bytes node key))
+            (λ node. reaches least (O.compare_key order.now view.entry.bytes.now node key))
             (nodes_of shape)) }
-        ensures looks { O.exact → WhereOrdered (O.compare order.now) w.now (root_word self)
+        ensures looks { O.exact
+            → WhereOrdered (O.compare order.now) view.entry.bytes.now (root_word self)
             (λ shape. result.looks
-            ≡ looks (λ node. reaches least (O.compare_key order.now w.now.bytes node key)) shape) }
+            ≡ looks (λ node. reaches least (O.compare_key order.now view.entry.bytes.now node key))
+            shape) }
         ensures bound { result.looks ≤ DEPTH }
     {
-        let view = w.view();
         let mut place = view.target(self.root);
         let mut found = Looked {
             node: None,
@@ -149,12 +146,12 @@ impl Tree {
         ensures leads { O.exact → (shape : _) → IsSearchTree w.now.bytes (root_word self) shape
             → LeadsTo (λ x. ordering_reverse (O.compare_key order.now w.now.bytes x key))
             shape result }
-        ensures found { O.exact → WhereOrdered (O.compare order.now) w.now (root_word self)
+        ensures found { O.exact → WhereOrdered (O.compare order.now) w.now.bytes (root_word self)
             (λ shape. FindsEqual (λ x. O.compare_key order.now w.now.bytes x key) (nodes_of shape)
             (node_at w.now.bytes result)) }
     {
         let mut path = Path::new(self.root);
-        path.descend(w, order, Sought::Key(key));
+        path.descend(w.view(), order, Sought::Key(key));
         path
     }
 }
@@ -172,11 +169,11 @@ impl Path {
         ensures root { path_root self.new ≡ root_word tree }
         ensures leads { O.exact → (shape : _) → IsSearchTree w.now.bytes (root_word tree) shape
             → LeadsTo (O.compare order.now w.now.bytes node) shape self.new }
-        ensures found { O.exact → WhereOrdered (O.compare order.now) w.now (root_word tree)
+        ensures found { O.exact → WhereOrdered (O.compare order.now) w.now.bytes (root_word tree)
             (λ shape. IsAmong node (nodes_of shape) → node_at w.now.bytes self.new ≡ Some node) }
     {
         self.begin(tree);
-        self.descend(w, order, Sought::Node(node));
+        self.descend(w.view(), order, Sought::Node(node));
     }
 
     /// Goes to the first node of a tree that is at or above a key, and returns it. `None` if there is no such node.
@@ -189,35 +186,34 @@ impl Path {
         key: K,
     ) -> Option<NodeAt>
         ensures root { path_root self.new ≡ root_word tree }
-        ensures node { O.exact → WhereOrdered (O.compare order.now) w.now (root_word tree)
+        ensures node { O.exact → WhereOrdered (O.compare order.now) w.now.bytes (root_word tree)
             (λ shape. result ≡ first_where
             (λ node. reaches Ordering.Equal (O.compare_key order.now w.now.bytes node key))
             (nodes_of shape)) }
-        ensures leads { O.exact → WhereOrdered (O.compare order.now) w.now (root_word tree)
+        ensures leads { O.exact → WhereOrdered (O.compare order.now) w.now.bytes (root_word tree)
             (λ shape. IfSome result
             (λ node. LeadsTo (O.compare order.now w.now.bytes node) shape self.new
             × (node_at w.now.bytes self.new ≡ Some node))) }
     {
         self.begin(tree);
-        self.descend(w, order, Sought::First(key));
+        self.descend(w.view(), order, Sought::First(key));
         self.climb()
     }
 
     /// Goes from the root to what is looked for, or to the empty place to insert it at.
     #[inline(always)]
-    pub(crate) fn descend<K: Copy, O: NodeOrder<K>, A: Allocator>(
+    pub(crate) fn descend<K: Copy, O: NodeOrder<K>>(
         &mut self,
-        w: &Window<A>,
+        view: View,
         order: &O,
         sought: Sought<K>,
     )
         ensures root { path_root self.new ≡ path_root self.old }
         ensures leads { O.exact → self.old.steps.items ≡ []
-            → (shape : _) → IsSearchTree w.now.bytes (path_root self.old) shape
-            → LeadsTo (sought_by (O.compare order.now w.now.bytes)
-            (O.compare_key order.now w.now.bytes) sought) shape self.new }
+            → (shape : _) → IsSearchTree view.entry.bytes.now (path_root self.old) shape
+            → LeadsTo (sought_by (O.compare order.now view.entry.bytes.now)
+            (O.compare_key order.now view.entry.bytes.now) sought) shape self.new }
     {
-        let view = w.view();
         let mut word = self.word();
         for _ in 0..DEPTH {
             let Some(node) = view.target(word) else {

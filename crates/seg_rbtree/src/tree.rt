@@ -5,7 +5,7 @@ ghost use Rattle.seg_rbtree.specs.Roots.{root_word};
 
 use crate::node::{Side, child_in};
 use crate::path::DEPTH;
-use seg_ptr::{NodeAt, Window};
+use seg_ptr::{NodeAt, View, Window};
 use std::alloc::Allocator;
 
 /// The size of a node's tree words in bytes.
@@ -33,11 +33,10 @@ impl Tree {
     }
 
     /// The first node.
-    pub fn first<A: Allocator>(self, w: &Window<A>) -> Option<NodeAt>
-        ensures { (shape : _) → IsSearchTree w.now.bytes (root_word self) shape
+    pub fn first(self, view: View) -> Option<NodeAt>
+        ensures { (shape : _) → IsSearchTree view.entry.bytes.now (root_word self) shape
             → result ≡ first_where (λ _. true) (nodes_of shape) }
     {
-        let view = w.view();
         let mut place = view.target(self.root);
         let mut first = None;
         for _ in 0..DEPTH {

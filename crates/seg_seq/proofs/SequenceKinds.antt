@@ -4,7 +4,6 @@ use Rattle.seg_spec.specs.Types.{Form, Table, form_at}
 use Rattle.seg_value.specs.Buffers.{NamesBuffer}
 use Rattle.seg_cells.specs.Contents.{ContentOf}
 use Rattle.seg_cells.specs.declared.content.Content.{Content}
-use Rattle.seg_cells.specs.declared.entry.Held.TheVariants as held
 use Rattle.seg_seq.specs.Kinds.{SequenceKindOf}
 use Rattle.seg_seq.specs.Lists.{IsList}
 use Rattle.seg_seq.specs.declared.kind.SequenceKind.{SequenceKind}

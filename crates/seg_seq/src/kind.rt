@@ -4,10 +4,8 @@ ghost use Rattle.seg_cells.specs.Contents.{ContentOf};
 ghost use Rattle.seg_cells.specs.declared.content.Content.{Content as Named};
 ghost use Rattle.seg_cells.specs.declared.content.Shape.TheVariants as shape;
 
-use seg_block::Fit;
 use seg_raw::Code;
-use seg_value::{Content, Entry, Heap, Held, Place, Shape};
-use std::alloc::Allocator;
+use seg_value::{Content, Entry, Held, Place, SegmentRead, Shape};
 
 /// The kinds of sequences.
 #[derive(Debug, Clone, Copy, PartialEq, Eq)]
@@ -23,14 +21,14 @@ impl SequenceKind {
     /// The kind of the sequence at a place, and the layout of what its cell points to. `OtherType` if the place isn't a
     /// sequence.
     #[inline(always)]
-    pub(crate) fn of<F: Fit, A: Allocator>(
-        heap: &Heap<F, A>,
+    pub(crate) fn of<S: SegmentRead>(
+        source: &S,
         sequence: Place,
     ) -> Result<(SequenceKind, Content), Code>
-        ensures { SequenceKindOf heap.now.types sequence.type_id
-            (form_at heap.now.types sequence.type_id) result }
+        ensures { SequenceKindOf (S.stored source.now).types sequence.type_id
+            (form_at (S.stored source.now).types sequence.type_id) result }
     {
-        let content = heap.content(sequence.type_id).ok_or(Code::OtherType)?;
+        let content = source.content(sequence.type_id).ok_or(Code::OtherType)?;
         let kind = match content.shape {
             Shape::Buffer => SequenceKind::of_buffer(content.entry)?,
             Shape::Ring => SequenceKind::List,

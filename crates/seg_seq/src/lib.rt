@@ -11,7 +11,7 @@ mod room;
 mod sequence;
 mod text;
 
-pub use list::{next, pop_front, push_front};
+pub use list::{next, pop_front, previous, push_front};
 pub use numbers::Numbers;
 pub use pushing::push_in_place;
 pub use sequence::{at, len, pop_back, push_back};

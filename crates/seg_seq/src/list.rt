@@ -12,13 +12,14 @@ ghost use Rattle.seg_cells.specs.Places.{place_of, object_at};
 ghost use Rattle.seg_seq.specs.Rings.{around};
 ghost use Rattle.seg_seq.specs.declared.ring.Way.TheVariants as way;
 ghost use Rattle.seg_seq.specs.Lists.{IsList, HasList, IsNoList, AddsItem, LosesItem};
+ghost use Rattle.seg_seq.specs.Sequences.{ShowsItem};
 
 use crate::kind::SequenceKind;
 use crate::ring::{Way, insert, neighbour, remove};
 use seg_block::Fit;
 use seg_ptr::NodeAt;
 use seg_raw::Code;
-use seg_value::{CellAt, Content, Heap, LIST_LINKS, Place, ValueAt};
+use seg_value::{CellAt, Content, Heap, LIST_LINKS, Place, SegmentRead, ValueAt};
 use std::alloc::Allocator;
 
 fn node_of(item: ValueAt) -> NodeAt
@@ -34,14 +35,23 @@ pub(crate) fn item_of(node: NodeAt) -> ValueAt
 }
 
 /// The item after an item of a list; after the last one this is the first one.
-pub fn next<F: Fit, A: Allocator>(heap: &Heap<F, A>, item: ValueAt) -> ValueAt
+pub fn next<S: SegmentRead>(source: &S, item: ValueAt) -> ValueAt
     ensures { (allocator U i : ℕ) (list : reads.Place) (vs : Values) (blocks : List ℕ) →
-        HasList allocator heap.now list U vs blocks →
-        Leads heap.now.window.bytes heap.now.types list (Selector.item i ∷ []) (object_at item U) →
-        Leads heap.now.window.bytes heap.now.types list
-        (Selector.item (around way.Forward (count vs) i 1) ∷ []) (object_at result U) }
+        HasList allocator (S.stored source.now) list U vs blocks →
+        ShowsItem (S.stored source.now) list U i item →
+        ShowsItem (S.stored source.now) list U (around way.Forward (count vs) i 1) result }
 {
-    item_of(neighbour(heap, node_of(item), Way::Forward))
+    item_of(neighbour(source, node_of(item), Way::Forward))
+}
+
+/// The item before an item of a list; before the first one this is the last one.
+pub fn previous<S: SegmentRead>(source: &S, item: ValueAt) -> ValueAt
+    ensures { (allocator U i : ℕ) (list : reads.Place) (vs : Values) (blocks : List ℕ) →
+        HasList allocator (S.stored source.now) list U vs blocks →
+        ShowsItem (S.stored source.now) list U i item →
+        ShowsItem (S.stored source.now) list U (around way.Backward (count vs) i 1) result }
+{
+    item_of(neighbour(source, node_of(item), Way::Backward))
 }
 
 /// Adds a default item at the front of a list, and returns its position. `OtherType` if the place isn't a list,

@@ -8,7 +8,7 @@ ghost use Rattle.seg_seq.specs.Rings.{coupled, AreSpread, HasRing, Relinks, link
 
 use seg_block::Fit;
 use seg_ptr::{NodeAt, Window};
-use seg_value::{CellAt, Heap, PREVIOUS};
+use seg_value::{CellAt, Heap, PREVIOUS, SegmentRead};
 use std::alloc::Allocator;
 
 /// A direction in the ring.
@@ -19,41 +19,42 @@ pub(crate) enum Way {
 }
 
 /// The next or the previous node.
-pub(crate) fn neighbour<F: Fit, A: Allocator>(heap: &Heap<F, A>, node: NodeAt, way: Way) -> NodeAt
-    ensures { result ≡ start heap.now.window.bytes (link_of way node) }
+pub(crate) fn neighbour<S: SegmentRead>(source: &S, node: NodeAt, way: Way) -> NodeAt
+    ensures { result ≡ start (S.stored source.now).window.bytes (link_of way node) }
 {
     match way {
-        Way::Forward => heap.start(node),
-        Way::Backward => heap.start(node.wrapping_add(PREVIOUS)),
+        Way::Forward => source.start(node),
+        Way::Backward => source.start(node.wrapping_add(PREVIOUS)),
     }
 }
 
 /// The node `steps` steps from another.
-fn walk<F: Fit, A: Allocator>(heap: &Heap<F, A>, from: NodeAt, way: Way, steps: u32) -> NodeAt
-    ensures { (cell i : ℕ) (nodes : List ℕ) → HasRing heap.now.window.bytes cell nodes →
-        AreSpread heap.now.window.bytes (cell ∷ nodes) → i < length nodes →
+fn walk<S: SegmentRead>(source: &S, from: NodeAt, way: Way, steps: u32) -> NodeAt
+    ensures { (cell i : ℕ) (nodes : List ℕ) →
+        HasRing (S.stored source.now).window.bytes cell nodes →
+        AreSpread (S.stored source.now).window.bytes (cell ∷ nodes) → i < length nodes →
         from ≡ slice_index nodes i → steps ≤ length nodes →
         result ≡ slice_index nodes (around way (length nodes) i steps) }
 {
     let mut node = from;
-    for _ in 0..steps.min(heap.window().len()) {
-        node = neighbour(heap, node, way);
+    for _ in 0..source.view().len().min(steps as usize) {
+        node = neighbour(source, node, way);
     }
     node
 }
 
 /// The node of the item with this index, which the list must have. It is found from the nearer end.
-pub(crate) fn node_at<F: Fit, A: Allocator>(heap: &Heap<F, A>, cell: CellAt, index: u32) -> NodeAt
-    ensures { (nodes : List ℕ) → HasRing heap.now.window.bytes cell nodes →
-        AreSpread heap.now.window.bytes (cell ∷ nodes) → index < length nodes →
+pub(crate) fn node_at<S: SegmentRead>(source: &S, cell: CellAt, index: u32) -> NodeAt
+    ensures { (nodes : List ℕ) → HasRing (S.stored source.now).window.bytes cell nodes →
+        AreSpread (S.stored source.now).window.bytes (cell ∷ nodes) → index < length nodes →
         result ≡ slice_index nodes index }
 {
-    let first = heap.start(cell);
-    let from_end = heap.count(cell).saturating_sub(index);
+    let first = source.start(cell);
+    let from_end = source.count(cell).saturating_sub(index);
     if index <= from_end {
-        walk(heap, first, Way::Forward, index)
+        walk(source, first, Way::Forward, index)
     } else {
-        walk(heap, first, Way::Backward, from_end)
+        walk(source, first, Way::Backward, from_end)
     }
 }
 

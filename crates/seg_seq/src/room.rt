@@ -1,7 +1,7 @@
 ghost use Rattle.std.specs.Prelude.{◌≡◌, ◌%◌, ◌^◌, MatchOption};
 ghost use Rattle.seg_seq.specs.Buffers.{LacksEntry, HasEntry};
 
-use seg_block::{UNIT, units_in};
+use seg_block::{UNIT, units_of};
 use seg_ptr::View;
 use seg_value::CellAt;
 
@@ -39,7 +39,7 @@ impl Room {
         if end > bytes.len() {
             return None;
         }
-        let units = units_in(bytes.get32(block));
+        let units = units_of(bytes.get32(block));
         if used + size as usize > UNIT as usize * units as usize {
             return None;
         }

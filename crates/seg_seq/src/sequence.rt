@@ -16,60 +16,59 @@ use crate::list::{item_of, push_node, remove_node};
 use crate::ring::{Way, neighbour, node_at};
 use seg_block::Fit;
 use seg_raw::Code;
-use seg_value::{CellAt, Content, Heap, Held, Place, ValueAt};
+use seg_value::{CellAt, Content, Heap, Held, Place, SegmentRead, ValueAt};
 use std::alloc::Allocator;
 
 /// How many bytes a string has, or how many items a vector or a list has. `OtherType` for other places.
-pub fn len<F: Fit, A: Allocator>(heap: &Heap<F, A>, sequence: Place) -> Result<u32, Code>
+pub fn len<S: SegmentRead>(source: &S, sequence: Place) -> Result<u32, Code>
     ensures text { (xs blocks : List ℕ) →
-        HasText F.allocator heap.now (place_of sequence) xs blocks → result ≡ Ok (length xs) }
+        HasText (S.allocator source.now) (S.stored source.now) (place_of sequence) xs blocks →
+        result ≡ Ok (length xs) }
     ensures vector { (U : ℕ) (vs : Values) (blocks : List ℕ) →
-        HasItems F.allocator heap.now (place_of sequence) U vs blocks → result ≡ Ok (count vs) }
+        HasItems (S.allocator source.now) (S.stored source.now) (place_of sequence) U vs blocks →
+        result ≡ Ok (count vs) }
     ensures list { (U : ℕ) (vs : Values) (blocks : List ℕ) →
-        HasList F.allocator heap.now (place_of sequence) U vs blocks → result ≡ Ok (count vs) }
-    ensures other { is_sequence (form_at heap.now.types sequence.type_id) ≡ false →
+        HasList (S.allocator source.now) (S.stored source.now) (place_of sequence) U vs blocks →
+        result ≡ Ok (count vs) }
+    ensures other { is_sequence (form_at (S.stored source.now).types sequence.type_id) ≡ false →
         result ≡ Err Code.OtherType }
-    ensures counted { is_sequence (form_at heap.now.types sequence.type_id) ≡ true →
-        result ≡ Ok (count_at heap.now.window.bytes sequence.at) }
+    ensures counted { is_sequence (form_at (S.stored source.now).types sequence.type_id) ≡ true →
+        result ≡ Ok (count_at (S.stored source.now).window.bytes sequence.at) }
 {
-    SequenceKind::of(heap, sequence)?;
-    Ok(heap.count(sequence.at))
+    SequenceKind::of(source, sequence)?;
+    Ok(source.count(sequence.at))
 }
 
 /// The position of an item of a vector or a list, or of a byte of a string. `OtherType` for other places, `OutOfRange`
 /// if there is no such item.
-pub fn at<F: Fit, A: Allocator>(
-    heap: &Heap<F, A>,
-    sequence: Place,
-    index: u32,
-) -> Result<ValueAt, Code>
+pub fn at<S: SegmentRead>(source: &S, sequence: Place, index: u32) -> Result<ValueAt, Code>
     ensures text { (xs blocks : List ℕ) →
-        HasText F.allocator heap.now (place_of sequence) xs blocks →
+        HasText (S.allocator source.now) (S.stored source.now) (place_of sequence) xs blocks →
         MatchResult result
-        (ShowsByte heap.now (place_of sequence) xs index) (IsPast index (length xs)) }
+        (ShowsByte (S.stored source.now) (place_of sequence) xs index) (IsPast index (length xs)) }
     ensures vector { (U : ℕ) (vs : Values) (blocks : List ℕ) →
-        HasItems F.allocator heap.now (place_of sequence) U vs blocks →
+        HasItems (S.allocator source.now) (S.stored source.now) (place_of sequence) U vs blocks →
         MatchResult result
-        (ShowsItem heap.now (place_of sequence) U index) (IsPast index (count vs)) }
+        (ShowsItem (S.stored source.now) (place_of sequence) U index) (IsPast index (count vs)) }
     ensures list { (U : ℕ) (vs : Values) (blocks : List ℕ) →
-        HasList F.allocator heap.now (place_of sequence) U vs blocks →
+        HasList (S.allocator source.now) (S.stored source.now) (place_of sequence) U vs blocks →
         MatchResult result
-        (ShowsItem heap.now (place_of sequence) U index) (IsPast index (count vs)) }
-    ensures other { is_sequence (form_at heap.now.types sequence.type_id) ≡ false →
+        (ShowsItem (S.stored source.now) (place_of sequence) U index) (IsPast index (count vs)) }
+    ensures other { is_sequence (form_at (S.stored source.now).types sequence.type_id) ≡ false →
         result ≡ Err Code.OtherType }
-    ensures counted { is_sequence (form_at heap.now.types sequence.type_id) ≡ true →
-        MatchResult result (λ at. index < count_at heap.now.window.bytes sequence.at)
-        (IsPast index (count_at heap.now.window.bytes sequence.at)) }
+    ensures counted { is_sequence (form_at (S.stored source.now).types sequence.type_id) ≡ true →
+        MatchResult result (λ at. index < count_at (S.stored source.now).window.bytes sequence.at)
+        (IsPast index (count_at (S.stored source.now).window.bytes sequence.at)) }
 {
-    let (kind, content) = SequenceKind::of(heap, sequence)?;
-    if index >= heap.count(sequence.at) {
+    let (kind, content) = SequenceKind::of(source, sequence)?;
+    if index >= source.count(sequence.at) {
         return Err(Code::OutOfRange);
     }
     match kind {
         SequenceKind::Text | SequenceKind::Vector => Ok(
-            content.entry.value_at(heap.start(sequence.at), index),
+            content.entry.value_at(source.start(sequence.at), index),
         ),
-        SequenceKind::List => Ok(item_of(node_at(heap, sequence.at, index))),
+        SequenceKind::List => Ok(item_of(node_at(source, sequence.at, index))),
     }
 }
 

@@ -3,7 +3,7 @@ ghost use Rattle.seg_spec.specs.Types.{IsTable, form_at};
 ghost use Rattle.seg_cells.specs.Cells.{cells_of};
 ghost use Rattle.seg_cells.specs.Contents.{ContentOf};
 
-use crate::contents::Contents;
+use crate::contents::Layouts;
 use seg_block::Fit;
 use seg_cells::{Cells, Content};
 use seg_layout::{TypeId, TypeTable};
@@ -16,21 +16,16 @@ use std::marker::{Model, PhantomData};
 #[derive(Drop)]
 pub struct Heap<F: Fit, A: Allocator> {
     pub(crate) window: Window<A>,
-    pub(crate) types: TypeTable,
-    contents: Contents,
+    pub(crate) layouts: Layouts,
     fit: PhantomData<F>,
 }
 
 impl<F: Fit, A: Allocator> Model for Heap<F, A> {
-    ghost use Rattle.seg_value.specs.Contents.{IsDescribed};
     ghost use Rattle.seg_value.specs.Stored.{Stored};
 
     ghost Value = { Stored };
 
-    ghost view = { λ heap. record { window = heap.window; types = heap.types } };
-
-    ghost invariant = { λ heap. IsDescribed heap.types heap.contents.of_types
-        heap.contents.cells heap.contents.numbers };
+    ghost view = { λ heap. record { window = heap.window; types = heap.layouts } };
 }
 
 impl<F: Fit, A: Allocator> Heap<F, A> {
@@ -43,11 +38,9 @@ impl<F: Fit, A: Allocator> Heap<F, A> {
         ensures window { result.window ≡ window }
         ensures types { result.types ≡ types }
     {
-        let contents = Contents::of(&types);
         Heap {
             window,
-            types,
-            contents,
+            layouts: Layouts::of(types),
             fit: PhantomData,
         }
     }
@@ -70,7 +63,7 @@ impl<F: Fit, A: Allocator> Heap<F, A> {
     pub fn types(&self) -> &TypeTable
         ensures { result.now ≡ self.now.types }
     {
-        &self.types
+        self.layouts.types()
     }
 
     /// Replaces the type table of the heap, but not the table in the bytes.
@@ -78,8 +71,7 @@ impl<F: Fit, A: Allocator> Heap<F, A> {
         ensures window { self.new.window ≡ self.old.window }
         ensures types { self.new.types ≡ types }
     {
-        self.contents = Contents::of(&types);
-        self.types = types;
+        self.layouts = Layouts::of(types);
     }
 
     pub fn into_window(self) -> Window<A>
@@ -87,8 +79,7 @@ impl<F: Fit, A: Allocator> Heap<F, A> {
     {
         let Heap {
             window,
-            types: _,
-            contents: _,
+            layouts: _,
             fit: _,
         } = self;
         window
@@ -99,14 +90,14 @@ impl<F: Fit, A: Allocator> Heap<F, A> {
     pub fn content(&self, t: TypeId) -> Option<Content>
         ensures { ContentOf self.now.types t (form_at self.now.types t) result }
     {
-        self.contents.get(t)
+        self.layouts.content(t)
     }
 
     /// The type of the items, if this type is a vector of numbers.
     pub fn number_type(&self, t: TypeId) -> Option<TypeId>
         ensures { result ≡ numbers_in self.now.types t }
     {
-        self.contents.number_type(t)
+        self.layouts.number_type(t)
     }
 
     /// What the values of a type consist of.
@@ -114,6 +105,6 @@ impl<F: Fit, A: Allocator> Heap<F, A> {
         ensures cells { result ≡ cells_of (form_at self.now.types t) }
         ensures table { IsTable self.now.types }
     {
-        self.contents.cells(t)
+        self.layouts.cells(t)
     }
 }

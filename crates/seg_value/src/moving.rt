@@ -39,7 +39,7 @@ impl<F: Fit, A: Allocator> Heap<F, A> {
         ensures no_room { length self.old.window.bytes < to + n * size self.old.types t →
             self.new.window ≡ self.old.window }
     {
-        let entry = Content::object(&self.types, t).entry;
+        let entry = Content::object(self.layouts.types(), t).entry;
         self.shift_entries(entry, from, to, n);
     }
 
@@ -73,7 +73,14 @@ impl<F: Fit, A: Allocator> Heap<F, A> {
         }
         self.window.move_within(from as usize, to as usize, bytes);
         let distance = distance(to, from);
-        point_each_again(&mut self.window, &self.types, entry, to, n, distance);
+        point_each_again(
+            &mut self.window,
+            self.layouts.types(),
+            entry,
+            to,
+            n,
+            distance,
+        );
     }
 }
 

@@ -21,7 +21,7 @@ ghost use Rattle.seg_spec.specs.Window.{with_bytes, KeepsHost};
 ghost use Rattle.seg_cells.specs.Places.{place_of, object_at};
 ghost use Rattle.seg_spec.specs.Sharing.{FrozenBeside, cell_count, MovesFrozen, Freezes};
 
-use crate::{Content, FROZEN_WORDS, Heap};
+use crate::{Content, FROZEN_WORDS, Heap, SegmentRead};
 use seg_block::{Fit, PayloadAt};
 use seg_cells::{CellAt, Place, ValueAt};
 use seg_layout::{Type, TypeId};
@@ -30,11 +30,11 @@ use seg_ptr::header::NEXT_NUMBER;
 use std::alloc::Allocator;
 
 /// The position of the value of the frozen object that a cell points to, if it points to one.
-pub fn frozen<F: Fit, A: Allocator>(heap: &Heap<F, A>, cell: Place) -> Option<ValueAt>
+pub fn frozen<S: SegmentRead>(source: &S, cell: Place) -> Option<ValueAt>
     ensures { result ≡ option_map (λ p. (p + frozen_words) % 2 ^ 32)
-        (target heap.now.window.bytes cell.at) }
+        (target (S.stored source.now).window.bytes cell.at) }
 {
-    let payload = heap.window().target(cell.at as usize)?;
+    let payload = source.view().target(cell.at as usize)?;
     Some(payload.wrapping_add(FROZEN_WORDS))
 }
 

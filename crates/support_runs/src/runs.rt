@@ -214,7 +214,7 @@ pub struct Statistics {
 /// The statistics of an image, which must be accepted.
 pub fn statistics_of(alloc: Global, image: &[u8]) -> Result<Statistics, Fail> {
     let placed = window(alloc, image)?;
-    let types = check(alloc, &placed)?;
+    let types = check(alloc, placed.view())?;
     // the numbers don't depend on the allocator
     let segment = Segment::<SeqFit, Global>::new(placed, types);
     Ok(Statistics {

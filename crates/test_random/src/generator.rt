@@ -1,6 +1,8 @@
 //! Random clients. Most are accepted, because the generator knows which references are still valid.
 
 use crate::model::{Shape, shape_of};
+use client_code::{Ends, Gives, Need, Number, Operand, Operation, Role, Row};
+use client_spec::table::OPERATIONS;
 use std::alloc::{AllocError, Global};
 use std::fmt::Write;
 use support_data::Random;
@@ -278,18 +280,19 @@ impl Generator {
     /// Writes a statement on numbers, input, or parts without a value.
     fn plain(&mut self) -> Result<(), AllocError> {
         let (a, b, c) = (self.number(), self.number(), self.number());
-        match self.random.below(9) {
+        match self.random.below(11) {
             0 => write!(self.text, "ADD r{a} r{b} r{c}\nOUTI r{a}\n"),
             1 => write!(self.text, "SUB r{a} r{b} r{c}\n"),
             2 => write!(self.text, "MUL r{a} r{b} r{c}\n"),
             3 => write!(self.text, "LT r{a} r{b} r{c}\n"),
             4 => write!(self.text, "EQ r{a} r{b} r{c}\n"),
             5 => write!(self.text, "MOV r{a} r{b}\n"),
-            6 => {
+            6 | 7 => self.from_table(),
+            8 => {
                 self.text.push_str("GETB r15\n")?;
                 self.print_given()
             }
-            7 => {
+            9 => {
                 write!(self.text, "IF r{b}\n")?;
                 self.enter_plain(Close::If)
             }
@@ -302,6 +305,47 @@ impl Generator {
                 self.enter_plain(Close::Loop)
             }
         }
+    }
+
+    /// Writes a simple operation by its row of the table. Its registers a and b are r15, with a number in it or, if the row allows
+    /// one, a copy of a reference. Afterwards r15 contains a number.
+    fn from_table(&mut self) -> Result<(), AllocError> {
+        let Some(operation) = self.simple_operation() else {
+            return Ok(());
+        };
+        let row = operation.row();
+        let c = self.number();
+        match self.parts.last() {
+            Some(part) if part.t.is_some() && row.needs_b != Need::Int => {
+                write!(self.text, "MOV r15 r{}\n", part.register)?;
+            }
+            Some(_) | None => write!(self.text, "MOV r15 r{c}\n")?,
+        }
+        self.text.push_str(operation.word())?;
+        for (operand, register) in [(row.a, 15), (row.b, 15), (row.c, c)] {
+            if operand == Operand::Register {
+                write!(self.text, " r{register}")?;
+            }
+        }
+        if row.number == Number::Any {
+            write!(self.text, " {c}")?;
+        }
+        self.text.push_str(match row.gives {
+            Gives::Int => "\nOUTI r15\n",
+            _ => "\nCONST r15 0\n",
+        })
+    }
+
+    /// A random simple operation. `None` if no such operation was found.
+    fn simple_operation(&mut self) -> Option<Operation> {
+        for _ in 0..50 {
+            let number = (self.random.below(OPERATIONS as u32) as u8).wrapping_add(1);
+            let operation = Operation::from_number(number)?;
+            if is_simple(operation.row()) {
+                return Some(operation);
+            }
+        }
+        None
     }
 
     fn enter_plain(&mut self, close: Close) -> Result<(), AllocError> {
@@ -699,6 +743,20 @@ impl Generator {
         })?;
         Ok(())
     }
+}
+
+/// Whether an operation is simple: it has no parts, needs only numbers, or nothing, and changes only registers a and b.
+fn is_simple(row: Row) -> bool {
+    row.role == Role::Plain
+        && row.version == 1
+        && row.ends == Ends::Nothing
+        && matches!(row.number, Number::Unused | Number::Any)
+        && matches!(row.needs_b, Need::Nothing | Need::Int | Need::Copyable)
+        && matches!(row.needs_c, Need::Nothing | Need::Int)
+        && matches!(
+            row.gives,
+            Gives::Nothing | Gives::Int | Gives::Copy | Gives::Forgotten
+        )
 }
 
 /// The class of the unique object of a type.

@@ -22,8 +22,8 @@ pub fn faults_and_outcomes()
         HasOutcome job effect → IsRefusedFor job refused → refused.fault ≡ Fault.Memory }
 {}
 
-/// Without clients, the number 41 named x is saved as it was opened. Nothing is written, there is no report, and the run isn't
-/// stopped.
+/// Without clients, the image with the number 41 named x is saved unchanged. Nothing is printed, there is no report, and the run
+/// isn't stopped.
 pub fn no_clients()
     ensures whole { HasOutcome (job_at counter [] [] 2048 0 []) (effect_at
         (Some (codes "=")) (Some (codes "=")) (upgraded counter) [] Ended.Done) }

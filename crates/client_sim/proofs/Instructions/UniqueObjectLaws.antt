@@ -79,7 +79,7 @@ FindsOneOrNoRoom allocator old new table T code picture =
 abbrev pub IsFoundOrJoins : ℕ → List ℕ → List ℕ → Table → ℕ → ℕ → Picture → Type 0
 IsFoundOrJoins allocator old new table T at picture = ((begins_unique picture T ≡ Some at) × (new ≡ old)) ⊎ JoinsUniques allocator old new table picture T at
 
--- the type's unique object is destroyed, or there is none
+-- the type's unique object is destroyed, or doesn't exist
 abbrev pub LeavesOrLacks : List ℕ → List ℕ → Table → ℕ → Bool → Picture → Type 0
 LeavesOrLacks old new table T true picture = LeavesUniques old new table picture T
 LeavesOrLacks old new table T false picture = (begins_unique picture T ≡ None) × (new ≡ old)

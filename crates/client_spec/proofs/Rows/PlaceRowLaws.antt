@@ -10,9 +10,11 @@ use Rattle.client_spec.specs.declared.table.Operation.{Operation}
 use Rattle.client_spec.specs.Syntax.{Constant}
 use Rattle.client_spec.specs.Machine.{◌>>=◌, Origin, Path, extend, Register, State, register, set_register, owned_by, path_value, put_at, part_type}
 use Rattle.client_spec.specs.Shape.{HasShape, AllHaveShape}
-use Rattle.client_spec.specs.Answer.{Answer, success, bad_alloc, absent, out_of_range, null_or_none, Outcome, integer_in, path_in, fail, refer, give_count, proceed, index_below, byte_of, text_in, items_in, entries_in, content_in, fields_in, length_in, vec_or_list_item, list_item, map_value, owned_type, provided, with_room, begins_at}
+use Rattle.client_spec.specs.Answer.{Answer, success, bad_alloc, absent, out_of_range, null_or_none, Outcome, integer_in, path_in, fail, refer, give_count, proceed, index_below, byte_of}
+use Rattle.client_spec.specs.Answer.{text_in, items_in, entries_in, content_in, fields_in, length_in, vec_or_list_item, list_item, map_value, owned_type, provided, with_room, begins_at}
 use Rattle.client_spec.specs.Effect.{item_of_value, pop_bytes, pop_last, pop_first, set_text, first_key, effect}
-use Rattle.client_spec.specs.Typed.{Class, RegisterType, Reason, RegisterTypes, known, integer_needed, reference_needed, owner_needed, required, text_needed, form_needed, is_str, is_map, can_pop, has_length, can_shrink, item_known, field_type, Rule, known_after, gives, opens, same_class, sharing, ended, others_ended, rule}
+use Rattle.client_spec.specs.Typed.{Class, RegisterType, Reason, RegisterTypes, known, integer_needed, reference_needed, owner_needed, required, text_needed, form_needed, is_str, is_map}
+use Rattle.client_spec.specs.Typed.{can_pop, has_length, can_shrink, item_known, field_type, Rule, known_after, gives, opens, same_class, sharing, ended, others_ended, rule}
 use Rattle.client_spec.specs.Typed as typed
 use Rattle.client_spec.specs.Meaning.{BeginsIn, Meets, IsAsKnown}
 use Rattle.client_spec.proofs.TypedStates.DefaultLaws.{default_has, part_is_entry}
@@ -21,7 +23,8 @@ use Rattle.client_spec.proofs.TypedStates.PutLaws.{has_leads, agrees_put, IsLeaf
 use Rattle.client_spec.proofs.TypedStates.ClassLaws.{OneEach, agrees_others}
 use Rattle.client_spec.proofs.TypedStates.KnowledgeChangeLaws.{agrees_put_others, agrees_release}
 use Rattle.client_spec.proofs.Rows.RuleRowLaws.{bind_ok, nth_at, Goes, goes_along, stays_known, integer_found, reference_found, gives_goes, opens_give, opens_fail}
-use Rattle.client_spec.proofs.TypedStates.ValueFormLaws.{text_value, items_value, entries_value, list_is_item, map_has_value, own_value, own_fits, text_fits, item_part, key_part, content_part, last_item, field_value, length_value, key_in, count_insert, length_insert, remove_length, text_found, popped, not_is, required_is, at_value, value_at_key, shrinks, reference_is}
+use Rattle.client_spec.proofs.TypedStates.ValueFormLaws.{text_value, items_value, entries_value, list_is_item, map_has_value, own_value, own_fits, text_fits, item_part, key_part, content_part, last_item, field_value}
+use Rattle.client_spec.proofs.TypedStates.ValueFormLaws.{length_value, key_in, count_insert, length_insert, remove_length, text_found, popped, not_is, required_is, at_value, value_at_key, shrinks, reference_is}
 use Rattle.client_spec.proofs.Rows.RowPartLaws.{goes_bind, Found, found, Row, code_goes, count_goes, room_goes, number_goes, own_goes, owner_found}
 
 module _ (types : Table) (constants : List Constant) (one : OneEach constants) (ks : RegisterTypes) (s : State) (h : IsAsKnown types constants ks s) where

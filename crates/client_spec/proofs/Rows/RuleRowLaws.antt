@@ -12,9 +12,11 @@ use Rattle.client_spec.specs.declared.table.Operation.{Operation}
 use Rattle.client_spec.specs.Syntax.{Constant}
 use Rattle.client_spec.specs.Machine.{◌>>=◌, Origin, Register, Object, State, register, set_register, owned_by, at_origin, path_value, put_at}
 use Rattle.client_spec.specs.Shape.{HasShape}
-use Rattle.client_spec.specs.Answer.{Answer, success, is_zero, absent, other_type, out_of_range, answer_number, Outcome, integer_in, path_in, integer_at, answer, give, fail, refer, proceed, path_from, index_below, type_operand, constant_operand, integer_or, constant_name, write_out, int_in}
+use Rattle.client_spec.specs.Answer.{Answer, success, is_zero, absent, other_type, out_of_range, answer_number, Outcome, integer_in, path_in, integer_at, answer, give}
+use Rattle.client_spec.specs.Answer.{fail, refer, proceed, path_from, index_below, type_operand, constant_operand, integer_or, constant_name, write_out, int_in}
 use Rattle.client_spec.specs.Effect.{combine, truth, item_of_object, effect}
-use Rattle.client_spec.specs.Typed.{Class, RegisterType, Reason, Checked, RegisterTypes, known, is_owner, integer_needed, reference_needed, some_needed, name_needed, integer_or_none, form_needed, is_i64, known_after, assigned, gives, opens, combines, rule}
+use Rattle.client_spec.specs.Typed.{Class, RegisterType, Reason, Checked, RegisterTypes, known, is_owner, integer_needed, reference_needed, some_needed}
+use Rattle.client_spec.specs.Typed.{name_needed, integer_or_none, form_needed, is_i64, known_after, assigned, gives, opens, combines, rule}
 use Rattle.client_spec.specs.Typed as typed
 use Rattle.client_spec.specs.Meaning.{IsNamedBy, Refers, Meets, IsAsKnown}
 use Rattle.client_spec.proofs.TypedStates.ValueLaws.{Some_inj}

@@ -14,7 +14,8 @@ use Rattle.client_spec.specs.declared.table.Operand.{Operand}
 use Rattle.client_spec.specs.declared.table.Number.{Number}
 use Rattle.client_spec.specs.Operations.{mnemonic, row_of}
 use Rattle.client_spec.specs.Grammar.{IsNameByte, IsConstant, IsOperand, IsCode, IsClient, listing}
-use Rattle.client_spec.specs.Text.{Item, type_item, constant_item, instruction_item, items_of, Words, operand_words, type_word, constant_word, number_words, type_words, words_from, words_of, hex_digit, is_plain, escaped, SpellsText, text_spelling, spaced_words, line_of, text_of, SpellsItem, lines_from, has_word, is_meant, EachSpells, SpellsInText}
+use Rattle.client_spec.specs.Text.{Item, type_item, constant_item, instruction_item, items_of, Words, operand_words, type_word, constant_word, number_words, type_words, words_from, words_of}
+use Rattle.client_spec.specs.Text.{hex_digit, is_plain, escaped, SpellsText, text_spelling, spaced_words, line_of, text_of, SpellsItem, lines_from, has_word, is_meant, EachSpells, SpellsInText}
 use Rattle.seg_spec.proofs.Tables.TypeSizeLaws.{all_forms}
 use Rattle.seg_spec.proofs.Tables.TableExtensionLaws.{below_length}
 use Rattle.std.proofs.lemmas.Int.{ints}

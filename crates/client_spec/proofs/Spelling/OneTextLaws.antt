@@ -12,7 +12,8 @@ use Rattle.client_spec.specs.declared.table.Operation.{Operation}
 use Rattle.client_spec.specs.Syntax.{Constant, Instruction, Client}
 use Rattle.client_spec.specs.declared.table.Number.{Number}
 use Rattle.client_spec.specs.Operations.{mnemonic, row_of}
-use Rattle.client_spec.specs.Text.{Item, type_item, constant_item, instruction_item, Words, operand_words, type_word, constant_word, number_words, instruction_words, type_words, words_of, SpellsText, is_plain, escaped, hex_digit, SpellsItem, EachSpells, SpellsInText}
+use Rattle.client_spec.specs.Text.{Item, type_item, constant_item, instruction_item, Words, operand_words, type_word, constant_word, number_words}
+use Rattle.client_spec.specs.Text.{instruction_words, type_words, words_of, SpellsText, is_plain, escaped, hex_digit, SpellsItem, EachSpells, SpellsInText}
 use Rattle.client_spec.specs.Pieces.{Pieces, pieces_of, all_items, IsTold, IsToldInstruction, IsReadable, Says}
 use Rattle.client_spec.proofs.Spelling.ListingLaws.{all_two}
 use Rattle.client_spec.proofs.Spelling.ReadablePieceLaws.{each_of, of_client}

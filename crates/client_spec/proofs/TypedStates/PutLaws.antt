@@ -6,7 +6,8 @@ use Rattle.seg_spec.specs.Value.{Value, Int, Text, count, nth, Selector, selecte
 use Rattle.seg_spec.specs.Value as values
 use Rattle.seg_spec.specs.Types.{Form, Table, form_at}
 use Rattle.client_spec.specs.Syntax.{Constant}
-use Rattle.client_spec.specs.Machine.{◌>>=◌, extend, Origin, Path, Register, Object, State, with_unique, register, set_register, part_type, type_along, owned_by, at_origin, path_value, path_type, with_owned, replace_item, put_origin, put_at}
+use Rattle.client_spec.specs.Machine.{◌>>=◌, extend, Origin, Path, Register, Object, State, with_unique, register, set_register, part_type}
+use Rattle.client_spec.specs.Machine.{type_along, owned_by, at_origin, path_value, path_type, with_owned, replace_item, put_origin, put_at}
 use Rattle.client_spec.specs.Typed.{Class, RegisterType, RegisterTypes, known}
 use Rattle.client_spec.specs.Shape.{HasShape, AllHaveShape}
 use Rattle.client_spec.specs.Meaning.{IsTyped, LeadsToType, Meets, IsAsKnown}

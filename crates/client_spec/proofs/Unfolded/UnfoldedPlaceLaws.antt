@@ -16,7 +16,8 @@ use Rattle.client_spec.specs.Trees.{unfolded_state}
 use Rattle.client_spec.proofs.Unfolded.UnfoldedValueLaws.{default_replaced, count_replaced, append_replaced, last_replaced, with_entry_replaced, without_entry_replaced}
 use Rattle.client_spec.proofs.Unfolded.UnfoldedStateLaws.{unfolded_owned, owned_same, set_register_same, type_same, form_same}
 use Rattle.client_spec.proofs.Unfolded.UnfoldedPartLaws.{number_replaced, bytes_replaced, items_replaced, entries_with, entries_replaced, content_replaced, fields_replaced, length_replaced}
-use Rattle.client_spec.proofs.Unfolded.UnfoldedOutcomeLaws.{Same, along, either_same, provided_same, give_same, fail_same, refer_same, count_same, proceed_same, room_same, from_integer, from_path, from_owner, from_form, from_value, from_part, put_then}
+use Rattle.client_spec.proofs.Unfolded.UnfoldedOutcomeLaws.{Same, along, either_same, provided_same, give_same, fail_same, refer_same, count_same, proceed_same}
+use Rattle.client_spec.proofs.Unfolded.UnfoldedOutcomeLaws.{room_same, from_integer, from_path, from_owner, from_form, from_value, from_part, put_then}
 use Rattle.client_spec.proofs.Unfolded.UnfoldedRowLaws.{RowSame}
 
 module _ (m : ℕ → Value) (constants : List Constant) (s : State) where

@@ -22,7 +22,8 @@ use Rattle.seg_check.specs.declared.fault.ContentFault.{ContentFault}
 use Rattle.seg_check.specs.declared.marks.Waiting.{Waiting}
 use Rattle.seg_check.specs.Claiming.{Refutes}
 use Rattle.seg_check.specs.Marks.{Known, Within}
-use Rattle.seg_check.specs.Naming.{IsFrozen, SameOthers, IsUnder, CanBeTarget, IsNameable, frozen_number_at, slot_of, less, one_less, Counts, CountsBlock, blocks_of, unseen_at, standing_at, Finds, CanName, NamesFirst, NamesAgain, NamesBlock}
+use Rattle.seg_check.specs.Naming.{IsFrozen, SameOthers, IsUnder, CanBeTarget, IsNameable, frozen_number_at, slot_of, less, one_less, Counts}
+use Rattle.seg_check.specs.Naming.{CountsBlock, blocks_of, unseen_at, standing_at, Finds, CanName, NamesFirst, NamesAgain, NamesBlock}
 use Rattle.seg_check.specs.Turns.{Limited, owned_places, awaited, IsWaiting, AreWaiting, AreLow}
 use Rattle.seg_check.specs.Resolving.{ReadsEach, reads_more, ResolvesBy, Resolves, CanResolve, Advances, IsReady}
 use Rattle.seg_check.specs.Cells.{blocks_counted_by}

@@ -13,7 +13,8 @@ use Rattle.seg_spec.specs.Index.{Root, Index, OpensIndex, IsEntry, AreEntries, L
 use Rattle.seg_spec.specs.Sound.{words_size, payload_of, AreWords, HoldsRoot, HoldsRoots, holds_no_root, holds_more_roots}
 use Rattle.seg_spec.proofs.BytesLaws.{number-slice}
 use Rattle.seg_spec.proofs.SliceLaws.{IsSame-part}
-use Rattle.seg_spec.proofs.Values.PlaceFrameLaws.{word-same, target-same, cell-target, cell-count, IsBlock-kept, payload-same, buffer-same, NamesRoom-kept, spaced-same, nodes-same, nodes-kept, IsTree-same, each_left, each_right, places-same, HoldsEach-kept}
+use Rattle.seg_spec.proofs.Values.PlaceFrameLaws.{word-same, target-same, cell-target, cell-count, IsBlock-kept, payload-same, buffer-same, NamesRoom-kept}
+use Rattle.seg_spec.proofs.Values.PlaceFrameLaws.{spaced-same, nodes-same, nodes-kept, IsTree-same, each_left, each_right, places-same, HoldsEach-kept}
 
 module _ (old new : List ℕ) where
   pub half-same : (at : ℕ) → IsSame old new at 2 → half new at ≡ half old at

@@ -26,7 +26,8 @@ use Rattle.seg_spec.proofs.Heap.NewBlockLaws.{was_free}
 use Rattle.seg_spec.proofs.Deallocation.BlockFreeLaws.{found}
 use Rattle.seg_spec.proofs.Values.CellChangeLaws.{ChangesOnly-none, ChangesOnly-wider}
 use Rattle.seg_spec.proofs.Values.PlaceWriteLaws.{home_live, owned_live, owned_other, place_within, live_then, whole_then}
-use Rattle.seg_spec.proofs.Values.CallPlaceLaws.{Frames, same_place, marked_home, beside_home, written_home, marked_kept, frames_twice, marked_live, marked_counts, marked_block, marked_stands, marked_frames, unowned, beside_live, beside_stands, beside_place, beside_frames, beside_block, written_stands, written_frames, left_stands, left_place, left_frames, left_kept, changes_of}
+use Rattle.seg_spec.proofs.Values.CallPlaceLaws.{Frames, same_place, marked_home, beside_home, written_home, marked_kept, frames_twice, marked_live, marked_counts, marked_block, marked_stands, marked_frames, unowned}
+use Rattle.seg_spec.proofs.Values.CallPlaceLaws.{beside_live, beside_stands, beside_place, beside_frames, beside_block, written_stands, written_frames, left_stands, left_place, left_frames, left_kept, changes_of}
 use Rattle.seg_spec.proofs.Values.BufferLaws.{HoldsEntries, Buffered, buffered, holds_buffered, MovesEntries, entries_moved, entries_changes, entries_kept, entries_none}
 
 smaller_block : (bytes : List ℕ) (p tag n m : ℕ) → m ≤ n → IsBlock bytes p tag n → IsBlock bytes p tag m

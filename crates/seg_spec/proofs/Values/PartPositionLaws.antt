@@ -1,5 +1,6 @@
 -- The positions of the parts of a value, and the bytes that a step reads beside them.
-use Rattle.std.proofs.Common.{◌≡◌, ℕ, zero, suc, ◌+◌, ◌*◌, ◌≤◌, ◌⊎◌, inl, inr, ⊎_elim, List, [], ◌∷◌, ◌++◌, map, Option, Some, None, unwrap_or, option_to_list, option_map, MatchOption, refl, sym, ap, ◌∙◌, subst, arith, sum_by, add-zero, zero-add}
+use Rattle.std.proofs.Common.{◌≡◌, ℕ, zero, suc, ◌+◌, ◌*◌, ◌≤◌, ◌⊎◌, inl, inr, ⊎_elim, List, [], ◌∷◌, ◌++◌, map, Option, Some, None, unwrap_or}
+use Rattle.std.proofs.Common.{option_to_list, option_map, MatchOption, refl, sym, ap, ◌∙◌, subst, arith, sum_by, add-zero, zero-add}
 use Rattle.std.specs.Prelude.{⊤}
 use Rattle.std.specs.List.{AllByRecursion}
 use Rattle.std.proofs.lemmas.List.Sums.{sum_by-cons}

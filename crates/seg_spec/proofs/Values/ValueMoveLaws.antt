@@ -10,7 +10,8 @@ use Rattle.seg_spec.specs.Block.{KeepsBlock, block_of}
 use Rattle.seg_spec.specs.Shapes.{nodes_of}
 use Rattle.seg_spec.specs.Reads.{Place, Opened, count_at, named, start, spaced, fields, keys_at, NamesRoom, Opens, Holds, holds, HoldsEach, holds_none, holds_more, map_words}
 use Rattle.seg_spec.specs.Cells.{EachCell, IsMoved}
-use Rattle.seg_spec.proofs.Values.PlaceFrameLaws.{SamePlace, each_left, each_right, each_of_map, each_map, each_weaker, buffer-same, buffer-kept, spaced-same, nodes-same, nodes-kept, IsRing-same, IsTree-same, keys_at-same, places-same, inner-same, shorter, further, HoldsEach-kept}
+use Rattle.seg_spec.proofs.Values.PlaceFrameLaws.{SamePlace, each_left, each_right, each_of_map, each_map, each_weaker, buffer-same, buffer-kept, spaced-same, nodes-same}
+use Rattle.seg_spec.proofs.Values.PlaceFrameLaws.{nodes-kept, IsRing-same, IsTree-same, keys_at-same, places-same, inner-same, shorter, further, HoldsEach-kept}
 use Rattle.seg_spec.proofs.Values.CellLaws.{cells-form}
 
 -- ---- the cells of a struct are the cells of its fields

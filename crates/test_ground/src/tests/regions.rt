@@ -44,16 +44,22 @@ fn prints_faults(rt: HostRuntime) {
 }
 
 #[test]
-fn numbers_codes(rt: HostRuntime) {
-    for (code, number) in [
-        (Code::AlreadyExists, 1),
-        (Code::BadAlloc, 2),
-        (Code::Absent, 3),
-        (Code::OtherType, 4),
-        (Code::OutOfRange, 5),
-        (Code::Null, 6),
-        (Code::NumbersUsedUp, 7),
+fn prints_codes(rt: HostRuntime) {
+    for (code, number, line) in [
+        (Code::AlreadyExists, 1, "code 1: the object exists already"),
+        (Code::BadAlloc, 2, "code 2: out of memory"),
+        (Code::Absent, 3, "code 3: no such object or key"),
+        (Code::OtherType, 4, "code 4: wrong type"),
+        (Code::OutOfRange, 5, "code 5: out of range"),
+        (Code::Null, 6, "code 6: no value"),
+        (
+            Code::NumbersUsedUp,
+            7,
+            "code 7: no number is left for a frozen object",
+        ),
     ] {
+        let printed = InlineText::<64>::of(code);
+        assert_eq!(rt; printed.as_str(), line);
         assert_eq!(rt; code.number(), number);
     }
 }

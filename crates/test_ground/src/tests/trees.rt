@@ -90,13 +90,13 @@ fn found(w: &Window<Global>, node: Option<u32>) -> Option<u32> {
 fn numbers(alloc: Global, w: &Window<Global>) -> Result<Vec<u32>, AllocError> {
     let tree = Tree::new(0);
     let mut numbers = Vec::new(alloc);
-    let mut node = tree.first(w);
+    let mut node = tree.first(w.view());
     for _ in 0..8 {
         let Some(n) = found(w, node) else {
             break;
         };
         numbers.push(n)?;
-        node = tree.next_after(w, &ByNumber, n);
+        node = tree.next_after(w.view(), &ByNumber, n);
     }
     Ok(numbers)
 }
@@ -123,13 +123,13 @@ fn finds_nodes_by_number(rt: HostRuntime) -> Result<(), Fail> {
         numbers(rt.alloc(), &w)?.as_slice(),
         [1, 2, 3, 4, 6].as_slice()
     );
-    assert_eq!(rt; tree.find(&w, &ByNumber, 3), Some(node_of(3)));
-    assert_eq!(rt; tree.find(&w, &ByNumber, 5), None);
+    assert_eq!(rt; tree.find(w.view(), &ByNumber, 3), Some(node_of(3)));
+    assert_eq!(rt; tree.find(w.view(), &ByNumber, 5), None);
     assert_eq!(rt;
-        tree.first_at_least(&w, &ByNumber, 5).node,
+        tree.first_at_least(w.view(), &ByNumber, 5).node,
         Some(node_of(6))
     );
-    assert_eq!(rt; tree.next_after(&w, &ByNumber, 6), None);
+    assert_eq!(rt; tree.next_after(w.view(), &ByNumber, 6), None);
     let mut path = Path::new(0);
     assert_eq!(rt;
         path.lead_to_first(&w, tree, &ByNumber, 5),
@@ -159,7 +159,7 @@ fn reads_the_words_of_a_node(rt: HostRuntime) -> Result<(), Fail> {
     let mut w = window(rt.alloc(), 4)?;
     w.put32(32 + 8, 1);
     w.point(32, Some(64));
-    assert_eq!(rt; node_colour(&w, 32), Some(Colour::Red));
+    assert_eq!(rt; node_colour(w.view(), 32), Some(Colour::Red));
     assert_eq!(rt; child(&w, 32, Side::Left), Some(64));
     Ok(())
 }

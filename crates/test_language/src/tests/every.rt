@@ -1,4 +1,5 @@
-/// A client with every operation, every kind of type and every kind of constant. The verifier rejects it.
+/// A client with each of the first 52 operations, every kind of type and every kind of constant. The verifier rejects it. Later
+/// operations are in the random texts, which are written from the table.
 pub const TEXT: &str = r"type i64
 type str
 type vec t0

@@ -39,7 +39,7 @@ impl Writer<'_> {
         write!(self.text, " r{n}")
     }
 
-    /// Writes an operand. Register b is none exactly if the constant is an exact name.
+    /// Writes an operand: a register, or `-` if it is optional and `is_none`.
     fn operand(&mut self, operand: Operand, is_none: bool) -> Result<(), AllocError> {
         match operand {
             Operand::Unused => Ok(()),

@@ -1,8 +1,9 @@
 //! The calls on an image, without contracts, so that the proof of a test with many calls is short.
 
 use lezgauri::{
-    AllocatorKind, Code, Fault, Image, IndexKind, Named, Numbers, Place, Ready, Report, Through,
-    Type, TypeId, TypeTable, Verified, check, prepare, run, type_table, verify,
+    AllocatorKind, Code, Entries, Fault, Image, IndexKind, Keys, Named, Names, Numbers, Place,
+    Ready, Report, Through, Type, TypeId, TypeTable, Verified, check, prepare, run, type_table,
+    verify,
 };
 use std::alloc::Global;
 use std::test::Fail;
@@ -156,6 +157,10 @@ impl Host {
         self.image.next_name(after)
     }
 
+    pub(crate) fn names(&self) -> Names<'_, Global> {
+        self.image.names()
+    }
+
     pub(crate) fn construct_unique(&mut self, t: TypeId) -> Result<Place, Code> {
         self.image.construct_unique(t)
     }
@@ -268,6 +273,14 @@ impl Host {
 
     pub(crate) fn next_key(&self, map: Place, after: i64) -> Result<i64, Code> {
         self.image.next_key(map, after)
+    }
+
+    pub(crate) fn keys(&self, map: Place) -> Result<Keys<'_, Global>, Code> {
+        self.image.keys(map)
+    }
+
+    pub(crate) fn entries(&self, map: Place) -> Result<Entries<'_, Global>, Code> {
+        self.image.entries(map)
     }
 }
 

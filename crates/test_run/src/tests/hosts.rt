@@ -77,6 +77,9 @@ fn lists_names(rt: &impl Abort, image: &mut Host) -> Result<(), Fail> {
     let next = image.next_name(b"a").ok_or("no name")?;
     assert!(rt; next.name == b"b".as_slice() && next.type_id == 0 && next.count == 3);
     assert!(rt; image.next_name(b"b").is_none());
+    let mut names = image.names();
+    assert!(rt; names.next() == Some(first) && names.next() == Some(next));
+    assert!(rt; names.next().is_none());
     Ok(())
 }
 
@@ -180,7 +183,21 @@ fn has_keys(rt: &impl Abort, image: &mut Host, name: &[u8], t: TypeId) -> Result
     assert_eq!(rt; image.first_key(map), Ok(-10));
     assert_eq!(rt; image.next_key(map, -10), Ok(30));
     assert_eq!(rt; image.next_key(map, 30), Err(Code::Null));
+    lists_keys(rt, image, map)?;
     loses_a_key(rt, image, map)
+}
+
+/// Tests that the map has the keys -10 and 30, in order, with the same values.
+fn lists_keys(rt: &impl Abort, image: &Host, map: Place) -> Result<(), Fail> {
+    let mut keys = image.keys(map)?;
+    assert!(rt; keys.next() == Some(-10) && keys.next() == Some(30) && keys.next().is_none());
+    let mut sum: i64 = 0;
+    for (key, value) in image.entries(map)? {
+        holds(rt, image, value, Ok(key));
+        sum = sum.saturating_add(key);
+    }
+    assert_eq!(rt; sum, 20);
+    Ok(())
 }
 
 /// Removes the key 30.

@@ -144,66 +144,75 @@ fn makes_two_objects(rt: HostRuntime) -> Result<(), Fail> {
     )
 }
 
-/// An array of three numbers: its items, and calls that are refused for a wrong count, an existing name, another type, or a
-/// missing item.
+/// Makes an array of three numbers, stores 9 in the last one, and prints the count and this number.
+const ROWS: &str = "type i64
+    family row
+    CONST r0 -5
+    CONST r1 3
+    CONST r2 9
+    CONST r4 2
+    MAKE r3 r0 r1 t0 k0
+      FIND r5 r0 r4 t0 k0
+        STORE r5 r2
+      ELSE
+      END
+    ELSE
+    END
+    COUNT r6 r0 t0 k0
+      OUTI r6
+    ELSE
+    END
+    FIND r5 r0 r4 t0 k0
+      LOAD r6 r5
+      OUTI r6
+    ELSE
+    END";
+
+/// Prints the code of each call that [`ROWS`]'s array refuses: for a missing item, another type, a name without an object, a wrong
+/// count, and an existing name.
+const REFUSED: &str = "type i64
+    type str
+    family row
+    CONST r0 -5
+    CONST r1 3
+    FIND r5 r0 r1 t0 k0
+    ELSE
+      OUTI r5
+    END
+    FIND r5 r0 r0 t0 k0
+    ELSE
+      OUTI r5
+    END
+    COUNT r6 r0 t1 k0
+    ELSE
+      OUTI r6
+    END
+    COUNT r6 r1 t0 k0
+    ELSE
+      OUTI r6
+    END
+    MAKE r3 r0 r0 t1 k0
+    ELSE
+      OUTI r3
+    END
+    MAKE r3 r0 - t1 k0
+    ELSE
+      OUTI r3
+    END
+    FINDOR r3 r0 t1 k0
+    ELSE
+      OUTI r3
+    END";
+
+/// The second client has one more type, and refers to the array of the first.
 #[test]
 fn objects_of_many_values(rt: HostRuntime) -> Result<(), Fail> {
-    plays(
-        rt.alloc(),
-        &KINDS,
+    let text = format!(in rt.alloc();
         "$ client rows
-            type i64
-            type str
-            family row
-            CONST r0 -5
-            CONST r1 3
-            CONST r2 9
-            CONST r4 2
-            MAKE r3 r0 r1 t0 k0
-              FIND r5 r0 r4 t0 k0
-                STORE r5 r2
-              ELSE
-              END
-            ELSE
-            END
-            COUNT r6 r0 t0 k0
-              OUTI r6
-            ELSE
-            END
-            FIND r5 r0 r4 t0 k0
-              LOAD r6 r5
-              OUTI r6
-            ELSE
-            END
-            FIND r5 r0 r1 t0 k0
-            ELSE
-              OUTI r5
-            END
-            FIND r5 r0 r0 t0 k0
-            ELSE
-              OUTI r5
-            END
-            COUNT r6 r0 t1 k0
-            ELSE
-              OUTI r6
-            END
-            COUNT r6 r1 t0 k0
-            ELSE
-              OUTI r6
-            END
-            MAKE r3 r0 r0 t1 k0
-            ELSE
-              OUTI r3
-            END
-            MAKE r3 r0 - t1 k0
-            ELSE
-              OUTI r3
-            END
-            FINDOR r3 r0 t1 k0
-            ELSE
-              OUTI r3
-            END
-        $ on 1024 rows
+        {ROWS}
+        $ client refused
+        {REFUSED}
+        $ on 1024 rows refused
         3
         9
         5
@@ -212,58 +221,64 @@ fn objects_of_many_values(rt: HostRuntime) -> Result<(), Fail> {
         3
         5
         1
-        4",
-    )
+        4"
+    )?;
+    plays(rt.alloc(), &KINDS, text.as_str())
 }
 
-/// The unique pair is made once, and found by both instructions. An object of another type isn't found. The pair is destroyed
-/// once.
+/// Makes the unique pair with a 9 in its second field, and fails to make it again.
+const MAKE_PAIR: &str = "type i64
+    type struct t0 t0
+    UMAKE r0 t1
+      FIELD r1 r0 1
+      CONST r2 9
+      STORE r1 r2
+      UMAKE r3 t1
+      ELSE
+        OUTI r3
+      END
+      LOAD r4 r1
+      OUTI r4
+    ELSE
+    END";
+
+/// Finds the unique pair by both instructions, and no unique number.
+const FIND_PAIR: &str = "type i64
+    type struct t0 t0
+    UFIND r0 t1
+      FIELD r1 r0 1
+      LOAD r4 r1
+      OUTI r4
+    ELSE
+    END
+    UFIND r0 t0
+    ELSE
+      OUTI r0
+    END
+    UFINDOR r0 t1
+      FIELD r1 r0 1
+      LOAD r4 r1
+      OUTI r4
+    ELSE
+    END";
+
+/// Destroys the unique pair, and finds none to destroy afterwards.
+const KILL_PAIR_TWICE: &str = "type i64
+    type struct t0 t0
+    UKILL r0 t1
+    OUTI r0
+    UKILL r0 t1
+    OUTI r0";
+
 #[test]
 fn unique_objects(rt: HostRuntime) -> Result<(), Fail> {
-    plays(
-        rt.alloc(),
-        &KINDS,
+    let text = format!(in rt.alloc();
         "$ client make
-            type i64
-            type struct t0 t0
-            UMAKE r0 t1
-              FIELD r1 r0 1
-              CONST r2 9
-              STORE r1 r2
-              UMAKE r3 t1
-              ELSE
-                OUTI r3
-              END
-              LOAD r4 r1
-              OUTI r4
-            ELSE
-            END
+        {MAKE_PAIR}
         $ client find
-            type i64
-            type struct t0 t0
-            UFIND r0 t1
-              FIELD r1 r0 1
-              LOAD r4 r1
-              OUTI r4
-            ELSE
-            END
-            UFIND r0 t0
-            ELSE
-              OUTI r0
-            END
-            UFINDOR r0 t1
-              FIELD r1 r0 1
-              LOAD r4 r1
-              OUTI r4
-            ELSE
-            END
+        {FIND_PAIR}
         $ client kill_twice
-            type i64
-            type struct t0 t0
-            UKILL r0 t1
-            OUTI r0
-            UKILL r0 t1
-            OUTI r0
+        {KILL_PAIR_TWICE}
         $ on 1024 make; free 288 named 0 unique 1
         1
         9
@@ -272,8 +287,9 @@ fn unique_objects(rt: HostRuntime) -> Result<(), Fail> {
         3
         9
         1
-        0",
-    )
+        0"
+    )?;
+    plays(rt.alloc(), &KINDS, text.as_str())
 }
 
 /// A client reads two bytes of the input, or prints the code at its end. Each client reads the input that the clients before it

@@ -25,7 +25,7 @@ fn counter_at(alloc: Global, base: u32) -> Result<Segment<SeqFit, Global>, Fail>
     Ok(opened::<SeqFit>(alloc, placed(region, base, image.as_slice())?)?)
 }
 
-/// Whether all bytes are as they were in the host.
+/// Whether all bytes have the value that the host gave them.
 fn is_untouched(bytes: &[u8]) -> bool {
     bytes.iter().all(|byte| *byte == 0xa5)
 }
@@ -59,7 +59,7 @@ fn increments(
     Ok(segment.into_region())
 }
 
-/// Whether the bytes of a range of the region are as they were in the host.
+/// Whether the bytes of a range of the region have the value that the host gave them.
 fn keeps(region: &Region<Global>, from: u32, to: u32) -> bool {
     from <= to
         && to <= region.len()
@@ -99,7 +99,7 @@ fn host_bytes_stay_where_it_moves(rt: HostRuntime) -> Result<(), Fail> {
     Ok(())
 }
 
-/// After its only move, the image's bytes at the old place are as they were before the move.
+/// After its only move, the bytes at the image's old place are unchanged.
 #[test]
 fn an_image_stays_where_it_was(rt: HostRuntime) -> Result<(), Fail> {
     let region = increments(&rt, 0, &[before(5, 4096)])?;

@@ -124,7 +124,8 @@ fn changed(alloc: Global, at: usize, word: u32) -> Result<Vec<u8>, Fail> {
 }
 
 fn checked(alloc: Global, image: &[u8]) -> Result<(), Fault> {
-    check(alloc, &window(alloc, image)?)?;
+    let placed = window(alloc, image)?;
+    check(alloc, placed.view())?;
     Ok(())
 }
 

@@ -3,6 +3,8 @@
 use crate::tests::plays::plays;
 use lezgauri::{Code, Error, Fault, Through};
 use lezgauri_uses::{Cache, Settings, count, new_counter, read_settings, write_settings};
+use std::fmt::InlineText;
+use std::process::Abort;
 use std::test::Fail;
 use support_data::{CACHE, CONFIGURE, COUNT, Limited, SETTINGS};
 use support_runs::{KINDS, client};
@@ -91,6 +93,25 @@ fn a_counter_counts(rt: HostRuntime) -> Result<(), Fail> {
     let (printed, _image) = counted(&rt, image, COUNT, 1)?;
     assert_eq!(rt; printed.as_slice(), b"4\n".as_slice());
     Ok(())
+}
+
+fn prints(rt: &impl Abort, error: Error, line: &str) {
+    let printed = InlineText::<64>::of(error);
+    assert_eq!(rt; printed.as_str(), line);
+}
+
+#[test]
+fn errors_are_printed(rt: HostRuntime) {
+    prints(
+        &rt,
+        Error::from(Fault::BadHeader),
+        "the call failed: fault 10",
+    );
+    prints(
+        &rt,
+        Error::from(Code::Null),
+        "the request was refused: code 6: no value",
+    );
 }
 
 #[test]

@@ -7,7 +7,9 @@ use seg_bestfit::BestFit;
 use seg_block::Fit;
 use seg_manager::Code;
 use seg_map::{first_key, get, next_key, put, remove};
-use seg_seq::{append, assign, at, next, pop_back, pop_front, push_back, push_byte, push_front};
+use seg_seq::{
+    append, assign, at, next, pop_back, pop_front, previous, push_back, push_byte, push_front,
+};
 use seg_seqfit::SeqFit;
 use seg_value::{Content, set_own, take_own};
 use std::alloc::Global;
@@ -58,6 +60,7 @@ fn three_numbers<F: Fit>(rt: &(impl Abort + AllocGlobal)) -> Result<Rooted<F>, F
     let first = push_front(&mut s.heap, s.root)?;
     s.heap.store(first, 1);
     assert_eq!(rt; s.heap.load(next(&s.heap, first)), 2);
+    assert_eq!(rt; s.heap.load(previous(&s.heap, first)), 3);
     Ok(s)
 }
 

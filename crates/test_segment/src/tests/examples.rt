@@ -8,13 +8,13 @@ use seg_bestfit::BestFit;
 use seg_block::Fit;
 use seg_check::{open, save};
 use seg_manager::{
-    Code, Fault, Found, IndexKind, Segment, TypeId, Window, first_name, next_name, num_named,
+    Code, Fault, Found, IndexKind, Segment, TypeId, Window, find, first_name, next_name, num_named,
 };
 use seg_seqfit::SeqFit;
 use seg_space::{
     all_memory_deallocated, create, free_memory, grow, largest_gap, shrink_to_fit, zero_free_memory,
 };
-use seg_value::{freeze, share};
+use seg_value::{Layouts, Reader, SegmentRead, freeze, share};
 use std::alloc::Global;
 use std::process::Abort;
 use std::test::Fail;
@@ -48,17 +48,31 @@ fn refuses_names<F: Fit>(rt: &impl Abort, s: &mut Segment<F, Global>) {
     assert_eq!(rt; s.construct(b"z", NUMBER, 65535), Err(Code::BadAlloc));
 }
 
-fn lists_names<F: Fit>(rt: &impl Abort, s: &Segment<F, Global>) {
+fn lists_names<S: SegmentRead>(rt: &impl Abort, s: &S) {
     assert!(rt; first_name(s).is_some_and(|it| it.name == b"x".as_slice() && it.count == 1));
     assert!(rt; next_name(s, b"x").is_some_and(|it| it.name == b"y".as_slice() && it.count == 2));
     assert!(rt; next_name(s, b"y").is_none());
     assert_eq!(rt; num_named(s), 2);
+    assert!(rt; find(s, b"y", NUMBER).is_ok_and(|found| found.count == 2));
+}
+
+/// The names are listed from the segment and from its bytes alone.
+fn lists_names_of<F: Fit>(rt: &impl Abort, s: &Segment<F, Global>) {
+    let layouts = Layouts::of(s.types().copy());
+    lists_names(rt, s);
+    lists_names(
+        rt,
+        &Reader {
+            view: s.window().view(),
+            layouts: &layouts,
+        },
+    );
 }
 
 fn calls_on_names<F: Fit>(rt: &(impl Abort + AllocGlobal), index: IndexKind) -> Result<(), Fail> {
     let mut s = with_names::<F>(rt, index)?;
     refuses_names(rt, &mut s);
-    lists_names(rt, &s);
+    lists_names_of(rt, &s);
     assert_eq!(rt; first_fault(rt.alloc(), s.window()), None);
     assert!(rt; s.destroy(b"x", NUMBER) && !s.destroy(b"x", NUMBER));
     assert!(rt; s.destroy(b"y", NUMBER) && all_memory_deallocated(&s));

@@ -102,7 +102,7 @@ fn counts_each_cell(rt: HostRuntime) -> Result<(), Fail> {
         768->null 772=0 800=1 => sound
         724=2 800=1 => sound
         836=4 => sound ; the checker doesn't compare the numbers of objects that don't name one another
-        728->720 => sound ; what stands behind a cell is of no matter
+        728->720 => sound ; the object of a cell doesn't matter
         760->null 764=0 => unowned 816",
     )
 }

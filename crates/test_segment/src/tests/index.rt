@@ -2,10 +2,11 @@ use crate::tests::rooted::{Rooted, with_root};
 use crate::tests::support::{I64, INDEXES};
 use seg_block::{Fit, Kind, Tag, UNIT, need};
 use seg_index::{
-    IndexKind, NameEntry, find, first_name, look_up, name_count, next_name, set_unique, unique,
+    IndexKind, NameEntry, find, first_name, look_up, name_count_in, next_name, set_unique, unique,
 };
 use seg_manager::{Code, header};
 use seg_seqfit::SeqFit;
+use seg_value::{Layouts, Reader, SegmentRead};
 use std::process::Abort;
 use std::test::Fail;
 
@@ -51,20 +52,31 @@ fn remove<F: Fit>(s: &mut Rooted<F>, name: &[u8]) -> bool {
     true
 }
 
-fn is_entry_of<F: Fit>(s: &Rooted<F>, entry: Option<NameEntry>, name: &[u8]) -> bool {
-    entry.is_some_and(|entry| entry.name(s.heap.window(), s.heap.types()) == name)
+fn is_entry_of<S: SegmentRead>(source: &S, entry: Option<NameEntry>, name: &[u8]) -> bool {
+    entry.is_some_and(|entry| entry.name_in(source.view(), source.types()) == name)
 }
 
 /// Tests that exactly these names are found, in this order.
-fn holds(rt: &impl Abort, s: &Rooted<SeqFit>, names: &[&[u8]]) {
-    let mut entry = first_name(&s.heap);
+fn lists<S: SegmentRead>(rt: &impl Abort, source: &S, names: &[&[u8]]) {
+    let mut entry = first_name(source);
     for name in names {
-        assert!(rt; is_entry_of(s, entry, name));
-        assert!(rt; is_entry_of(s, find(&s.heap, name), name));
-        entry = next_name(&s.heap, name);
+        assert!(rt; is_entry_of(source, entry, name));
+        assert!(rt; is_entry_of(source, find(source, name), name));
+        entry = next_name(source, name);
     }
     assert!(rt; entry.is_none());
-    assert_eq!(rt; name_count(s.heap.window()) as usize, names.len());
+    assert_eq!(rt; name_count_in(source.view()) as usize, names.len());
+}
+
+/// The same in the heap and in its bytes alone.
+fn holds(rt: &impl Abort, s: &Rooted<SeqFit>, names: &[&[u8]]) {
+    let layouts = Layouts::of(s.heap.types().copy());
+    let bytes = Reader {
+        view: s.heap.window().view(),
+        layouts: &layouts,
+    };
+    lists(rt, &s.heap, names);
+    lists(rt, &bytes, names);
 }
 
 #[test]

@@ -129,5 +129,5 @@ pub(crate) fn construct_number<F: Fit>(
 
 /// The first fault that the checker finds, if there is one.
 pub(crate) fn first_fault(alloc: Global, w: &Window<Global>) -> Option<Fault> {
-    check(alloc, w).err()
+    check(alloc, w.view()).err()
 }

@@ -4,7 +4,7 @@ use Rattle.seg_spec.specs.Types.{Table, Agree, IsFirstDifference}
 use Rattle.seg_raw.specs.declared.fault.Fault.{Fault}
 use Rattle.seg_check.specs.Faults.{IsImageOf}
 use Rattle.client_spec.specs.Grammar.{SpellsClient}
-use Rattle.client_code.specs.Clients.{bytes_of}
+use Rattle.lezgauri.specs.ClientFiles.{bytes_of}
 use Rattle.client_verify.specs.Accepted.{client_of}
 use Rattle.client_verify.specs.declared.verified.Verified.{Verified}
 use Rattle.client_vm.specs.Admitted.{IsWrong}

@@ -17,7 +17,7 @@ pub returns-in_err-check_heap-clause-fault : goal.returns-in_err-check_heap-clau
 returns-in_err-check_heap-clause-fault g c =
     let header = c.in_ok-check_header.ensures.header in
     let table = (c.in_ok-types.ensures header).table in
-    let types = has_table c.args.w.now.bytes _ c.in_ok-types.types header refl table.2 in
+    let types = has_table c.args.view.bytes.now _ c.in_ok-types.types header refl table.2 in
     let p = err_from_is_err_and c.from_residual-in_err-check_heap.result c.from_residual-in_err-check_heap.ensures.1 in
     rw (p.1, p.2) (c.in_err-check_heap.ensures.fault (record { header = header; types = types; is_table = table.0; of_version = table.1 }))
 
@@ -25,12 +25,12 @@ pub returns-in_err-check_heap-clause-memory : goal.returns-in_err-check_heap-cla
 returns-in_err-check_heap-clause-memory g c = λ e.
     let header = c.in_ok-check_header.ensures.header in
     let table = (c.in_ok-types.ensures header).table in
-    let types = has_table c.args.w.now.bytes _ c.in_ok-types.types header refl table.2 in
+    let types = has_table c.args.view.bytes.now _ c.in_ok-types.types header refl table.2 in
     (c.in_ok-types.types, record { header = header; types = types; is_table = table.0; of_version = table.1 })
 
 pub returns-clause-image : goal.returns-clause-image
 returns-clause-image g c =
     let header = c.in_ok-check_header.ensures.header in
     let table = (c.in_ok-types.ensures header).table in
-    let types = has_table c.args.w.now.bytes _ c.in_ok-types.types header refl table.2 in
+    let types = has_table c.args.view.bytes.now _ c.in_ok-types.types header refl table.2 in
     c.in_ok-check_heap.ensures.image (record { header = header; types = types; is_table = table.0; of_version = table.1 })

@@ -6,9 +6,11 @@ use Rattle.seg_index.proofs.flat.next_name.Goals as goal
 use Rattle.seg_index.proofs.flat.next_name.Goals.{in-Ok, in-Err}
 
 pub returns : goal.returns
-returns g c = λ names blocks f flat. c.entry_of.ensures names blocks f flat ∙ ap (option_map entry_of) (elim c.match-search.branch [
-  | in-Ok w ↦ ap (slice_get names) w.index-is
-      ∙ next_index g.F.Fit.allocator c.args.heap.now.window.bytes c.args.heap.now.types names blocks f flat c.args.after.now c.search.result w.in-Ok.index w.saturating_add-index.result
-      (c.search.ensures names blocks f flat) w.in-Ok.is w.saturating_add-index.ensures
-  | in-Err w ↦ ap (slice_get names) w.index-is ∙ next_missing names c.args.after.now c.search.result w.in-Err.index (c.search.ensures names blocks f flat) w.in-Err.is
-])
+returns g c = λ names blocks f flat.
+    let stored = g.S.SegmentRead.stored c.args.source.now in
+    c.entry_of.ensures names blocks f flat ∙ ap (option_map entry_of) (elim c.match-search.branch [
+      | in-Ok w ↦ ap (slice_get names) w.index-is
+          ∙ next_index (g.S.SegmentRead.allocator c.args.source.now) stored.window.bytes stored.types names blocks f flat c.args.after.now c.search.result w.in-Ok.index w.saturating_add-index.result
+          (c.search.ensures names blocks f flat) w.in-Ok.is w.saturating_add-index.ensures
+      | in-Err w ↦ ap (slice_get names) w.index-is ∙ next_missing names c.args.after.now c.search.result w.in-Err.index (c.search.ensures names blocks f flat) w.in-Err.is
+    ])

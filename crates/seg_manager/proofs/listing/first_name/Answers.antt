@@ -1,21 +1,23 @@
 use Rattle.std.specs.Prelude.{slice_get}
 use Rattle.seg_manager.specs.NamedObjects.{DescribesRoot}
 use Rattle.seg_manager.specs.declared.listing.Named.{Named}
-use Rattle.seg_manager.proofs.NamedReads.{told, told_none, said, unsaid, finds_in, listed_at}
+use Rattle.seg_manager.proofs.NamedReads.{told, told_none, said, unsaid, names_found, listed_at}
 use Rattle.seg_manager.proofs.listing.first_name.Goals as goal
 
 pub returns-in_err-first_name : goal.returns-in_err-first_name
 returns-in_err-first_name g c = λ picture is.
-    let s = c.args.segment.now in
+    let a = g.S.SegmentRead.allocator c.args.source.now in
+    let s = g.S.SegmentRead.stored c.args.source.now in
     let o = slice_get picture.names 0 in
-    let read = c.first_name.ensures picture.names is.held.index_blocks (finds_in g.F.Fit.allocator s picture is c.heap.result.now c.heap.ensures) in
+    let read = c.first_name.ensures picture.names is.held.index_blocks (names_found a s picture is) in
     unsaid (λ (it : Named) root. DescribesRoot it.name.now it.type_id it.count root) c.from_residual.result o c.from_residual.ensures (told_none o c.first_name.result read c.in_err-first_name.was)
 
 pub returns : goal.returns
 returns g c = λ picture is.
-    let s = c.args.segment.now in
+    let a = g.S.SegmentRead.allocator c.args.source.now in
+    let s = g.S.SegmentRead.stored c.args.source.now in
     let o = slice_get picture.names 0 in
-    let read = c.first_name.ensures picture.names is.held.index_blocks (finds_in g.F.Fit.allocator s picture is c.heap.result.now c.heap.ensures) in
+    let read = c.first_name.ensures picture.names is.held.index_blocks (names_found a s picture is) in
     let it = told o c.first_name.result c.in_ok-first_name.field-0 read c.in_ok-first_name.was in
-    let l = listed_at g.F.Fit.allocator s picture is 0 it.0 it.1 in
+    let l = listed_at a s picture is 0 it.0 it.1 in
     said (λ (it : Named) root. DescribesRoot it.name.now it.type_id it.count root) c.read_entry.result o it.0 it.1 (c.read_entry.ensures it.0 l.0 l.1 it.2)

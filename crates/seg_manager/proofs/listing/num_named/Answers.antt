@@ -4,5 +4,5 @@ use Rattle.seg_manager.proofs.listing.num_named.Goals as goal
 
 pub returns : goal.returns
 returns g c = λ picture is.
-    let read = rw c.window.ensures at c.name_count.ensures in
-    read ∙ names_counted c.args.segment.now.window.bytes picture is.held
+    let read = rw c.view.ensures at c.name_count_in.ensures in
+    read ∙ names_counted (g.S.SegmentRead.stored c.args.source.now).window.bytes picture is.held

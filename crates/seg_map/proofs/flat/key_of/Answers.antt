@@ -6,9 +6,13 @@ use Rattle.seg_map.proofs.flat.key_of.Goals as goal
 
 pub returns-then-index-count : goal.returns-then-index-count
 returns-then-index-count g c = λ T U keys vs blocks f s e.
-    read_key g.F.Fit.allocator c.args.heap.now.window.bytes c.args.heap.now.types (object_at c.args.cell T) U keys vs blocks f s c.args.entry c.args.index c.count.result c.start.result c.at.result _
+    let stored = g.S.SegmentRead.stored c.args.source.now in
+    let allocator = g.S.SegmentRead.allocator c.args.source.now in
+    read_key allocator stored.window.bytes stored.types (object_at c.args.cell T) U keys vs blocks f s c.args.entry c.args.index c.count.result c.start.result c.at.result _
     c.load.result e c.count.ensures c.if-index-count.true c.start.ensures c.at.ensures c.load.ensures (to_z-of_z w64 c.load.result (record { sfits = c.load.type_inv }))
 
 pub returns-else-index-count : goal.returns-else-index-count
 returns-else-index-count g c = λ T U keys vs blocks f s e.
-    read_none g.F.Fit.allocator c.args.heap.now.window.bytes c.args.heap.now.types (object_at c.args.cell T) U keys vs blocks f s c.args.index c.count.result c.count.ensures c.if-index-count.false
+    let stored = g.S.SegmentRead.stored c.args.source.now in
+    let allocator = g.S.SegmentRead.allocator c.args.source.now in
+    read_none allocator stored.window.bytes stored.types (object_at c.args.cell T) U keys vs blocks f s c.args.index c.count.result c.count.ensures c.if-index-count.false

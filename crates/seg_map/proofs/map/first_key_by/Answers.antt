@@ -8,19 +8,19 @@ use Rattle.seg_map.proofs.map.first_key_by.Goals.{in-Flat, in-Tree}
 
 pub returns-clause-other : goal.returns-clause-other
 returns-clause-other g c =
-    let table = c.args.heap.now.types in
+    let table = (g.S.SegmentRead.stored c.args.source.now).types in
     let T = c.args.map.type_id in
     λ none. let k = kind_keys table T (form_at table T) c.in_ok-content.field-0 c.in_ok-content.ensures in absurd (cc)
 
 pub returns-clause-code : goal.returns-clause-code
 returns-clause-code g c =
-    let table = c.args.heap.now.types in
+    let table = (g.S.SegmentRead.stored c.args.source.now).types in
     let T = c.args.map.type_id in
     λ keys. only_code c.match-branch-2.ok_or c.ok_or.result code.Null c.ok_or.ensures.value
 
 pub returns-clause-first : goal.returns-clause-first
 returns-clause-first g c =
-    let table = c.args.heap.now.types in
+    let table = (g.S.SegmentRead.stored c.args.source.now).types in
     let T = c.args.map.type_id in
     λ U keys vs blocks m s. ok_again c.match-branch-2.ok_or c.ok_or.result code.Null c.ok_or.ensures.value ∙ elim c.match-branch-2.branch [
       | in-Flat w ↦
@@ -34,20 +34,20 @@ returns-clause-first g c =
 pub returns-in_err-content-clause-other : goal.returns-in_err-content-clause-other
 returns-in_err-content-clause-other g c =
     let e : c.from_residual.result ≡ Err c.in_err-content.field-0.0 = search rules in
-    let table = c.args.heap.now.types in
+    let table = (g.S.SegmentRead.stored c.args.source.now).types in
     let n = kind_none table c.args.map.type_id (form_at table c.args.map.type_id) c.in_err-content.field-0.0 c.in_err-content.ensures in
     λ none. e ∙ ap (λ x. Err x) n.code_is
 
 pub returns-in_err-content-clause-code : goal.returns-in_err-content-clause-code
 returns-in_err-content-clause-code g c =
     let e : c.from_residual.result ≡ Err c.in_err-content.field-0.0 = search rules in
-    let table = c.args.heap.now.types in
+    let table = (g.S.SegmentRead.stored c.args.source.now).types in
     let n = kind_none table c.args.map.type_id (form_at table c.args.map.type_id) c.in_err-content.field-0.0 c.in_err-content.ensures in
     λ keys. let k = n.keys in absurd (cc)
 
 pub returns-in_err-content-clause-first : goal.returns-in_err-content-clause-first
 returns-in_err-content-clause-first g c =
     let e : c.from_residual.result ≡ Err c.in_err-content.field-0.0 = search rules in
-    let table = c.args.heap.now.types in
+    let table = (g.S.SegmentRead.stored c.args.source.now).types in
     let n = kind_none table c.args.map.type_id (form_at table c.args.map.type_id) c.in_err-content.field-0.0 c.in_err-content.ensures in
     λ U keys vs blocks m s. absurd (n.no_map U m)

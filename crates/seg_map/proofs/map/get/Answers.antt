@@ -10,7 +10,8 @@ use Rattle.seg_map.proofs.map.get.Goals.{in-Flat, in-Tree}
 
 pub returns : goal.returns
 returns g c =
-    let table = c.args.heap.now.types in
+    let stored = g.S.SegmentRead.stored c.args.source.now in
+    let table = stored.types in
     let T = c.args.map.type_id in
     record {
       other = λ none. let k = kind_keys table T (form_at table T) c.in_ok-content.field-0 c.in_ok-content.ensures in absurd (cc);
@@ -18,11 +19,11 @@ returns g c =
       finds = λ U keys vs blocks m s. elim c.match-branch-2.branch [
         | in-Flat w ↦
             let a = as_flat table T (form_at table T) w.in-Flat.content U (subst (λ k. MapKindOf table T (form_at table T) (Ok k)) w.in-Flat.is c.in_ok-content.ensures) m in
-            found_by c.args.heap.now.window.bytes table (place_of c.args.map) U keys c.args.key _ (to_z-of_z w64 c.args.key c.ranges.key) c.match-branch-2.ok_or w.get.result w.ok_or-is c.ok_or.result code.Absent
+            found_by stored.window.bytes table (place_of c.args.map) U keys c.args.key _ (to_z-of_z w64 c.args.key c.ranges.key) c.match-branch-2.ok_or w.get.result w.ok_or-is c.ok_or.result code.Absent
             c.ok_or.ensures.value (w.get.ensures T U keys vs blocks a.0 s a.1.entry_is)
         | in-Tree w ↦
             let a = as_tree table T (form_at table T) w.in-Tree.content U (subst (λ k. MapKindOf table T (form_at table T) (Ok k)) w.in-Tree.is c.in_ok-content.ensures) m in
-            found_by c.args.heap.now.window.bytes table (place_of c.args.map) U keys c.args.key _ (to_z-of_z w64 c.args.key c.ranges.key) c.match-branch-2.ok_or w.get-in-Tree.result w.ok_or-is c.ok_or.result code.Absent
+            found_by stored.window.bytes table (place_of c.args.map) U keys c.args.key _ (to_z-of_z w64 c.args.key c.ranges.key) c.match-branch-2.ok_or w.get-in-Tree.result w.ok_or-is c.ok_or.result code.Absent
             c.ok_or.ensures.value (w.get-in-Tree.ensures T U keys vs blocks a.0 s a.1.entry_is)
       ];
     }
@@ -30,7 +31,7 @@ returns g c =
 pub returns-in_err-content : goal.returns-in_err-content
 returns-in_err-content g c =
     let e : c.from_residual.result ≡ Err c.in_err-content.field-0.0 = search rules in
-    let table = c.args.heap.now.types in
+    let table = (g.S.SegmentRead.stored c.args.source.now).types in
     let n = kind_none table c.args.map.type_id (form_at table c.args.map.type_id) c.in_err-content.field-0.0 c.in_err-content.ensures in
     record {
       other = λ none. e ∙ ap (λ x. Err x) n.code_is;

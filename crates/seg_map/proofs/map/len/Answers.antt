@@ -5,4 +5,6 @@ use Rattle.seg_map.proofs.map.len.Goals as goal
 
 pub returns-clause-keys : goal.returns-clause-keys
 returns-clause-keys g c = λ U keys vs blocks is s.
-    ap (λ n. Ok n) (c.count.ensures ∙ sym (keys_counted g.F.Fit.allocator c.args.heap.now.window.bytes c.args.heap.now.types (place_of c.args.map) U keys vs blocks s is))
+    let stored = g.S.SegmentRead.stored c.args.source.now in
+    let allocator = g.S.SegmentRead.allocator c.args.source.now in
+    ap (λ n. Ok n) (c.count.ensures ∙ sym (keys_counted allocator stored.window.bytes stored.types (place_of c.args.map) U keys vs blocks s is))

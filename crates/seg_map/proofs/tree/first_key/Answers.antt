@@ -1,6 +1,5 @@
 use Rattle.std.proofs.Common.{ℕ, List, w64, ◌+◌, ◌%◌, ◌^◌, ap, ◌∙◌, Some, None, subst}
 use Rattle.std.proofs.lemmas.Int.{to_z-of_z}
-use Rattle.seg_spec.specs.Window.{Placement}
 use Rattle.seg_spec.specs.Bytes.{signed_long}
 use Rattle.seg_rbtree.specs.Following.{LeadsInside}
 use Rattle.seg_cells.specs.Places.{object_at}
@@ -9,18 +8,22 @@ use Rattle.seg_map.proofs.tree.first_key.Goals as goal
 
 pub returns-in_err-node-clause-first : goal.returns-in_err-node-clause-first
 returns-in_err-node-clause-first g c = λ T U keys vs blocks f s.
-    c.from_residual.ensures ∙ first_is g.F.Fit.allocator c.args.heap.now.window.bytes c.args.heap.now.types (object_at c.args.cell T) U keys vs blocks f s
-    c.window.result.now.bytes c.tree_of.result.root (ap (λ (p : Placement). p.bytes) c.window.ensures) c.tree_of.ensures None c.in_err-node.ensures.node
+    let stored = g.S.SegmentRead.stored c.args.source.now in
+    let allocator = g.S.SegmentRead.allocator c.args.source.now in
+    c.from_residual.ensures ∙ first_is allocator stored.window.bytes stored.types (object_at c.args.cell T) U keys vs blocks f s
+    c.view-view.result.bytes.now c.tree_of.result.root c.view-view.ensures c.tree_of.ensures None c.in_err-node.ensures.node
 
 pub returns-clause-first : goal.returns-clause-first
 returns-clause-first g c = λ T U keys vs blocks f s.
-    let key_is = c.key_of.ensures ∙ ap (λ (bs : List ℕ). signed_long bs ((c.in_ok-node.node + 16) % 2 ^ 32)) (c.view.ensures ∙ ap (λ (p : Placement). p.bytes) c.window-2.ensures) in
+    let stored = g.S.SegmentRead.stored c.args.source.now in
+    let allocator = g.S.SegmentRead.allocator c.args.source.now in
+    let key_is = c.key_of.ensures ∙ ap (λ (bs : List ℕ). signed_long bs ((c.in_ok-node.node + 16) % 2 ^ 32)) c.view-view.ensures in
     ap Some (to_z-of_z w64 c.key_of.result (record { sfits = c.key_of.type_inv }) ∙ key_is)
-    ∙ first_is g.F.Fit.allocator c.args.heap.now.window.bytes c.args.heap.now.types (object_at c.args.cell T) U keys vs blocks f s
-    c.window.result.now.bytes c.tree_of.result.root (ap (λ (p : Placement). p.bytes) c.window.ensures) c.tree_of.ensures (Some c.in_ok-node.node) c.in_ok-node.ensures.node
+    ∙ first_is allocator stored.window.bytes stored.types (object_at c.args.cell T) U keys vs blocks f s
+    c.view-view.result.bytes.now c.tree_of.result.root c.view-view.ensures c.tree_of.ensures (Some c.in_ok-node.node) c.in_ok-node.ensures.node
 
 pub returns-in_err-node-clause-inside : goal.returns-in_err-node-clause-inside
-returns-in_err-node-clause-inside g c = subst (λ (bs : List ℕ). LeadsInside bs c.first.new.self) (ap (λ (p : Placement). p.bytes) c.window.ensures) c.first.ensures.inside
+returns-in_err-node-clause-inside g c = subst (λ (bs : List ℕ). LeadsInside bs c.first.new.self) c.view-view.ensures c.first.ensures.inside
 
 pub returns-clause-inside : goal.returns-clause-inside
-returns-clause-inside g c = subst (λ (bs : List ℕ). LeadsInside bs c.first.new.self) (ap (λ (p : Placement). p.bytes) c.window.ensures) c.first.ensures.inside
+returns-clause-inside g c = subst (λ (bs : List ℕ). LeadsInside bs c.first.new.self) c.view-view.ensures c.first.ensures.inside

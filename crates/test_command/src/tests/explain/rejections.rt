@@ -152,7 +152,7 @@ END
 instruction 2, line 4 of the text that `segtool print` writes: `FREEZE r2 r0 r1`
 r0 refers to a value of type 0 (shared of type 0) in the object that r1 owns
 r1 owns an object of type 0 (shared of type 0)
-an object can't share itself: FREEZE it into a place outside it
+an object can't own or share itself: PUT or FREEZE it into a place outside it
 ===
 type i64
 type vec t0
@@ -240,7 +240,7 @@ END
 instruction 2, line 4 of the text that `segtool print` writes: `PUT r1 r0`
 r1 refers to a value of type 0 (own of type 0) in the object that r0 owns
 r0 owns an object of type 0 (own of type 0)
-an object can't own itself: PUT it into a place outside it
+an object can't own or share itself: PUT or FREEZE it into a place outside it
 ===
 type i64
 name x

@@ -21,8 +21,8 @@ returns-clause-inside c = λ fits.
     let size = c.get32-size.ensures ∙ first in
     let before = c.get32.ensures ∙ word_in bytes _ at 4 part (omega arith) in
     let tag = c.get32-2.ensures ∙ word_in bytes _ at 8 part (omega arith) in
-    let units = c.units_in.ensures ∙ ap (λ n. n % 2 ^ 31) size in
-    let live = c.is_live_in.ensures ∙ ap (λ n. nat_le (2 ^ 31) n) size in
+    let units = c.units_of.ensures ∙ ap (λ n. n % 2 ^ 31) size in
+    let live = c.is_live_of.ensures ∙ ap (λ n. nat_le (2 ^ 31) n) size in
     let link = c.target.ensures in
     λ i. record { units = units i; is_live = live i; units_before = before i; tag = tag i; link = link i }
 
@@ -32,7 +32,7 @@ returns-clause-past c = λ past.
     let size : c.get32-size.result ≡ 0 = c.get32-size.ensures ∙ word_none _ 0 part in
     let before = c.get32.ensures ∙ word_none _ 4 part in
     let tag = c.get32-2.ensures ∙ word_none _ 8 part in
-    let units : c.units_in.result ≡ 0 = omega (arith, c.units_in.ensures, size) in
-    let live : c.is_live_in.result ≡ false = c.is_live_in.ensures ∙ ap (λ n. nat_le (2 ^ 31) n) size in
+    let units : c.units_of.result ≡ 0 = omega (arith, c.units_of.ensures, size) in
+    let live : c.is_live_of.result ≡ false = c.is_live_of.ensures ∙ ap (λ n. nat_le (2 ^ 31) n) size in
     let link = c.target.ensures in
     λ i. record { units = units i; is_live = live i; units_before = before i; tag = tag i; link = link i }

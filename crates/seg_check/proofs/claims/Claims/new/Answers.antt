@@ -9,12 +9,12 @@ returns g c =
     let marks = c.in_ok-from_elem.ensures in
     let counts = c.in_ok-from_elem-2.ensures in
     let queue = c.in_ok-with_capacity.ensures in
-    let units : c.saturating_sub.result / 16 ≡ (length c.args.w.now.bytes - 704) / 16 =
-    (let e : c.saturating_sub.result ≡ length c.args.w.now.bytes - 704 = omega (arith, c.saturating_sub.ensures, c.len.ensures.len) in ap (λ n. n / 16) e) in
-    let slots : c.if-shares.slots ≡ slots_in c.args.shares ((length c.args.w.now.bytes - 704) / 16) = elim c.if-shares.branch [
-      | then-shares w ↦ (let e : c.if-shares.slots ≡ ((length c.args.w.now.bytes - 704) / 16 + 1) / 2 = omega (arith, units, w.slots-is, w.saturating_add.ensures) in e)
-          ∙ ap (λ b. slots_in b ((length c.args.w.now.bytes - 704) / 16)) (sym w.if-shares.true)
-      | else-shares w ↦ w.slots-is ∙ ap (λ b. slots_in b ((length c.args.w.now.bytes - 704) / 16)) (sym w.if-shares.false)
+    let units : c.saturating_sub.result / 16 ≡ (length c.args.bytes.bytes.now - 704) / 16 =
+    (let e : c.saturating_sub.result ≡ length c.args.bytes.bytes.now - 704 = omega (arith, c.saturating_sub.ensures, c.len.ensures) in ap (λ n. n / 16) e) in
+    let slots : c.if-shares.slots ≡ slots_in c.args.shares ((length c.args.bytes.bytes.now - 704) / 16) = elim c.if-shares.branch [
+      | then-shares w ↦ (let e : c.if-shares.slots ≡ ((length c.args.bytes.bytes.now - 704) / 16 + 1) / 2 = omega (arith, units, w.slots-is, w.saturating_add.ensures) in e)
+          ∙ ap (λ b. slots_in b ((length c.args.bytes.bytes.now - 704) / 16)) (sym w.if-shares.true)
+      | else-shares w ↦ w.slots-is ∙ ap (λ b. slots_in b ((length c.args.bytes.bytes.now - 704) / 16)) (sym w.if-shares.false)
     ] in
     fresh c.in_ok-from_elem.field-0.items c.in_ok-with_capacity.field-0.items c.in_ok-from_elem-2.field-0.items (c.saturating_sub.result / 16) _ c.if-shares.slots _
     (marks.items_if_clones_equal (λ y e. e)) queue.items units (counts.items_if_clones_equal (λ y e. search rules)) slots

@@ -15,16 +15,16 @@ use Rattle.seg_check.proofs.image.TypedImage.+check_value.Goals.{in-Some+in_ok-c
 
 pub returns-then-not-has_pointers-clause-steps : goal.returns-then-not-has_pointers-clause-steps
 returns-then-not-has_pointers-clause-steps g t c = λ ready known fits.
-    let bytes = c.args.self.now.w.now.bytes in
+    let bytes = c.args.self.now.bytes.bytes.now in
     let table = c.args.self.now.types.now in
     advance_number bytes table c.args.claims.now (record { at = c.args.value.at; type = c.args.value.type_id }) (known_number bytes table c.args.value.type_id known (c.has_pointers.ensures.cells ∙ c.if-not-has_pointers.true))
 
 pub loop-index-init : goal.loop-index-init
-loop-index-init g t c = record { taken = refl; so_far = (λ ready known fits. advance_none c.args.self.now.w.now.bytes c.args.self.now.types.now c.args.claims.now) }
+loop-index-init g t c = record { taken = refl; so_far = (λ ready known fits. advance_none c.args.self.now.bytes.bytes.now c.args.self.now.types.now c.args.claims.now) }
 
 pub loop-index-preserved : goal.loop-index-preserved
 loop-index-preserved g t c =
-    let bytes = c.args.self.now.w.now.bytes in
+    let bytes = c.args.self.now.bytes.bytes.now in
     let table = c.args.self.now.types.now in
     let old = c.args.claims.now in
     let mid = c.loop-index.claims in
@@ -63,7 +63,7 @@ loop-index-preserved g t c =
 
 pub returns-in_err-check_value-clause-steps : goal.returns-in_err-check_value-clause-steps
 returns-in_err-check_value-clause-steps g t c = λ ready known fits.
-    let bytes = c.args.self.now.w.now.bytes in
+    let bytes = c.args.self.now.bytes.bytes.now in
     let table = c.args.self.now.types.now in
     let old = c.args.claims.now in
     let mid = c.loop-index.claims in
@@ -91,7 +91,7 @@ returns-in_err-check_value-clause-steps g t c = λ ready known fits.
 
 pub returns-clause-steps : goal.returns-clause-steps
 returns-clause-steps g t c = λ ready known fits.
-    let bytes = c.args.self.now.w.now.bytes in
+    let bytes = c.args.self.now.bytes.bytes.now in
     let table = c.args.self.now.types.now in
     let T = c.args.value.type_id in
     let count = c.field_count-fields.ensures.count in

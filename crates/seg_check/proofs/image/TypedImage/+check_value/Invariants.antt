@@ -10,6 +10,6 @@ decreases-check_value g l = l.value.type_id
 abbrev pub invariant-loop-index : goal.invariant-loop-index
 invariant-loop-index g l = record {
   taken : l.claims.taken ≡ l.fn.claims.taken;
-  so_far : IsReady l.self.w.now.bytes l.self.types.now l.fn.claims → l.value.type_id < length l.self.types.now → l.value.at + size l.self.types.now l.value.type_id ≤ 2 ^ 32 →
-      Advances l.self.w.now.bytes l.self.types.now l.fn.claims l.claims (take l.index (parts_at l.value.at (fields_of l.self.types.now l.value.type_id)));
+  so_far : IsReady l.self.bytes.bytes.now l.self.types.now l.fn.claims → l.value.type_id < length l.self.types.now → l.value.at + size l.self.types.now l.value.type_id ≤ 2 ^ 32 →
+      Advances l.self.bytes.bytes.now l.self.types.now l.fn.claims l.claims (take l.index (parts_at l.value.at (fields_of l.self.types.now l.value.type_id)));
 }

@@ -19,11 +19,11 @@ same_some : (p q : Place) → Some p ≡ Some q → p ≡ q
 same_some p q e = cc
 
 pub loop-index-init : goal.loop-index-init
-loop-index-init g c = record { taken = refl; so_far = (λ ready turn. advance_none c.args.self.now.w.now.bytes c.args.self.now.types.now c.args.claims.now) }
+loop-index-init g c = record { taken = refl; so_far = (λ ready turn. advance_none c.args.self.now.bytes.bytes.now c.args.self.now.types.now c.args.claims.now) }
 
 pub loop-index-preserved : goal.loop-index-preserved
 loop-index-preserved g c =
-    let bytes = c.args.self.now.w.now.bytes in
+    let bytes = c.args.self.now.bytes.bytes.now in
     let table = c.args.self.now.types.now in
     let old = c.args.claims.now in
     let mid = c.loop-index.claims in
@@ -56,14 +56,14 @@ loop-index-preserved g c =
 
 pub returns-in_default-clause-steps : goal.returns-in_default-clause-steps
 returns-in_default-clause-steps g c = λ ready turn.
-    let bytes = c.args.self.now.w.now.bytes in
+    let bytes = c.args.self.now.bytes.bytes.now in
     let table = c.args.self.now.types.now in
     let none = c.in_default.ensures ready.is_table (subst (λ b. IsOwnable bytes table b) (sym c.block_of.ensures) turn.ownable) c.args.turn c.block_of.ensures in
     subst (λ ps. Advances bytes table c.args.claims.now c.args.claims.now ps) (sym none) (advance_none bytes table c.args.claims.now)
 
 pub returns-in_err-check_value-clause-steps : goal.returns-in_err-check_value-clause-steps
 returns-in_err-check_value-clause-steps g c = λ ready turn.
-    let bytes = c.args.self.now.w.now.bytes in
+    let bytes = c.args.self.now.bytes.bytes.now in
     let table = c.args.self.now.types.now in
     let old = c.args.claims.now in
     let mid = c.loop-index.claims in
@@ -84,7 +84,7 @@ returns-in_err-check_value-clause-steps g c = λ ready turn.
 
 pub returns-clause-steps : goal.returns-clause-steps
 returns-clause-steps g c = λ ready turn.
-    let bytes = c.args.self.now.w.now.bytes in
+    let bytes = c.args.self.now.bytes.bytes.now in
     let table = c.args.self.now.types.now in
     let has = c.in-Some.ensures ready.is_table (subst (λ b. IsOwnable bytes table b) (sym c.block_of.ensures) turn.ownable) in
     let few = few_places bytes table c.block_of.result c.in-Some.entry has c.args.turn c.block_of.ensures in

@@ -6,6 +6,6 @@ use Rattle.seg_check.proofs.image.TypedImage.check_block.Given as goal
 abbrev pub invariant-loop-index : goal.invariant-loop-index
 invariant-loop-index g l = record {
   taken : l.claims.taken ≡ l.fn.claims.taken;
-  so_far : IsReady l.self.w.now.bytes l.self.types.now l.fn.claims → IsTurn l.self.w.now.bytes l.self.types.now l.turn →
-      Advances l.self.w.now.bytes l.self.types.now l.fn.claims l.claims (take l.index (places_in l.self.w.now.bytes l.self.types.now l.turn));
+  so_far : IsReady l.self.bytes.bytes.now l.self.types.now l.fn.claims → IsTurn l.self.bytes.bytes.now l.self.types.now l.turn →
+      Advances l.self.bytes.bytes.now l.self.types.now l.fn.claims l.claims (take l.index (places_in l.self.bytes.bytes.now l.self.types.now l.turn));
 }

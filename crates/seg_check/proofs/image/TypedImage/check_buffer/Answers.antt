@@ -11,7 +11,7 @@ use Rattle.seg_check.proofs.image.TypedImage.check_buffer.Goals as goal
 
 pub returns-in_err-count-clause-steps : goal.returns-in_err-count-clause-steps
 returns-in_err-count-clause-steps g c = λ T form has by ready.
-    let bytes = c.args.self.now.w.now.bytes in
+    let bytes = c.args.self.now.bytes.bytes.now in
     let table = c.args.self.now.types.now in
     let old = c.args.claims.now in
     let at = c.args.cell in
@@ -22,7 +22,7 @@ returns-in_err-count-clause-steps g c = λ T form has by ready.
 
 pub returns-in_err-claim_entries-clause-steps : goal.returns-in_err-claim_entries-clause-steps
 returns-in_err-claim_entries-clause-steps g c = λ T form has by ready.
-    let bytes = c.args.self.now.w.now.bytes in
+    let bytes = c.args.self.now.bytes.bytes.now in
     let table = c.args.self.now.types.now in
     let old = c.args.claims.now in
     let at = c.args.cell in
@@ -38,7 +38,7 @@ returns-in_err-claim_entries-clause-steps g c = λ T form has by ready.
 
 pub returns-in_ok-claim_entries-clause-steps : goal.returns-in_ok-claim_entries-clause-steps
 returns-in_ok-claim_entries-clause-steps g c = λ T form has by ready.
-    let bytes = c.args.self.now.w.now.bytes in
+    let bytes = c.args.self.now.bytes.bytes.now in
     let table = c.args.self.now.types.now in
     let at = c.args.cell in
     let counts = sym c.counted.ensures ∙ c.in_ok-count.was ∙ ap Ok c.in-Some.is in
@@ -48,7 +48,7 @@ returns-in_ok-claim_entries-clause-steps g c = λ T form has by ready.
 
 pub returns-in_default-clause-steps : goal.returns-in_default-clause-steps
 returns-in_default-clause-steps g c = λ T form has by ready.
-    let bytes = c.args.self.now.w.now.bytes in
+    let bytes = c.args.self.now.bytes.bytes.now in
     let table = c.args.self.now.types.now in
     let at = c.args.cell in
     let none = counted_none at (count_at bytes at) (target bytes at) (sym c.counted.ensures ∙ c.in_ok-count.was ∙ ap Ok c.in_default.is) in

@@ -12,7 +12,7 @@ returns-in_default-of-clause-steps g c = λ ready known none.
     let table = c.args.self.now.types.now in
     let T = c.args.place.type_id in
     let form : form_at table T ≡ Some (form_of c.in-Some.kind) = c.in-Some.ensures in
-    no_cell c.args.self.now.w.now.bytes table ready.is_table c.args.claims.now c.args.place.at T known none (unshared c.in-Some.kind form c.in_default-kind.not-Shared) (form_at table T) refl
+    no_cell c.args.self.now.bytes.bytes.now table ready.is_table c.args.claims.now c.args.place.at T known none (unshared c.in-Some.kind form c.in_default-kind.not-Shared) (form_at table T) refl
     (subst (ContentOf table T (form_at table T)) c.in_default-of.is c.of.ensures)
   where
     unshared : (k : «Type») → form_at c.args.self.now.types.now c.args.place.type_id ≡ Some (form_of k) → ((x : ℕ) → k ≡ kind.Shared x → ⊥) → (U : ℕ) → form_at c.args.self.now.types.now c.args.place.type_id ≡ Some (Form.shared U) → ⊥

@@ -1,16 +1,10 @@
-use Rattle.std.proofs.Common.{ℕ, List, sym, ap, ◌∙◌, subst}
-use Rattle.std.specs.Prelude.{MatchResult}
 use Rattle.std.proofs.lemmas.Result.{err_from_is_err_and}
-use Rattle.seg_spec.specs.Bytes.{word}
-use Rattle.seg_spec.specs.Header.{next_word}
-use Rattle.seg_check.specs.Claiming.{Refutes}
-use Rattle.seg_check.specs.Cells.{AreCountsRight}
 use Rattle.seg_check.proofs.CheckStageLaws.{finds_wrong, first_ready, first_can, second_ready, second_can, third_ready, third_waits, third_can, finds_counts}
 use Rattle.seg_check.proofs.image.TypedImage.check_content.Goals as goal
 
 pub returns-in_err-check_index : goal.returns-in_err-check_index
 returns-in_err-check_index g c = λ heap.
-    let bytes = c.args.self.now.w.now.bytes in
+    let bytes = c.args.self.now.bytes.bytes.now in
     let table = c.args.self.now.types.now in
     let first = c.args.claims.now in
     finds_wrong bytes table c.check_index.new.claims _ (first_can bytes table first heap) c.from_residual.result c.in_err-check_index.field-0.0
@@ -19,7 +13,7 @@ returns-in_err-check_index g c = λ heap.
 
 pub returns-in_err-check_uniques : goal.returns-in_err-check_uniques
 returns-in_err-check_uniques g c = λ heap.
-    let bytes = c.args.self.now.w.now.bytes in
+    let bytes = c.args.self.now.bytes.bytes.now in
     let table = c.args.self.now.types.now in
     let first = c.args.claims.now in
     let second = c.check_index.new.claims in
@@ -30,7 +24,7 @@ returns-in_err-check_uniques g c = λ heap.
 
 pub returns-in_err-check_values : goal.returns-in_err-check_values
 returns-in_err-check_values g c = λ heap.
-    let bytes = c.args.self.now.w.now.bytes in
+    let bytes = c.args.self.now.bytes.bytes.now in
     let table = c.args.self.now.types.now in
     let first = c.args.claims.now in
     let second = c.check_index.new.claims in
@@ -43,7 +37,7 @@ returns-in_err-check_values g c = λ heap.
 
 pub returns : goal.returns
 returns g c = λ heap.
-    let bytes = c.args.self.now.w.now.bytes in
+    let bytes = c.args.self.now.bytes.bytes.now in
     let table = c.args.self.now.types.now in
     let first = c.args.claims.now in
     let second = c.check_index.new.claims in
@@ -52,7 +46,4 @@ returns g c = λ heap.
     let uniques = c.in_ok-check_uniques.ensures (second_ready bytes table first heap second index) in
     let last = c.check_values.new.claims in
     let values = c.in_ok-check_values.ensures (third_ready bytes table first heap second index third uniques) (third_waits bytes table first heap second index third uniques) in
-    let near = c.args.self.now.same in
-    let counts = c.check_counts.ensures (c.get32.ensures ∙ ap (λ b. word b next_word) (sym near)) in
-    finds_counts bytes table first heap second index third uniques last values c.check_counts.result
-    (subst (λ (b : List ℕ). MatchResult c.check_counts.result (λ _. AreCountsRight b last) (λ f. Refutes f (AreCountsRight b last))) near counts)
+    finds_counts bytes table first heap second index third uniques last values c.check_counts.result (c.check_counts.ensures c.get32.ensures)

@@ -30,12 +30,12 @@ says bytes at entry is = record {
 
 pub returns-in_err-claim_named-clause-refused : goal.returns-in_err-claim_named-clause-refused
 returns-in_err-claim_named-clause-refused g c = λ rest ready.
-    let bytes = c.args.self.now.w.now.bytes in
+    let bytes = c.args.self.now.bytes.bytes.now in
     let table = c.args.self.now.types.now in
     let old = c.args.claims.now in
     let at = c.args.at in
-    let entry = c.read-entry.result in
-    let said = says bytes at entry (c.read-entry.ensures (omega arith)) in
+    let entry = c.read_in-entry.result in
+    let said = says bytes at entry (c.read_in-entry.ensures (omega arith)) in
     let P = CanResolveRoots bytes table old (names_ahead (at ∷ rest) c.args.before.now) in
     let e = c.in_err-claim_named.field-0.0 in
     let failed = err_from_is_err_and c.from_residual.result c.from_residual.ensures.1 in
@@ -47,38 +47,38 @@ returns-in_err-claim_named-clause-refused g c = λ rest ready.
 
 pub returns-then-is_printable-clause-claimed : goal.returns-then-is_printable-clause-claimed
 returns-then-is_printable-clause-claimed g c = λ rest ready.
-    let bytes = c.args.self.now.w.now.bytes in
+    let bytes = c.args.self.now.bytes.bytes.now in
     let table = c.args.self.now.types.now in
     let old = c.args.claims.now in
     let at = c.args.at in
-    let entry = c.read-entry.result in
-    let said = says bytes at entry (c.read-entry.ensures (omega arith)) in
-    let name = c.name-name.result.now in
+    let entry = c.read_in-entry.result in
+    let said = says bytes at entry (c.read_in-entry.ensures (omega arith)) in
+    let name = c.name_in-name.result.now in
     let claimed = c.in_ok-claim_named.ensures.claimed ready said.object in
     let zero_is : byte bytes (at + 7) ≡ 0 = sym said.zero ∙ (let z : entry.zero ≡ 0 = omega arith in z) in
     let some : 1 ≤ entry.count = omega arith in
     let few : entry.count ≤ 65535 = omega arith in
     let long : length name ≡ entry.name_len =
-    name_long bytes table old c.claim_named.new.claims ready at entry.count entry.name_len c.args.before.now name entry.object said.object said.count said.name_len zero_is some few claimed c.name-name.ensures in
+    name_long bytes table old c.claim_named.new.claims ready at entry.count entry.name_len c.args.before.now name entry.object said.object said.count said.name_len zero_is some few claimed c.name_in-name.ensures in
     let is_name : IsName name = record { not_empty = omega arith; short = omega arith; printable = c.is_printable.ensures.0 c.if-is_printable.true } in
-    entry_advance bytes table old c.claim_named.new.claims ready at entry.count entry.name_len c.args.before.now name entry.object said.object said.count said.name_len zero_is some few claimed c.name-name.ensures
+    entry_advance bytes table old c.claim_named.new.claims ready at entry.count entry.name_len c.args.before.now name entry.object said.object said.count said.name_len zero_is some few claimed c.name_in-name.ensures
     rest is_name (c.is_before.ensures.0 c.if-is_before.true)
 
 pub returns-else-is_before-clause-refused : goal.returns-else-is_before-clause-refused
 returns-else-is_before-clause-refused g c = λ rest ready can.
-    let bytes = c.args.self.now.w.now.bytes in
+    let bytes = c.args.self.now.bytes.bytes.now in
     let table = c.args.self.now.types.now in
     let old = c.args.claims.now in
     let at = c.args.at in
-    let entry = c.read-entry.result in
-    let said = says bytes at entry (c.read-entry.ensures (omega arith)) in
-    let name = c.name-name.result.now in
+    let entry = c.read_in-entry.result in
+    let said = says bytes at entry (c.read_in-entry.ensures (omega arith)) in
+    let name = c.name_in-name.result.now in
     let claimed = c.in_ok-claim_named.ensures.claimed ready said.object in
     let zero_is : byte bytes (at + 7) ≡ 0 = sym said.zero ∙ (let z : entry.zero ≡ 0 = omega arith in z) in
     let some : 1 ≤ entry.count = omega arith in
     let few : entry.count ≤ 65535 = omega arith in
     let names =
-    entry_names bytes table old c.claim_named.new.claims ready at entry.count entry.name_len c.args.before.now name entry.object said.object said.count said.name_len zero_is some few claimed c.name-name.ensures rest can in
+    entry_names bytes table old c.claim_named.new.claims ready at entry.count entry.name_len c.args.before.now name entry.object said.object said.count said.name_len zero_is some few claimed c.name_in-name.ensures rest can in
     elim c.else-is_before.branch [
       | else-is_before-via-then-is_before+else-is_printable w ↦
           let yes : w.is_printable.result ≡ true = w.is_printable.ensures.1 names.1.printable in

@@ -14,7 +14,7 @@ use Rattle.seg_check.proofs.image.TypedImage.check_flat_index.Goals as goal
 
 pub loop-index-init : goal.loop-index-init
 loop-index-init g c = λ ready fits.
-    let bytes = c.args.self.now.w.now.bytes in
+    let bytes = c.args.self.now.bytes.bytes.now in
     let table = c.args.self.now.types.now in
     let mid = c.claim_entries.new.claims in
     let s = c.in_ok-start.start in
@@ -23,7 +23,7 @@ loop-index-init g c = λ ready fits.
 
 pub loop-index-preserved : goal.loop-index-preserved
 loop-index-preserved g c = λ ready fits.
-    let bytes = c.args.self.now.w.now.bytes in
+    let bytes = c.args.self.now.bytes.bytes.now in
     let table = c.args.self.now.types.now in
     let mid = c.claim_entries.new.claims in
     let now = c.loop-index.claims in
@@ -43,7 +43,7 @@ loop-index-preserved g c = λ ready fits.
 
 pub returns-in_err-start : goal.returns-in_err-start
 returns-in_err-start g c = λ p named counted ready flat.
-    let bytes = c.args.self.now.w.now.bytes in
+    let bytes = c.args.self.now.bytes.bytes.now in
     let table = c.args.self.now.types.now in
     let old = c.args.claims.now in
     let n = c.args.count in
@@ -58,11 +58,11 @@ returns-in_err-start g c = λ p named counted ready flat.
 
 pub returns-then-count-eq0 : goal.returns-then-count-eq0
 returns-then-count-eq0 g c = λ p named counted ready flat can.
-    flat_some c.args.self.now.w.now.bytes c.args.self.now.types.now flat p c.args.count named counted c.args.claims.now can (omega arith)
+    flat_some c.args.self.now.bytes.bytes.now c.args.self.now.types.now flat p c.args.count named counted c.args.claims.now can (omega arith)
 
 pub returns-in_err-before : goal.returns-in_err-before
 returns-in_err-before g c = λ p named counted ready flat.
-    let bytes = c.args.self.now.w.now.bytes in
+    let bytes = c.args.self.now.bytes.bytes.now in
     let table = c.args.self.now.types.now in
     let old = c.args.claims.now in
     let mid = c.claim_entries.new.claims in
@@ -93,7 +93,7 @@ returns-in_err-before g c = λ p named counted ready flat.
 
 pub returns : goal.returns
 returns g c = λ p named counted ready flat.
-    let bytes = c.args.self.now.w.now.bytes in
+    let bytes = c.args.self.now.bytes.bytes.now in
     let table = c.args.self.now.types.now in
     let old = c.args.claims.now in
     let mid = c.claim_entries.new.claims in

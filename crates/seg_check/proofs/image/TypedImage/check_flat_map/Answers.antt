@@ -17,7 +17,7 @@ use Rattle.seg_check.proofs.image.TypedImage.check_flat_map.Goals as goal
 
 pub returns-in_err-count-clause-steps : goal.returns-in_err-count-clause-steps
 returns-in_err-count-clause-steps g c = λ T U by ready.
-    let bytes = c.args.self.now.w.now.bytes in
+    let bytes = c.args.self.now.bytes.bytes.now in
     let table = c.args.self.now.types.now in
     let old = c.args.claims.now in
     let at = c.args.cell in
@@ -28,14 +28,14 @@ returns-in_err-count-clause-steps g c = λ T U by ready.
 
 pub returns-in_default-clause-steps : goal.returns-in_default-clause-steps
 returns-in_default-clause-steps g c = λ T U by ready.
-    let bytes = c.args.self.now.w.now.bytes in
+    let bytes = c.args.self.now.bytes.bytes.now in
     let at = c.args.cell in
     let none = counted_none at (count_at bytes at) (target bytes at) (sym c.counted.ensures ∙ c.in_ok-count.was ∙ ap Ok c.in_default.is) in
     flat_nothing bytes c.args.self.now.types.now at T U c.args.content.now by c.args.claims.now none.0 none.1
 
 pub returns-in_err-start-clause-steps : goal.returns-in_err-start-clause-steps
 returns-in_err-start-clause-steps g c = λ T U by ready.
-    let bytes = c.args.self.now.w.now.bytes in
+    let bytes = c.args.self.now.bytes.bytes.now in
     let table = c.args.self.now.types.now in
     let old = c.args.claims.now in
     let at = c.args.cell in
@@ -51,7 +51,7 @@ returns-in_err-start-clause-steps g c = λ T U by ready.
 
 pub loop-index-preserved : goal.loop-index-preserved
 loop-index-preserved g c = λ T U by ready.
-    let bytes = c.args.self.now.w.now.bytes in
+    let bytes = c.args.self.now.bytes.bytes.now in
     let table = c.args.self.now.types.now in
     let old = c.args.claims.now in
     let i = c.loop-index.index in
@@ -65,7 +65,7 @@ loop-index-preserved g c = λ T U by ready.
 
 pub returns-clause-steps : goal.returns-clause-steps
 returns-clause-steps g c = λ T U by ready.
-    let bytes = c.args.self.now.w.now.bytes in
+    let bytes = c.args.self.now.bytes.bytes.now in
     let table = c.args.self.now.types.now in
     let old = c.args.claims.now in
     let at = c.args.cell in

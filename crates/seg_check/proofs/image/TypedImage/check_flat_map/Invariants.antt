@@ -7,5 +7,5 @@ use Rattle.seg_check.specs.Resolving.{IsReady}
 use Rattle.seg_check.proofs.image.TypedImage.check_flat_map.Given as goal
 
 abbrev pub invariant-loop-index : goal.invariant-loop-index
-invariant-loop-index g l = (T U : ℕ) → CellsPointTo l.self.types.now T (Form.flat_map U) l.content → IsReady l.self.w.now.bytes l.self.types.now l.fn.claims →
-    HasKeys l.keys (keys_at l.self.w.now.bytes (spaced l.start (8 + size l.self.types.now U) l.index))
+invariant-loop-index g l = (T U : ℕ) → CellsPointTo l.self.types.now T (Form.flat_map U) l.content → IsReady l.self.bytes.bytes.now l.self.types.now l.fn.claims →
+    HasKeys l.keys (keys_at l.self.bytes.bytes.now (spaced l.start (8 + size l.self.types.now U) l.index))

@@ -6,8 +6,8 @@ use Rattle.seg_check.proofs.image.TypedImage.check_free_tree.Given as goal
 
 abbrev pub invariant-loop-visit : goal.invariant-loop-visit
 invariant-loop-visit g l = record {
-  same : l.walk.w.now ≡ l.self.w.now;
-  passed : Passed l.self.w.now.bytes l.claims l.walk.stage l.walk.turns;
+  same : l.walk.bytes.bytes.now ≡ l.self.bytes.bytes.now;
+  passed : Passed l.self.bytes.bytes.now l.claims l.walk.stage l.walk.turns;
   before_is : l.before ≡ last_block (map block_of passed.nodes);
 }
 

@@ -4,4 +4,4 @@ use Rattle.seg_check.proofs.image.TypedImage.check_index.Goals as goal
 
 pub returns-in-None-eq0 : goal.returns-in-None-eq0
 returns-in-None-eq0 g c = λ ready kind.
-    index_empty c.args.self.now.w.now.bytes c.args.self.now.types.now (sym c.target.ensures ∙ c.in-None-eq0.is-0) c.args.claims.now kind (sym c.name_count-count.ensures ∙ c.in-None-eq0.is-1)
+    index_empty c.args.self.now.bytes.bytes.now c.args.self.now.types.now (sym c.target.ensures ∙ c.in-None-eq0.is-0) c.args.claims.now kind (sym c.name_count_in-count.ensures ∙ c.in-None-eq0.is-1)

@@ -28,7 +28,7 @@ eq_back (Some q) p e = let same : q ≡ p = cc in grind (arith, nat_tests)
 
 pub returns-in_err-count-clause-steps : goal.returns-in_err-count-clause-steps
 returns-in_err-count-clause-steps g c = λ T U by ready.
-    let bytes = c.args.self.now.w.now.bytes in
+    let bytes = c.args.self.now.bytes.bytes.now in
     let table = c.args.self.now.types.now in
     let old = c.args.claims.now in
     let at = c.args.cell in
@@ -41,7 +41,7 @@ pub loop-init : goal.loop-init
 loop-init g c = record {
   taken = c.in_ok-first.ensures.taken;
   walked = (λ T U by ready.
-      let bytes = c.args.self.now.w.now.bytes in
+      let bytes = c.args.self.now.bytes.bytes.now in
       let table = c.args.self.now.types.now in
       let old = c.args.claims.now in
       let o = c.owner-owner.ensures in
@@ -57,7 +57,7 @@ pub loop-preserved : goal.loop-preserved
 loop-preserved g c = record {
   taken = c.in_ok-next.ensures.taken ∙ c.loop.invariant.taken;
   walked = (λ T U by ready.
-      let bytes = c.args.self.now.w.now.bytes in
+      let bytes = c.args.self.now.bytes.bytes.now in
       let table = c.args.self.now.types.now in
       let old = c.args.claims.now in
       let mid = c.loop.claims in
@@ -77,8 +77,8 @@ loop-preserved g c = record {
       walked_more bytes table old ready c.args.cell T U by.form_is mid new first last next n c.loop.is_linked c.if-is_linked.is_linked w k
       (elim c.if-is_linked.branch [
         | then-is_linked w ↦ (
-          (λ e. (w.if-is_linked.true, subst (λ bs. target bs (next + 4) ≡ Some last) c.args.self.now.same ((w.is_previous-is_linked.ensures low).0 (sym w.is_linked-is ∙ e)))),
-          (λ both. w.is_linked-is ∙ (w.is_previous-is_linked.ensures low).1 (subst (λ bs. target bs (next + 4) ≡ Some last) (sym c.args.self.now.same) both.1)),
+          (λ e. (w.if-is_linked.true, (w.is_previous-is_linked.ensures low).0 (sym w.is_linked-is ∙ e))),
+          (λ both. w.is_linked-is ∙ (w.is_previous-is_linked.ensures low).1 both.1),
         )
         | else-is_linked w ↦ (
           (λ e. absurd (false_true (sym w.if-is_linked.false ∙ sym w.is_linked-is ∙ e))),
@@ -89,14 +89,14 @@ loop-preserved g c = record {
 
 pub returns-in_default-clause-steps : goal.returns-in_default-clause-steps
 returns-in_default-clause-steps g c = λ T U by ready.
-    let bytes = c.args.self.now.w.now.bytes in
+    let bytes = c.args.self.now.bytes.bytes.now in
     let at = c.args.cell in
     let none = blocks_none at (count_at bytes at) (target bytes at) (sym c.counted_blocks.ensures ∙ c.in_ok-count.was ∙ ap Ok c.in_default.is) in
     ring_nothing bytes c.args.self.now.types.now c.args.claims.now ready at T U by.form_is none.0 none.1
 
 pub returns-in_err-first-clause-steps : goal.returns-in_err-first-clause-steps
 returns-in_err-first-clause-steps g c = λ T U by ready.
-    let bytes = c.args.self.now.w.now.bytes in
+    let bytes = c.args.self.now.bytes.bytes.now in
     let table = c.args.self.now.types.now in
     let old = c.args.claims.now in
     let at = c.args.cell in
@@ -115,7 +115,7 @@ returns-in_err-first-clause-steps g c = λ T U by ready.
 
 pub returns-in_err-next-clause-steps : goal.returns-in_err-next-clause-steps
 returns-in_err-next-clause-steps g c = λ T U by ready.
-    let bytes = c.args.self.now.w.now.bytes in
+    let bytes = c.args.self.now.bytes.bytes.now in
     let table = c.args.self.now.types.now in
     let old = c.args.claims.now in
     let mid = c.loop.claims in
@@ -138,7 +138,7 @@ returns-in_err-next-clause-steps g c = λ T U by ready.
 
 pub returns-then-is_closed-clause-steps : goal.returns-then-is_closed-clause-steps
 returns-then-is_closed-clause-steps g c = λ T U by ready.
-    let bytes = c.args.self.now.w.now.bytes in
+    let bytes = c.args.self.now.bytes.bytes.now in
     let table = c.args.self.now.types.now in
     let old = c.args.claims.now in
     let at = c.args.cell in
@@ -152,8 +152,8 @@ returns-then-is_closed-clause-steps g c = λ T U by ready.
     let low = first_low bytes table old ready at T U by.form_is c.loop.claims first last c.loop.counter c.loop.is_linked w in
     let closed : (target bytes last ≡ Some first) × (target bytes (first + 4) ≡ Some last) = elim c.if-eq.branch [
       | then-eq w ↦ (
-        subst (λ bs. target bs last ≡ Some first) c.args.self.now.same (sym c.target.ensures ∙ eq_forth c.target.result first (sym c.eq.ensures ∙ w.if-eq.true)),
-        subst (λ bs. target bs (first + 4) ≡ Some last) c.args.self.now.same ((w.is_previous-is_closed.ensures low).0 (sym w.is_closed-is ∙ c.if-is_closed.true)),
+        sym c.target.ensures ∙ eq_forth c.target.result first (sym c.eq.ensures ∙ w.if-eq.true),
+        (w.is_previous-is_closed.ensures low).0 (sym w.is_closed-is ∙ c.if-is_closed.true),
       )
       | else-eq w ↦ absurd (false_true (sym w.if-eq.false ∙ sym w.is_closed-is ∙ c.if-is_closed.true))
     ] in
@@ -161,7 +161,7 @@ returns-then-is_closed-clause-steps g c = λ T U by ready.
 
 pub returns-else-is_linked-2-clause-steps : goal.returns-else-is_linked-2-clause-steps
 returns-else-is_linked-2-clause-steps g c = λ T U by ready r.
-    let bytes = c.args.self.now.w.now.bytes in
+    let bytes = c.args.self.now.bytes.bytes.now in
     let table = c.args.self.now.types.now in
     let old = c.args.claims.now in
     let at = c.args.cell in
@@ -174,11 +174,10 @@ returns-else-is_linked-2-clause-steps g c = λ T U by ready r.
     let all : c.loop.counter ≡ count_at bytes at = omega (arith, c.loop-test.false, c.loop.auto.counter-end, n_is.0, n_is.1) in
     let low = first_low bytes table old ready at T U by.form_is c.loop.claims first last c.loop.counter c.loop.is_linked walked in
     let closed = ring_closed bytes table old ready at T U by.form_is c.loop.claims first last c.loop.counter c.loop.is_linked walked names all r in
-    let next = c.target.ensures ∙ subst (λ bs. target bs last ≡ Some first) (sym c.args.self.now.same) closed.1 in
-    let back = subst (λ bs. target bs (first + 4) ≡ Some last) (sym c.args.self.now.same) closed.2 in
+    let next = c.target.ensures ∙ closed.1 in
     elim c.else-is_linked-2.branch [
       | else-is_linked-2-via-then-is_linked-2+else-is_closed w ↦ elim c.if-eq.branch [
-        | then-eq v ↦ false_true (sym w.if-is_closed.false ∙ v.is_closed-is ∙ (v.is_previous-is_closed.ensures low).1 back)
+        | then-eq v ↦ false_true (sym w.if-is_closed.false ∙ v.is_closed-is ∙ (v.is_previous-is_closed.ensures low).1 closed.2)
         | else-eq v ↦ false_true (sym v.if-eq.false ∙ c.eq.ensures ∙ eq_back c.target.result first next)
       ]
       | else-is_linked-2-via-else-is_linked-2 w ↦ false_true (sym w.if-is_linked-2.false ∙ closed.0)

@@ -4,7 +4,6 @@ use Rattle.std.proofs.lemmas.Int.{to_z-of_z}
 use Rattle.std.proofs.lemmas.Result.{err_from_is_err_and}
 use Rattle.seg_spec.specs.Bytes.{signed_long}
 use Rattle.seg_spec.specs.Shapes.{tree_words}
-use Rattle.seg_spec.specs.Window.{Placement}
 use Rattle.seg_spec.specs.Pointer.{target}
 use Rattle.seg_spec.specs.Reads.{count_at, keys_at}
 use Rattle.seg_cells.specs.Places.{object_at}
@@ -21,7 +20,7 @@ use Rattle.seg_check.proofs.image.TypedImage.check_map.Goals as goal
 
 pub returns-in_err-count-clause-steps : goal.returns-in_err-count-clause-steps
 returns-in_err-count-clause-steps g c = λ T U by ready.
-    let bytes = c.args.self.now.w.now.bytes in
+    let bytes = c.args.self.now.bytes.bytes.now in
     let table = c.args.self.now.types.now in
     let old = c.args.claims.now in
     let at = c.args.cell in
@@ -32,7 +31,7 @@ returns-in_err-count-clause-steps g c = λ T U by ready.
 
 pub returns-in_default-clause-steps : goal.returns-in_default-clause-steps
 returns-in_default-clause-steps g c = λ T U by ready.
-    let bytes = c.args.self.now.w.now.bytes in
+    let bytes = c.args.self.now.bytes.bytes.now in
     let at = c.args.cell in
     let none = blocks_none at (count_at bytes at) (target bytes at) (sym c.counted_blocks.ensures ∙ c.in_ok-count.was ∙ ap Ok c.in_default.is) in
     tree_nothing bytes c.args.self.now.types.now c.args.claims.now ready at T U by.form_is none.0 none.1
@@ -40,9 +39,9 @@ returns-in_default-clause-steps g c = λ T U by ready.
 pub loop-visit-init : goal.loop-visit-init
 loop-visit-init g c = record {
   taken = refl;
-  same = c.walk-walk.ensures.window;
+  same = c.walk-walk.ensures.bytes;
   traced = (λ T U by ready.
-      let bytes = c.args.self.now.w.now.bytes in
+      let bytes = c.args.self.now.bytes.bytes.now in
       let at = c.args.cell in
       let w = c.walk-walk.ensures in
       let stage = c.walk-walk.result.stage in
@@ -54,7 +53,7 @@ loop-visit-init g c = record {
 
 pub returns-in_err-visit-clause-steps : goal.returns-in_err-visit-clause-steps
 returns-in_err-visit-clause-steps g c = λ T U by ready.
-    let bytes = c.args.self.now.w.now.bytes in
+    let bytes = c.args.self.now.bytes.bytes.now in
     let table = c.args.self.now.types.now in
     let old = c.args.claims.now in
     let at = c.args.cell in
@@ -64,7 +63,7 @@ returns-in_err-visit-clause-steps g c = λ T U by ready.
     let failed = err_from_is_err_and c.from_residual-in_err-visit.result c.from_residual-in_err-visit.ensures.1 in
     let same : failed.0 ≡ e = failed.2 in
     let was = err_was c.next.result c.map_err.result _ e c.in_err-visit.was c.map_err.ensures.cases in
-    let refused = subst (λ (q : Placement). IsSteady q.bytes walk.stage walk.turns → IfErr c.next.result (λ _. (height : ℕ) (rest entering : List ℕ) → Completes q.bytes height walk.stage rest entering → height < 30
+    let refused = subst (λ (bs : List ℕ). IsSteady bs walk.stage walk.turns → IfErr c.next.result (λ _. (height : ℕ) (rest entering : List ℕ) → Completes bs height walk.stage rest entering → height < 30
     → length rest + length entering < walk.turns → ⊥)) c.loop-visit.invariant.same c.next.ensures.refused t.followed.steady in
     let never = subst (λ r. IfErr r (λ _. (height : ℕ) (rest entering : List ℕ) → Completes bytes height walk.stage rest entering → height < 30 → length rest + length entering < walk.turns → ⊥)) was.1 refused in
     let fault : e ≡ BadValue was.0 = was.2 in
@@ -76,9 +75,9 @@ pub loop-visit-preserved-in_ok-claim_entries-in-Enter :
     goal.loop-visit-preserved-in_ok-claim_entries-in-Enter
 loop-visit-preserved-in_ok-claim_entries-in-Enter g c = record {
   taken = c.in_ok-claim_entries-in-Enter.ensures.taken ∙ c.loop-visit.invariant.taken;
-  same = c.next.ensures.window ∙ c.loop-visit.invariant.same;
+  same = c.next.ensures.bytes ∙ c.loop-visit.invariant.same;
   traced = (λ T U by ready.
-      let bytes = c.args.self.now.w.now.bytes in
+      let bytes = c.args.self.now.bytes.bytes.now in
       let table = c.args.self.now.types.now in
       let old = c.args.claims.now in
       let mid = c.loop-visit.claims in
@@ -89,7 +88,7 @@ loop-visit-preserved-in_ok-claim_entries-in-Enter g c = record {
       let visit = c.in_ok-visit.field-0 in
       let was = ok_was c.next.result c.map_err.result _ visit c.in_ok-visit.was c.map_err.ensures.cases in
       let is : visit ≡ Some (Enter c.in-Enter.pointer) = c.in-Some-2.is ∙ ap Some c.in-Enter.is in
-      let stepped = steps_on bytes walk.w.now new.w.now c.args.self.now.w.now walk.stage new.stage walk.turns new.turns c.next.result (Enter c.in-Enter.pointer) (was ∙ ap Ok is) refl c.next.ensures.window
+      let stepped = steps_on bytes walk.bytes.bytes.now new.bytes.bytes.now walk.stage new.stage walk.turns new.turns c.next.result (Enter c.in-Enter.pointer) (was ∙ ap Ok is) c.next.ensures.bytes
       c.loop-visit.invariant.same t.followed.steady c.next.ensures.fewer c.next.ensures.steady c.next.ensures.goes_on in
       traced_enter bytes table old ready at T U by.form_is mid walk.stage walk.turns c.loop-visit.keys t new.stage new.turns stepped.0 stepped.1 c.claim_entries.new.claims c.in-Enter.pointer
       c.in_ok-claim_entries-in-Enter.field-0 stepped.2
@@ -100,7 +99,7 @@ loop-visit-preserved-in_ok-claim_entries-in-Enter g c = record {
 pub returns-in_err-claim_entries-in-Enter-clause-steps :
     goal.returns-in_err-claim_entries-in-Enter-clause-steps
 returns-in_err-claim_entries-in-Enter-clause-steps g c = λ T U by ready.
-    let bytes = c.args.self.now.w.now.bytes in
+    let bytes = c.args.self.now.bytes.bytes.now in
     let table = c.args.self.now.types.now in
     let old = c.args.claims.now in
     let mid = c.loop-visit.claims in
@@ -114,7 +113,7 @@ returns-in_err-claim_entries-in-Enter-clause-steps g c = λ T U by ready.
     let same : failed.0 ≡ e = failed.2 in
     let was = ok_was c.next.result c.map_err.result _ visit c.in_ok-visit.was c.map_err.ensures.cases in
     let is : visit ≡ Some (Enter c.in-Enter.pointer) = c.in-Some-2.is ∙ ap Some c.in-Enter.is in
-    let stepped = steps_on bytes walk.w.now new.w.now c.args.self.now.w.now walk.stage new.stage walk.turns new.turns c.next.result (Enter c.in-Enter.pointer) (was ∙ ap Ok is) refl c.next.ensures.window
+    let stepped = steps_on bytes walk.bytes.bytes.now new.bytes.bytes.now walk.stage new.stage walk.turns new.turns c.next.result (Enter c.in-Enter.pointer) (was ∙ ap Ok is) c.next.ensures.bytes
     c.loop-visit.invariant.same t.followed.steady c.next.ensures.fewer c.next.ensures.steady c.next.ensures.goes_on in
     steps_refused bytes table old c.claim_entries.new.claims (object_at at T ∷ []) c.from_residual-in_err-claim_entries-in-Enter.result e _ (failed.1 ∙ ap Err same)
     (λ r. node_can bytes table T U c.args.content.now by mid c.in-Enter.pointer
@@ -124,9 +123,9 @@ returns-in_err-claim_entries-in-Enter-clause-steps g c = λ T U by ready.
 pub loop-visit-preserved : goal.loop-visit-preserved
 loop-visit-preserved g c = record {
   taken = c.loop-visit.invariant.taken;
-  same = c.next.ensures.window ∙ c.loop-visit.invariant.same;
+  same = c.next.ensures.bytes ∙ c.loop-visit.invariant.same;
   traced = (λ T U by ready.
-      let bytes = c.args.self.now.w.now.bytes in
+      let bytes = c.args.self.now.bytes.bytes.now in
       let table = c.args.self.now.types.now in
       let old = c.args.claims.now in
       let mid = c.loop-visit.claims in
@@ -138,7 +137,7 @@ loop-visit-preserved g c = record {
       let visit = c.in_ok-visit.field-0 in
       let was = ok_was c.next.result c.map_err.result _ visit c.in_ok-visit.was c.map_err.ensures.cases in
       let is : visit ≡ Some (Pass node) = c.in-Some-2.is ∙ ap Some c.in-Pass.is in
-      let stepped = steps_on bytes walk.w.now new.w.now c.args.self.now.w.now walk.stage new.stage walk.turns new.turns c.next.result (Pass node) (was ∙ ap Ok is) refl c.next.ensures.window
+      let stepped = steps_on bytes walk.bytes.bytes.now new.bytes.bytes.now walk.stage new.stage walk.turns new.turns c.next.result (Pass node) (was ∙ ap Ok is) c.next.ensures.bytes
       c.loop-visit.invariant.same t.followed.steady c.next.ensures.fewer c.next.ensures.steady c.next.ensures.goes_on in
       traced_pass bytes table old ready at T U by.form_is mid walk.stage walk.turns c.loop-visit.keys t new.stage new.turns stepped.0 stepped.1 node c.add.new.self stepped.2
       (λ low has.
@@ -151,12 +150,12 @@ loop-visit-preserved g c = record {
 
 pub returns-clause-steps : goal.returns-clause-steps
 returns-clause-steps g c = λ T U by ready.
-    let bytes = c.args.self.now.w.now.bytes in
+    let bytes = c.args.self.now.bytes.bytes.now in
     let walk = c.loop-visit.walk in
     let new = c.next.new.self in
     let t = c.loop-visit.invariant.traced T U by ready in
     let visit = c.in_ok-visit.field-0 in
     let was = ok_was c.next.result c.map_err.result _ visit c.in_ok-visit.was c.map_err.ensures.cases in
-    let goes_on = subst (λ (q : Placement). IsSteady q.bytes walk.stage walk.turns → IfOk c.next.result (Proceeds q.bytes walk.stage new.stage)) c.loop-visit.invariant.same c.next.ensures.goes_on t.followed.steady in
+    let goes_on = subst (λ (bs : List ℕ). IsSteady bs walk.stage walk.turns → IfOk c.next.result (Proceeds bs walk.stage new.stage)) c.loop-visit.invariant.same c.next.ensures.goes_on t.followed.steady in
     let step : Proceeds bytes walk.stage new.stage None = subst (λ r. IfOk r (Proceeds bytes walk.stage new.stage)) (was ∙ ap Ok c.in_default-2.is) goes_on in
     traced_steps bytes c.args.self.now.types.now c.args.claims.now ready c.args.cell T U by.form_is c.loop-visit.claims walk.stage walk.turns c.loop-visit.keys t new.stage c.check.result step c.check.ensures

@@ -8,9 +8,9 @@ use Rattle.seg_check.proofs.image.TypedImage.check_map.Given as goal
 abbrev pub invariant-loop-visit : goal.invariant-loop-visit
 invariant-loop-visit g l = record {
   taken : l.claims.taken ≡ l.fn.claims.taken;
-  same : l.walk.w.now ≡ l.self.w.now;
-  traced : (T U : ℕ) (by : CellsPointTo l.self.types.now T (Form.map U) l.content) (ready : IsReady l.self.w.now.bytes l.self.types.now l.fn.claims) →
-      Traced l.self.w.now.bytes l.self.types.now l.fn.claims ready l.cell T U by.form_is l.claims l.walk.stage l.walk.turns l.keys;
+  same : l.walk.bytes.bytes.now ≡ l.self.bytes.bytes.now;
+  traced : (T U : ℕ) (by : CellsPointTo l.self.types.now T (Form.map U) l.content) (ready : IsReady l.self.bytes.bytes.now l.self.types.now l.fn.claims) →
+      Traced l.self.bytes.bytes.now l.self.types.now l.fn.claims ready l.cell T U by.form_is l.claims l.walk.stage l.walk.turns l.keys;
 }
 
 abbrev pub decreases-loop-visit : goal.decreases-loop-visit

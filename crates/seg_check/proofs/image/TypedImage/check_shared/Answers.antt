@@ -9,7 +9,7 @@ use Rattle.seg_spec.specs.Reads.{count_at}
 use Rattle.seg_block.specs.Tags.{word_of}
 use Rattle.seg_cells.specs.Places.{object_at}
 use Rattle.seg_check.specs.Marks.{Known}
-use Rattle.seg_check.specs.Naming.{IsUnder, IsNameable, CanName, NamesBlock, frozen_number_at}
+use Rattle.seg_check.specs.Naming.{IsUnder, CanName, NamesBlock, frozen_number_at}
 use Rattle.seg_check.specs.Resolving.{IsReady, Steps}
 use Rattle.seg_check.proofs.Queue.QueueStepLaws.{steps_refused}
 use Rattle.seg_check.proofs.Contents.BufferLaws.{blocks_none, blocks_some, blocks_names}
@@ -19,13 +19,13 @@ use Rattle.seg_check.proofs.image.TypedImage.check_shared.Goals as goal
 true_false : {X : Type 0} → true ≡ false → X
 true_false e = cc
 
-pub returns-then-count-gt1-clause-steps : goal.returns-then-count-gt1-clause-steps
-returns-then-count-gt1-clause-steps g c = λ T f ready r.
-    shared_many c.args.self.now.w.now.bytes c.args.self.now.types.now c.args.cell T c.args.held f c.args.claims.now (omega (arith, c.if-count-gt1.true, c.count.ensures)) r
+pub returns-then-count_in-gt1-clause-steps : goal.returns-then-count_in-gt1-clause-steps
+returns-then-count_in-gt1-clause-steps g c = λ T f ready r.
+    shared_many c.args.self.now.bytes.bytes.now c.args.self.now.types.now c.args.cell T c.args.held f c.args.claims.now (omega (arith, c.if-count_in-gt1.true, c.count_in.ensures)) r
 
 pub returns-in_err-counted_blocks-clause-steps : goal.returns-in_err-counted_blocks-clause-steps
 returns-in_err-counted_blocks-clause-steps g c = λ T f ready.
-    let bytes = c.args.self.now.w.now.bytes in
+    let bytes = c.args.self.now.bytes.bytes.now in
     let table = c.args.self.now.types.now in
     let old = c.args.claims.now in
     let at = c.args.cell in
@@ -45,33 +45,29 @@ is_full (Some x) e = (x, refl)
 
 pub returns-then-is_none-clause-steps : goal.returns-then-is_none-clause-steps
 returns-then-is_none-clause-steps g c = λ T f ready.
-    let bytes = c.args.self.now.w.now.bytes in
+    let bytes = c.args.self.now.bytes.bytes.now in
     let at = c.args.cell in
     let none = blocks_none at (count_at bytes at) (target bytes at) (sym c.counted_blocks.ensures ∙ c.in_ok-counted_blocks.was ∙ ap Ok (is_empty c.in_ok-counted_blocks.field-0 c.if-is_none.ensures)) in
     shared_nothing bytes c.args.self.now.types.now at T c.args.held f c.args.claims.now none.0 none.1
 
 -- the cell's pointer isn't null
-module _ (bytes view : List ℕ) (table : Table) (same : view ≡ bytes) (at T U : ℕ) (f : form_at table T ≡ Some (Form.shared U)) (old new : Known) (ready : IsReady bytes table old) (tag room : ℕ) (tag_is : tag ≡ tag_of Kind.frozen U)
+module _ (bytes : List ℕ) (table : Table) (at T U : ℕ) (f : form_at table T ≡ Some (Form.shared U)) (old new : Known) (ready : IsReady bytes table old) (tag room : ℕ) (tag_is : tag ≡ tag_of Kind.frozen U)
     (size_is : room ≡ frozen_words + size table U) where
-  can_name_as : CanName bytes old at (tag_of Kind.frozen U) (frozen_words + size table U) → CanName view old at tag room
-  can_name_as k = subst (λ b. CanName b old at tag room) (sym same) (subst (λ t. CanName bytes old at t room) (sym tag_is) (subst (CanName bytes old at (tag_of Kind.frozen U)) (sym size_is) k))
+  can_name_as : CanName bytes old at (tag_of Kind.frozen U) (frozen_words + size table U) → CanName bytes old at tag room
+  can_name_as k = subst (λ t. CanName bytes old at t room) (sym tag_is) (subst (CanName bytes old at (tag_of Kind.frozen U)) (sym size_is) k)
 
-  names_as : (start : ℕ) → NamesBlock view old new at tag room start → NamesBlock bytes old new at (tag_of Kind.frozen U) (frozen_words + size table U) start
-  names_as start n = subst (λ s. NamesBlock bytes old new at (tag_of Kind.frozen U) s start) size_is (subst (λ t. NamesBlock bytes old new at t room start) tag_is (subst (λ b. NamesBlock b old new at tag room start) same n))
-
-  nameable_as : IsNameable view old
-  nameable_as = subst (λ b. IsNameable b old) (sym same) (nameable bytes table at T U f old ready)
+  names_as : (start : ℕ) → NamesBlock bytes old new at tag room start → NamesBlock bytes old new at (tag_of Kind.frozen U) (frozen_words + size table U) start
+  names_as start n = subst (λ s. NamesBlock bytes old new at (tag_of Kind.frozen U) s start) size_is (subst (λ t. NamesBlock bytes old new at t room start) tag_is n)
 
 pub returns-in_err-object-clause-steps : goal.returns-in_err-object-clause-steps
 returns-in_err-object-clause-steps g c = λ T f ready.
-    let bytes = c.args.self.now.w.now.bytes in
+    let bytes = c.args.self.now.bytes.bytes.now in
     let table = c.args.self.now.types.now in
     let old = c.args.claims.now in
     let new = c.name.new.self in
     let at = c.args.cell in
     let U = c.args.held in
     let is = c.frozen-content.ensures in
-    let same = c.args.self.now.same in
     let size_is : c.from-size.result ≡ frozen_words + size table U = c.from-size.ensures ∙ is.entry_is.size_is in
     let e = c.in_err-object.field-0.0 in
     let failed = err_from_is_err_and c.from_residual-in_err-object.result c.from_residual-in_err-object.ensures.1 in
@@ -80,12 +76,12 @@ returns-in_err-object-clause-steps g c = λ T f ready.
     let counts = sym c.counted_blocks.ensures ∙ c.in_ok-counted_blocks.was ∙ ap Ok some.1 in
     let names = blocks_names at (count_at bytes at) some.0 (target bytes at) counts in
     steps_refused bytes table old new (object_at at T ∷ []) c.from_residual-in_err-object.result e _ (failed.1 ∙ ap Err equal)
-    (λ r. can_name_as bytes c.args.self.now.bytes.bytes.now table same at T U f old new ready (word_of c.frozen-content.result.tag) c.from-size.result is.tag_is size_is (shared_can bytes table at T U f old ready names.0 names.1 r))
-    (c.in_err-object.ensures.refused (nameable_as bytes c.args.self.now.bytes.bytes.now table same at T U f old new ready (word_of c.frozen-content.result.tag) c.from-size.result is.tag_is size_is))
+    (λ r. can_name_as bytes table at T U f old new ready (word_of c.frozen-content.result.tag) c.from-size.result is.tag_is size_is (shared_can bytes table at T U f old ready names.0 names.1 r))
+    (c.in_err-object.ensures.refused (nameable bytes table at T U f old ready))
 
 -- the cell was counted for the object
-module _ (bytes view : List ℕ) (table : Table) (same : view ≡ bytes) (at T U : ℕ) (f : form_at table T ≡ Some (Form.shared U)) (old new : Known) (ready : IsReady bytes table old) (start number : ℕ)
-    (n : NamesBlock bytes old new at (tag_of Kind.frozen U) (frozen_words + size table U) start) (number_is : start + 4 < 2 ^ 32 → number ≡ frozen_number_at view start) where
+module _ (bytes : List ℕ) (table : Table) (at T U : ℕ) (f : form_at table T ≡ Some (Form.shared U)) (old new : Known) (ready : IsReady bytes table old) (start number : ℕ)
+    (n : NamesBlock bytes old new at (tag_of Kind.frozen U) (frozen_words + size table U) start) (number_is : start + 4 < 2 ^ 32 → number ≡ frozen_number_at bytes start) where
   numbered : number ≡ frozen_number_at bytes start
   numbered =
       let b = (nameable bytes table at T U f old ready).live (block_of start) n.there in
@@ -93,7 +89,7 @@ module _ (bytes view : List ℕ) (table : Table) (same : view ≡ bytes) (at T U
       let large = b.size in
       let small = ready.small in
       let high = n.is_block.after_header in
-      number_is (omega arith) ∙ ap (λ bs. frozen_number_at bs start) same
+      number_is (omega arith)
 
   under : IsUnder new.naming.below number → IsUnder old.naming.below (frozen_number_at bytes start)
   under u = subst (λ b. IsUnder b (frozen_number_at bytes start)) n.below_kept (subst (IsUnder new.naming.below) numbered u)
@@ -103,39 +99,35 @@ module _ (bytes view : List ℕ) (table : Table) (same : view ≡ bytes) (at T U
 
 pub returns-then-may_name-clause-steps : goal.returns-then-may_name-clause-steps
 returns-then-may_name-clause-steps g c = λ T f ready.
-    let bytes = c.args.self.now.w.now.bytes in
-    let view = c.args.self.now.bytes.bytes.now in
+    let bytes = c.args.self.now.bytes.bytes.now in
     let table = c.args.self.now.types.now in
     let old = c.args.claims.now in
     let new = c.name.new.self in
     let at = c.args.cell in
     let U = c.args.held in
     let is = c.frozen-content.ensures in
-    let same = c.args.self.now.same in
     let size_is : c.from-size.result ≡ frozen_words + size table U = c.from-size.ensures ∙ is.entry_is.size_is in
     let tag = word_of c.frozen-content.result.tag in
     let some = is_full c.in_ok-counted_blocks.field-0 c.if-is_none.ensures in
     let counts = blocks_some at (count_at bytes at) some.0 (target bytes at) (sym c.counted_blocks.ensures ∙ c.in_ok-counted_blocks.was ∙ ap Ok some.1) in
-    let one : count_at bytes at ≡ 1 = omega (arith, counts.1, c.if-count-gt1.false, c.count.ensures) in
-    let n = names_as bytes view table same at T U f old new ready tag c.from-size.result is.tag_is size_is c.in_ok-object.object
-    (c.in_ok-object.ensures.named (nameable_as bytes view table same at T U f old new ready tag c.from-size.result is.tag_is size_is)) in
+    let one : count_at bytes at ≡ 1 = omega (arith, counts.1, c.if-count_in-gt1.false, c.count_in.ensures) in
+    let n = names_as bytes table at T U f old new ready tag c.from-size.result is.tag_is size_is c.in_ok-object.object
+    (c.in_ok-object.ensures.named (nameable bytes table at T U f old ready)) in
     advance_shared bytes table at T U f old new ready c.in_ok-object.object n one
-    (under bytes view table same at T U f old new ready c.in_ok-object.object c.frozen_number.result n c.frozen_number.ensures (c.may_name.ensures.0 c.if-may_name.true))
+    (under bytes table at T U f old new ready c.in_ok-object.object c.frozen_number.result n c.frozen_number.ensures (c.may_name.ensures.0 c.if-may_name.true))
 
 pub returns-else-may_name-clause-steps : goal.returns-else-may_name-clause-steps
 returns-else-may_name-clause-steps g c = λ T f ready r.
-    let bytes = c.args.self.now.w.now.bytes in
-    let view = c.args.self.now.bytes.bytes.now in
+    let bytes = c.args.self.now.bytes.bytes.now in
     let table = c.args.self.now.types.now in
     let old = c.args.claims.now in
     let new = c.name.new.self in
     let at = c.args.cell in
     let U = c.args.held in
     let is = c.frozen-content.ensures in
-    let same = c.args.self.now.same in
     let size_is : c.from-size.result ≡ frozen_words + size table U = c.from-size.ensures ∙ is.entry_is.size_is in
     let tag = word_of c.frozen-content.result.tag in
-    let n = names_as bytes view table same at T U f old new ready tag c.from-size.result is.tag_is size_is c.in_ok-object.object
-    (c.in_ok-object.ensures.named (nameable_as bytes view table same at T U f old new ready tag c.from-size.result is.tag_is size_is)) in
+    let n = names_as bytes table at T U f old new ready tag c.from-size.result is.tag_is size_is c.in_ok-object.object
+    (c.in_ok-object.ensures.named (nameable bytes table at T U f old ready)) in
     let named = shared_named bytes table at T U f old c.in_ok-object.object n.names r in
-    true_false (sym (c.may_name.ensures.1 (over bytes view table same at T U f old new ready c.in_ok-object.object c.frozen_number.result n c.frozen_number.ensures named.under)) ∙ c.if-may_name.false)
+    true_false (sym (c.may_name.ensures.1 (over bytes table at T U f old new ready c.in_ok-object.object c.frozen_number.result n c.frozen_number.ensures named.under)) ∙ c.if-may_name.false)

@@ -10,7 +10,8 @@ use Rattle.seg_check.specs.Marks.{IsUnit, AddsBlock}
 use Rattle.seg_check.proofs.Heap.PassedTileLaws.{KnowsPassed, knows_none, knows_more, knows_all, no_live, no_free}
 use Rattle.seg_check.proofs.Heap.TileWalkLaws.{Walked, walked_none, walked_more, walked_all, next_is, fits_is, tile_at, end_at}
 use Rattle.seg_check.proofs.image.TypedImage.check_tiles.Goals as goal
-use Rattle.seg_check.proofs.image.TypedImage.check_tiles.Goals.{then-units-lt2-via-then-units-lt2, then-units-lt2-via-else-units-lt2+then-units-end, then-units-lt2-via-else-units-lt2+else-units-end+then-not-follows, then-not-header, else-not-header}
+use Rattle.seg_check.proofs.image.TypedImage.check_tiles.Goals.{then-units-lt2-via-then-units-lt2, then-units-lt2-via-else-units-lt2+then-units-end}
+use Rattle.seg_check.proofs.image.TypedImage.check_tiles.Goals.{then-units-lt2-via-else-units-lt2+else-units-end+then-not-follows, then-not-header, else-not-header}
 
 false_true : (X : Type 0) → false ≡ true → X
 false_true X e = absurd (let no : false ≡ true = e in cc)
@@ -25,7 +26,7 @@ not_false false e = false_true _ (sym e)
 
 pub loop-at-init : goal.loop-at-init
 loop-at-init g c = λ front.
-    let bytes = c.args.self.now.w.now.bytes in
+    let bytes = c.args.self.now.bytes.bytes.now in
     let large = front.header.not_small in
     let w = walked_none bytes c.args.self.now.types.now _ c.new-free_list.result refl refl (c.new-free_list.ensures bytes) (omega arith) in
     (w.0, λ slots new. subst (λ ts. KnowsPassed c.args.claims.now ((length bytes - heap_start) / 16) slots ts) (sym w.1) (knows_none c.args.claims.now ((length bytes - heap_start) / 16) slots new))
@@ -37,12 +38,6 @@ whole n at inside n_whole at_whole = omega arith
 small : (n at : ℕ) → at + 16 ≤ n → n ≤ 2 ^ 30 → at + 16 < 2 ^ 32
 small n at fits few = omega arith
 
-followed : (bytes view : List ℕ) → view ≡ bytes → (old new : FreeList) (gs : List Span) (gap : Span) → gap.at + 16 < 2 ^ 32
-    → ((hs : List Span) (g : Span) → g.at ≡ gap.at → gap.at + 16 < 2 ^ 32 → KnowsGaps view old hs → KnowsGaps view new (hs ++ g ∷ []))
-    → KnowsGaps bytes old gs → KnowsGaps bytes new (gs ++ gap ∷ [])
-followed bytes view same old new gs gap near adds known =
-    subst (λ bs. KnowsGaps bs new (gs ++ gap ∷ [])) same (adds gs gap refl near (subst (λ bs. KnowsGaps bs old gs) (sym same) known))
-
 unit_at : (at : ℕ) → heap_start ≤ at → at % 16 ≡ 0 → at ≡ heap_start + 16 * ((at - heap_start) / 16)
 unit_at at low aligned = omega arith
 
@@ -51,16 +46,15 @@ unit_inside n at fits low = omega arith
 
 pub loop-at-preserved : goal.loop-at-preserved
 loop-at-preserved g c = λ front.
-    let bytes = c.args.self.now.w.now.bytes in
+    let bytes = c.args.self.now.bytes.bytes.now in
     let table = c.args.self.now.types.now in
     let at = c.loop-at.at in
     let before = c.loop-at.before in
     let w = (c.loop-at.invariant front).0 in
-    let len = c.len-end.ensures.len in
+    let len = c.len-end.ensures in
     let inside : at < length bytes = omega (arith, c.loop-at-test.true, len) in
-    let same = c.args.self.now.same in
     let fits : at + 16 ≤ length bytes = whole (length bytes) at inside front.header.whole_units w.aligned in
-    let is : c.read-header.result ≡ header_at bytes at = c.read-header.ensures.inside (omega (arith, ap length same, fits)) ∙ ap (λ bs. header_at bs at) same in
+    let is : c.read-header.result ≡ header_at bytes at = c.read-header.ensures.inside fits in
     let units : c.read-header.result.units ≡ units_at bytes at = ap (λ (h : Header). h.units) is in
     let live : c.read-header.result.is_live ≡ is_live_at bytes at = ap (λ (h : Header). h.is_live) is in
     let large : 2 ≤ units_at bytes at = omega (arith, units, c.if-units-lt2.false) in
@@ -78,7 +72,7 @@ loop-at-preserved g c = λ front.
     ] in
     let added : is_live_at bytes at ≡ false → (gs : List Span) → KnowsGaps bytes c.loop-at.free_list gs → KnowsGaps bytes list (gs ++ gap ∷ []) =
     λ e gs known. elim c.if-not-header.branch [
-      | then-not-header v ↦ subst (λ (l : FreeList). KnowsGaps bytes l (gs ++ gap ∷ [])) (sym v.free_list-is) (followed bytes _ same c.loop-at.free_list v.add-then-not-header.new.self gs gap near v.add-then-not-header.ensures known)
+      | then-not-header v ↦ subst (λ (l : FreeList). KnowsGaps bytes l (gs ++ gap ∷ [])) (sym v.free_list-is) (v.add-then-not-header.ensures gs gap refl near known)
       | else-not-header v ↦ false_true _ (sym e ∙ sym live ∙ not_false _ v.if-not-header.false)
     ] in
     let more = walked_more bytes table at before c.loop-at.free_list list w inside large ends next kept added in
@@ -95,16 +89,15 @@ loop-at-preserved g c = λ front.
 
 pub returns-then-units-lt2-clause-tiles : goal.returns-then-units-lt2-clause-tiles
 returns-then-units-lt2-clause-tiles g c = λ front.
-    let bytes = c.args.self.now.w.now.bytes in
+    let bytes = c.args.self.now.bytes.bytes.now in
     let table = c.args.self.now.types.now in
     let at = c.loop-at.at in
     let before = c.loop-at.before in
     let w = (c.loop-at.invariant front).0 in
-    let len = c.len-end.ensures.len in
+    let len = c.len-end.ensures in
     let inside : at < length bytes = omega (arith, c.loop-at-test.true, len) in
-    let same = c.args.self.now.same in
     let fits : at + 16 ≤ length bytes = whole (length bytes) at inside front.header.whole_units w.aligned in
-    let is : c.read-header.result ≡ header_at bytes at = c.read-header.ensures.inside (omega (arith, ap length same, fits)) ∙ ap (λ bs. header_at bs at) same in
+    let is : c.read-header.result ≡ header_at bytes at = c.read-header.ensures.inside fits in
     let units : c.read-header.result.units ≡ units_at bytes at = ap (λ (h : Header). h.units) is in
     let tags = c.of-tags.ensures (word bytes version_word) c.shares.ensures front.is_table in (
       λ e. false_true _ e,
@@ -121,25 +114,25 @@ returns-then-units-lt2-clause-tiles g c = λ front.
 
 pub returns-clause-tiles : goal.returns-clause-tiles
 returns-clause-tiles g c = λ front.
-    let bytes = c.args.self.now.w.now.bytes in
+    let bytes = c.args.self.now.bytes.bytes.now in
     let w = (c.loop-at.invariant front).0 in
-    let len = c.len-end.ensures.len in
+    let len = c.len-end.ensures in
     let end : c.loop-at.at ≡ length bytes = omega (arith, w.high, len, c.loop-at-test.false) in
     (λ e. (walked_all bytes c.args.self.now.types.now c.loop-at.at c.loop-at.before c.loop-at.free_list w end).0, λ a. refl)
 
 pub returns-clause-free_list : goal.returns-clause-free_list
 returns-clause-free_list g c = λ front.
-    let bytes = c.args.self.now.w.now.bytes in
+    let bytes = c.args.self.now.bytes.bytes.now in
     let w = (c.loop-at.invariant front).0 in
-    let len = c.len-end.ensures.len in
+    let len = c.len-end.ensures in
     let end : c.loop-at.at ≡ length bytes = omega (arith, w.high, len, c.loop-at-test.false) in
     (walked_all bytes c.args.self.now.types.now c.loop-at.at c.loop-at.before c.loop-at.free_list w end).1
 
 pub returns-clause-known : goal.returns-clause-known
 returns-clause-known g c = λ front slots new.
-    let bytes = c.args.self.now.w.now.bytes in
+    let bytes = c.args.self.now.bytes.bytes.now in
     let w = (c.loop-at.invariant front).0 in
-    let len = c.len-end.ensures.len in
+    let len = c.len-end.ensures in
     let end : c.loop-at.at ≡ length bytes = omega (arith, w.high, len, c.loop-at-test.false) in
     let all = (walked_all bytes c.args.self.now.types.now c.loop-at.at c.loop-at.before c.loop-at.free_list w end).2 in
     let k = (c.loop-at.invariant front).1 slots new in

@@ -2,7 +2,6 @@ use Rattle.std.proofs.Common.{◌≡◌, ℕ, ◌+◌, ◌<◌, List, [], ◌∷
 use Rattle.std.specs.Prelude.{IfErr, IfOk}
 use Rattle.std.proofs.lemmas.Result.{err_from_is_err_and}
 use Rattle.seg_spec.specs.Header.{index_cell}
-use Rattle.seg_spec.specs.Window.{Placement}
 use Rattle.seg_spec.specs.Shapes.{tree_words}
 use Rattle.seg_check.specs.declared.walk.Visit.TheVariants.{Enter, Pass}
 use Rattle.seg_check.specs.Walks.{Completes, IsSteady, Proceeds}
@@ -16,7 +15,7 @@ use Rattle.seg_check.proofs.image.TypedImage.check_tree_index.Goals as goal
 
 pub returns-in_err-claim_index_nodes : goal.returns-in_err-claim_index_nodes
 returns-in_err-claim_index_nodes g c = λ counted ready tree.
-    let bytes = c.args.self.now.w.now.bytes in
+    let bytes = c.args.self.now.bytes.bytes.now in
     let table = c.args.self.now.types.now in
     let old = c.args.claims.now in
     let e = c.in_err-claim_index_nodes.field-0.0 in
@@ -28,9 +27,9 @@ returns-in_err-claim_index_nodes g c = λ counted ready tree.
 
 pub loop-visit-init : goal.loop-visit-init
 loop-visit-init g c = record {
-  same = c.walk-walk.ensures.window;
+  same = c.walk-walk.ensures.bytes;
   named = (λ counted ready claimed.
-      let bytes = c.args.self.now.w.now.bytes in
+      let bytes = c.args.self.now.bytes.bytes.now in
       let w = c.walk-walk.ensures in
       let stage = c.walk-walk.result.stage in
       let turns = c.walk-walk.result.turns in
@@ -40,7 +39,7 @@ loop-visit-init g c = record {
 
 pub returns-in_err-visit : goal.returns-in_err-visit
 returns-in_err-visit g c = λ counted ready tree.
-    let bytes = c.args.self.now.w.now.bytes in
+    let bytes = c.args.self.now.bytes.bytes.now in
     let table = c.args.self.now.types.now in
     let old = c.args.claims.now in
     let start = c.claim_index_nodes.new.claims in
@@ -49,16 +48,16 @@ returns-in_err-visit g c = λ counted ready tree.
     let t = c.loop-visit.invariant.named counted ready claimed in
     let e = c.in_err-visit.field-0.0 in
     let was = err_was c.next.result c.map_err.result _ e c.in_err-visit.was c.map_err.ensures.cases in
-    let refused = subst (λ (q : Placement). IsSteady q.bytes walk.stage walk.turns → IfErr c.next.result (λ _. (height : ℕ) (rest entering : List ℕ) → Completes q.bytes height walk.stage rest entering → height < 30
+    let refused = subst (λ (bs : List ℕ). IsSteady bs walk.stage walk.turns → IfErr c.next.result (λ _. (height : ℕ) (rest entering : List ℕ) → Completes bs height walk.stage rest entering → height < 30
     → length rest + length entering < walk.turns → ⊥)) c.loop-visit.invariant.same c.next.ensures.refused t.followed.steady in
     let never = subst (λ r. IfErr r (λ _. (height : ℕ) (rest entering : List ℕ) → Completes bytes height walk.stage rest entering → height < 30 → length rest + length entering < walk.turns → ⊥)) was.1 refused in
     absurd (named_refused bytes table old ready start claimed c.loop-visit.claims c.loop-visit.before.now walk.stage walk.turns t never)
 
 pub loop-visit-preserved-in-Pass : goal.loop-visit-preserved-in-Pass
 loop-visit-preserved-in-Pass g c = record {
-  same = c.next.ensures.window ∙ c.loop-visit.invariant.same;
+  same = c.next.ensures.bytes ∙ c.loop-visit.invariant.same;
   named = (λ counted ready claimed.
-      let bytes = c.args.self.now.w.now.bytes in
+      let bytes = c.args.self.now.bytes.bytes.now in
       let table = c.args.self.now.types.now in
       let old = c.args.claims.now in
       let start = c.claim_index_nodes.new.claims in
@@ -70,7 +69,7 @@ loop-visit-preserved-in-Pass g c = record {
       let t = c.loop-visit.invariant.named counted ready claimed in
       let was = ok_was c.next.result c.map_err.result _ c.in_ok-visit.field-0 c.in_ok-visit.was c.map_err.ensures.cases in
       let is : c.in_ok-visit.field-0 ≡ Some (Pass node) = c.in-Some.is ∙ ap Some c.in-Pass.is in
-      let stepped = steps_on bytes walk.w.now new.w.now c.args.self.now.w.now walk.stage new.stage walk.turns new.turns c.next.result (Pass node) (was ∙ ap Ok is) refl c.next.ensures.window
+      let stepped = steps_on bytes walk.bytes.bytes.now new.bytes.bytes.now walk.stage new.stage walk.turns new.turns c.next.result (Pass node) (was ∙ ap Ok is) c.next.ensures.bytes
       c.loop-visit.invariant.same t.followed.steady c.next.ensures.fewer c.next.ensures.steady c.next.ensures.goes_on in
       let next = named_next bytes table old ready start claimed now last walk.stage walk.turns t new.stage node stepped.2 in
       let inside = named_inside bytes table old ready start claimed now last walk.stage walk.turns t node next.0 next.1 in
@@ -85,7 +84,7 @@ loop-visit-preserved-in-Pass g c = record {
 
 pub returns-in_err-before : goal.returns-in_err-before
 returns-in_err-before g c = λ counted ready tree.
-    let bytes = c.args.self.now.w.now.bytes in
+    let bytes = c.args.self.now.bytes.bytes.now in
     let table = c.args.self.now.types.now in
     let old = c.args.claims.now in
     let start = c.claim_index_nodes.new.claims in
@@ -98,7 +97,7 @@ returns-in_err-before g c = λ counted ready tree.
     let t = c.loop-visit.invariant.named counted ready claimed in
     let was = ok_was c.next.result c.map_err.result _ c.in_ok-visit.field-0 c.in_ok-visit.was c.map_err.ensures.cases in
     let is : c.in_ok-visit.field-0 ≡ Some (Pass node) = c.in-Some.is ∙ ap Some c.in-Pass.is in
-    let stepped = steps_on bytes walk.w.now new.w.now c.args.self.now.w.now walk.stage new.stage walk.turns new.turns c.next.result (Pass node) (was ∙ ap Ok is) refl c.next.ensures.window
+    let stepped = steps_on bytes walk.bytes.bytes.now new.bytes.bytes.now walk.stage new.stage walk.turns new.turns c.next.result (Pass node) (was ∙ ap Ok is) c.next.ensures.bytes
     c.loop-visit.invariant.same t.followed.steady c.next.ensures.fewer c.next.ensures.steady c.next.ensures.goes_on in
     let next = named_next bytes table old ready start claimed now last walk.stage walk.turns t new.stage node stepped.2 in
     let inside = named_inside bytes table old ready start claimed now last walk.stage walk.turns t node next.0 next.1 in
@@ -118,23 +117,23 @@ returns-in_err-before g c = λ counted ready tree.
 
 pub loop-visit-preserved : goal.loop-visit-preserved
 loop-visit-preserved g c = record {
-  same = c.next.ensures.window ∙ c.loop-visit.invariant.same;
+  same = c.next.ensures.bytes ∙ c.loop-visit.invariant.same;
   named = (λ counted ready claimed.
-      let bytes = c.args.self.now.w.now.bytes in
+      let bytes = c.args.self.now.bytes.bytes.now in
       let walk = c.loop-visit.walk in
       let new = c.next.new.self in
       let t = c.loop-visit.invariant.named counted ready claimed in
       let pointer = c.in_default-visit.field-0 in
       let was = ok_was c.next.result c.map_err.result _ c.in_ok-visit.field-0 c.in_ok-visit.was c.map_err.ensures.cases in
       let is : c.in_ok-visit.field-0 ≡ Some (Enter pointer) = c.in-Some.is ∙ ap Some c.in_default-visit.is in
-      let stepped = steps_on bytes walk.w.now new.w.now c.args.self.now.w.now walk.stage new.stage walk.turns new.turns c.next.result (Enter pointer) (was ∙ ap Ok is) refl c.next.ensures.window
+      let stepped = steps_on bytes walk.bytes.bytes.now new.bytes.bytes.now walk.stage new.stage walk.turns new.turns c.next.result (Enter pointer) (was ∙ ap Ok is) c.next.ensures.bytes
       c.loop-visit.invariant.same t.followed.steady c.next.ensures.fewer c.next.ensures.steady c.next.ensures.goes_on in
       named_enter bytes c.args.self.now.types.now c.args.claims.now ready c.claim_index_nodes.new.claims claimed c.loop-visit.claims c.loop-visit.before.now walk.stage walk.turns t new.stage new.turns stepped.0 stepped.1 pointer stepped.2);
 }
 
 pub returns : goal.returns
 returns g c = λ counted ready tree.
-    let bytes = c.args.self.now.w.now.bytes in
+    let bytes = c.args.self.now.bytes.bytes.now in
     let table = c.args.self.now.types.now in
     let old = c.args.claims.now in
     let start = c.claim_index_nodes.new.claims in
@@ -145,7 +144,7 @@ returns g c = λ counted ready tree.
     let claimed = c.in_ok-claim_index_nodes.ensures.claimed refl counted ready in
     let t = c.loop-visit.invariant.named counted ready claimed in
     let was = ok_was c.next.result c.map_err.result _ c.in_ok-visit.field-0 c.in_ok-visit.was c.map_err.ensures.cases in
-    let goes_on = subst (λ (q : Placement). IsSteady q.bytes walk.stage walk.turns → IfOk c.next.result (Proceeds q.bytes walk.stage new.stage)) c.loop-visit.invariant.same c.next.ensures.goes_on t.followed.steady in
+    let goes_on = subst (λ (bs : List ℕ). IsSteady bs walk.stage walk.turns → IfOk c.next.result (Proceeds bs walk.stage new.stage)) c.loop-visit.invariant.same c.next.ensures.goes_on t.followed.steady in
     let step : Proceeds bytes walk.stage new.stage None = subst (λ r. IfOk r (Proceeds bytes walk.stage new.stage)) (was ∙ ap Ok c.in_default.is) goes_on in
     let none = named_end bytes table old ready start claimed now last walk.stage walk.turns t new.stage step in
     tree_advance bytes table old ready start claimed tree now last

@@ -8,9 +8,9 @@ use Rattle.seg_check.proofs.image.TypedImage.check_tree_index.Given as goal
 
 abbrev pub invariant-loop-visit : goal.invariant-loop-visit
 invariant-loop-visit g l = record {
-  same : l.walk.w.now ≡ l.self.w.now;
-  named : l.count ≡ count_at l.self.w.now.bytes index_cell → (ready : IsReady l.self.w.now.bytes l.self.types.now l.fn.claims) (claimed : ClaimsTree l.self.w.now.bytes l.fn.claims l.initial.claims) →
-      Named l.self.w.now.bytes l.self.types.now l.fn.claims ready l.initial.claims claimed l.claims l.before l.walk.stage l.walk.turns;
+  same : l.walk.bytes.bytes.now ≡ l.self.bytes.bytes.now;
+  named : l.count ≡ count_at l.self.bytes.bytes.now index_cell → (ready : IsReady l.self.bytes.bytes.now l.self.types.now l.fn.claims) (claimed : ClaimsTree l.self.bytes.bytes.now l.fn.claims l.initial.claims) →
+      Named l.self.bytes.bytes.now l.self.types.now l.fn.claims ready l.initial.claims claimed l.claims l.before l.walk.stage l.walk.turns;
 }
 
 abbrev pub decreases-loop-visit : goal.decreases-loop-visit

@@ -18,11 +18,11 @@ none_of None e = refl
 none_of (Some p) e = absurd (let no : false ≡ true = e in cc)
 
 pub loop-t-init : goal.loop-t-init
-loop-t-init g c = λ ready. roots_none c.args.self.now.w.now.bytes c.args.self.now.types.now c.args.claims.now uniques_ahead
+loop-t-init g c = λ ready. roots_none c.args.self.now.bytes.bytes.now c.args.self.now.types.now c.args.claims.now uniques_ahead
 
 pub loop-t-preserved : goal.loop-t-preserved
 loop-t-preserved g c = λ ready.
-    let bytes = c.args.self.now.w.now.bytes in
+    let bytes = c.args.self.now.bytes.bytes.now in
     let table = c.args.self.now.types.now in
     let old = c.args.claims.now in
     let mid = c.loop-t.claims in
@@ -36,14 +36,14 @@ loop-t-preserved g c = λ ready.
           subst (λ k. AdvancesRoots bytes table old k uniques_ahead (from_type (T + 1))) (sym w.claims-is)
           (roots_more bytes table old mid w.claim_entries.new.claims uniques_ahead (from_type T) (from_type (T + 1)) done step)
       | else-is_some w ↦
-          let step = unused_advance bytes table mid T (T + 1) c.loop-t-test.true (omega arith) (sym c.unique.ensures ∙ none_of c.unique.result (w.if-is_some.ensures)) in
+          let step = unused_advance bytes table mid T (T + 1) c.loop-t-test.true (omega arith) (sym c.unique_in.ensures ∙ none_of c.unique_in.result (w.if-is_some.ensures)) in
           subst (λ k. AdvancesRoots bytes table old k uniques_ahead (from_type (T + 1))) (sym w.claims-is)
           (roots_more bytes table old mid mid uniques_ahead (from_type T) (from_type (T + 1)) done step)
     ]
 
 pub returns-in_err-claim_entries : goal.returns-in_err-claim_entries
 returns-in_err-claim_entries g c = λ ready.
-    let bytes = c.args.self.now.w.now.bytes in
+    let bytes = c.args.self.now.bytes.bytes.now in
     let table = c.args.self.now.types.now in
     let old = c.args.claims.now in
     let mid = c.loop-t.claims in
@@ -53,12 +53,12 @@ returns-in_err-claim_entries g c = λ ready.
     let e = c.in_err-claim_entries.field-0.0 in
     let failed = err_from_is_err_and c.from_residual.result c.from_residual.ensures.1 in
     let same : failed.0 ≡ e = failed.2 in
-    let some = some_of c.unique.result c.if-is_some.ensures in
+    let some = some_of c.unique_in.result c.if-is_some.ensures in
     subst (λ x. StepsUniques bytes table old c.claim_entries.new.claims x) (sym (failed.1 ∙ ap Err same))
     (refuses_map e _ (CanResolveRoots bytes table old uniques_ahead)
-    (λ can. unique_can bytes table mid c.claim_entries.new.claims T _ (T + 1) _ c.object-content.result now c.loop-t-test.true c.word_of.ensures c.object-content.ensures.content some.0 (sym c.unique.ensures ∙ some.1)
+    (λ can. unique_can bytes table mid c.claim_entries.new.claims T _ (T + 1) _ c.object-content.result now c.loop-t-test.true c.word_of.ensures c.object-content.ensures.content some.0 (sym c.unique_in.ensures ∙ some.1)
     (can_roots bytes table old mid uniques_ahead (from_type T) done can))
     (c.in_err-claim_entries.ensures.refused (ready_live bytes table mid now)))
 
 pub returns : goal.returns
-returns g c = λ ready. all_unique c.args.self.now.w.now.bytes c.args.self.now.types.now c.args.claims.now c.loop-t.claims c.loop-t.t c.loop-t-test.false (c.loop-t.invariant ready)
+returns g c = λ ready. all_unique c.args.self.now.bytes.bytes.now c.args.self.now.types.now c.args.claims.now c.loop-t.claims c.loop-t.t c.loop-t-test.false (c.loop-t.invariant ready)

@@ -6,14 +6,14 @@ use Rattle.seg_check.proofs.Queue.BlockLoopLaws.{Takes, resolving_none, resolvin
 use Rattle.seg_check.proofs.image.TypedImage.check_values.Goals as goal
 
 pub loop-turn-init : goal.loop-turn-init
-loop-turn-init g c = λ ready turns. resolving_none c.args.self.now.w.now.bytes c.args.self.now.types.now c.args.claims.now ready turns
+loop-turn-init g c = λ ready turns. resolving_none c.args.self.now.bytes.bytes.now c.args.self.now.types.now c.args.claims.now ready turns
 
 pub loop-turn-smaller : goal.loop-turn-smaller
 loop-turn-smaller g c = let next = c.in-Some.ensures.next in omega (arith, c.in_ok-check_block.ensures.taken, next.0, next.1)
 
 pub loop-turn-preserved : goal.loop-turn-preserved
 loop-turn-preserved g c = λ ready turns.
-    let bytes = c.args.self.now.w.now.bytes in
+    let bytes = c.args.self.now.bytes.bytes.now in
     let table = c.args.self.now.types.now in
     let so_far = c.loop-turn.invariant ready turns in
     let first = c.args.claims.now in
@@ -31,7 +31,7 @@ loop-turn-preserved g c = λ ready turns.
 
 pub returns-in_err-check_block : goal.returns-in_err-check_block
 returns-in_err-check_block g c = λ ready turns.
-    let bytes = c.args.self.now.w.now.bytes in
+    let bytes = c.args.self.now.bytes.bytes.now in
     let table = c.args.self.now.types.now in
     let so_far = c.loop-turn.invariant ready turns in
     let first = c.args.claims.now in
@@ -53,5 +53,5 @@ returns-in_err-check_block g c = λ ready turns.
 
 pub returns : goal.returns
 returns g c = λ ready turns.
-    all_seen c.args.self.now.w.now.bytes c.args.self.now.types.now c.args.claims.now c.loop-turn.claims c.next_turn.new.self (c.loop-turn.invariant ready turns)
+    all_seen c.args.self.now.bytes.bytes.now c.args.self.now.types.now c.args.claims.now c.loop-turn.claims c.next_turn.new.self (c.loop-turn.invariant ready turns)
     c.in_default.ensures.turns c.next_turn.ensures.unclaimed c.next_turn.ensures.naming c.next_turn.ensures.counted

@@ -6,8 +6,8 @@ use Rattle.seg_check.proofs.image.TypedImage.check_values.Given as goal
 
 abbrev pub invariant-loop-turn : goal.invariant-loop-turn
 invariant-loop-turn g l =
-    IsReady l.self.w.now.bytes l.self.types.now l.fn.claims → AreWaiting l.self.w.now.bytes l.self.types.now l.fn.claims.turns →
-    Resolving l.self.w.now.bytes l.self.types.now l.fn.claims l.claims
+    IsReady l.self.bytes.bytes.now l.self.types.now l.fn.claims → AreWaiting l.self.bytes.bytes.now l.self.types.now l.fn.claims.turns →
+    Resolving l.self.bytes.bytes.now l.self.types.now l.fn.claims l.claims
 
 abbrev pub decreases-loop-turn : goal.decreases-loop-turn
 decreases-loop-turn g l = 2 ^ 64 - l.claims.taken

@@ -1,8 +1,7 @@
-use Rattle.std.proofs.Common.{◌≡◌, ℕ, ◌+◌, ◌<◌, List, [], length, Ok, Err, Some, None, refl, sym, ap, ◌∙◌, subst}
+use Rattle.std.proofs.Common.{◌≡◌, ℕ, ◌+◌, ◌<◌, List, [], length, Ok, Err, Some, None, sym, ap, ◌∙◌, subst}
 use Rattle.std.specs.Prelude.{IfErr, IfOk}
 use Rattle.std.proofs.lemmas.Result.{err_from_is_err_and}
 use Rattle.seg_spec.specs.Header.{index_cell}
-use Rattle.seg_spec.specs.Window.{Placement}
 use Rattle.seg_check.specs.declared.fault.ContentFault.TheVariants.{BadIndex}
 use Rattle.seg_check.specs.declared.walk.Visit.TheVariants.{Enter, Pass}
 use Rattle.seg_check.specs.Claiming.{Refutes}
@@ -16,9 +15,9 @@ use Rattle.seg_check.proofs.image.TypedImage.claim_index_nodes.Goals as goal
 
 pub loop-visit-init : goal.loop-visit-init
 loop-visit-init g c = record {
-  same = c.walk-walk.ensures.window;
+  same = c.walk-walk.ensures.bytes;
   traced = (λ root nodes ready.
-      let bytes = c.args.self.now.w.now.bytes in
+      let bytes = c.args.self.now.bytes.bytes.now in
       let w = c.walk-walk.ensures in
       let stage = c.walk-walk.result.stage in
       let turns = c.walk-walk.result.turns in
@@ -29,7 +28,7 @@ loop-visit-init g c = record {
 
 pub returns-in_err-visit-clause-refused : goal.returns-in_err-visit-clause-refused
 returns-in_err-visit-clause-refused g c = λ root nodes ready.
-    let bytes = c.args.self.now.w.now.bytes in
+    let bytes = c.args.self.now.bytes.bytes.now in
     let table = c.args.self.now.types.now in
     let old = c.args.claims.now in
     let walk = c.loop-visit.walk in
@@ -39,7 +38,7 @@ returns-in_err-visit-clause-refused g c = λ root nodes ready.
     let failed = err_from_is_err_and c.from_residual.result c.from_residual.ensures.1 in
     let same : failed.0 ≡ e = failed.2 in
     let was = err_was c.next.result c.map_err.result _ e c.in_err-visit.was c.map_err.ensures.cases in
-    let refused = subst (λ (q : Placement). IsSteady q.bytes walk.stage walk.turns → IfErr c.next.result (λ _. (height : ℕ) (rest entering : List ℕ) → Completes q.bytes height walk.stage rest entering → height < 30
+    let refused = subst (λ (bs : List ℕ). IsSteady bs walk.stage walk.turns → IfErr c.next.result (λ _. (height : ℕ) (rest entering : List ℕ) → Completes bs height walk.stage rest entering → height < 30
     → length rest + length entering < walk.turns → ⊥)) c.loop-visit.invariant.same c.next.ensures.refused t.followed.steady in
     let never = subst (λ r. IfErr r (λ _. (height : ℕ) (rest entering : List ℕ) → Completes bytes height walk.stage rest entering → height < 30 → length rest + length entering < walk.turns → ⊥)) was.1 refused in
     let fault : e ≡ BadIndex was.0 = was.2 in
@@ -47,9 +46,9 @@ returns-in_err-visit-clause-refused g c = λ root nodes ready.
 
 pub loop-visit-preserved-in_ok-claim_entries : goal.loop-visit-preserved-in_ok-claim_entries
 loop-visit-preserved-in_ok-claim_entries g c = record {
-  same = c.next.ensures.window ∙ c.loop-visit.invariant.same;
+  same = c.next.ensures.bytes ∙ c.loop-visit.invariant.same;
   traced = (λ root nodes ready.
-      let bytes = c.args.self.now.w.now.bytes in
+      let bytes = c.args.self.now.bytes.bytes.now in
       let table = c.args.self.now.types.now in
       let old = c.args.claims.now in
       let mid = c.loop-visit.claims in
@@ -59,7 +58,7 @@ loop-visit-preserved-in_ok-claim_entries g c = record {
       let said = c.index_node-content.ensures in
       let was = ok_was c.next.result c.map_err.result _ c.in_ok-visit.field-0 c.in_ok-visit.was c.map_err.ensures.cases in
       let is : c.in_ok-visit.field-0 ≡ Some (Enter c.in-Enter.pointer) = c.in-Some.is ∙ ap Some c.in-Enter.is in
-      let stepped = steps_on bytes walk.w.now new.w.now c.args.self.now.w.now walk.stage new.stage walk.turns new.turns c.next.result (Enter c.in-Enter.pointer) (was ∙ ap Ok is) refl c.next.ensures.window
+      let stepped = steps_on bytes walk.bytes.bytes.now new.bytes.bytes.now walk.stage new.stage walk.turns new.turns c.next.result (Enter c.in-Enter.pointer) (was ∙ ap Ok is) c.next.ensures.bytes
       c.loop-visit.invariant.same t.followed.steady c.next.ensures.fewer c.next.ensures.steady c.next.ensures.goes_on in
       traced_enter bytes table old ready mid walk.stage walk.turns t new.stage new.turns stepped.0 stepped.1 c.claim_entries.new.claims c.in-Enter.pointer c.in_ok-claim_entries.field-0 stepped.2
       (index_node_claimed bytes table old ready mid c.claim_entries.new.claims c.in-Enter.pointer c.in_ok-claim_entries.field-0 c.index_node-content.result said.tag_is said.size_is said.held_is
@@ -68,7 +67,7 @@ loop-visit-preserved-in_ok-claim_entries g c = record {
 
 pub returns-in_err-claim_entries-clause-refused : goal.returns-in_err-claim_entries-clause-refused
 returns-in_err-claim_entries-clause-refused g c = λ root nodes ready.
-    let bytes = c.args.self.now.w.now.bytes in
+    let bytes = c.args.self.now.bytes.bytes.now in
     let table = c.args.self.now.types.now in
     let old = c.args.claims.now in
     let mid = c.loop-visit.claims in
@@ -83,7 +82,7 @@ returns-in_err-claim_entries-clause-refused g c = λ root nodes ready.
     let same : failed.0 ≡ e = failed.2 in
     let was = ok_was c.next.result c.map_err.result _ c.in_ok-visit.field-0 c.in_ok-visit.was c.map_err.ensures.cases in
     let is : c.in_ok-visit.field-0 ≡ Some (Enter c.in-Enter.pointer) = c.in-Some.is ∙ ap Some c.in-Enter.is in
-    let stepped = steps_on bytes walk.w.now new.w.now c.args.self.now.w.now walk.stage new.stage walk.turns new.turns c.next.result (Enter c.in-Enter.pointer) (was ∙ ap Ok is) refl c.next.ensures.window
+    let stepped = steps_on bytes walk.bytes.bytes.now new.bytes.bytes.now walk.stage new.stage walk.turns new.turns c.next.result (Enter c.in-Enter.pointer) (was ∙ ap Ok is) c.next.ensures.bytes
     c.loop-visit.invariant.same t.followed.steady c.next.ensures.fewer c.next.ensures.steady c.next.ensures.goes_on in
     subst (λ x. IfErr x (λ f. Refutes f P)) (sym (failed.1 ∙ ap Err same))
     (refuses_map e _ P
@@ -93,27 +92,27 @@ returns-in_err-claim_entries-clause-refused g c = λ root nodes ready.
 
 pub loop-visit-preserved : goal.loop-visit-preserved
 loop-visit-preserved g c = record {
-  same = c.next.ensures.window ∙ c.loop-visit.invariant.same;
+  same = c.next.ensures.bytes ∙ c.loop-visit.invariant.same;
   traced = (λ root nodes ready.
-      let bytes = c.args.self.now.w.now.bytes in
+      let bytes = c.args.self.now.bytes.bytes.now in
       let walk = c.loop-visit.walk in
       let new = c.next.new.self in
       let t = c.loop-visit.invariant.traced root nodes ready in
       let node = c.in_default-visit.field-0 in
       let was = ok_was c.next.result c.map_err.result _ c.in_ok-visit.field-0 c.in_ok-visit.was c.map_err.ensures.cases in
       let is : c.in_ok-visit.field-0 ≡ Some (Pass node) = c.in-Some.is ∙ ap Some c.in_default-visit.is in
-      let stepped = steps_on bytes walk.w.now new.w.now c.args.self.now.w.now walk.stage new.stage walk.turns new.turns c.next.result (Pass node) (was ∙ ap Ok is) refl c.next.ensures.window
+      let stepped = steps_on bytes walk.bytes.bytes.now new.bytes.bytes.now walk.stage new.stage walk.turns new.turns c.next.result (Pass node) (was ∙ ap Ok is) c.next.ensures.bytes
       c.loop-visit.invariant.same t.followed.steady c.next.ensures.fewer c.next.ensures.steady c.next.ensures.goes_on in
       traced_pass bytes c.args.self.now.types.now c.args.claims.now ready c.loop-visit.claims walk.stage walk.turns t new.stage new.turns stepped.0 stepped.1 node stepped.2);
 }
 
 pub returns-clause-claimed : goal.returns-clause-claimed
 returns-clause-claimed g c = λ root nodes ready.
-    let bytes = c.args.self.now.w.now.bytes in
+    let bytes = c.args.self.now.bytes.bytes.now in
     let walk = c.loop-visit.walk in
     let new = c.next.new.self in
     let t = c.loop-visit.invariant.traced root nodes ready in
     let was = ok_was c.next.result c.map_err.result _ c.in_ok-visit.field-0 c.in_ok-visit.was c.map_err.ensures.cases in
-    let goes_on = subst (λ (q : Placement). IsSteady q.bytes walk.stage walk.turns → IfOk c.next.result (Proceeds q.bytes walk.stage new.stage)) c.loop-visit.invariant.same c.next.ensures.goes_on t.followed.steady in
+    let goes_on = subst (λ (bs : List ℕ). IsSteady bs walk.stage walk.turns → IfOk c.next.result (Proceeds bs walk.stage new.stage)) c.loop-visit.invariant.same c.next.ensures.goes_on t.followed.steady in
     let step : Proceeds bytes walk.stage new.stage None = subst (λ r. IfOk r (Proceeds bytes walk.stage new.stage)) (was ∙ ap Ok c.in_default.is) goes_on in
     traced_end bytes c.args.self.now.types.now c.args.claims.now ready c.loop-visit.claims walk.stage walk.turns t new.stage step

@@ -48,16 +48,15 @@ claims_waiting bytes old mid at tag room start turns c =
 tag_named : (tag : Tag) (T : ℕ) → kind_of tag.kind ≡ Kind.named → tag.type_id ≡ T → word_of tag ≡ tag_of Kind.named T
 tag_named tag T kind type = ap (λ k. tag_of k tag.type_id) kind ∙ ap (tag_of Kind.named) type
 
-module _ (bytes near : List ℕ) (table : Table) (old : Known) (at n len T tag room : ℕ) (near_is : near ≡ bytes) (tag_is : tag ≡ tag_of Kind.named T) (room_is : room ≡ n * size table T + len) (ready : IsReady bytes table old) where
-  live : HaveLiveHeaders near old.unclaimed
-  live = subst (λ b. HaveLiveHeaders b old.unclaimed) (sym near_is) (ready_live bytes table old ready)
+module _ (bytes : List ℕ) (table : Table) (old : Known) (at n len T tag room : ℕ) (tag_is : tag ≡ tag_of Kind.named T) (room_is : room ≡ n * size table T + len) (ready : IsReady bytes table old) where
+  live : HaveLiveHeaders bytes old.unclaimed
+  live = ready_live bytes table old ready
 
-  named_claimed : {A : Type 0} (mid new : Known) (start k : ℕ) → k ≡ n → (result : Result A ContentFault) → (HaveLiveHeaders near old.unclaimed → ClaimsBlock near old mid at tag room [] start)
+  named_claimed : {A : Type 0} (mid new : Known) (start k : ℕ) → k ≡ n → (result : Result A ContentFault) → (HaveLiveHeaders bytes old.unclaimed → ClaimsBlock bytes old mid at tag room [] start)
       → OnOk result (new ≡ record mid { turns = mid.turns ++ awaiting mid.naming.below (turns_where (has_cells (form_at table T)) start k) }) → OnOk result (ClaimsNamed bytes table old new at n len)
   named_claimed mid new start k same (Ok x) c waits =
       let turns = turns_where (has_cells (form_at table T)) start in
-      let here = subst (λ b. ClaimsBlock b old mid at tag room [] start) near_is (c live) in
-      let typed = subst (λ t. ClaimsBlock bytes old mid at t room [] start) tag_is here in
+      let typed = subst (λ t. ClaimsBlock bytes old mid at t room [] start) tag_is (c live) in
       let sized = subst (λ m. ClaimsBlock bytes old mid at (tag_of Kind.named T) m [] start) room_is typed in
       let all = claims_waiting bytes old mid at (tag_of Kind.named T) (n * size table T + len) start (turns k) sized in
       record {
@@ -69,15 +68,14 @@ module _ (bytes near : List ℕ) (table : Table) (old : Known) (at n len T tag r
   named_claimed mid new start k same (Err f) c waits = tt
 
   named_refused : {A : Type 0} (object : Option ℕ) → object ≡ target bytes at → type_of bytes object ≡ Some T → (e : ContentFault) (result : Result A ContentFault)
-      → (HaveLiveHeaders near old.unclaimed → Refutes e (CanClaim near old at tag room)) → (x : ContentFault) × (result ≡ Err x) × (x ≡ e) → IfErr result (λ fault. Refutes fault (CanClaimNamed bytes table old at n len))
+      → (HaveLiveHeaders bytes old.unclaimed → Refutes e (CanClaim bytes old at tag room)) → (x : ContentFault) × (result ≡ Err x) × (x ≡ e) → IfErr result (λ fault. Refutes fault (CanClaimNamed bytes table old at n len))
   named_refused object is some e result refused r =
       subst (λ x. IfErr x (λ fault. Refutes fault (CanClaimNamed bytes table old at n len))) (sym (r.1 ∙ ap Err r.2))
-      (refuses_map e (CanClaim near old at tag room) (CanClaimNamed bytes table old at n len) (λ can.
+      (refuses_map e (CanClaim bytes old at tag room) (CanClaimNamed bytes table old at n len) (λ can.
       let both : Some can.type ≡ Some T = sym (type_claimed bytes table old at n len object ready is can) ∙ some in
       let type_is : can.type ≡ T = cc in
       let one = subst (λ t. CanClaim bytes old at (tag_of Kind.named t) (n * size table t + len)) type_is can.can in
-      subst (λ b. CanClaim b old at tag room) (sym near_is)
-      (subst (λ t. CanClaim bytes old at t room) (sym tag_is) (subst (λ m. CanClaim bytes old at (tag_of Kind.named T) m) (sym room_is) one)))
+      subst (λ t. CanClaim bytes old at t room) (sym tag_is) (subst (λ m. CanClaim bytes old at (tag_of Kind.named T) m) (sym room_is) one))
       (refused live))
 
 memory_refuses : {A : Type 0} (P : Type 0) (result : Result A ContentFault) → IfErr result (λ f. f ≡ Memory) → IfErr result (λ f. Refutes f P)
@@ -86,32 +84,32 @@ memory_refuses P (Err f) e = subst (λ x. Refutes x P) (sym e) tt
 
 pub returns-in_default-clause-refused : goal.returns-in_default-clause-refused
 returns-in_default-clause-refused g c = λ ready is can.
-    let some = type_claimed c.args.self.now.w.now.bytes c.args.self.now.types.now c.args.claims.now c.args.at c.args.entry.now.count c.args.entry.now.name_len c.args.entry.now.object ready is can in
-    let both : None ≡ Some can.type = sym c.in_default.is ∙ c.type_id.ensures ∙ some in
+    let some = type_claimed c.args.self.now.bytes.bytes.now c.args.self.now.types.now c.args.claims.now c.args.at c.args.entry.now.count c.args.entry.now.name_len c.args.entry.now.object ready is can in
+    let both : None ≡ Some can.type = sym c.in_default.is ∙ c.type_in.ensures ∙ some in
     cc
 
 pub returns-in_err-start-clause-refused : goal.returns-in_err-start-clause-refused
 returns-in_err-start-clause-refused g c = λ ready is.
-    let bytes = c.args.self.now.w.now.bytes in
+    let bytes = c.args.self.now.bytes.bytes.now in
     let table = c.args.self.now.types.now in
     let n = c.args.entry.now.count in
     let T = c.in-Some.type_id in
     let tag_is = tag_named c.named_tag.result T (ap kind_of c.named_tag.ensures.kind) c.named_tag.ensures.type_id in
     let room_is = ap (λ l. l + c.from.result) (c.values_len.ensures.len ∙ ap (λ k. n * k) c.size.ensures.value) ∙ ap (λ l. n * size table T + l) c.from.ensures in
-    named_refused bytes c.args.self.now.bytes.bytes.now table c.args.claims.now c.args.at n c.args.entry.now.name_len T (word_of c.named_tag.result) (c.values_len.result + c.from.result) c.args.self.now.same tag_is room_is
-    ready c.args.entry.now.object is (sym c.type_id.ensures ∙ c.in-Some.is) c.in_err-start.field-0.0 c.from_residual.result c.in_err-start.ensures.refused (err_from_is_err_and c.from_residual.result c.from_residual.ensures.1)
+    named_refused bytes table c.args.claims.now c.args.at n c.args.entry.now.name_len T (word_of c.named_tag.result) (c.values_len.result + c.from.result) tag_is room_is
+    ready c.args.entry.now.object is (sym c.type_in.ensures ∙ c.in-Some.is) c.in_err-start.field-0.0 c.from_residual.result c.in_err-start.ensures.refused (err_from_is_err_and c.from_residual.result c.from_residual.ensures.1)
 
 pub returns-clause-claimed : goal.returns-clause-claimed
 returns-clause-claimed g c = λ ready is.
-    let bytes = c.args.self.now.w.now.bytes in
+    let bytes = c.args.self.now.bytes.bytes.now in
     let table = c.args.self.now.types.now in
     let n = c.args.entry.now.count in
     let T = c.in-Some.type_id in
     let tag_is = tag_named c.named_tag.result T (ap kind_of c.named_tag.ensures.kind) c.named_tag.ensures.type_id in
     let room_is = ap (λ l. l + c.from.result) (c.values_len.ensures.len ∙ ap (λ k. n * k) c.size.ensures.value) ∙ ap (λ l. n * size table T + l) c.from.ensures in
-    named_claimed bytes c.args.self.now.bytes.bytes.now table c.args.claims.now c.args.at n c.args.entry.now.name_len T (word_of c.named_tag.result) (c.values_len.result + c.from.result) c.args.self.now.same tag_is room_is
+    named_claimed bytes table c.args.claims.now c.args.at n c.args.entry.now.name_len T (word_of c.named_tag.result) (c.values_len.result + c.from.result) tag_is room_is
     ready c.claim.new.self c.await_values.new.claims c.in_ok-start.start c.from-count.result c.from-count.ensures c.await_values.result c.in_ok-start.ensures.claimed c.await_values.ensures.waits
 
 pub returns-clause-refused : goal.returns-clause-refused
 returns-clause-refused g c = λ ready is.
-    memory_refuses (CanClaimNamed c.args.self.now.w.now.bytes c.args.self.now.types.now c.args.claims.now c.args.at c.args.entry.now.count c.args.entry.now.name_len) c.await_values.result c.await_values.ensures.refused
+    memory_refuses (CanClaimNamed c.args.self.now.bytes.bytes.now c.args.self.now.types.now c.args.claims.now c.args.at c.args.entry.now.count c.args.entry.now.name_len) c.await_values.result c.await_values.ensures.refused

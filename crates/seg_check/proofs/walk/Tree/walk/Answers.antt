@@ -2,7 +2,7 @@ use Rattle.seg_check.proofs.WalkLaws.{Starts, starts}
 use Rattle.seg_check.proofs.walk.Tree.walk.Goals as goal
 
 pub returns-clause-starts : goal.returns-clause-starts
-returns-clause-starts g c =
+returns-clause-starts c =
     let n = c.new.ensures in
     let s : Starts c.new.result c.args.self.root c.args.self.nodes = record {
       wanted_is = n.wanted;
@@ -14,4 +14,4 @@ returns-clause-starts g c =
       blacks_are = n.blacks;
       red_is = n.is_red;
     } in
-    starts c.args.w.now.bytes c.new.result c.args.self.root c.args.self.nodes s
+    starts c.args.bytes.bytes.now c.new.result c.args.self.root c.args.self.nodes s

@@ -21,19 +21,19 @@ returns-in_default-clause-tells g c = λ picture is.
     let vacant = MatchResult-at_err _ _ c.in_default.field-0 c.in_default.is (c.look_up.ensures picture.names is.held.index_blocks (finds_in g.F.Fit.allocator c.args.self.now picture is c.heap.result.now c.heap.ensures)) in
     sym (ap (λ o. is_ok (found_as c.args.t o)) vacant.missing)
 
-pub returns-in_default-found-clause-tells : goal.returns-in_default-found-clause-tells
-returns-in_default-found-clause-tells g c = λ picture is.
+pub returns-in_default-named_object-clause-tells : goal.returns-in_default-named_object-clause-tells
+returns-in_default-named_object-clause-tells g c = λ picture is.
     let it = MatchResult-at_ok _ _ c.in-Ok.occupied c.in-Ok.is (c.look_up.ensures picture.names is.held.index_blocks (finds_in g.F.Fit.allocator c.args.self.now picture is c.heap.result.now c.heap.ensures)) in
     let l = listed_named g.F.Fit.allocator c.args.self.now picture is c.args.name.now it.0 it.1.found in
-    let found = c.found.ensures it.0 l.0 l.1 (c.entry.ensures ∙ it.1.entry_is) in
-    sym (ap is_ok c.in_default-found.is) ∙ ap is_ok found ∙ sym (ap (λ o. is_ok (found_as c.args.t o)) it.1.found)
+    let found = c.named_object.ensures it.0 l.0 l.1 (c.entry.ensures ∙ it.1.entry_is) in
+    sym (ap is_ok c.in_default-named_object.is) ∙ ap is_ok found ∙ sym (ap (λ o. is_ok (found_as c.args.t o)) it.1.found)
 
 pub returns-clause-tells : goal.returns-clause-tells
 returns-clause-tells g c = λ picture is.
     let it = MatchResult-at_ok _ _ c.in-Ok.occupied c.in-Ok.is (c.look_up.ensures picture.names is.held.index_blocks (finds_in g.F.Fit.allocator c.args.self.now picture is c.heap.result.now c.heap.ensures)) in
     let l = listed_named g.F.Fit.allocator c.args.self.now picture is c.args.name.now it.0 it.1.found in
-    let found = c.found.ensures it.0 l.0 l.1 (c.entry.ensures ∙ it.1.entry_is) in
-    sym (ap is_ok c.in-Ok-found.is) ∙ ap is_ok found ∙ sym (ap (λ o. is_ok (found_as c.args.t o)) it.1.found)
+    let found = c.named_object.ensures it.0 l.0 l.1 (c.entry.ensures ∙ it.1.entry_is) in
+    sym (ap is_ok c.in-Ok-named_object.is) ∙ ap is_ok found ∙ sym (ap (λ o. is_ok (found_as c.args.t o)) it.1.found)
 
 pub returns-clause-loses : goal.returns-clause-loses
 returns-clause-loses g c = λ picture is done.
@@ -44,11 +44,11 @@ returns-clause-loses g c = λ picture is done.
     let name = c.args.name.now in
     let T = c.args.t in
     let occupied = c.in-Ok.occupied in
-    let found = c.in-Ok-found.found in
+    let found = c.in-Ok-named_object.found in
     let it = MatchResult-at_ok _ _ occupied c.in-Ok.is (c.look_up.ensures picture.names is.held.index_blocks (finds_in a old picture is c.heap.result.now c.heap.ensures)) in
     let root = it.0 in
     let l = listed_named a old picture is name root it.1.found in
-    let says = is_found T root found (sym c.in-Ok-found.is ∙ c.found.ensures root l.0 l.1 (c.entry.ensures ∙ it.1.entry_is)) in
+    let says = is_found T root found (sym c.in-Ok-named_object.is ∙ c.named_object.ensures root l.0 l.1 (c.entry.ensures ∙ it.1.entry_is)) in
     let there = subst (λ (s : Stored). IsOccupied s.window.bytes s.types picture.names name root occupied) c.heap.ensures it.1 in
     let Leaves : Stored → Type 0 = λ s. (names : List Root) (blocks : List ℕ) → FindsNamesOf a s.window.bytes s.types names blocks → (name : List ℕ) (root : Root) → IsOccupied s.window.bytes s.types names name root occupied
     → LeavesName s.window.bytes mid.window.bytes s.types names blocks root in

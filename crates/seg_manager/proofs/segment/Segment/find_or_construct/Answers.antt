@@ -13,25 +13,25 @@ returns-in_default-clause-tells g c = λ picture is.
     let vacant = MatchResult-at_err _ _ _ c.in-Err.is (c.look_up.ensures picture.names is.held.index_blocks (finds_in g.F.Fit.allocator c.args.self.now picture is c.heap.result.now c.heap.ensures)) in
     (vacant.missing, c.in_default.ensures.none, refl)
 
-pub returns-in-Ok-found-clause-tells : goal.returns-in-Ok-found-clause-tells
-returns-in-Ok-found-clause-tells g c = λ picture is.
+pub returns-in-Ok-named_object-clause-tells : goal.returns-in-Ok-named_object-clause-tells
+returns-in-Ok-named_object-clause-tells g c = λ picture is.
     let it = MatchResult-at_ok _ _ _ c.in-Ok.is (c.look_up.ensures picture.names is.held.index_blocks (finds_in g.F.Fit.allocator c.args.self.now picture is c.heap.result.now c.heap.ensures)) in
     let l = listed_named g.F.Fit.allocator c.args.self.now picture is c.args.name.now it.0 it.1.found in
-    found_is c.args.t it.0 c.args.self.now picture.names c.args.name.now c.in-Ok-found.found it.1.found (sym c.in-Ok-found.is ∙ c.found.ensures it.0 l.0 l.1 (c.entry.ensures ∙ it.1.entry_is))
+    found_is c.args.t it.0 c.args.self.now picture.names c.args.name.now c.in-Ok-named_object.found it.1.found (sym c.in-Ok-named_object.is ∙ c.named_object.ensures it.0 l.0 l.1 (c.entry.ensures ∙ it.1.entry_is))
 
-pub returns-in-Err-found-clause-tells : goal.returns-in-Err-found-clause-tells
-returns-in-Err-found-clause-tells g c = λ picture is.
+pub returns-in-Err-named_object-clause-tells : goal.returns-in-Err-named_object-clause-tells
+returns-in-Err-named_object-clause-tells g c = λ picture is.
     let it = MatchResult-at_ok _ _ _ c.in-Ok.is (c.look_up.ensures picture.names is.held.index_blocks (finds_in g.F.Fit.allocator c.args.self.now picture is c.heap.result.now c.heap.ensures)) in
     let l = listed_named g.F.Fit.allocator c.args.self.now picture is c.args.name.now it.0 it.1.found in
-    other_is c.args.t it.0 c.args.self.now picture.names c.args.name.now c.in-Err-found.code it.1.found (sym c.in-Err-found.is ∙ c.found.ensures it.0 l.0 l.1 (c.entry.ensures ∙ it.1.entry_is))
+    other_is c.args.t it.0 c.args.self.now picture.names c.args.name.now c.in-Err-named_object.code it.1.found (sym c.in-Err-named_object.is ∙ c.named_object.ensures it.0 l.0 l.1 (c.entry.ensures ∙ it.1.entry_is))
 
 pub returns-in-Some-clause-tells : goal.returns-in-Some-clause-tells
 returns-in-Some-clause-tells g c = λ picture is.
     let vacant = MatchResult-at_err _ _ _ c.in-Err.is (c.look_up.ensures picture.names is.held.index_blocks (finds_in g.F.Fit.allocator c.args.self.now picture is c.heap.result.now c.heap.ensures)) in
     made_missing c.construct_at.result c.args.self.now c.construct_at.new.self picture.names c.args.name.now c.args.t c.construct_at.ensures.code (c.in-Some.ensures.name.0, vacant.missing)
 
-pub returns-in-Ok-found-clause-makes : goal.returns-in-Ok-found-clause-makes
-returns-in-Ok-found-clause-makes g c = λ picture is small none.
+pub returns-in-Ok-named_object-clause-makes : goal.returns-in-Ok-named_object-clause-makes
+returns-in-Ok-named_object-clause-makes g c = λ picture is small none.
     let it = MatchResult-at_ok _ _ _ c.in-Ok.is (c.look_up.ensures picture.names is.held.index_blocks (finds_in g.F.Fit.allocator c.args.self.now picture is c.heap.result.now c.heap.ensures)) in
     absurd (not_both (root_named picture.names c.args.name.now) it.0 none it.1.found)
 
@@ -55,9 +55,9 @@ returns-in-Some-clause-no_room g c = λ picture is small e.
     (c.construct_at.ensures.makes picture is small (subst IsName (sym name.1) name.0) (name.2 ∙ ap length (sym name.1)) some
     (subst (λ n. IsVacant c.args.self.now.window.bytes c.args.self.now.types picture.names n c.in-Err.vacant) (sym name.1) here)) e
 
-pub returns-in-Err-found-clause-no_room : goal.returns-in-Err-found-clause-no_room
-returns-in-Err-found-clause-no_room g c = λ picture is small e.
+pub returns-in-Err-named_object-clause-no_room : goal.returns-in-Err-named_object-clause-no_room
+returns-in-Err-named_object-clause-no_room g c = λ picture is small e.
     let it = MatchResult-at_ok _ _ _ c.in-Ok.is (c.look_up.ensures picture.names is.held.index_blocks (finds_in g.F.Fit.allocator c.args.self.now picture is c.heap.result.now c.heap.ensures)) in
     let l = listed_named g.F.Fit.allocator c.args.self.now picture is c.args.name.now it.0 it.1.found in
-    let other = was_other c.args.t it.0 c.in-Err-found.code (sym c.in-Err-found.is ∙ c.found.ensures it.0 l.0 l.1 (c.entry.ensures ∙ it.1.entry_is)) in
-    absurd (let f : Err c.in-Err-found.code ≡ Err code.BadAlloc = e in cc)
+    let other = was_other c.args.t it.0 c.in-Err-named_object.code (sym c.in-Err-named_object.is ∙ c.named_object.ensures it.0 l.0 l.1 (c.entry.ensures ∙ it.1.entry_is)) in
+    absurd (let f : Err c.in-Err-named_object.code ≡ Err code.BadAlloc = e in cc)

@@ -1,7 +1,6 @@
-use Rattle.std.proofs.Common.{ℕ, List, ◌≡◌, Some, sym, subst, ap, ◌∙◌}
+use Rattle.std.proofs.Common.{ℕ, ◌≡◌, Some, sym, subst}
 use Rattle.std.specs.Prelude.{IfSome}
 use Rattle.std.specs.declared.cmp.Ordering.TheVariants.{Equal}
-use Rattle.seg_spec.specs.Shapes.{Tree}
 use Rattle.seg_spec.specs.Search.{IsSearchTree}
 use Rattle.seg_rbtree.specs.Paths.{node_at}
 use Rattle.seg_rbtree.proofs.ClimbLaws.{goes_above, goes_inside, leads_there}
@@ -9,28 +8,22 @@ use Rattle.seg_rbtree.proofs.path.Path.next_after.Goals as goal
 
 pub returns-in-Some-clause-node : goal.returns-in-Some-clause-node
 returns-in-Some-clause-node g c = λ exact inside shape t a.
-    let now = c.view-view.result.bytes.now in
-    let bytes = c.args.w.now.bytes in
+    let bytes = c.args.view.bytes.now in
     let path = c.args.self.now in
     let node = c.in-Some.node in
     let compare = λ (x : ℕ). g.O.NodeOrder.compare_key c.args.order.now bytes x c.args.key in
     let order = g.O.NodeOrder.compare c.args.order.now bytes in
-    let there = subst (λ o. IfSome o (λ n. (path.root ≡ c.args.tree.root) × (node_at now path ≡ Some n))) c.in-Some.is c.node_with_key.ensures.there in
-    let equals : compare node ≡ Equal = subst (λ bs. g.O.NodeOrder.compare_key c.args.order.now bs node c.args.key ≡ Equal) c.view-view.ensures
-    (subst (λ o. IfSome o (λ n. g.O.NodeOrder.compare_key c.args.order.now now n c.args.key ≡ Equal)) c.in-Some.is (c.node_with_key.ensures.equals exact)) in
+    let there = subst (λ o. IfSome o (λ n. (path.root ≡ c.args.tree.root) × (node_at bytes path ≡ Some n))) c.in-Some.is c.node_with_key.ensures.there in
+    let equals : compare node ≡ Equal = subst (λ o. IfSome o (λ n. compare n ≡ Equal)) c.in-Some.is (c.node_with_key.ensures.equals exact) in
     let hung = subst (λ (root : ℕ). IsSearchTree bytes root shape) (sym there.0) t in
-    let named = sym (ap (λ (bs : List ℕ). node_at bs path) c.view-view.ensures) ∙ there.1 in
     let way = leads_there compare order (λ x y less. g.met.O.NodeOrder.keyed exact c.args.order.now bytes x y c.args.key less)
-    (λ x y e f. g.met.O.UniqueKeys.one exact c.args.order.now bytes x y c.args.key e f) bytes path shape node hung a (inside shape hung) named equals in
+    (λ x y e f. g.met.O.UniqueKeys.one exact c.args.order.now bytes x y c.args.key e f) bytes path shape node hung a (inside shape hung) there.1 equals in
     goes_above compare order (λ x y less. g.met.O.NodeOrder.keyed exact c.args.order.now bytes x y c.args.key less)
-    (λ x y e f. g.met.O.UniqueKeys.one exact c.args.order.now bytes x y c.args.key e f) now path c.go_on_from.new.self shape c.go_on_from.result
-    (subst (λ (bs : List ℕ). IsSearchTree bs path.root shape) (sym c.view-view.ensures) hung) a way (c.go_on_from.ensures.on there.1 way.layers way.rest)
+    (λ x y e f. g.met.O.UniqueKeys.one exact c.args.order.now bytes x y c.args.key e f) bytes path c.go_on_from.new.self shape c.go_on_from.result hung a way (c.go_on_from.ensures.on there.1 way.layers way.rest)
 
 pub returns-in-Some-clause-inside : goal.returns-in-Some-clause-inside
-returns-in-Some-clause-inside g c = λ exact inside shape t.
-    let now = c.view-view.result.bytes.now in
+returns-in-Some-clause-inside g c = λ exact inside.
+    let bytes = c.args.view.bytes.now in
     let path = c.args.self.now in
-    let there = subst (λ o. IfSome o (λ n. (path.root ≡ c.args.tree.root) × (node_at now path ≡ Some n))) c.in-Some.is c.node_with_key.ensures.there in
-    let back = λ (x : Tree) (u : IsSearchTree now path.root x). inside x (subst (λ (bs : List ℕ). IsSearchTree bs path.root x) c.view-view.ensures u) in
-    goes_inside now path c.go_on_from.new.self c.go_on_from.result c.go_on_from.ensures.root (c.go_on_from.ensures.on there.1) back shape
-    (subst (λ (bs : List ℕ). IsSearchTree bs c.go_on_from.new.self.root shape) (sym c.view-view.ensures) t)
+    let there = subst (λ o. IfSome o (λ n. (path.root ≡ c.args.tree.root) × (node_at bytes path ≡ Some n))) c.in-Some.is c.node_with_key.ensures.there in
+    goes_inside bytes path c.go_on_from.new.self c.go_on_from.result c.go_on_from.ensures.root (c.go_on_from.ensures.on there.1) inside

@@ -5,5 +5,5 @@ use Rattle.seg_rbtree.proofs.KeySearchLaws.{IsSeeking}
 use Rattle.seg_rbtree.proofs.tree.Tree.find.Given as goal
 
 abbrev pub invariant-loop : goal.invariant-loop
-invariant-loop g l = g.O.NodeOrder.exact → (shape : Tree) → IsSearchTree l.w.bytes l.fn.self.root shape
-    → IsSeeking l.w.bytes (λ x. ordering_reverse (g.O.NodeOrder.compare_key l.order l.w.bytes x l.key)) shape l.place l.counter
+invariant-loop g l = g.O.NodeOrder.exact → (shape : Tree) → IsSearchTree l.view.bytes.now l.fn.self.root shape
+    → IsSeeking l.view.bytes.now (λ x. ordering_reverse (g.O.NodeOrder.compare_key l.order l.view.bytes.now x l.key)) shape l.place l.counter

@@ -5,4 +5,4 @@ use Rattle.seg_rbtree.proofs.FirstNodeSearchLaws.{IsSearching}
 use Rattle.seg_rbtree.proofs.tree.Tree.first.Given as goal
 
 abbrev pub invariant-loop : goal.invariant-loop
-invariant-loop g l = (shape : Tree) → IsSearchTree l.w.bytes l.fn.self.root shape → IsSearching l.w.bytes (λ _. true) shape l.place l.first l.counter
+invariant-loop l = (shape : Tree) → IsSearchTree l.view.bytes.now l.fn.self.root shape → IsSearching l.view.bytes.now (λ _. true) shape l.place l.first l.counter

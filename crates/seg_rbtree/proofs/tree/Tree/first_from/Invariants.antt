@@ -7,8 +7,8 @@ use Rattle.seg_rbtree.proofs.tree.Tree.first_from.Given as goal
 abbrev pub invariant-loop-found : goal.invariant-loop-found
 invariant-loop-found g l = record {
   few : l.found.looks ≤ 64;
-  searching : g.O.NodeOrder.exact → (shape : Tree) → IsSearchTree l.w.bytes l.fn.self.root shape → Ascend (g.O.NodeOrder.compare l.order l.w.bytes) (nodes_of shape)
-      → IsSearching l.w.bytes (λ node. reaches l.least (g.O.NodeOrder.compare_key l.order l.w.bytes node l.key)) shape l.place l.found.node l.found.looks;
+  searching : g.O.NodeOrder.exact → (shape : Tree) → IsSearchTree l.view.bytes.now l.fn.self.root shape → Ascend (g.O.NodeOrder.compare l.order l.view.bytes.now) (nodes_of shape)
+      → IsSearching l.view.bytes.now (λ node. reaches l.least (g.O.NodeOrder.compare_key l.order l.view.bytes.now node l.key)) shape l.place l.found.node l.found.looks;
 }
 
 abbrev pub decreases-loop-found : goal.decreases-loop-found

@@ -16,7 +16,7 @@ returns-clause-cells g c =
     let valid = subst (λ (s : Stored). IsTable s.types) (sym c.self.view_is) c.cells-cells.ensures.table in
     let made = subst (λ (s : Stored). c.cells-cells.result ≡ cells_of (form_at s.types T)) (sym c.self.view_is) c.cells-cells.ensures.cells in
     subst (λ (s : Stored). IsWithin s.window.bytes c.args.place.at (size s.types T) → ChangesCells IsDefaulted s.window.bytes c.set_default.new.w.bytes s.types c.args.place.at T)
-    c.self.view_is (λ within. c.set_default.ensures.cells valid made within)
+    c.self.view_is (λ within. (rw c.types.ensures at c.set_default.ensures.cells) valid made within)
 
 pub returns-clause-changes : goal.returns-clause-changes
 returns-clause-changes g c =
@@ -24,7 +24,7 @@ returns-clause-changes g c =
     let valid = subst (λ (s : Stored). IsTable s.types) (sym c.self.view_is) c.cells-cells.ensures.table in
     let made = subst (λ (s : Stored). c.cells-cells.result ≡ cells_of (form_at s.types T)) (sym c.self.view_is) c.cells-cells.ensures.cells in
     subst (λ (s : Stored). IsWithin s.window.bytes c.args.place.at (size s.types T) → ChangesOnly s.window.bytes c.set_default.new.w.bytes c.args.place.at (size s.types T))
-    c.self.view_is (λ within. (c.set_default.ensures.cells valid made within).changes)
+    c.self.view_is (λ within. ((rw c.types.ensures at c.set_default.ensures.cells) valid made within).changes)
 
 pub returns-clause-default : goal.returns-clause-default
 returns-clause-default g c =
@@ -33,4 +33,4 @@ returns-clause-default g c =
     let made = subst (λ (s : Stored). c.cells-cells.result ≡ cells_of (form_at s.types T)) (sym c.self.view_is) c.cells-cells.ensures.cells in
     subst (λ (s : Stored). IsWithin s.window.bytes c.args.place.at (size s.types T) → T < length s.types →
     Holds c.set_default.new.w.bytes s.types (place_of c.args.place) (default_of s.types T) [])
-    c.self.view_is (λ within below. Holds-default c.set_default.new.w.bytes c.self.inside.types valid (place_of c.args.place) below (c.set_default.ensures.cells valid made within).cells)
+    c.self.view_is (λ within below. Holds-default c.set_default.new.w.bytes c.self.inside.layouts valid (place_of c.args.place) below ((rw c.types.ensures at c.set_default.ensures.cells) valid made within).cells)

@@ -35,7 +35,7 @@ returns-in-Some-value-clause-given g c = subst (λ (s : Stored). (before U tag :
     gives_block_for g.F.Fit.allocator c.in-Some.block tag before U c.in-Some-value.value.type_id entry.before c.need-need.result entry.size
     c.tagged-payload.result c.in-Some-value.value.at
     c.self.inside.window.bytes taken.bytes c.tagged-payload.new.self.window.bytes c.init_default.new.self.window.bytes
-    c.self.inside.types c.tagged-payload.new.self.types c.tagged-payload.ensures.types (ap (λ (p : Place). p.type_id) value_is) content.entry_is.before_is
+    c.self.inside.layouts c.tagged-payload.new.self.types c.tagged-payload.ensures.types (ap (λ (p : Place). p.type_id) value_is) content.entry_is.before_is
     valid low below small heap (c.in-Some.ensures.takes heap) content.entry_is.size_is c.need-need.ensures.exact c.tagged-payload.ensures.payload
     (ap (λ (p : Place). p.at) value_is) tagged_by c.init_default.ensures.changes c.init_default.ensures.default)
 

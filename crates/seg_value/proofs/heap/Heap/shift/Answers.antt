@@ -15,8 +15,8 @@ sized old new table T from to n k e f a b =
 
 pub returns-clause-changes : goal.returns-clause-changes
 returns-clause-changes g c = λ from_in to_in.
-    let entry = subst (λ (s : Stored). IsEntryOf s.types 0 c.args.t c.object.result.entry) c.self.view_is c.object.ensures.content.entry_is in
-    let valid = subst (λ (s : Stored). IsTable s.types) c.self.view_is c.object.ensures.table in
+    let entry = subst (λ (s : Stored). IsEntryOf s.types 0 c.args.t c.object.result.entry) c.self.view_is (rw c.types.ensures at c.object.ensures.content.entry_is) in
+    let valid = subst (λ (s : Stored). IsTable s.types) c.self.view_is (rw c.types.ensures at c.object.ensures.table) in
     let s = sized c.args.self.now.window.bytes c.shift_entries.new.self.window.bytes c.args.self.now.types c.args.t c.args.from c.args.to c.args.n
     c.object.result.entry.size entry.size_is (c.shift_entries.ensures.shifted c.args.t 0 entry) from_in to_in in
     moved_changes c.args.self.now.window.bytes c.shift_entries.new.self.window.bytes c.args.self.now.types valid 0 c.args.t
@@ -24,8 +24,8 @@ returns-clause-changes g c = λ from_in to_in.
 
 pub returns-clause-values : goal.returns-clause-values
 returns-clause-values g c = λ allocator home vs blocks heap even from_in stands h.
-    let entry = subst (λ (s : Stored). IsEntryOf s.types 0 c.args.t c.object.result.entry) c.self.view_is c.object.ensures.content.entry_is in
-    let valid = subst (λ (s : Stored). IsTable s.types) c.self.view_is c.object.ensures.table in
+    let entry = subst (λ (s : Stored). IsEntryOf s.types 0 c.args.t c.object.result.entry) c.self.view_is (rw c.types.ensures at c.object.ensures.content.entry_is) in
+    let valid = subst (λ (s : Stored). IsTable s.types) c.self.view_is (rw c.types.ensures at c.object.ensures.table) in
     let to_in = stands_within c.args.self.now.window.bytes allocator home c.args.to (c.args.n * size c.args.self.now.types c.args.t) blocks heap stands in
     let s = sized c.args.self.now.window.bytes c.shift_entries.new.self.window.bytes c.args.self.now.types c.args.t c.args.from c.args.to c.args.n
     c.object.result.entry.size entry.size_is (c.shift_entries.ensures.shifted c.args.t 0 entry) from_in to_in in

@@ -32,9 +32,9 @@ returns-clause-shifted g c = subst (λ (s : Stored). (U before : ℕ) → IsEntr
     let m_is : c.saturating_mul-bytes.result ≡ c.args.n * c.args.entry.size = omega (arith, c.saturating_mul-bytes.ensures, from_in.fits, from_in.small) in
     let moved = c.move_within.ensures.moved (omega (arith, from_in.fits)) in
     let raw_is = bytes_of c.move_within.new.self (with_bytes old (put old.bytes c.args.to (slice old.bytes c.args.from c.saturating_mul-bytes.result))) moved in
-    let changed = c.point_each_again.ensures.values U is.held_is (omega (arith, is.size_is, is.before_is))
+    let changed = (rw c.types.ensures at c.point_each_again.ensures.values) U is.held_is (omega (arith, is.size_is, is.before_is))
     (raw_within old.bytes c.move_within.new.self.bytes c.args.from c.args.to c.saturating_mul-bytes.result (c.args.n * c.args.entry.size) raw_is to_in) in
-    shifts_by old.bytes c.move_within.new.self.bytes c.point_each_again.new.w.bytes c.self.inside.types U before c.args.entry.before
+    shifts_by old.bytes c.move_within.new.self.bytes c.point_each_again.new.w.bytes c.self.inside.layouts U before c.args.entry.before
     c.args.entry.size c.args.from c.args.to c.args.n c.saturating_mul-bytes.result c.distance-distance.result
     m_is raw_is is.before_is c.distance-distance.ensures changed)
 

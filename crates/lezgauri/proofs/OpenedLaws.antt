@@ -1,0 +1,34 @@
+-- An image as it was created or opened.
+use Rattle.std.proofs.Common.{◌≡◌, ℕ, List, [], refl, sym, ◌∙◌, subst, arith}
+use Rattle.seg_spec.specs.Bytes.{word}
+use Rattle.seg_spec.specs.Header.{allocator_word, version_word, next_word, sharing_version}
+use Rattle.seg_spec.specs.Sound.{Picture, IsHeld}
+use Rattle.seg_spec.specs.Counting.{AreCounted}
+use Rattle.seg_spec.specs.Images.{IsSound, upgraded}
+use Rattle.seg_spec.proofs.Images.UpgradeLaws.{same_word, upgraded_version, upgraded_held, upgraded_counted}
+use Rattle.seg_image.specs.Faults.{IsImageOf}
+use Rattle.seg_image.specs.declared.image.Image.{Image}
+use Rattle.seg_image.specs.Images.{segment_of, allocator_of, bytes_in, types_of, IsOpen}
+use Rattle.client_vm.specs.Runs.{IsReadyToRun}
+
+-- a sound image with these types is sound
+pub image_sound : (bytes : List ℕ) (table : _) → IsImageOf bytes table → IsSound bytes
+image_sound bytes table is = record { picture = is.picture; held = is.held; counted = is.counted; none_loose = is.none_loose }
+
+-- the bytes of an open image without loose objects are sound
+pub open_sound : {A : Type 0} (image : Image A) (picture : Picture) → IsOpen image picture → picture.loose ≡ [] → IsSound (bytes_in image)
+open_sound image picture is none = record { picture = picture; held = is.held; counted = is.counted; none_loose = none }
+
+-- clients may run on an image as `open` returns it
+module _ {A : Type 0} (image : Image A) (bytes : List ℕ) (opened : bytes_in image ≡ upgraded bytes) (is : IsImageOf bytes (types_of image)) (named : word bytes allocator_word ≡ allocator_of image) where
+  pub opened_ready : IsReadyToRun (allocator_of image) [] (segment_of image).window (types_of image) []
+  opened_ready = record {
+    picture = is.picture;
+    held = subst (λ bs. IsHeld bs is.picture) (sym opened) (upgraded_held bytes is.picture is.held);
+    counted = subst (λ bs. AreCounted (word bs next_word) is.picture) (sym opened) (upgraded_counted bytes is.picture is.counted);
+    loose_are = is.none_loose;
+    table_is = is.table_is;
+    allocator_is = subst (λ bs. word bs allocator_word ≡ allocator_of image) (sym opened) (same_word bytes allocator_word (omega arith) ∙ named);
+    version_is = subst (λ bs. word bs version_word ≡ sharing_version) (sym opened) (upgraded_version bytes (let small = is.held.laid_out.header.not_small in omega arith));
+    moves_may = tt;
+  }

@@ -1,0 +1,44 @@
+-- The words of this crate's contracts, for a crate that lists only `lezgauri`: each line makes a
+-- file of definitions `Rattle.lezgauri.specs.NAME`.
+-- bytes, types, values, named objects, and the picture of an image
+pub use Rattle.seg_spec.specs.Bytes
+pub use Rattle.seg_spec.specs.Window
+pub use Rattle.seg_spec.specs.Types
+pub use Rattle.seg_spec.specs.Value
+pub use Rattle.seg_spec.specs.Index
+pub use Rattle.seg_spec.specs.Sound
+-- sound images: `IsSound`, and `upgraded`, the bytes of an image after it was opened
+pub use Rattle.seg_spec.specs.Images as SoundImages
+-- an open image, its places and its iterators, and the results of the host's calls
+pub use Rattle.seg_image.specs.Images
+pub use Rattle.seg_image.specs.Places
+pub use Rattle.seg_image.specs.Iterators
+pub use Rattle.seg_image.specs.Faults
+pub use Rattle.seg_image.specs.Stored
+pub use Rattle.seg_image.specs.NewSegments
+pub use Rattle.seg_image.specs.Segments
+pub use Rattle.seg_image.specs.NamedObjects
+pub use Rattle.seg_image.specs.Sequences
+pub use Rattle.seg_image.specs.Lists
+pub use Rattle.seg_image.specs.Maps
+-- clients: what they are, which bytes spell one, which are accepted, and their runs
+pub use Rattle.client_spec.specs.Syntax
+pub use Rattle.client_spec.specs.Grammar
+pub use Rattle.client_spec.specs.Clients
+pub use Rattle.client_spec.specs.Run
+pub use Rattle.client_spec.specs.OnImages
+pub use Rattle.client_spec.specs.Outcome
+-- the client in a value of the library: parsed, verified or ready to run
+pub use Rattle.client_code.specs.Clients as ClientFiles
+pub use Rattle.client_verify.specs.Accepted
+pub use Rattle.client_verify.specs.Texts
+pub use Rattle.client_vm.specs.ReadyClients
+-- runs: `run`, and `run_bytes` with `run_image`
+pub use Rattle.client_vm.specs.Runs
+pub use Rattle.client_vm.specs.Jobs
+pub use Rattle.client_vm.specs.Outcomes
+pub use Rattle.client_vm.specs.Together
+pub use Rattle.client_output.specs.declared.report.Report
+pub use Rattle.client_output.specs.declared.report.Ended
+-- what an output took
+pub use Rattle.client_sim.specs.Writes

@@ -1,0 +1,78 @@
+-- The next name and the next key, by the index of the last one.
+use Rattle.std.proofs.Common.{◌≡◌, ℕ, zero, suc, ◌+◌, ◌<◌, ◌≤◌, ◌⊎◌, inl, inr, List, length, Option, Some, None, Result, Ok, Err, refl, sym, ap, subst, arith}
+use Rattle.std.specs.Prelude.{ℤ, slice_get, get_or}
+use Rattle.std.specs.Option.{option_map}
+use Rattle.std.specs.Result.{result_ok}
+use Rattle.std.proofs.lemmas.Option.{slice_get_cases}
+use Rattle.seg_spec.specs.Index.{Root}
+use Rattle.seg_spec.specs.Owning.{Stands}
+use Rattle.seg_spec.specs.Reads.{Place}
+use Rattle.seg_spec.specs.Types.{Form, Table, form_at}
+use Rattle.seg_spec.specs.Value.{Values, Map, IsAscending}
+use Rattle.seg_spec.specs.Items.{key_place}
+use Rattle.seg_index.specs.Lists.{root_after}
+use Rattle.seg_index.proofs.RootOrder.{InOrder, stands_there, found_next}
+use Rattle.seg_map.specs.EitherMap.{IsMapOf}
+use Rattle.seg_map.specs.Maps.{first_of, keys_above}
+use Rattle.seg_map.proofs.KeyLaws as key_laws
+use Rattle.seg_map.proofs.FlatMaps as flat
+use Rattle.seg_map.proofs.TreeMaps as tree
+use Rattle.seg_raw.specs.declared.code.Code.{Code}
+use Rattle.seg_image.specs.Iterators.{item_before}
+
+-- ---- names
+
+pub root_next : (names : List Root) (n : ℕ) → InOrder names → (last : List ℕ) → Some last ≡ option_map (λ (r : Root). r.name) (item_before names n) → root_after names last ≡ slice_get names n
+root_next names zero ordered last e = cc
+root_next names (suc n) ordered last e = go (slice_get names n) refl e
+  where
+    go : (o : Option Root) → slice_get names n ≡ o → Some last ≡ option_map (λ (r : Root). r.name) o → root_after names last ≡ slice_get names (suc n)
+    go None at e = cc
+    go (Some r) at e = let same : r.name ≡ last = cc in found_next names last n r (stands_there names last n r ordered at same)
+
+-- there is no item before an index only if the index is 0
+pub none_before : {X Y : Type 0} (f : X → Y) (xs : List X) (n : ℕ) → n ≤ length xs → None ≡ option_map f (item_before xs n) → n ≡ 0
+none_before f xs zero within e = refl
+none_before f xs (suc n) within e = go (slice_get_cases xs n).1
+  where
+    go : ((x : _) × (n < length xs) × (slice_get xs n ≡ Some x) × (get_or xs n x ≡ x)) ⊎ ((length xs ≤ n) × (slice_get xs n ≡ None)) → suc n ≡ 0
+    go (inl it) = let at = it.2 in cc
+    go (inr past) = absurd (let far = past.0 in omega arith)
+
+-- ---- keys
+
+-- the keys of a map ascend
+pub keys_ascend : (allocator : ℕ) (bytes : List ℕ) (table : Table) (place : Place) (U : ℕ) (keys : List ℤ) (vs : Values) (blocks : List ℕ) → IsMapOf (form_at table place.type) U
+    → Stands allocator bytes table place (Map keys vs) blocks → IsAscending keys
+keys_ascend allocator bytes table place U keys vs blocks m s = go (form_at table place.type) refl m
+  where
+    go : (o : Option Form) → form_at table place.type ≡ o → IsMapOf o U → IsAscending keys
+    go (Some (Form.flat_map V)) e is = flat.ascending allocator bytes table place V keys vs blocks e s
+    go (Some (Form.map V)) e is = let its = tree.its allocator bytes table place V keys vs blocks e s in subst IsAscending (sym its.keys_are) its.opens.ascending
+    go (Some Form.i64) e is = absurd is
+    go (Some Form.str) e is = absurd is
+    go (Some (Form.vec V)) e is = absurd is
+    go (Some (Form.list V)) e is = absurd is
+    go (Some (Form.own V)) e is = absurd is
+    go (Some (Form.struct fields)) e is = absurd is
+    go (Some (Form.shared V)) e is = absurd is
+    go None e is = absurd is
+
+pub key_next : (keys : List ℤ) (n : ℕ) → IsAscending keys → (last : ℤ) → Some last ≡ item_before keys n → first_of (keys_above keys last) ≡ slice_get keys n
+key_next keys zero ascending last e = cc
+key_next keys (suc n) ascending last e = key_laws.found_next keys last n (key_laws.parted_at keys last n ascending (sym e))
+
+pub no_key_before : (keys : List ℤ) (n : ℕ) → n ≤ length keys → None ≡ item_before keys n → n ≡ 0
+no_key_before keys n within e = none_before (λ k. k) keys n within (ap (option_map (λ k. k)) e)
+
+-- the index of a key among the keys
+pub key_there : (keys : List ℤ) (n : ℕ) → IsAscending keys → (key : ℤ) → slice_get keys n ≡ Some key → key_place keys key ≡ Some n
+key_there keys n ascending key at = key_laws.found_place keys key n (key_laws.parted_at keys key n ascending at)
+
+pub ok_of : {X : Type 0} (r : Result X Code) (x : X) → Some x ≡ result_ok r → r ≡ Ok x
+ok_of (Ok y) x e = cc
+ok_of (Err code) x e = cc
+
+pub err_of : {X : Type 0} (r : Result X Code) → None ≡ result_ok r → (code : Code) × (r ≡ Err code)
+err_of (Ok y) e = cc
+err_of (Err code) e = (code, refl)
