@@ -1,4 +1,4 @@
--- An image as it was created or opened.
+-- An image that was created or opened.
 use Rattle.std.proofs.Common.{◌≡◌, ℕ, List, [], refl, sym, ◌∙◌, subst, arith}
 use Rattle.seg_spec.specs.Bytes.{word}
 use Rattle.seg_spec.specs.Header.{allocator_word, version_word, next_word, sharing_version}

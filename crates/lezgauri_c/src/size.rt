@@ -46,7 +46,8 @@ fn grow<A: Allocator>(image: Vec<u8, A>, extra: u32) -> (Result<(), Reason>, Vec
     ensures done { IsSound image.items → IsOk result.0
         ↔ (MayGrowTo extra (length image.items + extra)
         × (length image.items + extra ≤ vec_capacity image)) }
-    ensures size { result.0 ≡ Err Reason.BadSize → ¬ MayGrowTo extra (length image.items + extra) }
+    ensures size { result.0 ≡ Err Reason.BadSize →
+        ¬ MayGrowTo extra (length image.items + extra) }
     ensures room { result.0 ≡ Err Reason.NoHostRoom →
         vec_capacity image < length image.items + extra }
     ensures kept { OnErr result.0 (result.1.items ≡ image.items) }

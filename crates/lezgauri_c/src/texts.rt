@@ -20,7 +20,8 @@ pub extern "C" fn lezgauri_raw_assemble(
     needed: &mut usize,
     fault: &mut Fault,
 ) -> u32
-    ensures assembled { result ≡ 0 → HasBytes (IsAssembled text.now) file.old file.new needed.new }
+    ensures assembled { result ≡ 0 →
+        HasBytes (IsAssembled text.now) file.old file.new needed.new }
     ensures small { result ≡ 102 → LacksRoom (IsAssembled text.now) file.old needed.new }
     ensures refused { (0 < result) × (result ≤ 100) →
         IsNoTextAs text.now fault.new × (needed.new ≡ 0) }
@@ -49,7 +50,8 @@ pub extern "C" fn lezgauri_raw_print(
     needed: &mut usize,
     fault: &mut Fault,
 ) -> u32
-    ensures printed { result ≡ 0 → HasBytes (IsPrinted file.now) text.old text.new needed.new }
+    ensures printed { result ≡ 0 →
+        HasBytes (IsPrinted file.now) text.old text.new needed.new }
     ensures small { result ≡ 102 → LacksRoom (IsPrinted file.now) text.old needed.new }
     ensures refused { (0 < result) × (result ≤ 100) →
         IsNoFileAs file.now fault.new × (needed.new ≡ 0) }

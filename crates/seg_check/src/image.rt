@@ -77,8 +77,8 @@ impl TypedImage<'_> {
             (word_of content.now.tag) (count * content.now.entry.size)
             (turns_where (has_turns self.now.types.now content.now.entry.held) start count) start) }
         ensures refused { HaveLiveHeaders self.now.bytes.bytes.now claims.old.unclaimed →
-            IfErr result (λ fault. Refutes fault (CanClaim self.now.bytes.bytes.now claims.old pointer
-            (word_of content.now.tag) (count * content.now.entry.size))) }
+            IfErr result (λ fault. Refutes fault (CanClaim self.now.bytes.bytes.now claims.old
+            pointer (word_of content.now.tag) (count * content.now.entry.size))) }
     {
         self.owner(content).claim(claims, pointer, count)
     }

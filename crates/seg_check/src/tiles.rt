@@ -45,7 +45,8 @@ impl TypedImage<'_> {
             KnowsGaps self.now.bytes.bytes.now list (gaps self.now.bytes.bytes.now)) }
         ensures known { HasFront self.now.bytes.bytes.now self.now.types.now
             → (slots : ℕ)
-            → claims.old ≡ nothing_known ((length self.now.bytes.bytes.now - heap_start) / UNIT) slots
+            → claims.old
+            ≡ nothing_known ((length self.now.bytes.bytes.now - heap_start) / UNIT) slots
             → OnOk result (KnowsTiles self.now.bytes.bytes.now claims.new
             × (length claims.new.naming.counts ≡ slots)) }
     {

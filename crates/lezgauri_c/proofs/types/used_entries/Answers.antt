@@ -16,7 +16,8 @@ returns-in_err-types-clause-types c table is =
     let found = c.in-Some.ensures.lookup.0 in
     let from : read ≡ slice image 64 512 = found.2 ∙ slice_from image image 64 512 refl in
     let size = read_size image table is read from in
-    let got : c.read_shared.result ≡ Ok table = c.read_shared.ensures.given table (read_valid image table is read from) (read_shared_version image table is read from) (read_spells image table is read from) (ap (λ n. n % 16) size) (omega (arith, size)) in
+    let got : c.read_shared.result ≡ Ok table = c.read_shared.ensures.given table (read_valid image table is read from) (read_shared_version image table is read from)
+    (read_spells image table is read from) (ap (λ n. n % 16) size) (omega (arith, size)) in
     let was = c.in_err-types.was in
     absurd (cc (got, was))
 
@@ -27,7 +28,8 @@ returns-clause-types c table is =
     let found = c.in-Some.ensures.lookup.0 in
     let from : read ≡ slice image 64 512 = found.2 ∙ slice_from image image 64 512 refl in
     let size = read_size image table is read from in
-    let got : c.read_shared.result ≡ Ok table = c.read_shared.ensures.given table (read_valid image table is read from) (read_shared_version image table is read from) (read_spells image table is read from) (ap (λ n. n % 16) size) (omega (arith, size)) in
+    let got : c.read_shared.result ≡ Ok table = c.read_shared.ensures.given table (read_valid image table is read from) (read_shared_version image table is read from)
+    (read_spells image table is read from) (ap (λ n. n % 16) size) (omega (arith, size)) in
     let was : c.read_shared.result ≡ Ok c.in_ok-types.types = c.in_ok-types.was in
     let same : c.in_ok-types.types ≡ table = cc in
     ap (λ n. take (16 * n) read) (c.len.ensures.len ∙ ap length same) ∙ read_entries image table is read from
