@@ -313,7 +313,13 @@ pub trait ImageRead: SegmentRead {
         let (item_type, is_list) = match type_at(self, place)? {
             Type::Vec(item) => (item, false),
             Type::List(item) => (item, true),
-            _ => return Err(Code::OtherType),
+            Type::I64
+            | Type::Str
+            | Type::FlatMap(_)
+            | Type::Map(_)
+            | Type::Own(_)
+            | Type::Struct(_)
+            | Type::Shared(_) => return Err(Code::OtherType),
         };
         let len = SegmentRead::count(self, place.at);
         Ok(Items {
