@@ -7,6 +7,7 @@ pub mod WordWriteLaws
 pub mod LocalChangeLaws
 pub mod Depth
 pub mod SideSearchLaws
+pub mod CountedSearchLaws
 pub mod PlacePathLaws
 pub mod Orders
 pub mod ColourLaws

@@ -1,9 +1,9 @@
 //! Searches in a tree.
 
-ghost use Rattle.std.specs.Prelude.{◌≡◌, [], Some, IfSome};
+ghost use Rattle.std.specs.Prelude.{◌≡◌, ◌+◌, ◌^◌, ◌≤◌, [], length, Some, IfSome};
 ghost use Rattle.std.specs.Ordering.{is_eq, is_lt, ordering_reverse};
 ghost use Rattle.seg_spec.specs.Shapes.{nodes_of};
-ghost use Rattle.seg_spec.specs.Search.{reaches, first_where, IsSearchTree};
+ghost use Rattle.seg_spec.specs.Search.{reaches, first_where, looks, IsSearchTree};
 ghost use Rattle.seg_rbtree.specs.Nodes.{opposite};
 ghost use Rattle.seg_rbtree.specs.Sides.{nodes_from, is_beyond, last_where};
 ghost use Rattle.seg_rbtree.specs.Ways.{LeadsTo};
@@ -18,6 +18,22 @@ use crate::tree::Tree;
 use seg_ptr::{NodeAt, View, Window};
 use std::alloc::Allocator;
 use std::cmp::Ordering;
+
+const MOST_LOOKS: u32 = DEPTH as u32;
+
+/// The result of a search, and how many nodes it looked at.
+#[derive(Debug, Clone, Copy, PartialEq, Eq)]
+pub struct Looked {
+    pub node: Option<NodeAt>,
+    pub looks: u32,
+}
+
+/// Whether a node that compares like this with a key is at the key or above it.
+fn is_at_least(found: Ordering) -> bool
+    ensures { result ≡ reaches Ordering.Equal found }
+{
+    found != Ordering::Less
+}
 
 /// Whether a node that compares like this with a key is on this side of the key.
 fn is_beyond(side: Side, found: Ordering) -> bool
@@ -48,6 +64,43 @@ impl Tree {
             place = child_in(view, node, side);
         }
         None
+    }
+
+    /// The first node that is at or above a key.
+    pub fn first_at_least<K: Copy, O: NodeOrder<K>>(self, view: View, order: &O, key: K) -> Looked
+        ensures node { O.exact
+            → WhereOrdered (O.compare order.now) view.entry.bytes.now (root_word self)
+            (λ shape. result.node ≡ first_where
+            (λ node. reaches Ordering.Equal (O.compare_key order.now view.entry.bytes.now node key))
+            (nodes_of shape)) }
+        ensures looks { O.exact
+            → WhereOrdered (O.compare order.now) view.entry.bytes.now (root_word self)
+            (λ shape. result.looks ≡ looks
+            (λ node. reaches Ordering.Equal (O.compare_key order.now view.entry.bytes.now node key))
+            shape) }
+        ensures at_most { result.looks ≤ DEPTH }
+        ensures bound { O.exact
+            → WhereOrdered (O.compare order.now) view.entry.bytes.now (root_word self)
+            (λ shape. 2 ^ result.looks ≤ (length (nodes_of shape) + 1) ^ 2) }
+    {
+        let mut place = view.target(self.root);
+        let mut found = Looked {
+            node: None,
+            looks: 0,
+        };
+        while found.looks < MOST_LOOKS {
+            let Some(node) = place else {
+                break;
+            };
+            found.looks += 1;
+            if is_at_least(order.key(view, node, key)) {
+                found.node = Some(node);
+                place = child_in(view, node, Side::Left);
+            } else {
+                place = child_in(view, node, Side::Right);
+            }
+        }
+        found
     }
 
     /// The first node that is above a key.
