@@ -4,7 +4,7 @@ use Rattle.seg_spec.specs.Index.{Root}
 use Rattle.seg_manager.specs.NamedObjects.{DescribesRoot}
 use Rattle.seg_image.specs.Iterators.{item_before}
 use Rattle.seg_image.proofs.IteratorLaws.{root_next, none_before}
-use Rattle.seg_image.proofs.image.Image.name_after.Goals as goal
+use Rattle.seg_image.proofs.iterators.name_after.Goals as goal
 
 pub returns-in-Some : goal.returns-in-Some
 returns-in-Some g c = λ picture n held within e.
