@@ -3,15 +3,19 @@
 --     type_number n             the type with C's number; no segment has type 255
 --     place_at at n             the place of a value, from C's two numbers
 --     told_place place          a place, in C's numbers
+--     at_in place               the position of a place that was found, if any
 --     code_status code          the status that reports a code
 --     Tells status value returned     the status and the caller's value report the result of a call
+--     TellsPlace status place returned      the same, of a place
+--     GivesPlace status place P       the call returned a place or a code, and P is true of that result
 --     TellsOption status none value P
 --                               the caller has a value, or the status is `none`; P is true of that option
 --     IsReadStatus status       what a call that reads may return
 --     stored_in, allocator_in   the segment that is the whole of an image, and its allocator
 --     OnSound image types P     if the image is sound and C keeps its types, P is true of its picture
---     WhereMap image table place claim      the claim is true of the map at a place
-use Rattle.std.specs.Prelude.{◌≡◌, ◌⊎◌, ◌+◌, ◌≤◌, ℕ, ℤ, List, [], Option, Some, None, Result, Ok, Err, nat_lt, if◌then◌else◌}
+--     WhereText, WhereVector, WhereList, WhereMap image table place claim
+--                               the claim is true of the string, the vector, the list or the map at a place
+use Rattle.std.specs.Prelude.{◌≡◌, ◌⊎◌, ◌+◌, ◌≤◌, ℕ, ℤ, List, [], Option, Some, None, Result, Ok, Err, nat_lt, if◌then◌else◌, option_map}
 use Rattle.seg_spec.specs.Bytes.{word}
 use Rattle.seg_spec.specs.Header.{allocator_word}
 use Rattle.seg_spec.specs.Types.{Table}
@@ -23,6 +27,8 @@ use Rattle.seg_raw.specs.Refusals.{code_number}
 use Rattle.seg_cells.specs.declared.place.Place.{Place}
 use Rattle.seg_cells.specs.Places.{place_of}
 use Rattle.seg_value.specs.Stored.{Stored}
+use Rattle.seg_seq.specs.Sequences.{HasText, HasItems}
+use Rattle.seg_seq.specs.Lists.{HasList}
 use Rattle.seg_map.specs.EitherMap.{WhereMaps}
 use Rattle.lezgauri_c.specs.declared.place.Place as told
 use Rattle.lezgauri_c.specs.declared.kept_types.KeptTypes.{KeptTypes}
@@ -41,6 +47,9 @@ place_at at n = record { at = at; type_id = type_number n }
 abbrev pub told_place : Place → told.Place
 told_place place = record { at = place.at; type_id = place.type_id }
 
+abbrev pub at_in : Option told.Place → Option ℕ
+at_in place = option_map (λ p. p.at) place
+
 abbrev pub code_status : Code → ℕ
 code_status code = 110 + code_number code
 
@@ -49,6 +58,14 @@ code_status code = 110 + code_number code
 abbrev pub Tells : {A : Type 0} → ℕ → A → Result A Code → Type 0
 Tells status value (Ok found) = (status ≡ 0) × (value ≡ found)
 Tells status value (Err code) = status ≡ code_status code
+
+abbrev pub TellsPlace : ℕ → told.Place → Result Place Code → Type 0
+TellsPlace status place (Ok found) = (status ≡ 0) × (place ≡ told_place found)
+TellsPlace status place (Err code) = status ≡ code_status code
+
+abbrev pub GivesPlace : ℕ → told.Place → (Result Place Code → Type 0) → Type 0
+GivesPlace status place P =
+    (returned : Result Place Code) × TellsPlace status place returned × P returned
 
 -- the caller has a value of which P is true, or the call returned this status and P is true of none
 abbrev pub TellsOption : {A : Type 0} → ℕ → ℕ → A → (Option A → Type 0) → Type 0
@@ -75,6 +92,25 @@ allocator_in image = word image allocator_word
 abbrev pub OnSound : List ℕ → KeptTypes → (Picture → Type 0) → Type 0
 OnSound image types P = (sound : IsSound image) →
     table_in types ≡ Some sound.picture.table → P sound.picture
+
+-- If the place has a string, the claim is true of its bytes and of the blocks that it owns.
+abbrev pub WhereText : List ℕ → Table → Place → (List ℕ → List ℕ → Type 0) → Type 0
+WhereText image table place claim = (xs blocks : List ℕ) →
+    HasText (allocator_in image) (stored_in image table) (place_of place) xs blocks →
+    claim xs blocks
+
+-- If the place has a vector, the claim is true of the type of its items, the items, and the blocks
+-- that it owns.
+abbrev pub WhereVector : List ℕ → Table → Place → (ℕ → Values → List ℕ → Type 0) → Type 0
+WhereVector image table place claim = (U : ℕ) (vs : Values) (blocks : List ℕ) →
+    HasItems (allocator_in image) (stored_in image table) (place_of place) U vs blocks →
+    claim U vs blocks
+
+-- the same for a list
+abbrev pub WhereList : List ℕ → Table → Place → (ℕ → Values → List ℕ → Type 0) → Type 0
+WhereList image table place claim = (U : ℕ) (vs : Values) (blocks : List ℕ) →
+    HasList (allocator_in image) (stored_in image table) (place_of place) U vs blocks →
+    claim U vs blocks
 
 -- If the place has a map, the claim is true of the type of the map's values, its keys and values,
 -- and the blocks that it owns.

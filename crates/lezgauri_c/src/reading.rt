@@ -4,7 +4,7 @@ ghost use Rattle.std.specs.Prelude.{◌≡◌, ◌⊎◌, ◌+◌, ◌<◌, ◌�
 ghost use Rattle.seg_spec.specs.Bytes.{slice};
 ghost use Rattle.seg_spec.specs.Header.{max_length};
 ghost use Rattle.lezgauri_c.specs.Values as values;
-ghost use Rattle.lezgauri_c.specs.Values.{table_in, Tells, told_place};
+ghost use Rattle.lezgauri_c.specs.Values.{table_in, Tells, TellsPlace};
 
 use crate::kept_types::KeptTypes;
 use crate::place::Place;
@@ -104,16 +104,6 @@ pub(crate) fn place_at(at: u32, type_id: u32) -> ValuePlace
     }
 }
 
-/// A place in C's numbers.
-pub(crate) fn told(place: ValuePlace) -> Place
-    ensures { result ≡ told_place place }
-{
-    Place {
-        at: place.at,
-        type_id: u32::from(place.type_id),
-    }
-}
-
 /// Gives the caller the value that a call returned, and returns `OK`, or returns the status for a code.
 pub(crate) fn tell<T: Copy>(returned: Result<T, Code>, value: &mut T) -> u32
     ensures told { Tells result value.new returned }
@@ -123,6 +113,24 @@ pub(crate) fn tell<T: Copy>(returned: Result<T, Code>, value: &mut T) -> u32
     match returned {
         Ok(found) => {
             *value = found;
+            OK
+        }
+        Err(code) => code_status(code),
+    }
+}
+
+/// Gives the caller the place that a call returned, and returns `OK`, or returns the status for a code.
+pub(crate) fn tell_place(returned: Result<ValuePlace, Code>, place: &mut Place) -> u32
+    ensures told { TellsPlace result place.new returned }
+    ensures unwritten { 0 < result → place.new ≡ place.old }
+    ensures status { (result ≡ 0) ⊎ ((111 ≤ result) × (result ≤ 117)) }
+{
+    match returned {
+        Ok(ValuePlace { at, type_id }) => {
+            *place = Place {
+                at,
+                type_id: u32::from(type_id),
+            };
             OK
         }
         Err(code) => code_status(code),
