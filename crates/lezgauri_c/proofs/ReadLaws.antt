@@ -37,6 +37,10 @@ module _ (image bytes : List ℕ) (types : KeptTypes) (table : Table) (bytes_is 
 
 -- ---- results
 
+pub tells_ok : {A : Type 0} (status : ℕ) (value found : A) (returned : Result A Code) → Tells status value returned → returned ≡ Ok found → (status ≡ 0) × (value ≡ found)
+tells_ok status value found (Ok other) tells is = (tells.0, tells.1 ∙ (let same : other ≡ found = cc in same))
+tells_ok status value found (Err error) tells is = absurd (let both : Err error ≡ Ok found = is in cc)
+
 -- a result that is a value or one code is told as an option
 pub tells_option : {A : Type 0} (code : Code) (status : ℕ) (value : A) (returned : Result A Code) (P : Option A → Type 0) → Tells status value returned → IsOkUnless returned code → P (result_ok returned)
     → TellsOption status (code_status code) value P

@@ -13,21 +13,26 @@
 --     IsReadStatus status       what a call that reads may return
 --     stored_in, allocator_in   the segment that is the whole of an image, and its allocator
 --     OnSound image types P     if the image is sound and C keeps its types, P is true of its picture
+--     ShowsNext segment list U n i result, ShowsPrevious segment list U i result
+--                               the position of the item after or before item i of n, or `Null` if there is
+--                               none
 --     WhereText, WhereVector, WhereList, WhereMap image table place claim
 --                               the claim is true of the string, the vector, the list or the map at a place
-use Rattle.std.specs.Prelude.{◌≡◌, ◌⊎◌, ◌+◌, ◌≤◌, ℕ, ℤ, List, [], Option, Some, None, Result, Ok, Err, nat_lt, if◌then◌else◌, option_map}
+use Rattle.std.specs.Prelude.{◌≡◌, ◌⊎◌, ◌+◌, ◌-◌, ◌<◌, ◌≤◌, ℕ, ℤ, List, [], Option, Some, None, Result, Ok, Err, MatchResult, nat_lt, if◌then◌else◌, option_map}
 use Rattle.seg_spec.specs.Bytes.{word}
 use Rattle.seg_spec.specs.Header.{allocator_word}
 use Rattle.seg_spec.specs.Types.{Table}
 use Rattle.seg_spec.specs.Value.{Values}
 use Rattle.seg_spec.specs.Sound.{Picture}
 use Rattle.seg_spec.specs.Images.{IsSound}
+use Rattle.seg_spec.specs.Reads as reads
 use Rattle.seg_raw.specs.declared.code.Code.{Code}
+use Rattle.seg_raw.specs.declared.code.Code.TheVariants as code
 use Rattle.seg_raw.specs.Refusals.{code_number}
 use Rattle.seg_cells.specs.declared.place.Place.{Place}
 use Rattle.seg_cells.specs.Places.{place_of}
 use Rattle.seg_value.specs.Stored.{Stored}
-use Rattle.seg_seq.specs.Sequences.{HasText, HasItems}
+use Rattle.seg_seq.specs.Sequences.{HasText, HasItems, ShowsItem}
 use Rattle.seg_seq.specs.Lists.{HasList}
 use Rattle.seg_map.specs.EitherMap.{WhereMaps}
 use Rattle.lezgauri_c.specs.declared.place.Place as told
@@ -92,6 +97,20 @@ allocator_in image = word image allocator_word
 abbrev pub OnSound : List ℕ → KeptTypes → (Picture → Type 0) → Type 0
 OnSound image types P = (sound : IsSound image) →
     table_in types ≡ Some sound.picture.table → P sound.picture
+
+-- ---- items of a list
+
+abbrev pub ShowsNext : Stored → reads.Place → ℕ → ℕ → ℕ → Result ℕ Code → Type 0
+ShowsNext segment list U n i result = MatchResult result
+    (λ p. (i + 1 < n) × ShowsItem segment list U (i + 1) p)
+    (λ error. (error ≡ code.Null) × (i + 1 ≡ n))
+
+abbrev pub ShowsPrevious : Stored → reads.Place → ℕ → ℕ → Result ℕ Code → Type 0
+ShowsPrevious segment list U i result = MatchResult result
+    (λ p. (1 ≤ i) × ShowsItem segment list U (i - 1) p)
+    (λ error. (error ≡ code.Null) × (i ≡ 0))
+
+-- ---- values at places
 
 -- If the place has a string, the claim is true of its bytes and of the blocks that it owns.
 abbrev pub WhereText : List ℕ → Table → Place → (List ℕ → List ℕ → Type 0) → Type 0

@@ -137,7 +137,8 @@ pub(crate) fn tell_place(returned: Result<ValuePlace, Code>, place: &mut Place) 
     }
 }
 
-fn code_status(code: Code) -> u32
+/// The status for a code.
+pub(crate) fn code_status(code: Code) -> u32
     ensures status { result ≡ values.code_status code }
     ensures range { (111 ≤ result) × (result ≤ 117) }
 {
