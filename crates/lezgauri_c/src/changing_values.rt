@@ -1,0 +1,18 @@
+ghost use Rattle.std.specs.Prelude.{◌≡◌};
+ghost use Rattle.lezgauri_c.specs.Changes.{place_at, IsOver};
+ghost use Rattle.lezgauri_c.specs.ImageChanges.{Clears};
+
+use crate::changing::{on_image, place_at};
+use crate::lent::Lent;
+use crate::status::OK;
+
+/// Makes the value at a place of an image that an earlier call found sound, or changed, the default of its type. Frees everything that
+/// it owns, and each frozen object that no other cell points to.
+#[unsafe(no_mangle)]
+pub extern "C" fn lezgauri_raw_clear(image: &mut Lent, at: u32, type_id: u32) -> u32
+    ensures { IsOver image.old.bytes image.new.bytes result (Clears (place_at at type_id)) }
+{
+    let value = place_at(at, type_id);
+    on_image!(image, open => open.clear(value));
+    OK
+}
