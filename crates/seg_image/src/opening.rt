@@ -36,10 +36,35 @@ pub fn check<A: Allocator>(alloc: A, bytes: &[u8]) -> Result<TypeTable, Fault>
     ensures image { IfOk result (IsImageOf bytes.now) }
     ensures fault { IfErr result (IsFaultOf bytes.now) }
 {
+    seg_check::check(alloc, view_of(bytes)?)
+}
+
+/// The view of an image's bytes. No image has more bytes than a segment may have.
+pub(crate) fn view_of(bytes: &[u8]) -> Result<View<'_>, Fault>
+    ensures view { IfOk result (λ view. view.bytes.now ≡ bytes.now) }
+    ensures fault { IfErr result (IsFaultOf bytes.now) }
+{
     if bytes.len() > MAX_LEN as usize {
         return Err(Fault::BadHeader);
     }
-    seg_check::check(alloc, View::new(bytes))
+    Ok(View::new(bytes))
+}
+
+impl<A: Allocator> Image<A> {
+    /// The image in a window, with these types, on the allocator that its header selects. The image isn't checked: an
+    /// earlier call found it sound, with these types.
+    pub fn in_window(window: Window<A>, types: TypeTable) -> Image<A>
+        ensures window { (segment_of result).window ≡ window }
+        ensures types { (segment_of result).types ≡ types }
+        ensures allocator { word window.bytes allocator_word ≤ 1 →
+            allocator_of result ≡ word window.bytes allocator_word }
+    {
+        if window.get32(header::ALLOCATOR) == BestFit::word() {
+            Image::Best(Segment::new(window, types))
+        } else {
+            Image::Seq(Segment::new(window, types))
+        }
+    }
 }
 
 impl<A: Allocator + Copy> Image<A> {
