@@ -13,7 +13,7 @@ use Rattle.seg_manager.specs.NamedObjects.{RefusesName, FindsOrMakesNamed, Refus
 use Rattle.seg_image.specs.declared.image.Image.{Image}
 use Rattle.seg_image.specs.Images.{segment_of, bytes_in, types_of, IsOpen}
 use Rattle.lezgauri_c.specs.declared.place.Place as told
-use Rattle.lezgauri_c.specs.Changes.{code_status, TellsPlace}
+use Rattle.lezgauri_c.specs.Changes.{code_status, TellsPlace, TellsFound}
 use Rattle.lezgauri_c.specs.ImageChanges.{Constructs, FindsOrConstructs, Destroys}
 use Rattle.lezgauri_c.proofs.ChangeLaws.{sound_then}
 
@@ -47,6 +47,11 @@ module _ {A : Type 0} (opened left : Image A) where
 
   image_same : left ≡ opened → bytes_in left ≡ bytes_in opened
   image_same same = ap (λ (i : Image A). bytes_in i) same
+
+  -- nothing was destroyed
+  pub destroy_kept : (name : List ℕ) (T status : ℕ) (found : Bool) → TellsFound status found → 0 < status → Destroys name T opened left found → bytes_in left ≡ bytes_in opened
+  destroy_kept name T status true told some it = absurd (omega (arith, told, some))
+  destroy_kept name T status false told some it = image_same (it.unchanged refl)
 
   module _ (picture : Picture) (held : IsOpen opened picture) where
     -- bytes that are those of a segment without loose objects

@@ -12,7 +12,7 @@ use Rattle.seg_manager.specs.Segments.{RefusesUnique}
 use Rattle.seg_image.specs.declared.image.Image.{Image}
 use Rattle.seg_image.specs.Images.{segment_of, allocator_of, bytes_in, types_of, IsOpen}
 use Rattle.lezgauri_c.specs.declared.place.Place as told
-use Rattle.lezgauri_c.specs.Changes.{TellsPlace}
+use Rattle.lezgauri_c.specs.Changes.{TellsPlace, TellsFound}
 use Rattle.lezgauri_c.specs.ImageChanges.{ConstructsUnique, FindsOrConstructsUnique, DestroysUnique}
 use Rattle.lezgauri_c.proofs.ChangeLaws.{sound_then}
 use Rattle.lezgauri_c.proofs.NamedChangeLaws.{sound_still}
@@ -76,3 +76,7 @@ module _ {A : Type 0} (opened left : Image A) (picture : Picture) (held : IsOpen
   pub destroy_unique_sound : (found : Bool) → DestroysUnique T opened left found → picture.loose ≡ [] → IsSound (bytes_in left)
   destroy_unique_sound true it none = sound_then (it.loses picture held refl).loses.becomes none
   destroy_unique_sound false it none = sound_still opened left picture held none (same_image (it.unchanged refl))
+
+pub destroy_unique_kept : {A : Type 0} (opened left : Image A) (T status : ℕ) (found : Bool) → TellsFound status found → 0 < status → DestroysUnique T opened left found → bytes_in left ≡ bytes_in opened
+destroy_unique_kept opened left T status true told some it = absurd (omega (arith, told, some))
+destroy_unique_kept {A = A} opened left T status false told some it = ap (λ (i : Image A). bytes_in i) (it.unchanged refl)

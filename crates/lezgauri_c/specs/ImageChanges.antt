@@ -4,35 +4,45 @@
 --     Constructs, FindsOrConstructs, Destroys
 --     ConstructsUnique, FindsOrConstructsUnique, DestroysUnique
 --     Assigns, Appends, PushesItem, PushesItemFront, PopsItem, PopsItemFront
---     Puts, Removes, PutsContent, Clears
-use Rattle.std.specs.Prelude.{◌≡◌, ◌≢◌, ◌+◌, ◌-◌, ◌<◌, ◌≤◌, ℕ, suc, ℤ, List, [], ◌∷◌, ◌++◌, length, take, Bool, true, false, Option, Some, None, Result, Ok, Err, IsOk, IsTrue, IfOk, IsOkUnless, MatchResult, is_ok}
+--     Puts, Removes, PutsContent, Freezes, Shares
+--     ConstructsAnonymous, DestroysAnonymous, Clears, ShrinksBuffer
+use Rattle.std.specs.Prelude.{◌≡◌, ◌≢◌, ◌+◌, ◌-◌, ◌<◌, ◌≤◌, ◌^◌, ℕ, suc, ℤ, List, [], ◌∷◌, ◌++◌, length, take, Bool, true, false, Option, Some, None, Result, Ok, Err, IsOk, IsTrue, IfOk, IsOkUnless, MatchResult, is_ok}
+use Rattle.std.specs.List.{AllByRecursion}
+use Rattle.seg_spec.specs.Bytes.{word}
+use Rattle.seg_spec.specs.Header.{next_word}
 use Rattle.seg_spec.specs.Sound.{Picture}
-use Rattle.seg_spec.specs.Index.{root_named}
+use Rattle.seg_spec.specs.Index.{Root, root_named}
 use Rattle.seg_spec.specs.Types.{Form, form_at, size}
 use Rattle.seg_spec.specs.Value.{Value, Values, Text, Map, nil, cons, count, append, default_of}
-use Rattle.seg_spec.specs.Reads.{count_at}
+use Rattle.seg_spec.specs.Block.{block_of, has_buffer}
+use Rattle.seg_spec.specs.Pointer.{target}
+use Rattle.seg_spec.specs.Reads as reads
+use Rattle.seg_spec.specs.Reads.{Holds, count_at}
 use Rattle.seg_spec.specs.Items.{key_place, without_last}
-use Rattle.seg_spec.specs.Calls.{Refuses}
+use Rattle.seg_spec.specs.Calls.{IsLoose, Refuses}
 use Rattle.seg_spec.specs.Clearing.{BesideShared, ClearsPlace}
 use Rattle.seg_spec.specs.Demand.{block_for}
-use Rattle.seg_spec.specs.Shared.{named_in}
+use Rattle.seg_spec.specs.Frozen.{Frozen, frozen_words}
+use Rattle.seg_spec.specs.Shared.{names_in, named_in, IsBelow, raised_by, left}
+use Rattle.seg_spec.specs.Sharing.{FrozenBeside}
+use Rattle.seg_spec.specs.Shrinking.{ShrinksPlace}
 use Rattle.seg_spec.specs.Spending.{object_asks}
 use Rattle.seg_raw.specs.declared.code.Code.{Code}
 use Rattle.seg_raw.specs.declared.code.Code.TheVariants as code
 use Rattle.seg_cells.specs.declared.place.Place.{Place}
-use Rattle.seg_cells.specs.Places.{place_of}
+use Rattle.seg_cells.specs.Places.{place_of, object_at}
 use Rattle.seg_seq.specs.Kinds.{is_sequence}
 use Rattle.seg_seq.specs.Lists.{HasList, IsNoList, AddsItem, LosesItem}
 use Rattle.seg_seq.specs.Sequences.{HasText, HasItems, item_type, Declines, HasNone, ComesToHold, LacksRoom, Rewrites, push_asks, PushesBack, PopsBack}
 use Rattle.seg_map.specs.EitherMap.{has_keys, IsMapOf, key_asks, KeepsTreePaths, KeepsKeysBut}
 use Rattle.seg_map.specs.Maps.{PutsKey, RemovesKey}
-use Rattle.seg_manager.specs.Segments.{one_value, unique_at, MakesUnique, FindsOrMakes, RefusesUnique, LosesUnique}
+use Rattle.seg_manager.specs.Segments.{one_value, MakesLoose, LosesLoose, unique_at, MakesUnique, FindsOrMakes, RefusesUnique, LosesUnique}
 use Rattle.seg_manager.specs.NamedObjects.{found_as, IsMissing, IsCount, RefusesName, FindsOrMakesNamed, RefusesToFind}
 use Rattle.seg_manager.specs.NewNamed.{MakesNamed, FindsNoRoom}
 use Rattle.seg_manager.specs.LeavingNamed.{LosesNamed}
 use Rattle.seg_image.specs.declared.image.Image.{Image}
 use Rattle.seg_image.specs.Images.{segment_of, allocator_of, bytes_in, types_of, IsOpen, ChangesBytes}
-use Rattle.seg_image.specs.Owners.{PutsNew}
+use Rattle.seg_image.specs.Owners.{PutsNew, OwnAndShared, AreShared, FreezesOwn}
 use Rattle.seg_image.specs.Places.{found_position, object_type, StandsIn, WhereMap}
 
 -- ---- named objects
@@ -249,7 +259,7 @@ pub record Removes {A : Type 0} (map : Place) (key : ℤ) (old new : Image A)
       blocks (KeepsKeysBut (form_at (types_of old) map.type_id) (bytes_in old) (bytes_in new)
       (types_of old) (place_of map) key) (key_place keys key) result
 
--- ---- owns, and values of any type
+-- ---- owns and shared cells
 
 pub record PutsContent {A : Type 0} (own : Place) (old new : Image A)
     (result : Result Place Code) : Type 0 where
@@ -267,9 +277,89 @@ pub record PutsContent {A : Type 0} (own : Place) (old new : Image A)
   pub other : object_type (form_at (types_of old) own.type_id) ≡ None →
       (result ≡ Err code.OtherType) × (new ≡ old)
 
+pub record Freezes {A : Type 0} (own shared : Place) (old new : Image A)
+    (result : Result (Unit {0}) Code) : Type 0 where
+  pub bytes : ChangesBytes old new
+  pub other : ((U : ℕ) → OwnAndShared (types_of old) own shared U → ⊥) →
+      (result ≡ Err code.OtherType) × (new ≡ old)
+  pub empty : (U : ℕ) → OwnAndShared (types_of old) own shared U →
+      target (bytes_in old) own.at ≡ None → (result ≡ Err code.Null) × (new ≡ old)
+  pub used_up : (U object : ℕ) → OwnAndShared (types_of old) own shared U →
+      target (bytes_in old) own.at ≡ Some object →
+      suc (word (bytes_in old) next_word) ≡ 2 ^ 32 →
+      (result ≡ Err code.NumbersUsedUp) × (new ≡ old)
+  pub only_room : (U object : ℕ) → OwnAndShared (types_of old) own shared U →
+      target (bytes_in old) own.at ≡ Some object →
+      suc (word (bytes_in old) next_word) < 2 ^ 32 → IsOkUnless result code.BadAlloc
+  pub freezes : (U object : ℕ) (v w : Value) (blocks inside : List ℕ) (theirs : ℕ → List ℕ)
+      (kept : List reads.Place) (now : List Frozen) →
+      OwnAndShared (types_of old) own shared U →
+      target (bytes_in old) own.at ≡ Some object → (s : StandsIn old shared v blocks) →
+      IsLoose (bytes_in old) (types_of old) (object_at object U) w inside →
+      FrozenBeside (bytes_in old) (types_of old)
+      (s.home ∷ (blocks ++ block_of object ∷ inside)) (names_in w ++ (names_in v ++ kept))
+      (word (bytes_in old) next_word) theirs now →
+      suc (word (bytes_in old) next_word) < 2 ^ 32 →
+      MatchResult result
+      (λ _. FreezesOwn (allocator_of old) (bytes_in old) (bytes_in new) (types_of old) own.at
+      (place_of shared) U object w inside blocks (names_in v) theirs now)
+      (LacksRoom (allocator_of old) (segment_of old) (segment_of new)
+      (block_for (frozen_words + size (types_of old) U) ∷ []))
+
+pub record Shares {A : Type 0} (to from : Place) (old new : Image A)
+    (result : Result (Unit {0}) Code) : Type 0 where
+  pub bytes : ChangesBytes old new
+  pub other : ((T : ℕ) → AreShared (types_of old) to from T → ⊥) →
+      (result ≡ Err code.OtherType) × (new ≡ old)
+  pub done : (T : ℕ) → AreShared (types_of old) to from T → IsOk result
+  pub shares : (T next : ℕ) (v w : Value) (blocks others : List ℕ) (theirs : ℕ → List ℕ)
+      (kept : List reads.Place) (now : List Frozen) → AreShared (types_of old) to from T →
+      (s : StandsIn old to v blocks) →
+      Holds (bytes_in old) (types_of old) (place_of from) w others →
+      FrozenBeside (bytes_in old) (types_of old) (s.home ∷ blocks) (names_in v ++ kept) next
+      theirs now → AllByRecursion (IsBelow next now) (names_in w) →
+      AllByRecursion (λ f. f.count ≤ length (bytes_in old)) now →
+      ClearsPlace (bytes_in old) (bytes_in new) (types_of old) (place_of to) w blocks []
+      theirs now (left (names_in v) (raised_by (names_in w) now))
+
+-- ---- objects without a name or an owner
+
+pub record ConstructsAnonymous {A : Type 0} (T : ℕ) (old new : Image A)
+    (result : Result Place Code) : Type 0 where
+  pub bytes : ChangesBytes old new
+  pub of_type : IfOk result (λ place. place.type_id ≡ T)
+  pub unknown : length (types_of old) ≤ T → (result ≡ Err code.OtherType) × (new ≡ old)
+  pub only_room : T < length (types_of old) → IsOkUnless (found_position result) code.BadAlloc
+  pub makes : (picture : Picture) → IsOpen old picture → T < length (types_of old) →
+      MatchResult (found_position result)
+      (MakesLoose (allocator_of old) (segment_of old) (segment_of new) picture T)
+      (LacksRoom (allocator_of old) (segment_of old) (segment_of new)
+      (one_value (types_of old) T))
+
+-- The object begins at the position. An image that has it isn't sound.
+pub record DestroysAnonymous {A : Type 0} (at : ℕ) (old new : Image A) : Type 0 where
+  pub bytes : ChangesBytes old new
+  pub loses : (picture : Picture) (before : List Root) (root : Root) (after : List Root) →
+      IsOpen old picture → picture.loose ≡ before ++ root ∷ after → root.at ≡ at →
+      LosesLoose (allocator_of old) (segment_of old) (segment_of new) picture before root after
+
+-- ---- values of any type
+
 pub record Clears {A : Type 0} (place : Place) (old new : Image A) : Type 0 where
   pub bytes : ChangesBytes old new
   pub cleared : (v : Value) (blocks : List ℕ) → (s : StandsIn old place v blocks) →
       BesideShared (bytes_in old) (types_of old) (s.home ∷ blocks) (named_in v)
       (ClearsPlace (bytes_in old) (bytes_in new) (types_of old) (place_of place)
       (default_of (types_of old) place.type_id) blocks [])
+
+pub record ShrinksBuffer {A : Type 0} (container : Place) (old new : Image A)
+    (result : Result (Unit {0}) Code) : Type 0 where
+  pub bytes : ChangesBytes old new
+  pub shrinks : (form : Form) (v : Value) (blocks : List ℕ) →
+      form_at (types_of old) container.type_id ≡ Some form → has_buffer (Some form) ≡ true →
+      StandsIn old container v blocks →
+      (others : List ℕ) × ShrinksPlace (bytes_in old) (bytes_in new) (types_of old)
+      (place_of container) form v blocks others
+  pub done : has_buffer (form_at (types_of old) container.type_id) ≡ true → IsOk result
+  pub other : has_buffer (form_at (types_of old) container.type_id) ≡ false →
+      (result ≡ Err code.OtherType) × (new ≡ old)

@@ -17,7 +17,7 @@ use std_alloc::vec::Lodged;
 /// A call on the image in lent memory, or a return of a fault's number.
 macro_rules! on_image {
     ($lent:ident, $image:ident => $call:expr) => {{
-        let mut $image = match crate::changing::open($lent) {
+        let mut $image = match crate::changing::open_image($lent) {
             Ok(image) => image,
             Err(status) => return status,
         };
@@ -32,10 +32,10 @@ pub(crate) use on_image;
 /// Opens an image that an earlier call found sound, or changed. Its memory is then the open image's. Other bytes may be returned with a
 /// fault's number.
 #[tactic(auto, using(crate::proofs::Numbers::numbers))]
-pub(crate) fn open(image: &mut Lent) -> Result<Image<Lodged>, u32>
-    ensures bytes { IfOk result (λ open. bytes_in open ≡ image.old.bytes) }
+pub(crate) fn open_image(image: &mut Lent) -> Result<Image<Lodged>, u32>
+    ensures bytes { IfOk result (λ opened. bytes_in opened ≡ image.old.bytes) }
     ensures opened { IfOk result
-        (λ open. (sound : IsSound image.old.bytes) → IsOpen open sound.picture) }
+        (λ opened. (sound : IsSound image.old.bytes) → IsOpen opened sound.picture) }
     ensures status { IfErr result (λ status. (0 < status) × (status ≤ 100)) }
     ensures unsound { OnErr result (IsSound image.old.bytes → ⊥) }
     ensures kept { OnErr result (image.new.bytes ≡ image.old.bytes) }

@@ -21,7 +21,7 @@ pub extern "C" fn lezgauri_raw_put(
     ensures unwritten { 0 < result → value.new ≡ value.old }
 {
     let map = place_at(at, type_id);
-    let put = on_image!(image, open => open.put(map, key));
+    let put = on_image!(image, opened => opened.put(map, key));
     give(put, value)
 }
 
@@ -33,5 +33,5 @@ pub extern "C" fn lezgauri_raw_remove(image: &mut Lent, at: u32, type_id: u32, k
         (Removes (place_at at type_id) key) }
 {
     let map = place_at(at, type_id);
-    found(on_image!(image, open => open.remove(map, key)))
+    found(on_image!(image, opened => opened.remove(map, key)))
 }

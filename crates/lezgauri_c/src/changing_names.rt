@@ -25,7 +25,7 @@ pub extern "C" fn lezgauri_raw_construct(
     ensures unwritten { 0 < result → place.new ≡ place.old }
 {
     let t = type_number(type_id);
-    let made = on_image!(image, open => open.construct(name, t, count));
+    let made = on_image!(image, opened => opened.construct(name, t, count));
     give(made, place)
 }
 
@@ -46,7 +46,7 @@ pub extern "C" fn lezgauri_raw_find_or_construct(
     ensures unwritten { 0 < result → place.new ≡ place.old }
 {
     let t = type_number(type_id);
-    let made = on_image!(image, open => open.find_or_construct(name, t));
+    let made = on_image!(image, opened => opened.find_or_construct(name, t));
     give(made, place)
 }
 
@@ -60,5 +60,5 @@ pub extern "C" fn lezgauri_raw_destroy(image: &mut Lent, name: &[u8], type_id: u
     ensures kept { 0 < result → image.new.bytes ≡ image.old.bytes }
 {
     let t = type_number(type_id);
-    found(on_image!(image, open => open.destroy(name, t)))
+    found(on_image!(image, opened => opened.destroy(name, t)))
 }

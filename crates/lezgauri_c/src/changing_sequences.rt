@@ -9,32 +9,22 @@ use crate::place::Place;
 /// Replaces the bytes of the string at a place of an image that an earlier call found sound, or changed. Fails as `Image::assign` does;
 /// then nothing changes.
 #[unsafe(no_mangle)]
-pub extern "C" fn lezgauri_raw_assign(
-    image: &mut Lent,
-    at: u32,
-    type_id: u32,
-    bytes: &[u8],
-) -> u32
+pub extern "C" fn lezgauri_raw_assign(image: &mut Lent, at: u32, type_id: u32, bytes: &[u8]) -> u32
     ensures { IsDone image.old.bytes image.new.bytes result
         (Assigns (place_at at type_id) bytes.now) }
 {
     let string = place_at(at, type_id);
-    done(on_image!(image, open => open.assign(string, bytes)))
+    done(on_image!(image, opened => opened.assign(string, bytes)))
 }
 
 /// Appends bytes to the string at a place. Fails as `lezgauri_raw_assign` does.
 #[unsafe(no_mangle)]
-pub extern "C" fn lezgauri_raw_append(
-    image: &mut Lent,
-    at: u32,
-    type_id: u32,
-    bytes: &[u8],
-) -> u32
+pub extern "C" fn lezgauri_raw_append(image: &mut Lent, at: u32, type_id: u32, bytes: &[u8]) -> u32
     ensures { IsDone image.old.bytes image.new.bytes result
         (Appends (place_at at type_id) bytes.now) }
 {
     let string = place_at(at, type_id);
-    done(on_image!(image, open => open.append(string, bytes)))
+    done(on_image!(image, opened => opened.append(string, bytes)))
 }
 
 /// Adds a default item at the end of the vector or list at a place, and gives the item's place. Fails as `Image::push_back` does; then
@@ -51,7 +41,7 @@ pub extern "C" fn lezgauri_raw_push_back(
     ensures unwritten { 0 < result → item.new ≡ item.old }
 {
     let sequence = place_at(at, type_id);
-    let pushed = on_image!(image, open => open.push_back(sequence));
+    let pushed = on_image!(image, opened => opened.push_back(sequence));
     give(pushed, item)
 }
 
@@ -69,7 +59,7 @@ pub extern "C" fn lezgauri_raw_push_front(
     ensures unwritten { 0 < result → item.new ≡ item.old }
 {
     let list = place_at(at, type_id);
-    let pushed = on_image!(image, open => open.push_front(list));
+    let pushed = on_image!(image, opened => opened.push_front(list));
     give(pushed, item)
 }
 
@@ -80,7 +70,7 @@ pub extern "C" fn lezgauri_raw_pop_back(image: &mut Lent, at: u32, type_id: u32)
     ensures { IsDone image.old.bytes image.new.bytes result (PopsItem (place_at at type_id)) }
 {
     let sequence = place_at(at, type_id);
-    done(on_image!(image, open => open.pop_back(sequence)))
+    done(on_image!(image, opened => opened.pop_back(sequence)))
 }
 
 /// Destroys the first item of the list at a place. Fails as `Image::pop_front` does; then nothing changes.
@@ -90,5 +80,5 @@ pub extern "C" fn lezgauri_raw_pop_front(image: &mut Lent, at: u32, type_id: u32
         (PopsItemFront (place_at at type_id)) }
 {
     let list = place_at(at, type_id);
-    done(on_image!(image, open => open.pop_front(list)))
+    done(on_image!(image, opened => opened.pop_front(list)))
 }

@@ -19,11 +19,7 @@ use std::alloc::Allocator;
 /// nothing changes.
 #[tactic(auto, using(crate::proofs::Numbers::numbers))]
 #[unsafe(no_mangle)]
-pub extern "C" fn lezgauri_raw_add_types(
-    image: &mut Lent,
-    entries: &[u8],
-    fault: &mut Fault,
-) -> u32
+pub extern "C" fn lezgauri_raw_add_types(image: &mut Lent, entries: &[u8], fault: &mut Fault) -> u32
     ensures added { result ≡ 0 → (sound : IsSound image.old.bytes) →
         HasMoreTypes image.old.bytes image.new.bytes entries.now sound }
     ensures refused { 0 < result → (sound : IsSound image.old.bytes) →
@@ -69,11 +65,7 @@ fn add_types<A: Allocator>(image: Vec<u8, A>, entries: &[u8]) -> (Result<(), Rea
 }
 
 /// The image in a window, of version 2 and with the types of a longer table.
-fn with_types<A: Allocator>(
-    window: Window<A>,
-    types: TypeTable,
-    more: &TypeTable,
-) -> Vec<u8, A>
+fn with_types<A: Allocator>(window: Window<A>, types: TypeTable, more: &TypeTable) -> Vec<u8, A>
     requires { Agree types more.now }
     ensures { (sound : IsSound window.bytes) → types ≡ sound.picture.table →
         AreOfVersion 2 more.now → (entries : List ℕ) → Spells entries more.now →

@@ -22,7 +22,7 @@ pub extern "C" fn lezgauri_raw_construct_unique(
     ensures unwritten { 0 < result → place.new ≡ place.old }
 {
     let t = type_number(type_id);
-    let made = on_image!(image, open => open.construct_unique(t));
+    let made = on_image!(image, opened => opened.construct_unique(t));
     give(made, place)
 }
 
@@ -41,7 +41,7 @@ pub extern "C" fn lezgauri_raw_find_or_construct_unique(
     ensures unwritten { 0 < result → place.new ≡ place.old }
 {
     let t = type_number(type_id);
-    let made = on_image!(image, open => open.find_or_construct_unique(t));
+    let made = on_image!(image, opened => opened.find_or_construct_unique(t));
     give(made, place)
 }
 
@@ -54,5 +54,5 @@ pub extern "C" fn lezgauri_raw_destroy_unique(image: &mut Lent, type_id: u32) ->
     ensures kept { 0 < result → image.new.bytes ≡ image.old.bytes }
 {
     let t = type_number(type_id);
-    found(on_image!(image, open => open.destroy_unique(t)))
+    found(on_image!(image, opened => opened.destroy_unique(t)))
 }

@@ -1,8 +1,8 @@
 ghost use Rattle.std.specs.Prelude.{◌≡◌};
-ghost use Rattle.lezgauri_c.specs.Changes.{place_at, IsOver};
-ghost use Rattle.lezgauri_c.specs.ImageChanges.{Clears};
+ghost use Rattle.lezgauri_c.specs.Changes.{place_at, IsDone, IsOver};
+ghost use Rattle.lezgauri_c.specs.ImageChanges.{Clears, ShrinksBuffer};
 
-use crate::changing::{on_image, place_at};
+use crate::changing::{done, on_image, place_at};
 use crate::lent::Lent;
 use crate::status::OK;
 
@@ -13,6 +13,17 @@ pub extern "C" fn lezgauri_raw_clear(image: &mut Lent, at: u32, type_id: u32) ->
     ensures { IsOver image.old.bytes image.new.bytes result (Clears (place_at at type_id)) }
 {
     let value = place_at(at, type_id);
-    on_image!(image, open => open.clear(value));
+    on_image!(image, opened => opened.clear(value));
     OK
+}
+
+/// Frees what the string, vector or flat map at a place doesn't use of its buffer. Fails as `Image::shrink_to_fit` does; then nothing
+/// changes.
+#[unsafe(no_mangle)]
+pub extern "C" fn lezgauri_raw_shrink_to_fit(image: &mut Lent, at: u32, type_id: u32) -> u32
+    ensures { IsDone image.old.bytes image.new.bytes result
+        (ShrinksBuffer (place_at at type_id)) }
+{
+    let container = place_at(at, type_id);
+    done(on_image!(image, opened => opened.shrink_to_fit(container)))
 }

@@ -5,6 +5,7 @@ mod accepting;
 mod box_parts;
 mod buffer;
 mod changing;
+mod changing_anonymous;
 mod changing_maps;
 mod changing_names;
 mod changing_owners;
