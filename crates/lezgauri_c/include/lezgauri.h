@@ -361,9 +361,9 @@ uint32_t lezgauri_upgrade(lezgauri_handle *handle);
  * to each handle on the image, and also after the image was mapped elsewhere, grown or shrunk.
  *
  * A place becomes invalid when its object is destroyed, and when a container around it gets or loses a value, is cleared or is shrunk to
- * fit. The containers around a value are the strings, vectors, lists, maps, owns and shared cells that it is in, not the structs. No call
- * can test whether a place is valid. With an invalid place a call still uses only bytes of the segment, but it may read a value that was
- * never stored, and if it changes something, the image may no longer be sound.
+ * fit. The containers around a value are the vectors, lists, maps, owns and shared cells that it is in, but not the structs. No call can
+ * test whether a place is valid. With an invalid place a call still uses only bytes of the segment, but it may read a value that was never
+ * stored, and if it changes something, the image may no longer be sound.
  *
  * The calls on places and names below have these rules in common. A call whose place has another type than it needs, or a type that the
  * segment doesn't have, returns LEZGAURI_OTHER_TYPE. After a status other than LEZGAURI_OK the segment is unchanged, and nothing is written
