@@ -24,14 +24,14 @@ typedef struct kept {
     bool is_there;
 } kept;
 
-/* The types of a segment as reading calls need them, or none. It is `Types` of the crate lezgauri_c. Only the library reads and writes
+/* The types of a segment as reading calls need them, or none. It is `KeptTypes` of the crate lezgauri_c. Only the library reads and writes
  * what `at` points to. */
 typedef struct kept_types {
     void *at;
     bool is_there;
 } kept_types;
 
-/* Bytes of an image: a position and a length. */
+/* Bytes of an image: a position and a length. It is `ByteRange` of the crate lezgauri_c. */
 typedef struct raw_range {
     uint32_t at;
     uint32_t len;
@@ -1072,6 +1072,10 @@ static uint32_t find_named(const lezgauri_handle *handle, const char *name, lezg
     lezgauri_bytes bytes = name_at(name);
     raw_named found;
     status = call(SEGMENT(handle), bytes.bytes, bytes.len, &found);
+    if (status == LEZGAURI_OK && found.len > MOST_NAME) {
+        /* only in an image that isn't sound */
+        status = LEZGAURI_BAD_INDEX;
+    }
     if (status == LEZGAURI_OK) {
         *named = (lezgauri_named){.type = found.type, .count = found.count};
         memcpy(named->name, handle->image + found.at, found.len);
