@@ -23,6 +23,8 @@ typedef struct work {
     lezgauri_bytes client;
     uint8_t *saved;
     lezgauri_handle *segment;
+    lezgauri_handle *values; /* a segment for the calls on values */
+    lezgauri_handle *reader;
     lezgauri_client *prepared;
     char *output;
     size_t text_len; /* of the client's text, in `output` */
