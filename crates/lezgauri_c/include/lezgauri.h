@@ -86,6 +86,7 @@ enum {
     LEZGAURI_STACK_CHECK = 32 * 1024, /* lezgauri_check, lezgauri_verify, lezgauri_run, lezgauri_open, lezgauri_open_in, lezgauri_read */
     LEZGAURI_STACK_RUN = 20 * 1024,   /* all other calls */
     LEZGAURI_STACK_TEXT = 40 * 1024,  /* lezgauri_assemble, lezgauri_print */
+    LEZGAURI_STACK_READ = 8 * 1024,   /* lezgauri_reader, lezgauri_store, the calls from lezgauri_find to lezgauri_content */
     LEZGAURI_STACK_SAVE = 4 * 1024    /* lezgauri_save, lezgauri_size, lezgauri_image, lezgauri_types, lezgauri_close, lezgauri_client_close, the
                                        * calls that return a text */
 };
@@ -349,11 +350,15 @@ uint32_t lezgauri_types(const lezgauri_handle *handle, lezgauri_type *types, siz
  * ones. Types are never removed, so a table that isn't longer than the segment's adds nothing. `fault` may be null.
  *
  * LEZGAURI_BAD_TYPE if an entry isn't allowed; if there are more than LEZGAURI_MOST_TYPES, the position is LEZGAURI_MOST_TYPES.
- * LEZGAURI_TYPE_MISMATCH if an entry differs from the segment's type with its number. Then nothing has changed.
+ * LEZGAURI_TYPE_MISMATCH if an entry differs from the segment's type with its number. Then nothing has changed. After LEZGAURI_OK the image
+ * has version 2.
  */
 uint32_t lezgauri_add_types(lezgauri_handle *handle, const lezgauri_type *types, size_t count, lezgauri_fault *fault);
 
-/* Makes an image of version 1 one of version 2, which may have frozen objects. An image of version 2 stays the same. */
+/*
+ * Makes an image of version 1 one of version 2, which may have frozen objects. An image of version 2 stays the same. Only this call, runs
+ * and lezgauri_add_types change the version.
+ */
 uint32_t lezgauri_upgrade(lezgauri_handle *handle);
 
 /*
@@ -366,8 +371,8 @@ uint32_t lezgauri_upgrade(lezgauri_handle *handle);
  * stored, and if it changes something, the image may no longer be sound.
  *
  * The calls on places and names below have these rules in common. A call whose place has another type than it needs, or a type that the
- * segment doesn't have, returns LEZGAURI_OTHER_TYPE. After a status other than LEZGAURI_OK the segment is unchanged, and nothing is written
- * through the pointers. Pointers to what a call returns aren't null. They don't point into the segment, and neither do the bytes and
+ * segment doesn't have, returns LEZGAURI_OTHER_TYPE. After a status other than LEZGAURI_OK no object and no value has changed, and nothing
+ * is written through the pointers. Pointers to what a call returns aren't null. They don't point into the segment, and neither do the bytes and
  * names that a changing call takes: copy them first. A call may return LEZGAURI_MEMORY if it is the first on its handle, or the
  * first after types were added; never if the handle is open only for reading.
  *
@@ -509,7 +514,7 @@ uint32_t lezgauri_pop_front(lezgauri_handle *handle, lezgauri_place list);
 /* The place of the value of a key of a map or flat map. A missing key is added with a default value; LEZGAURI_BAD_ALLOC. */
 uint32_t lezgauri_put(lezgauri_handle *handle, lezgauri_place map, int64_t key, lezgauri_place *value);
 
-/* Removes a key of a map or flat map, and destroys its value. LEZGAURI_ABSENT if it doesn't have the key. */
+/* Removes a key of a map or flat map, and destroys its value. LEZGAURI_ABSENT if it doesn't have the key, or is no map. */
 uint32_t lezgauri_remove(lezgauri_handle *handle, lezgauri_place map, int64_t key);
 
 /* Makes a new object of one default value for an own, and destroys the one that it had. LEZGAURI_BAD_ALLOC. */
