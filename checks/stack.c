@@ -35,8 +35,6 @@ typedef struct work {
     lezgauri_bytes client;
     uint8_t *saved;
     lezgauri_handle *segment;
-    lezgauri_handle *values; /* a segment for the calls on values */
-    lezgauri_handle *reader;
     lezgauri_client *prepared;
     lezgauri_handle *values; /* a segment for calls on values */
     lezgauri_handle *reader;
