@@ -377,6 +377,7 @@ struct lezgauri_handle {
     memory_kind kind;
     atomic_flag busy;         /* while a call uses the segment */
     kept_types types;         /* none before the first call that reads values, unless the segment is open only for reading */
+    size_t table_len;         /* the bytes of `table` to the end of its first unused entry */
     uint8_t table[TABLE_LEN]; /* the image's type table when `types` were read */
 };
 
@@ -450,6 +451,12 @@ static uint32_t read_types(lezgauri_handle *handle)
     uint32_t status = lezgauri_raw_open_types(image, handle->len, &handle->types);
     if (status == LEZGAURI_OK) {
         memcpy(handle->table, image + TABLE_AT, TABLE_LEN);
+        /* an entry begins with its kind, which is 0 if the entry is unused */
+        size_t used = 0;
+        while (used < TABLE_LEN && handle->table[used] != 0) {
+            used += sizeof(lezgauri_type);
+        }
+        handle->table_len = used < TABLE_LEN ? used + sizeof(lezgauri_type) : TABLE_LEN;
     }
     return status;
 }
@@ -994,11 +1001,12 @@ static bool may_return_place(const lezgauri_handle *handle, const lezgauri_place
     return may_return(handle, place, sizeof *place, _Alignof(lezgauri_place));
 }
 
-/* Whether the types that the handle keeps are the segment's. Other handles and runs may have added types. */
+/* Whether the types that the handle keeps are the segment's. Other handles and runs may have added types: then the first unused entry
+ * differs. */
 static bool has_types(const lezgauri_handle *handle)
 {
     return handle->kind == LENT_TO_READ ||
-           (handle->types.is_there && memcmp(handle->table, handle->image + TABLE_AT, TABLE_LEN) == 0);
+           (handle->types.is_there && memcmp(handle->table, handle->image + TABLE_AT, handle->table_len) == 0);
 }
 
 /* Marks a segment as busy, and reads its types if it has new ones. LEZGAURI_OK, or why the call is refused. */
