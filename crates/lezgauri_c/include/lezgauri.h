@@ -521,8 +521,8 @@ uint32_t lezgauri_remove(lezgauri_handle *handle, lezgauri_place map, int64_t ke
 uint32_t lezgauri_put_content(lezgauri_handle *handle, lezgauri_place own, lezgauri_place *content);
 
 /*
- * Makes a value the default of its type: 0, empty, null, or for a struct the default of each field. It frees all that the value owns, and
- * each frozen object to which no other cell points.
+ * Makes a value of any type the default of this type: 0, empty, null, or for a struct the default of each field. It frees all that the
+ * value owns, and each frozen object to which no other cell points. Nothing changes if the segment doesn't have the type.
  */
 uint32_t lezgauri_clear(lezgauri_handle *handle, lezgauri_place place);
 
