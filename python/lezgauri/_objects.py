@@ -2,12 +2,12 @@
 import operator
 from collections.abc import Mapping
 from ctypes import byref, c_size_t
-from typing import Any, Callable, Iterator, NamedTuple, Optional, Tuple, Union
+from typing import Any, Callable, Iterator, NamedTuple, Optional, Tuple
 
 from ._errors import Absent, BadArgument, NoValue, OtherType, OutOfRange
 from ._handles import Closeable, handle_of
 from ._library import MOST_TYPES, CFault, CNamed, CPlace, CType, library, refuse
-from ._values import VIEWS, Array, Value
+from ._values import VIEWS, AnyView, Array, Item, Value
 from .types import Kind, Type, TypeOrNumber, number_in
 
 _NUMBERS = range(2**32)
@@ -134,7 +134,7 @@ class Objects(Closeable, Mapping):  # type: ignore[type-arg]
             return False
         return True
 
-    def __getitem__(self, name: str) -> Any:
+    def __getitem__(self, name: str) -> Item:
         found = self.find(name)
         return found.value if isinstance(found, Value) else found
 
@@ -148,7 +148,7 @@ class Objects(Closeable, Mapping):  # type: ignore[type-arg]
         named = self.named(name)
         self._call(library().lezgauri_destroy, _encoded(name), named.type, about=name)
 
-    def find(self, name: str, type: Optional[TypeOrNumber] = None) -> Union[Value, Array]:
+    def find(self, name: str, type: Optional[TypeOrNumber] = None) -> AnyView:
         """The view of the object with this name, also if it is a number or a string, and an Array if it has several values.
 
         Raises Absent, a KeyError, and OtherType, a TypeError, if a type is given and the object has another."""
@@ -165,7 +165,7 @@ class Objects(Closeable, Mapping):  # type: ignore[type-arg]
         self._call(library().lezgauri_find_item, _encoded(name), number, index, byref(place), about=about)
         return self._view(place, False)
 
-    def construct(self, name: str, type: TypeOrNumber, count: int = 1) -> Union[Value, Array]:
+    def construct(self, name: str, type: TypeOrNumber, count: int = 1) -> AnyView:
         """Makes an object with this name, of `count` default values of this type, and returns its view: an Array if there are several.
 
         name   1 to 63 visible ASCII characters
@@ -180,7 +180,7 @@ class Objects(Closeable, Mapping):  # type: ignore[type-arg]
         self._call(library().lezgauri_construct, _encoded(name), number, many, byref(place), about=name)
         return self._view(place, False) if many == 1 else Array(self, name, number, many)
 
-    def find_or_construct(self, name: str, type: TypeOrNumber) -> Union[Value, Array]:
+    def find_or_construct(self, name: str, type: TypeOrNumber) -> AnyView:
         """Finds the object with this name, as `find` does, or makes one of one default value, as `construct` does."""
         number, place = self._number(type), CPlace()
         self._call(library().lezgauri_find_or_construct, _encoded(name), number, byref(place), about=name)
@@ -193,15 +193,15 @@ class Objects(Closeable, Mapping):  # type: ignore[type-arg]
         self._call(call, self._number(type), byref(place), about=type)
         return self._view(place, False)
 
-    def find_unique(self, type: TypeOrNumber) -> Value:
+    def find_unique(self, type: TypeOrNumber) -> AnyView:
         """The view of the unique object of a type. Raises Absent, a KeyError, and OtherType if the segment has no such type."""
         return self._placed(library().lezgauri_find_unique, type)
 
-    def construct_unique(self, type: TypeOrNumber) -> Value:
+    def construct_unique(self, type: TypeOrNumber) -> AnyView:
         """Makes the unique object of a type, and returns its view. Raises AlreadyExists, OtherType and BadAlloc."""
         return self._placed(library().lezgauri_construct_unique, type)
 
-    def find_or_construct_unique(self, type: TypeOrNumber) -> Value:
+    def find_or_construct_unique(self, type: TypeOrNumber) -> AnyView:
         """Finds the unique object of a type, or makes it."""
         return self._placed(library().lezgauri_find_or_construct_unique, type)
 
@@ -209,7 +209,7 @@ class Objects(Closeable, Mapping):  # type: ignore[type-arg]
         """Destroys the unique object of a type, and all that it owns. Raises Absent, a KeyError."""
         self._call(library().lezgauri_destroy_unique, self._number(type), about=type)
 
-    def construct_anonymous(self, type: TypeOrNumber) -> Value:
+    def construct_anonymous(self, type: TypeOrNumber) -> AnyView:
         """Makes an object without a name and without an owner, and returns its view. Raises OtherType and BadAlloc.
 
         While there is such an object, the segment's image isn't sound: destroy it by `destroy_anonymous` before the image is saved or the

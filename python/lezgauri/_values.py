@@ -15,8 +15,11 @@ from .types import Kind, Type
 if TYPE_CHECKING:
     from ._objects import Objects
 
-# What the items of a view are: numbers, texts, and views of all other values.
-Plain = Union[int, bytes, "Value"]
+# A view, whose class depends on the value's type, so that only the segment knows it.
+AnyView = Any
+
+# What the items of a view are: numbers, strings as bytes, and views of all other values.
+Item = Any
 
 _NUMBERS = range(-(2**63), 2**63)
 _INDEXES = range(2**32)
@@ -82,7 +85,7 @@ class Value:
         return bool(self.plain() == plain(other))
 
     @property
-    def value(self) -> Plain:
+    def value(self) -> Item:
         """The number, the bytes of a string, and of all other values this view."""
         return self
 
@@ -140,7 +143,7 @@ def _set(view: Value, value: Any, undo: Callable[[], None]) -> None:
         raise
 
 
-def _taken(view: Value) -> Optional[Plain]:
+def _taken(view: Value) -> Optional[Item]:
     """What remains of a value that is destroyed next."""
     value = view.value
     return None if isinstance(value, Value) else value
@@ -241,13 +244,13 @@ class _Items(Value, Sequence):  # type: ignore[type-arg]
 
     __slots__ = ()
 
-    def at(self, index: int) -> Value:
+    def at(self, index: int) -> AnyView:
         """The view of an item, also if it is a number or a string. A negative index counts from the end.
 
         Raises OutOfRange, an IndexError."""
         return self._inside(library().lezgauri_item, _as_index(index, self.__len__), about=index)
 
-    def views(self) -> Iterator[Value]:
+    def views(self) -> Iterator[AnyView]:
         """The views of the items in order."""
         return (self.at(index) for index in range(len(self)))
 
@@ -271,7 +274,7 @@ class _Growing(_Items, _Sized):
 
     __slots__ = ()
 
-    def add(self) -> Value:
+    def add(self) -> AnyView:
         """Adds a default item at the end, and returns its view. Raises BadAlloc."""
         return self._added(library().lezgauri_push_back)
 
@@ -288,7 +291,7 @@ class _Growing(_Items, _Sized):
         self.extend(values)
         return self
 
-    def pop(self) -> Optional[Plain]:
+    def pop(self) -> Optional[Item]:
         """Removes the last item, and returns it if it is a number or a string. All others are destroyed, and the result is None.
 
         Raises NoValue, an IndexError, if there is none."""
@@ -333,12 +336,12 @@ class Vector(_Growing):
 
 
 class List(_Growing):
-    """A linked list: a sequence with `append`, `extend`, `pop`, and at the front `appendleft` and `popleft`. Loops go step by step. An index
-    is found from the nearer end."""
+    """A linked list: a sequence with `append`, `extend`, `pop`, and at the front `appendleft` and `popleft`. Loops go step by step, and
+    an index is found step by step from the nearer end."""
 
     __slots__ = ()
 
-    def addleft(self) -> Value:
+    def addleft(self) -> AnyView:
         """Adds a default item at the front, and returns its view. Raises BadAlloc."""
         return self._added(library().lezgauri_push_front)
 
@@ -346,7 +349,7 @@ class List(_Growing):
         """Adds an item at the front. Raises BadAlloc; then nothing changed."""
         _set(self.addleft(), value, self._drop_first)
 
-    def popleft(self) -> Optional[Plain]:
+    def popleft(self) -> Optional[Item]:
         """Removes the first item as `pop` removes the last one."""
         first = _taken(self.at(0)) if len(self) else None
         self._drop_first()
@@ -366,7 +369,7 @@ class List(_Growing):
                 except NoValue:
                     return
 
-    def views(self) -> Iterator[Value]:
+    def views(self) -> Iterator[AnyView]:
         return self._steps(0, library().lezgauri_next_item)
 
     def __reversed__(self) -> Iterator[Any]:
@@ -381,7 +384,7 @@ class Struct(_Items):
     def __len__(self) -> int:
         return len(self.type.components)
 
-    def at(self, index: int) -> Value:
+    def at(self, index: int) -> AnyView:
         """The view of a field, also if it is a number or a string. Raises OutOfRange, an IndexError."""
         return self._inside(library().lezgauri_field, _as_index(index, self.__len__), about=index)
 
@@ -403,8 +406,8 @@ class Keys(KeysView):  # type: ignore[type-arg]
     def __init__(self, map: "Map", after: Optional[int], before: Optional[int]) -> None:
         super().__init__(map)
         self._map = map
-        self._after = after
-        self._before = before
+        self._after = None if after is None else operator.index(after)
+        self._before = None if before is None else operator.index(before)
 
     def _has(self, key: int) -> bool:
         return (self._after is None or self._after < key) and (self._before is None or key < self._before)
@@ -433,15 +436,15 @@ class Map(_Sized, MutableMapping):  # type: ignore[type-arg]
 
     __slots__ = ()
 
-    def at(self, key: int) -> Value:
+    def at(self, key: int) -> AnyView:
         """The view of a key's value, also if it is a number or a string. Raises Absent, a KeyError."""
         return self._inside(library().lezgauri_get, _as_key(key), about=key)
 
-    def put(self, key: int) -> Value:
+    def put(self, key: int) -> AnyView:
         """The view of a key's value. A missing key is added with a default value. Raises BadAlloc."""
         return self._added(library().lezgauri_put, _as_number(key), about=key)
 
-    def __getitem__(self, key: int) -> Any:
+    def __getitem__(self, key: int) -> Item:
         return self.at(key).value
 
     def __setitem__(self, key: int, value: Any) -> None:
@@ -499,7 +502,7 @@ class Map(_Sized, MutableMapping):  # type: ignore[type-arg]
     def _key(self, call: Callable[..., int], start: Optional[int]) -> Optional[int]:
         key = c_int64()
         try:
-            self._read(call, None if start is None else byref(c_int64(operator.index(start))), byref(key))
+            self._read(call, None if start is None else byref(c_int64(start)), byref(key))
         except NoValue:
             return None
         return key.value
@@ -552,7 +555,7 @@ class Own(Value):
     __slots__ = ()
 
     @property
-    def content(self) -> Optional[Plain]:
+    def content(self) -> Optional[Item]:
         """The object's value, or None if the own is null."""
         view = self.at()
         return None if view is None else view.value
@@ -561,14 +564,14 @@ class Own(Value):
     def content(self, value: Any) -> None:
         self.assign(value)
 
-    def at(self) -> Optional[Value]:
+    def at(self) -> Optional[AnyView]:
         """The view of the object, also if it is a number or a string, or None if the own is null."""
         try:
             return self._inside(library().lezgauri_content)
         except NoValue:
             return None
 
-    def put_content(self) -> Value:
+    def put_content(self) -> AnyView:
         """Makes a new object of a default value, destroys the one before, and returns the view of the new one. Raises BadAlloc."""
         return self._added(library().lezgauri_put_content)
 
@@ -594,12 +597,12 @@ class Shared(Value):
     __slots__ = ()
 
     @property
-    def content(self) -> Optional[Plain]:
+    def content(self) -> Optional[Item]:
         """The frozen object's value, or None if the shared is null."""
         view = self.at()
         return None if view is None else view.value
 
-    def at(self) -> Optional[Value]:
+    def at(self) -> Optional[AnyView]:
         """The view of the frozen object, also if it is a number or a string, or None if the shared is null."""
         try:
             return self._inside(library().lezgauri_content, frozen=True)
@@ -664,7 +667,7 @@ class Array(Sequence):  # type: ignore[type-arg]
     def __len__(self) -> int:
         return self._count
 
-    def at(self, index: int) -> Value:
+    def at(self, index: int) -> AnyView:
         """The view of a value, also if it is a number or a string. A negative index counts from the end.
 
         Raises OutOfRange, an IndexError, and Absent if the object was destroyed."""

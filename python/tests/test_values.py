@@ -38,6 +38,10 @@ class ValueCase(base.Case):
         segment.add_types(*types)
         return segment
 
+    def objects(self, segment, **types):
+        """New objects with these names and types."""
+        return [segment.construct(name, kind) for name, kind in types.items()]
+
     def read(self, image):
         segment = lezgauri.read(image)
         self.addCleanup(segment.close)
@@ -438,7 +442,8 @@ class VectorTest(ValueCase):
                 vector.append(number * number)
             squares = [number * number for number in range(100)]
             self.assertEqual((list(vector), vector.plain(), vector), (squares, squares, squares))
-            self.assertEqual((vector[0], vector[99], vector[-1], vector[-100], vector[98:], vector[3::-1]), (0, 9801, 9801, 0, [9604, 9801], [9, 4, 1, 0]))
+            self.assertEqual((vector[0], vector[99], vector[-1], vector[-100]), (0, 9801, 9801, 0))
+            self.assertEqual((vector[98:], vector[3::-1]), ([9604, 9801], [9, 4, 1, 0]))
             self.assertEqual((81 in vector, 82 in vector, vector.index(81), vector.count(81)), (True, False, 9, 1))
             self.assertEqual(list(reversed(vector)), squares[::-1])
             vector[5] = LEAST
@@ -677,7 +682,8 @@ class MapTest(ValueCase):
             numbers.at(4).value = 1
             self.assertEqual((numbers[5], numbers[4], numbers.put(4), numbers.put(6)), (12, 1, 1, 0))
             del numbers[6]
-            self.assertEqual((numbers.pop(5), numbers.pop(5, None), 5 in numbers, numbers.popitem()), (12, None, False, (LEAST, LEAST // 2)))
+            self.assertEqual((numbers.pop(5), numbers.pop(5, None), 5 in numbers), (12, None, False))
+            self.assertEqual(numbers.popitem(), (LEAST, LEAST // 2))
             self.assertEqual((numbers.setdefault(0, 7), numbers.setdefault(1, 7), numbers.setdefault(2)), (0, 7, 0))
             numbers.update({8: 9})
             self.assertEqual(numbers, {-3: -2, 0: 0, 1: 7, 2: 0, 4: 1, 8: 9, MOST: MOST // 2})
@@ -713,19 +719,21 @@ class MapTest(ValueCase):
         for _, numbers in self.maps(t.i64):
             for key in range(0, 100, 10):
                 numbers[key] = key
-            for after, before, expected in (
-                (None, None, range(0, 100, 10)), (30, None, range(40, 100, 10)), (31, None, range(40, 100, 10)), (None, 30, range(0, 30, 10)),
-                (None, 31, range(0, 40, 10)), (10, 40, range(20, 40, 10)), (90, None, ()), (None, 0, ()), (50, 50, ()), (60, 10, ()),
-                (LEAST, MOST, range(0, 100, 10)), (LEAST - 1, MOST + 1, range(0, 100, 10)), (MOST, None, ()), (MOST + 1, None, ()),
-                (None, LEAST, ()), (None, LEAST - 1, ()),
+            for after, before, first, end in (
+                (None, None, 0, 100), (30, None, 40, 100), (31, None, 40, 100), (None, 30, 0, 30), (None, 31, 0, 40), (10, 40, 20, 40),
+                (90, None, 0, 0), (None, 0, 0, 0), (50, 50, 0, 0), (60, 10, 0, 0), (LEAST, MOST, 0, 100), (LEAST - 1, MOST + 1, 0, 100),
+                (MOST, None, 0, 0), (MOST + 1, None, 0, 0), (None, LEAST, 0, 0), (None, LEAST - 1, 0, 0),
             ):
                 with self.subTest(after=after, before=before):
                     keys = numbers.keys(after=after, before=before)
-                    expected = list(expected)
+                    expected = list(range(first, end, 10))
                     self.assertEqual((list(keys), list(reversed(keys)), len(keys)), (expected, expected[::-1], len(expected)))
                     self.assertEqual([key for key in range(-5, 105) if key in keys], expected)
                     self.assertNotIn("a", keys)
             self.assertEqual(numbers.keys() & {10, 15}, {10})
+            for wrong in ("a", 1.5):
+                with self.assertRaises(TypeError):
+                    numbers.keys(after=wrong)
 
     def test_loop_that_changes(self):
         for _, numbers in self.maps(t.i64):
@@ -817,7 +825,7 @@ class SharedTest(ValueCase):
 
     def test_shared(self):
         for segment in self.segments(*self.TYPES):
-            own, one, other = (segment.construct(name, kind) for name, kind in (("own", self.TYPES[0]), ("a", self.TYPES[1]), ("b", self.TYPES[1])))
+            own, one, other = self.objects(segment, own=self.TYPES[0], one=self.TYPES[1], other=self.TYPES[1])
             self.assertEqual((one.content, one.at(), bool(one), one), (None, None, False, None))
             own.content = (36, "Ada")
             one.freeze(own)
@@ -842,11 +850,9 @@ class SharedTest(ValueCase):
         """A frozen object, and each value in it, can only be read."""
         inner = t.struct(t.i64, t.str, NUMBERS, t.list(t.i64), t.map(t.i64), t.own(t.i64), t.shared(t.i64))
         for segment in self.segments(t.own(inner), t.shared(inner), t.own(t.i64)):
-            own = segment.construct("own", t.own(inner))
+            own, shared, number = self.objects(segment, own=t.own(inner), shared=t.shared(inner), number=t.own(t.i64))
             own.content = (1, "x", [2], [3], {4: 5}, 6, None)
-            shared = segment.construct("shared", t.shared(inner))
             shared.freeze(own)
-            number = segment.construct("number", t.own(t.i64))
             number.content = 7
             frozen = shared.content
             _, text, numbers, items, table, owned, null = (frozen.at(index) for index in range(7))
@@ -865,9 +871,8 @@ class SharedTest(ValueCase):
 
     def test_refused(self):
         for segment in self.segments(*self.TYPES):
-            own, one, number = (segment.construct(name, kind) for name, kind in (("own", self.TYPES[0]), ("a", self.TYPES[1]), ("n", self.TYPES[3])))
+            own, one, number, null = self.objects(segment, own=self.TYPES[0], one=self.TYPES[1], number=self.TYPES[3], null=self.TYPES[0])
             stranger = self.made(*self.TYPES).construct("a", self.TYPES[1])
-            null = segment.construct("null", self.TYPES[0])
             own.content = (1, "x")
             self.refuses(
                 segment,
@@ -887,7 +892,7 @@ class SharedTest(ValueCase):
             image = segment.save()
             struct.pack_into("<I", image, 28, 2**32 - 1)
             with lezgauri.Segment(image) as last:
-                own, one = last.construct("own", self.TYPES[0]), last.construct("a", self.TYPES[1])
+                own, one = self.objects(last, own=self.TYPES[0], one=self.TYPES[1])
                 own.content = (1, "x")
                 self.refuses(last, (lambda: one.freeze(own), lezgauri.NumbersUsedUp))
                 self.assertEqual(own, (1, b"x"))
@@ -946,25 +951,23 @@ class UniqueTest(ValueCase):
 class ReadTest(ValueCase):
     """Segments that are open only for reading."""
 
-    TYPES = (t.i64, t.str, NUMBERS, t.list(t.i64), TREE, FLAT, t.own(t.i64), t.shared(t.i64))
+    TYPES = {
+        "flat": FLAT, "list": t.list(t.i64), "number": t.i64, "numbers": NUMBERS, "own": t.own(t.i64), "shared": t.shared(t.i64),
+        "text": t.str, "tree": TREE,
+    }
     CONTENTS = {
         "flat": {3: (4, b"y")}, "list": [1, 2], "number": 5, "numbers": [7, 8, 9], "own": 6, "shared": 11, "text": b"abc",
         "tree": {1: (2, b"x")},
     }
 
     def image(self, kinds=()):
-        segment = self.made(*self.TYPES, kinds=kinds)
-        for name, kind in (
-            ("number", t.i64), ("text", t.str), ("numbers", NUMBERS), ("list", t.list(t.i64)), ("tree", TREE), ("flat", FLAT),
-            ("own", t.own(t.i64)), ("shared", t.shared(t.i64)),
-        ):
-            view = segment.construct(name, kind)
-            if name == "shared":
-                segment["own"] = self.CONTENTS["shared"]
-                view.freeze(segment["own"])
-            else:
-                view.assign(self.CONTENTS[name])
-        segment["own"] = self.CONTENTS["own"]
+        segment = self.made(*self.TYPES.values(), kinds=kinds)
+        self.objects(segment, **self.TYPES)
+        segment["own"] = self.CONTENTS["shared"]
+        segment["shared"].freeze(segment["own"])
+        for name, content in self.CONTENTS.items():
+            if name != "shared":
+                segment[name] = content
         segment.construct_unique(t.i64).value = 12
         return bytes(segment.save())
 
@@ -1043,7 +1046,8 @@ class ReadTest(ValueCase):
             self.assertEqual((bytes(mapped), self.contents(segment)), (image, self.CONTENTS))
 
     def test_faults(self):
-        for wrong, name, position in ((b"", "BAD_HEADER", None), (base.IMAGE[:-1], "BAD_HEADER", None), (base.changed((704, 1)), "BAD_BLOCK", 704)):
+        spoilt = base.changed((704, 1))
+        for wrong, name, position in ((b"", "BAD_HEADER", None), (base.IMAGE[:-1], "BAD_HEADER", None), (spoilt, "BAD_BLOCK", 704)):
             with self.refused(name, position):
                 lezgauri.read(wrong)
         for wrong in ("text", 7, None):
@@ -1102,8 +1106,9 @@ class ClosedTest(ValueCase):
         next(names)
         segment.close()
         for call in (
-            lambda: number.value, lambda: number.assign(1), lambda: text.value, lambda: text.view(), lambda: text.append("a"), lambda: len(text),
-            lambda: vector[0], lambda: vector.numbers(), lambda: vector.append(1), lambda: vector.pop(), lambda: list(vector),
+            lambda: number.value, lambda: number.assign(1), lambda: text.value, lambda: text.view(), lambda: text.append("a"),
+            lambda: len(text), lambda: vector[0], lambda: vector.numbers(), lambda: vector.append(1), lambda: vector.pop(),
+            lambda: list(vector),
             lambda: items[0], lambda: items.appendleft(1), lambda: list(items), lambda: items.popleft(),
             lambda: table[1], lambda: table.put(1), lambda: list(table), lambda: table.first(), lambda: 1 in table,
             lambda: own.content, lambda: own.put_content(), lambda: bool(own), lambda: shared.content, lambda: shared.freeze(own),
@@ -1145,8 +1150,8 @@ class SharedSegmentTest(ValueCase):
         text = segment.construct("t", t.str)
         finish = self.start(lambda: lezgauri.run_on(segment, base.LONG))
         for call in (
-            lambda: number.value, lambda: number.assign(5), lambda: segment["x"], lambda: segment.find_or_construct("y", 0), lambda: text.value,
-            lambda: text.view(), lambda: list(segment), lambda: segment.add_types(t.vec(t.i64)),
+            lambda: number.value, lambda: number.assign(5), lambda: segment["x"], lambda: segment.find_or_construct("y", 0),
+            lambda: text.value, lambda: text.view(), lambda: list(segment), lambda: segment.add_types(t.vec(t.i64)),
         ):
             self.until_busy(call)
         finish()
