@@ -1,5 +1,6 @@
 """Values of a segment where they are: views by kind."""
 import array
+import contextlib
 import ctypes
 import operator
 from collections.abc import KeysView, MutableMapping, Sequence
@@ -51,9 +52,14 @@ def _as_index(index: Any, count: Callable[[], int]) -> int:
     return number
 
 
-def plain(value: Any) -> Any:
-    """A view's value as objects of Python, or any other value as it is."""
-    return value.plain() if isinstance(value, (Value, Array)) else value
+# Frozen objects that a copy of a value points to, each kept by an object of its own until the copy is used.
+Kept = contextlib.ExitStack
+
+
+def plain(value: Any, kept: Optional[Kept] = None) -> Any:
+    """A view's value as objects of Python, or any other value as it is. With `kept`, a shared stays a view of a shared, which stays valid
+    until `kept` is closed."""
+    return value._plain(kept) if isinstance(value, (Value, Array)) else value
 
 
 class Value:
@@ -98,6 +104,9 @@ class Value:
 
     def plain(self) -> Any:
         """A copy as objects of Python: int, bytes, list, dict, tuple for a struct, and None for null."""
+        return self._plain(None)
+
+    def _plain(self, kept: Optional[Kept]) -> Any:
         raise NotImplementedError
 
     def clear(self) -> None:
@@ -134,13 +143,16 @@ class Value:
             return handle.exported(found.bytes, found.len) if found.len else memoryview(b"")
 
 
-def _set(view: Value, value: Any, undo: Callable[[], None]) -> None:
-    """Assigns a value that was added, and removes it again if that fails."""
-    try:
-        view.assign(value)
-    except BaseException:
-        undo()
-        raise
+def _add(add: Callable[[], Value], value: Any, undo: Callable[[], None]) -> None:
+    """Adds a default value and assigns to it. If that fails, removes it again. A view is copied first, since adding may move its value."""
+    with Kept() as kept:
+        copy = plain(value, kept)
+        added = add()
+        try:
+            added.assign(copy)
+        except BaseException:
+            undo()
+            raise
 
 
 def _taken(view: Value) -> Optional[Item]:
@@ -173,7 +185,7 @@ class Number(Value):
     def assign(self, value: Any) -> None:
         self.value = plain(value)
 
-    def plain(self) -> int:
+    def _plain(self, kept: Optional[Kept]) -> int:
         return self.value
 
 
@@ -235,7 +247,7 @@ class Text(_Sized):
         """Drops the last byte. Raises NoValue, an IndexError, if there is none."""
         self._change(library().lezgauri_pop_back)
 
-    def plain(self) -> bytes:
+    def _plain(self, kept: Optional[Kept]) -> bytes:
         return self.value
 
 
@@ -265,8 +277,8 @@ class _Items(Value, Sequence):  # type: ignore[type-arg]
     def __iter__(self) -> Iterator[Any]:
         return (view.value for view in self.views())
 
-    def plain(self) -> Any:
-        return [view.plain() for view in self.views()]
+    def _plain(self, kept: Optional[Kept]) -> Any:
+        return [view._plain(kept) for view in self.views()]
 
 
 class _Growing(_Items, _Sized):
@@ -279,13 +291,14 @@ class _Growing(_Items, _Sized):
         return self._added(library().lezgauri_push_back)
 
     def append(self, value: Any) -> None:
-        """Adds an item at the end. Raises BadAlloc; then nothing changed."""
-        _set(self.add(), value, self._drop)
+        """Adds an item at the end. Raises BadAlloc; then it isn't added."""
+        _add(self.add, value, self._drop)
 
     def extend(self, values: Iterable[Any]) -> None:
         """Adds items at the end. Raises BadAlloc; then the items before are added."""
-        for value in values:
-            self.append(value)
+        with Kept() as kept:
+            for value in plain(values, kept):
+                self.append(value)
 
     def __iadd__(self, values: Iterable[Any]) -> Any:
         self.extend(values)
@@ -304,9 +317,10 @@ class _Growing(_Items, _Sized):
         self._change(library().lezgauri_pop_back)
 
     def assign(self, value: Iterable[Any]) -> None:
-        items = [plain(item) for item in plain(value)]
-        self.clear()
-        self.extend(items)
+        with Kept() as kept:
+            items = [plain(item, kept) for item in plain(value, kept)]
+            self.clear()
+            self.extend(items)
 
 
 class Vector(_Growing):
@@ -328,9 +342,9 @@ class Vector(_Growing):
         # one call for all numbers
         return iter(self.plain()) if self._has_numbers() else super().__iter__()
 
-    def plain(self) -> ListOf[Any]:
+    def _plain(self, kept: Optional[Kept]) -> ListOf[Any]:
         if not self._has_numbers():
-            return super().plain()  # type: ignore[no-any-return]
+            return super()._plain(kept)  # type: ignore[no-any-return]
         with self.numbers() as numbers:
             return numbers.tolist()
 
@@ -346,8 +360,8 @@ class List(_Growing):
         return self._added(library().lezgauri_push_front)
 
     def appendleft(self, value: Any) -> None:
-        """Adds an item at the front. Raises BadAlloc; then nothing changed."""
-        _set(self.addleft(), value, self._drop_first)
+        """Adds an item at the front. Raises BadAlloc; then it isn't added."""
+        _add(self.addleft, value, self._drop_first)
 
     def popleft(self) -> Optional[Item]:
         """Removes the first item as `pop` removes the last one."""
@@ -390,14 +404,15 @@ class Struct(_Items):
 
     def assign(self, value: Iterable[Any]) -> None:
         """Assigns all fields in order. Raises ValueError if there are more or fewer values than fields."""
-        values = tuple(plain(value))
-        if len(values) != len(self):
-            raise ValueError(f"{len(values)} values for {len(self)} fields")
-        for field, each in zip(self.views(), values):
-            field.assign(each)
+        with Kept() as kept:
+            values = tuple(plain(value, kept))
+            if len(values) != len(self):
+                raise ValueError(f"{len(values)} values for {len(self)} fields")
+            for field, each in zip(self.views(), values):
+                field.assign(each)
 
-    def plain(self) -> Tuple[Any, ...]:
-        return tuple(super().plain())
+    def _plain(self, kept: Optional[Kept]) -> Tuple[Any, ...]:
+        return tuple(super()._plain(kept))
 
 
 class Keys(KeysView):  # type: ignore[type-arg]
@@ -451,7 +466,7 @@ class Map(_Sized, MutableMapping):  # type: ignore[type-arg]
         if key in self:
             self.at(key).assign(value)
         else:
-            _set(self.put(key), value, lambda: self.__delitem__(key))
+            _add(lambda: self.put(key), value, lambda: self.__delitem__(key))
 
     def __delitem__(self, key: int) -> None:
         self._change(library().lezgauri_remove, _as_key(key), about=key)
@@ -541,12 +556,13 @@ class Map(_Sized, MutableMapping):  # type: ignore[type-arg]
         Value.clear(self)
 
     def assign(self, value: Any) -> None:
-        items = {key: plain(each) for key, each in dict(plain(value)).items()}
-        self.clear()
-        self.update(items)
+        with Kept() as kept:
+            items = {key: plain(each, kept) for key, each in dict(plain(value, kept)).items()}
+            self.clear()
+            self.update(items)
 
-    def plain(self) -> Dict[int, Any]:
-        return {key: self.at(key).plain() for key in self}
+    def _plain(self, kept: Optional[Kept]) -> Dict[int, Any]:
+        return {key: self.at(key)._plain(kept) for key in self}
 
 
 class Own(Value):
@@ -580,14 +596,15 @@ class Own(Value):
 
     def assign(self, value: Any) -> None:
         """Makes a new object of this value, or makes the own null if the value is None."""
-        value = plain(value)
-        if value is None:
-            self.clear()
-        else:
-            _set(self.put_content(), value, self.clear)
+        with Kept() as kept:
+            copy = plain(value, kept)
+            if copy is None:
+                self.clear()
+            else:
+                _add(self.put_content, copy, self.clear)
 
-    def plain(self) -> Any:
-        return plain(self.at())
+    def _plain(self, kept: Optional[Kept]) -> Any:
+        return plain(self.at(), kept)
 
 
 class Shared(Value):
@@ -635,14 +652,21 @@ class Shared(Value):
         return self.at() is not None
 
     def assign(self, value: Optional["Shared"]) -> None:
-        """The same as `share`, or makes the pointer null if the value is None."""
+        """The same as `share`, or makes the pointer null if the value is None. Values of other kinds raise TypeError."""
         if value is None:
             self.clear()
         else:
             self.share(value)
 
-    def plain(self) -> Any:
-        return plain(self.at())
+    def _plain(self, kept: Optional[Kept]) -> Any:
+        return self._kept(kept) if kept is not None and self else plain(self.at())
+
+    def _kept(self, kept: Kept) -> "Shared":
+        """A shared in an object of its own that points to the same frozen object, until `kept` is closed."""
+        copy = self.segment.construct_anonymous(self._place.type)
+        kept.callback(self.segment.destroy_anonymous, copy)
+        copy.share(self)
+        return copy  # type: ignore[no-any-return]
 
 
 class Array(Sequence):  # type: ignore[type-arg]
@@ -683,7 +707,10 @@ class Array(Sequence):  # type: ignore[type-arg]
 
     def plain(self) -> ListOf[Any]:
         """A copy as objects of Python: a list."""
-        return [self.at(index).plain() for index in range(self._count)]
+        return self._plain(None)
+
+    def _plain(self, kept: Optional[Kept]) -> ListOf[Any]:
+        return [self.at(index)._plain(kept) for index in range(self._count)]
 
 
 VIEWS: Dict[Kind, TypeOf[Value]] = {

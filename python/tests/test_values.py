@@ -501,7 +501,9 @@ class VectorTest(ValueCase):
             self.assertEqual((users, [bytes(name) for _, name in users]), ([(37, b"Ada"), (42, b"Alan")], [b"Ada", b"Alan"]))
             self.assertEqual((users.pop(), len(users)), (None, 1))
             users.assign([users[0], (1, "x")])
-            self.assertEqual(users, [(37, b"Ada"), (1, b"x")])
+            users.append(users[0])
+            users.extend(users)
+            self.assertEqual(users, [(37, b"Ada"), (1, b"x"), (37, b"Ada")] * 2)
             self.refuses(segment, (lambda: texts.numbers(), lezgauri.OtherType), (lambda: users.numbers(), TypeError))
 
     def test_shrink_to_fit(self):
@@ -845,6 +847,37 @@ class SharedTest(ValueCase):
             cells[0] = other
             self.assertEqual(cells, [None, None])
             self.assertGreater(segment.free_memory.all, before)
+
+    def test_copies(self):
+        """Copies of values share the frozen objects, also if a vector or a flat map moves while it gets the copy."""
+        cell = t.struct(t.i64, t.shared(USER))
+        for segment in self.segments(t.own(USER), t.vec(t.shared(USER)), t.flat_map(cell), t.list(cell), t.own(cell)):
+            own, one, vector, table, items, owner = self.objects(
+                segment, own=t.own(USER), one=t.shared(USER), vector=t.vec(t.shared(USER)), table=t.flat_map(cell), items=t.list(cell),
+                owner=t.own(cell),
+            )
+            own.content = (36, "Ada")
+            one.freeze(own)
+            vector.append(one)
+            table[0] = (0, one)
+            items.append((0, one))
+            owner.content = (0, one)
+            for key in range(1, 40):
+                vector.append(vector[0])
+                table[key] = table[key - 1]
+                table[key][0] += 1
+                items.append(items[0])
+                # so that each vector has to move
+                segment.construct(f"x{key}", t.own(USER))
+            vector.extend(vector)
+            items.extend(items)
+            items.assign(items)
+            owner.assign(owner)
+            copies = [*vector, *(shared for _, shared in table.values()), *(shared for _, shared in items), owner.content[1]]
+            self.assertEqual(len(copies), 80 + 40 + 80 + 1)
+            self.assertEqual([copy.plain() for copy in copies], [(36, b"Ada")] * 201)
+            self.assertEqual({copy.at()._place.at for copy in copies}, {one.at()._place.at})
+            self.assertEqual(list(table.keys()), [number for number, _ in table.values()])
 
     def test_frozen(self):
         """A frozen object, and each value in it, can only be read."""
