@@ -31,6 +31,7 @@ def _encoded(name: str) -> bytes:
 class Objects(Closeable, Mapping):  # type: ignore[type-arg]
     """What a segment has as a mapping from names to values."""
 
+    # the types when they were last read; more may have been added since
     _types: Tuple[Type, ...] = ()
 
     # a segment is equal only to itself
@@ -48,8 +49,9 @@ class Objects(Closeable, Mapping):  # type: ignore[type-arg]
         entries, count = (CType * MOST_TYPES)(), c_size_t()
         self._call(library().lezgauri_types, entries, MOST_TYPES, byref(count))
         used = entries[: count.value]
-        self._types = tuple(Type(Kind(entry.kind), tuple(entry.components[: entry.count])) for entry in used)
-        return self._types
+        types = tuple(Type(Kind(entry.kind), tuple(entry.components[: entry.count])) for entry in used)
+        self._types = types
+        return types
 
     def add_types(self, *types: TypeOrNumber) -> Tuple[int, ...]:
         """Adds those of the types that the segment doesn't have, and types that they contain. Returns the number of each type: of
@@ -71,9 +73,8 @@ class Objects(Closeable, Mapping):  # type: ignore[type-arg]
 
     def _type(self, number: int) -> Type:
         """The type with a number."""
-        if number >= len(self._types):
-            self.types()
-        return self._types[number]
+        types = self._types
+        return types[number] if number < len(types) else self.types()[number]
 
     def _number(self, of: TypeOrNumber) -> int:
         """The number of a type. Raises OtherType if the segment doesn't have it."""
