@@ -165,7 +165,7 @@ static sqlite3_stmt* prepared(const char* text) {
 }
 // the cache has room for the whole table
 static void open_db(const char* file, int flags) {
-    succeed(sqlite3_open_v2(file, &db, flags, nullptr));
+    succeed(sqlite3_open_v2(file, &db, flags | SQLITE_OPEN_NOMUTEX, nullptr));
     run("PRAGMA cache_size = -131072; PRAGMA synchronous = NORMAL");
 }
 static void step(sqlite3_stmt* statement, int64_t first, int64_t second) {
