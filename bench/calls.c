@@ -1,10 +1,12 @@
-/* The calls of lezgauri.h on one image, with one client.
+/* The calls of lezgauri.h on one image, with one client, and its calls on values in a segment of its own.
  *   calls WORK TIMES IMAGE CLIENT      WORK: a name in the list at the end
  * cc -O2 -I../crates/lezgauri_c/include calls.c -o calls liblezgauri.a */
 #include "measure.h"
 
+#include <fcntl.h>
 #include <lezgauri.h>
-#include <string.h>
+#include <sys/mman.h>
+#include <unistd.h>
 
 enum { MOST_FILE = 1 << 16, MOST_OUTPUT = 256 };
 
@@ -122,6 +124,119 @@ static void save(void)
     succeed(lezgauri_save(segment, saved, sizeof saved, &written));
 }
 
+/* The segment for the calls on values. Its map has the keys 0 to 99, and its vector has room for 100 numbers. */
+enum { NUMBER, STRING, VECTOR, MAP, TYPES };
+enum { KEYS = 100, KEY = 50, NEW_KEY = 1000, CAPACITY = 100 };
+static const char TEXT[] = "sixteen bytes...";
+static _Alignas(16) uint8_t memory[MOST_FILE];
+static lezgauri_handle *values;
+static lezgauri_place number, string, vector, map, place;
+static const uint8_t *mapped; /* the image, in a file that is mapped only for reading */
+static int64_t loaded;
+
+static void start_values(void)
+{
+    static const lezgauri_type table[TYPES] = {
+        [NUMBER] = {.kind = LEZGAURI_KIND_I64},
+        [STRING] = {.kind = LEZGAURI_KIND_STR},
+        [VECTOR] = {.kind = LEZGAURI_KIND_VEC, .count = 1, .components = {NUMBER}},
+        [MAP] = {.kind = LEZGAURI_KIND_MAP, .count = 1, .components = {NUMBER}},
+    };
+    succeed(lezgauri_create_in(memory, sizeof memory, sizeof memory, LEZGAURI_BEST_FIT, LEZGAURI_TREE_INDEX, &values));
+    succeed(lezgauri_add_types(values, table, TYPES, &fault));
+    succeed(lezgauri_construct(values, "x", NUMBER, 1, &number));
+    succeed(lezgauri_construct(values, "map", MAP, 1, &map));
+    succeed(lezgauri_construct(values, "numbers", VECTOR, 1, &vector));
+    succeed(lezgauri_construct(values, "string", STRING, 1, &string));
+    for (int i = 0; i < KEYS; i++) {
+        succeed(lezgauri_put(values, map, i, &place));
+    }
+    for (int i = 0; i < CAPACITY; i++) {
+        succeed(lezgauri_push_back(values, vector, &place));
+    }
+    for (int i = 0; i < CAPACITY; i++) {
+        succeed(lezgauri_pop_back(values, vector));
+    }
+    succeed(lezgauri_get(values, map, KEY, &place));
+}
+
+static void map_image(const char *name)
+{
+    int file = open(name, O_RDONLY);
+    need(file >= 0, name);
+    mapped = mmap(NULL, image_len, PROT_READ, MAP_SHARED, file, 0);
+    need(mapped != MAP_FAILED, "mmap");
+    close(file);
+}
+
+static void check_mapped(void)
+{
+    succeed(lezgauri_check(mapped, image_len, &fault));
+}
+
+static void read_close(void)
+{
+    lezgauri_handle *made;
+    succeed(lezgauri_read(mapped, image_len, &made, &fault));
+    lezgauri_close(made);
+}
+
+static void find(void)
+{
+    lezgauri_place found;
+    succeed(lezgauri_find(values, "x", NUMBER, &found));
+}
+
+static void load(void)
+{
+    succeed(lezgauri_load(values, number, &loaded));
+}
+
+static void store(void)
+{
+    succeed(lezgauri_store(values, number, 7));
+}
+
+static void get(void)
+{
+    succeed(lezgauri_get(values, map, KEY, &place));
+}
+
+static void next_key(void)
+{
+    static const int64_t after = KEY;
+    succeed(lezgauri_next_key(values, map, &after, &loaded));
+}
+
+static void put_remove(void)
+{
+    succeed(lezgauri_put(values, map, NEW_KEY, &place));
+    succeed(lezgauri_remove(values, map, NEW_KEY));
+}
+
+static void push_pop(void)
+{
+    succeed(lezgauri_push_back(values, vector, &place));
+    succeed(lezgauri_pop_back(values, vector));
+}
+
+static void assign(void)
+{
+    succeed(lezgauri_assign(values, string, TEXT, sizeof TEXT - 1));
+}
+
+static void text_of(void)
+{
+    lezgauri_bytes bytes;
+    succeed(lezgauri_text(values, string, &bytes));
+}
+
+static void construct_destroy(void)
+{
+    succeed(lezgauri_construct(values, "y", NUMBER, 1, &place));
+    succeed(lezgauri_destroy(values, "y", NUMBER));
+}
+
 static const work WORKS[] = {
     {"check", check},
     {"verify", verify},
@@ -139,6 +254,18 @@ static const work WORKS[] = {
     {"prepare, client_close", prepare_close},
     {"run_client", run_client},
     {"save", save},
+    {"check, mapped", check_mapped},
+    {"read, close", read_close},
+    {"find", find},
+    {"load", load},
+    {"store", store},
+    {"get", get},
+    {"next_key", next_key},
+    {"put, remove", put_remove},
+    {"push_back, pop_back", push_pop},
+    {"assign", assign},
+    {"text", text_of},
+    {"construct, destroy", construct_destroy},
 };
 
 static size_t read_file(const char *name, uint8_t *bytes)
@@ -160,7 +287,10 @@ int main(int count, char **words)
     succeed(lezgauri_prepare(segment, client, client_len, &prepared, &fault));
     memcpy(lent, image, image_len);
     succeed(lezgauri_print(client, client_len, text, sizeof text, &text_len, &fault));
+    map_image(words[3]);
+    start_values();
     MEASURE(WORKS, words[1], atol(words[2]));
+    lezgauri_close(values);
     lezgauri_client_close(prepared);
     lezgauri_close(segment);
     return 0;

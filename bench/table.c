@@ -1,0 +1,119 @@
+/* The works of table.h with the calls of lezgauri.h, in place on a mapped file: a map as a tree, and a flat one.
+ * cc -O2 -I../crates/lezgauri_c/include table.c -o table liblezgauri.a */
+#include "table.h"
+
+#include <lezgauri.h>
+
+static const char *const NAME = "table";
+enum { NUMBER, MAP };
+
+static uint8_t *memory;
+static size_t memory_len;
+static lezgauri_handle *segment;
+static lezgauri_place map;
+static lezgauri_fault fault;
+
+static void succeed(uint32_t status)
+{
+    need(status == LEZGAURI_OK, lezgauri_status_text(status));
+}
+
+static void close_table(void)
+{
+    lezgauri_close(segment);
+    need(munmap(memory, memory_len) == 0, "munmap");
+}
+
+static void put(int64_t key, int64_t number)
+{
+    lezgauri_place value;
+    succeed(lezgauri_put(segment, map, key, &value));
+    succeed(lezgauri_store(segment, value, number));
+}
+
+static void build(const char *file, const entry *entries, uint8_t kind)
+{
+    const lezgauri_type types[] = {[NUMBER] = {.kind = LEZGAURI_KIND_I64}, [MAP] = {.kind = kind, .count = 1}};
+    int made = open(file, O_RDWR | O_CREAT | O_TRUNC, 0600);
+    need(made >= 0 && ftruncate(made, (off_t)FILE_LEN) == 0, file);
+    close(made);
+    memory = map_file(file, 1, &memory_len);
+    succeed(lezgauri_create_in(memory, memory_len, memory_len, LEZGAURI_BEST_FIT, LEZGAURI_TREE_INDEX, &segment));
+    succeed(lezgauri_add_types(segment, types, 2, &fault));
+    succeed(lezgauri_construct(segment, NAME, MAP, 1, &map));
+    for (int i = 0; i < KEYS; i++) {
+        put(entries[i].key, entries[i].value);
+    }
+    close_table();
+}
+
+static void build_tree(const char *file, const entry *entries)
+{
+    build(file, entries, LEZGAURI_KIND_MAP);
+}
+
+static void build_flat(const char *file, const entry *entries)
+{
+    build(file, entries, LEZGAURI_KIND_FLAT_MAP);
+}
+
+static void open_table(const char *file, int writing)
+{
+    memory = map_file(file, writing, &memory_len);
+    succeed(writing ? lezgauri_open_in(memory, memory_len, memory_len, &segment, &fault)
+                    : lezgauri_read(memory, memory_len, &segment, &fault));
+    succeed(lezgauri_find(segment, NAME, MAP, &map));
+}
+
+static int64_t look_up(const int64_t *keys, long count)
+{
+    int64_t sum = 0;
+    for (long i = 0; i < count; i++) {
+        lezgauri_place value;
+        int64_t number;
+        succeed(lezgauri_get(segment, map, keys[i], &value));
+        succeed(lezgauri_load(segment, value, &number));
+        sum += number;
+    }
+    return sum;
+}
+
+static void update(const int64_t *keys, long count, int singly)
+{
+    (void)singly;
+    for (long i = 0; i < count; i++) {
+        lezgauri_place value;
+        succeed(lezgauri_get(segment, map, keys[i], &value));
+        succeed(lezgauri_store(segment, value, i));
+    }
+}
+
+static int64_t sum_values(long count)
+{
+    int64_t sum = 0, before = 0;
+    for (long i = 0; i < count; i++) {
+        lezgauri_place value;
+        int64_t key, number;
+        succeed(lezgauri_next_key(segment, map, i == 0 ? NULL : &before, &key));
+        succeed(lezgauri_get(segment, map, key, &value));
+        succeed(lezgauri_load(segment, value, &number));
+        sum += number;
+        before = key;
+    }
+    return sum;
+}
+
+static void check(void)
+{
+    succeed(lezgauri_check(memory, memory_len, &fault));
+}
+
+static const table TABLES[] = {
+    {"lezgauri-tree", 0, build_tree, open_table, look_up, update, sum_values, check, close_table},
+    {"lezgauri-flat", 1, build_flat, open_table, look_up, update, sum_values, check, close_table},
+};
+
+int main(int count, char **words)
+{
+    return table_main(TABLES, sizeof TABLES / sizeof *TABLES, count, words);
+}
