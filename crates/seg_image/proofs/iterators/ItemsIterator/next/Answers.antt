@@ -1,4 +1,4 @@
-use Rattle.std.proofs.Common.{◌≡◌, ℕ, suc, ◌-◌, ◌<◌, true, false, None, Some, refl, sym, ap, ◌∙◌, subst, arith}
+use Rattle.std.proofs.Common.{◌≡◌, suc, ◌-◌, ◌<◌, true, false, None, Some, refl, sym, ap, ◌∙◌, subst, arith}
 use Rattle.seg_spec.specs.Value.{count}
 use Rattle.seg_cells.specs.Places.{place_of}
 use Rattle.seg_seq.specs.Sequences.{ShowsItem}
