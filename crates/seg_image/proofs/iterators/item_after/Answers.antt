@@ -1,4 +1,4 @@
-use Rattle.std.proofs.Common.{◌≡◌, ℕ, ◌-◌, ◌≤◌, Option, sym, subst}
+use Rattle.std.proofs.Common.{ℕ, ◌-◌, ◌≤◌, Option, sym, subst}
 use Rattle.std.specs.Prelude.{IsSomeAnd}
 use Rattle.std.specs.Option.{IfSome}
 use Rattle.seg_spec.specs.Value.{count}
