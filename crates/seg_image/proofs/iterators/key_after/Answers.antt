@@ -1,4 +1,4 @@
-use Rattle.std.proofs.Common.{rules, ◌≡◌, ℤ, Option, None, Some, slice_get, sym, ap, ◌∙◌, subst, w64}
+use Rattle.std.proofs.Common.{rules, ◌≡◌, ℤ, Option, slice_get, sym, ap, ◌∙◌, subst, w64}
 use Rattle.std.proofs.lemmas.Int.{to_z-of_z}
 use Rattle.seg_cells.specs.Places.{place_of}
 use Rattle.seg_map.specs.Maps.{first_of, keys_above}

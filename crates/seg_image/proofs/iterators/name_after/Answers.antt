@@ -1,4 +1,4 @@
-use Rattle.std.proofs.Common.{◌≡◌, ℕ, List, Option, None, Some, IsSomeAnd, MatchOption, slice_get, sym, subst, Bor}
+use Rattle.std.proofs.Common.{◌≡◌, ℕ, List, Option, None, IsSomeAnd, MatchOption, slice_get, sym, subst, Bor}
 use Rattle.std.specs.Option.{option_map}
 use Rattle.seg_spec.specs.Index.{Root}
 use Rattle.seg_manager.specs.NamedObjects.{DescribesRoot}

@@ -1,4 +1,4 @@
-use Rattle.std.proofs.Common.{rules, ◌≡◌, ℤ, Some, None, Result, slice_get, refl, sym, ap, ◌∙◌, subst, w64, to_z, of_z}
+use Rattle.std.proofs.Common.{rules, ◌≡◌, Some, None, Result, sym, ap, ◌∙◌, subst, w64, to_z, of_z}
 use Rattle.std.specs.Prelude.{IfOk}
 use Rattle.std.specs.Result.{result_ok}
 use Rattle.std.proofs.lemmas.Int.{to_z-of_z}

@@ -1,4 +1,4 @@
-use Rattle.std.proofs.Common.{◌≡◌, Ok, length, refl, arith}
+use Rattle.std.proofs.Common.{◌≡◌, length, refl, arith}
 use Rattle.seg_image.proofs.read.ImageRead.keys.Goals as goal
 
 pub returns-clause-first : goal.returns-clause-first
