@@ -1,6 +1,6 @@
 -- Items of a list and their neighbours: each item has one position, and no two items have the same.
 use Rattle.std.proofs.Common.{◌≡◌, ◌≢◌, ℕ, zero, suc, ◌+◌, ◌-◌, ◌<◌, ◌≤◌, ⊎_elim, true, false, cond, ltb, leb, List, [], ◌∷◌, length, Some, refl, sym, ap, ◌∙◌, subst, arith}
-use Rattle.std.specs.Prelude.{slice_get}
+use Rattle.std.specs.Prelude.{slice_get, nat_lt, nat_le, if◌then◌else◌}
 use Rattle.std.proofs.lemmas.Bool.{cases_lt}
 use Rattle.std.proofs.lemmas.Bool.Decides.{nat_tests}
 use Rattle.seg_spec.specs.Types.{Form, Table, form_at}
@@ -9,8 +9,6 @@ use Rattle.seg_spec.specs.Reads.{Place, Leads}
 use Rattle.seg_spec.specs.Owning.{Stands}
 use Rattle.seg_spec.specs.Sound.{times}
 use Rattle.seg_spec.proofs.Heap.LiveBlockLaws.{times-same}
-use Rattle.seg_seq.specs.Rings.{around}
-use Rattle.seg_seq.specs.declared.ring.Way.TheVariants as way
 use Rattle.seg_seq.proofs.RingInsertionLaws.{first_once, rest_once}
 use Rattle.seg_seq.proofs.Fronts.{its_list, its_spread, its_count, node_of_item}
 
@@ -40,14 +38,21 @@ one_index (x ∷ xs) (suc i) zero p once e f =
     absurd (omega arith)
 one_index (x ∷ xs) (suc i) (suc j) p once e f = ap suc (one_index xs i j p (rest_once x xs once) e f)
 
-forward_on : (n i : ℕ) → i + 1 < n → around way.Forward n i 1 ≡ i + 1
-forward_on n i h = let t : ltb (i + 1) n ≡ true = grind (arith, nat_tests) in ap (λ b. cond b (i + 1) (i + 1 - n)) t
+-- the index of the item after or before item i of n, around the ring
+abbrev pub index_after : ℕ → ℕ → ℕ
+index_after n i = if nat_lt (i + 1) n then i + 1 else i + 1 - n
 
-forward_over : (n i : ℕ) → i < n → n ≤ i + 1 → around way.Forward n i 1 ≡ 0
-forward_over n i less h = let t : ltb (i + 1) n ≡ false = grind (arith, nat_tests) in ap (λ b. cond b (i + 1) (i + 1 - n)) t ∙ (omega arith)
+abbrev pub index_before : ℕ → ℕ → ℕ
+index_before n i = if nat_le 1 i then i - 1 else i + n - 1
 
-backward_on : (n i : ℕ) → 1 ≤ i → around way.Backward n i 1 ≡ i - 1
-backward_on n i h = let t : leb 1 i ≡ true = grind (arith, nat_tests) in ap (λ b. cond b (i - 1) (i + n - 1)) t
+after_on : (n i : ℕ) → i + 1 < n → index_after n i ≡ i + 1
+after_on n i h = let t : ltb (i + 1) n ≡ true = grind (arith, nat_tests) in ap (λ b. cond b (i + 1) (i + 1 - n)) t
+
+after_over : (n i : ℕ) → i < n → n ≤ i + 1 → index_after n i ≡ 0
+after_over n i less h = let t : ltb (i + 1) n ≡ false = grind (arith, nat_tests) in ap (λ b. cond b (i + 1) (i + 1 - n)) t ∙ (omega arith)
+
+before_on : (n i : ℕ) → 1 ≤ i → index_before n i ≡ i - 1
+before_on n i h = let t : leb 1 i ≡ true = grind (arith, nat_tests) in ap (λ b. cond b (i - 1) (i + n - 1)) t
 
 module _ (allocator : ℕ) (bytes : List ℕ) (table : Table) (list : Place) (U : ℕ) (form_is : form_at table list.type ≡ Some (Form.list U)) (vs : Values) (blocks : List ℕ) (stands : Stands allocator bytes table list (Seq vs) blocks) where
   abbrev pub Shows : ℕ → ℕ → Type 0
@@ -80,27 +85,27 @@ module _ (allocator : ℕ) (bytes : List ℕ) (table : Table) (list : Place) (U 
       one_index its.nodes i j n.0 (rest_once list.at its.nodes (its_spread allocator bytes table list U form_is vs blocks stands).once) n.1 (m.1 ∙ ap Some same)
 
   -- the item after the last one is the first
-  pub next_after : (i item next first : ℕ) → Shows i item → Shows (around way.Forward (count vs) i 1) next → Shows 0 first → next ≢ first → (i + 1 < count vs) × Shows (i + 1) next
+  pub next_after : (i item next first : ℕ) → Shows i item → Shows (index_after (count vs) i) next → Shows 0 first → next ≢ first → (i + 1 < count vs) × Shows (i + 1) next
   next_after i item next first here there begins differs =
       let less = item_below i item here in
       ⊎_elim
-      (λ on. (on, subst (λ j. Shows j next) (forward_on (count vs) i on) there))
-      (λ over. absurd (differs (one_position 0 next first (subst (λ j. Shows j next) (forward_over (count vs) i less over) there) begins)))
+      (λ on. (on, subst (λ j. Shows j next) (after_on (count vs) i on) there))
+      (λ over. absurd (differs (one_position 0 next first (subst (λ j. Shows j next) (after_over (count vs) i less over) there) begins)))
       (cases_lt (i + 1) (count vs))
 
-  pub next_none : (i item next first : ℕ) → Shows i item → Shows (around way.Forward (count vs) i 1) next → Shows 0 first → next ≡ first → i + 1 ≡ count vs
+  pub next_none : (i item next first : ℕ) → Shows i item → Shows (index_after (count vs) i) next → Shows 0 first → next ≡ first → i + 1 ≡ count vs
   next_none i item next first here there begins same =
       let less = item_below i item here in
       ⊎_elim
-      (λ on. absurd (let zeroth = one_item (i + 1) 0 first (subst (Shows (i + 1)) same (subst (λ j. Shows j next) (forward_on (count vs) i on) there)) begins in omega (arith, zeroth)))
+      (λ on. absurd (let zeroth = one_item (i + 1) 0 first (subst (Shows (i + 1)) same (subst (λ j. Shows j next) (after_on (count vs) i on) there)) begins in omega (arith, zeroth)))
       (λ over. omega (arith, less, over))
       (cases_lt (i + 1) (count vs))
 
-  pub previous_before : (i item previous first : ℕ) → Shows i item → Shows (around way.Backward (count vs) i 1) previous → Shows 0 first → item ≢ first → (1 ≤ i) × Shows (i - 1) previous
+  pub previous_before : (i item previous first : ℕ) → Shows i item → Shows (index_before (count vs) i) previous → Shows 0 first → item ≢ first → (1 ≤ i) × Shows (i - 1) previous
   previous_before i item previous first here there begins differs =
       ⊎_elim
       (λ none. absurd (let zeroth : i ≡ 0 = omega (arith, none) in differs (one_position 0 item first (subst (λ j. Shows j item) zeroth here) begins)))
-      (λ some. (some, subst (λ j. Shows j previous) (backward_on (count vs) i some) there))
+      (λ some. (some, subst (λ j. Shows j previous) (before_on (count vs) i some) there))
       (cases_lt i 1)
 
   pub previous_none : (i item first : ℕ) → Shows i item → Shows 0 first → item ≡ first → i ≡ 0

@@ -173,8 +173,8 @@ fn first_item(reader: Reader<'_>, list: ValuePlace) -> Result<ValuePlace, Code>
     let Some(Type::List(_)) = reader.layouts.types().kind(list.type_id) else {
         return Err(Code::OtherType);
     };
-    match reader.item(list, 0) {
-        Err(Code::OutOfRange) => Err(Code::Null),
-        first => first,
-    }
+    let Ok(first) = reader.item(list, 0) else {
+        return Err(Code::Null);
+    };
+    Ok(first)
 }
