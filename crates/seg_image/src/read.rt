@@ -14,7 +14,7 @@ ghost use Rattle.seg_seq.specs.Kinds.{HasNumbers};
 ghost use Rattle.seg_seq.specs.Lists.{HasList};
 ghost use Rattle.seg_seq.specs.Sequences.{HasText, HasItems, item_type, IsPast, ShowsItem};
 ghost use Rattle.seg_map.specs.EitherMap.{has_keys, IsMapOf};
-ghost use Rattle.seg_map.specs.Maps.{FindsValue, first_of, keys_above};
+ghost use Rattle.seg_map.specs.Maps.{FindsValue, first_of, last_of, keys_above, lower_keys};
 ghost use Rattle.seg_index.specs.Lists.{root_after};
 ghost use Rattle.seg_manager.specs.Segments.{IsSegment, unique_at};
 ghost use Rattle.seg_manager.specs.NamedObjects.{found_as, DescribesRoot};
@@ -363,6 +363,31 @@ pub trait ImageRead: SegmentRead {
             (λ U keys vs blocks. result_ok result ≡ first_of (keys_above keys after)) }
     {
         seg_map::next_key(self, map, after)
+    }
+
+    /// The greatest key. `OtherType` if the place isn't a map, `Null` if the map is empty.
+    final fn last_key(&self, map: Place) -> Result<i64, Code>
+        ensures other { has_keys (form_at (Self.stored self.now).types map.type_id) ≡ false →
+            result ≡ Err Code.OtherType }
+        ensures code { has_keys (form_at (Self.stored self.now).types map.type_id) ≡ true →
+            IsOkUnless result Code.Null }
+        ensures last { WhereMap (Self.allocator self.now) (Self.stored self.now) map
+            (λ U keys vs blocks. result_ok result ≡ last_of keys) }
+    {
+        seg_map::last_key(self, map)
+    }
+
+    /// The greatest key below another one, which need not exist. `OtherType` if the place isn't a map, `Null` if there
+    /// is no such key.
+    final fn previous_key(&self, map: Place, before: i64) -> Result<i64, Code>
+        ensures other { has_keys (form_at (Self.stored self.now).types map.type_id) ≡ false →
+            result ≡ Err Code.OtherType }
+        ensures code { has_keys (form_at (Self.stored self.now).types map.type_id) ≡ true →
+            IsOkUnless result Code.Null }
+        ensures previous { WhereMap (Self.allocator self.now) (Self.stored self.now) map
+            (λ U keys vs blocks. result_ok result ≡ last_of (lower_keys keys before)) }
+    {
+        seg_map::previous_key(self, map, before)
     }
 
     /// The keys of a map in order. `OtherType` if the place isn't a map.
