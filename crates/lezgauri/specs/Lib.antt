@@ -23,6 +23,10 @@ pub use Rattle.seg_image.specs.NamedObjects
 pub use Rattle.seg_image.specs.Sequences
 pub use Rattle.seg_image.specs.Lists
 pub use Rattle.seg_image.specs.Maps
+pub use Rattle.seg_image.specs.EitherMap
+pub use Rattle.seg_image.specs.Place
+pub use Rattle.seg_image.specs.CellPlaces
+pub use Rattle.seg_image.specs.declared.image.Image
 -- clients: what they are, which bytes spell one, which are accepted, and their runs
 pub use Rattle.client_spec.specs.Syntax
 pub use Rattle.client_spec.specs.Grammar
@@ -34,6 +38,8 @@ pub use Rattle.client_spec.specs.Outcome
 pub use Rattle.client_code.specs.Clients as ClientFiles
 pub use Rattle.client_verify.specs.Accepted
 pub use Rattle.client_verify.specs.Texts
+pub use Rattle.client_verify.specs.declared.verified.Verified
+pub use Rattle.client_verify.specs.declared.verified.TheConstants as VerifierConstants
 pub use Rattle.client_vm.specs.ReadyClients
 -- runs: `run`, and `run_bytes` with `run_image`
 pub use Rattle.client_vm.specs.Runs
@@ -42,5 +48,6 @@ pub use Rattle.client_vm.specs.Outcomes
 pub use Rattle.client_vm.specs.Together
 pub use Rattle.client_output.specs.declared.report.Report
 pub use Rattle.client_output.specs.declared.report.Ended
+pub use Rattle.client_output.specs.declared.refused.Refused
 -- what an output took
 pub use Rattle.client_sim.specs.Writes

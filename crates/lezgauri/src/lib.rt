@@ -10,7 +10,7 @@ mod clients;
 
 pub use client_code::{Client, parse, parse_typed};
 pub use client_text::{assemble, print};
-pub use client_verify::Verified;
+pub use client_verify::{Verified, verify_typed};
 pub use client_vm::{
     Ended, Move, Outcome, Ready, Refused, Report, Schedule, Sink, Stopped, Through, Unrun, prepare,
     run_bytes, run_image, write_all,
@@ -20,5 +20,5 @@ pub use seg_image::{
     AllocatorKind, BestFit, CheckedImage, Code, ENTRY, Entries, Error, Fault, Fields, Fit, Heap,
     Image, ImageRead, IndexKind, Items, Keys, MAX_LEN, MAX_NAME, MAX_TYPES, MIN_LEN, Named, Names,
     Numbers, Place, Reader, Region, Segment, SegmentRead, SeqFit, Type, TypeId, TypeTable,
-    Unopened, Window, check, is_size, type_table,
+    Unopened, View, Window, check, is_size, read_types, type_table,
 };

@@ -13,3 +13,6 @@ pub use Rattle.seg_manager.specs.NamedObjects
 pub use Rattle.seg_seq.specs.Sequences
 pub use Rattle.seg_seq.specs.Lists
 pub use Rattle.seg_map.specs.Maps
+pub use Rattle.seg_map.specs.EitherMap
+pub use Rattle.seg_cells.specs.declared.place.Place
+pub use Rattle.seg_cells.specs.Places as CellPlaces

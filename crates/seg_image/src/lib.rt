@@ -32,9 +32,10 @@ pub use iterators::{Entries, Items, Keys, Names};
 pub use opening::{Unopened, check};
 pub use read::ImageRead;
 pub use seg_bestfit::BestFit;
+pub use seg_check::read_types;
 pub use seg_manager::{
     Code, ENTRY, Fault, Fields, Fit, Heap, IndexKind, MAX_LEN, MAX_NAME, MAX_TYPES, MIN_LEN, Named,
-    Place, Reader, Region, Segment, SegmentRead, Type, TypeId, TypeTable, Window, is_size,
+    Place, Reader, Region, Segment, SegmentRead, Type, TypeId, TypeTable, View, Window, is_size,
 };
 pub use seg_seq::Numbers;
 pub use seg_seqfit::SeqFit;
