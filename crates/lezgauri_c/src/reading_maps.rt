@@ -2,7 +2,7 @@ ghost use Rattle.std.specs.Prelude.{◌≡◌, ◌<◌, false};
 ghost use Rattle.seg_spec.specs.Types.{form_at};
 ghost use Rattle.seg_cells.specs.Places.{place_of};
 ghost use Rattle.seg_map.specs.EitherMap.{has_keys, IsMapOf};
-ghost use Rattle.seg_map.specs.Maps.{FindsValue, first_of, keys_above};
+ghost use Rattle.seg_map.specs.Maps.{FindsValue, first_of, last_of, keys_above, lower_keys};
 ghost use Rattle.lezgauri_c.specs.Values as values;
 ghost use Rattle.lezgauri_c.specs.Values.{table_in, type_number, at_in, TellsOption, IsReadStatus, OnSound, WhereMap};
 
@@ -10,6 +10,7 @@ use crate::kept_types::KeptTypes;
 use crate::place::Place;
 use crate::reading::{on_reader, place_at, tell, tell_place};
 use seg_image::ImageRead;
+use seg_map::{last_key, previous_key};
 use std::alloc::Global;
 
 /// The place of a key's value in the map at a place of an image that an earlier call found sound, or changed. Fails as `ImageRead::get`
@@ -89,5 +90,55 @@ pub extern "C" fn lezgauri_raw_next_key(
 {
     let map = place_at(at, type_id);
     let found = on_reader!(alloc, image, types, reader => reader.next_key(map, after));
+    tell(found, key)
+}
+
+/// The greatest key of a map. Fails as `lezgauri_raw_first_key` does.
+#[unsafe(no_mangle)]
+pub extern "C" fn lezgauri_raw_last_key(
+    alloc: Global,
+    image: &[u8],
+    types: &mut KeptTypes,
+    at: u32,
+    type_id: u32,
+    key: &mut i64,
+) -> u32
+    ensures last { OnSound image.now types.old (λ picture.
+        WhereMap image.now picture.table (values.place_at at type_id)
+        (λ U keys vs blocks. TellsOption result 116 key.new (λ found. found ≡ last_of keys))) }
+    ensures other { OnSound image.now types.old (λ picture.
+        has_keys (form_at picture.table (type_number type_id)) ≡ false → result ≡ 114) }
+    ensures unwritten { 0 < result → key.new ≡ key.old }
+    ensures same { table_in types.new ≡ table_in types.old }
+    ensures status { IsReadStatus result }
+{
+    let map = place_at(at, type_id);
+    let found = on_reader!(alloc, image, types, reader => last_key(&reader, map));
+    tell(found, key)
+}
+
+/// The greatest key of a map below another one, which need not exist. Fails as `lezgauri_raw_next_key` does.
+#[unsafe(no_mangle)]
+pub extern "C" fn lezgauri_raw_previous_key(
+    alloc: Global,
+    image: &[u8],
+    types: &mut KeptTypes,
+    at: u32,
+    type_id: u32,
+    before: i64,
+    key: &mut i64,
+) -> u32
+    ensures previous { OnSound image.now types.old (λ picture.
+        WhereMap image.now picture.table (values.place_at at type_id)
+        (λ U keys vs blocks. TellsOption result 116 key.new
+        (λ found. found ≡ last_of (lower_keys keys before)))) }
+    ensures other { OnSound image.now types.old (λ picture.
+        has_keys (form_at picture.table (type_number type_id)) ≡ false → result ≡ 114) }
+    ensures unwritten { 0 < result → key.new ≡ key.old }
+    ensures same { table_in types.new ≡ table_in types.old }
+    ensures status { IsReadStatus result }
+{
+    let map = place_at(at, type_id);
+    let found = on_reader!(alloc, image, types, reader => previous_key(&reader, map, before));
     tell(found, key)
 }
