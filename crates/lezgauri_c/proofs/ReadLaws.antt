@@ -13,7 +13,8 @@ use Rattle.seg_manager.specs.Segments.{IsSegment}
 use Rattle.seg_image.specs.Places.{found_position}
 use Rattle.lezgauri_c.specs.declared.place.Place as told
 use Rattle.lezgauri_c.specs.declared.kept_types.KeptTypes.{KeptTypes}
-use Rattle.lezgauri_c.specs.Values.{table_in, at_in, code_status, stored_in, allocator_in, Tells, TellsPlace, TellsOption, OnSound}
+use Rattle.lezgauri_c.specs.Places.{code_status, TellsPlace}
+use Rattle.lezgauri_c.specs.Values.{table_in, at_in, stored_in, allocator_in, Tells, TellsOption, OnSound}
 
 -- ---- the image and the types that are read
 
@@ -52,20 +53,15 @@ tells_found code status value None P tells is = inr (tells, is)
 tells_found code status value (Some v) P tells is = inl (tells.0, subst (λ x. P (Some x)) (sym tells.1) is)
 
 -- the same for the position of a place
-pub tells_place : (code : Code) (status : ℕ) (place : told.Place) (returned : Result Place Code) (P : Option ℕ → Type 0) → TellsPlace status place returned → IsOkUnless (found_position returned) code
+pub tells_place : (code : Code) (status : ℕ) (old place : told.Place) (returned : Result Place Code) (P : Option ℕ → Type 0) → TellsPlace status old place returned → IsOkUnless (found_position returned) code
     → P (result_ok (found_position returned)) → TellsOption status (code_status code) place (λ found. P (at_in found))
-tells_place code status place (Ok found) P tells only is = inl (tells.0, subst (λ (p : told.Place). P (Some p.at)) (sym tells.1) is)
-tells_place code status place (Err error) P tells only is = inr (tells ∙ ap code_status only, is)
+tells_place code status old place (Ok found) P tells only is = inl (tells.0, subst (λ (p : told.Place). P (Some p.at)) (sym tells.1) is)
+tells_place code status old place (Err error) P tells only is = inr (tells.0 ∙ ap code_status only, is)
 
-pub tells_at : (code : Code) (status : ℕ) (place : told.Place) (returned : Result Place Code) (at : Option ℕ) → TellsPlace status place returned
+pub tells_at : (code : Code) (status : ℕ) (old place : told.Place) (returned : Result Place Code) (at : Option ℕ) → TellsPlace status old place returned
     → MatchResult (found_position returned) (λ p. at ≡ Some p) (λ error. (error ≡ code) × (at ≡ None)) → TellsOption status (code_status code) place (λ found. at_in found ≡ at)
-tells_at code status place (Ok found) at tells is = tells_place code status place (Ok found) (λ o. o ≡ at) tells tt (sym is)
-tells_at code status place (Err error) at tells is = tells_place code status place (Err error) (λ o. o ≡ at) tells is.0 (sym is.1)
-
--- the type of a place that was found
-pub told_type : (status : ℕ) (place : told.Place) (returned : Result Place Code) (P : ℕ → Type 0) → TellsPlace status place returned → IfOk returned (λ found. P found.type_id) → status ≡ 0 → P place.type_id
-told_type status place (Ok found) P tells is done = subst (λ (p : told.Place). P p.type_id) (sym tells.1) is
-told_type status place (Err error) P tells is done = absurd (let both : 0 ≡ code_status error = sym done ∙ tells in omega arith)
+tells_at code status old place (Ok found) at tells is = tells_place code status old place (Ok found) (λ o. o ≡ at) tells tt (sym is)
+tells_at code status old place (Err error) at tells is = tells_place code status old place (Err error) (λ o. o ≡ at) tells is.0 (sym is.1)
 
 -- ---- maps
 

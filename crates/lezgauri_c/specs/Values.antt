@@ -1,13 +1,8 @@
 -- Calls from C on the values of an image, with the types that C keeps.
 --     table_in types            the types that C keeps, if there are any
---     type_number n             the type with C's number; no segment has type 255
---     place_at at n             the place of a value, from C's two numbers
---     told_place place          a place, in C's numbers
 --     at_in place               the position of a place that was found, if any
---     code_status code          the status that reports a code
 --     Tells status value returned     the status and the caller's value report the result of a call
---     TellsPlace status place returned      the same, of a place
---     GivesPlace status place P       the call returned a place or a code, and P is true of that result
+--     ReturnsPlace status old new P   the call returned a place or a code, and P is true of that result
 --     TellsOption status none value P
 --                               the caller has a value, or the status is `none`; P is true of that option
 --     IsReadStatus status       what a call that reads may return
@@ -18,7 +13,7 @@
 --                               none
 --     WhereText, WhereVector, WhereList, WhereMap image table place claim
 --                               the claim is true of the string, the vector, the list or the map at a place
-use Rattle.std.specs.Prelude.{◌≡◌, ◌⊎◌, ◌+◌, ◌-◌, ◌<◌, ◌≤◌, ℕ, ℤ, List, [], Option, Some, None, Result, Ok, Err, MatchResult, nat_lt, if◌then◌else◌, option_map}
+use Rattle.std.specs.Prelude.{◌≡◌, ◌⊎◌, ◌+◌, ◌-◌, ◌<◌, ◌≤◌, ℕ, ℤ, List, [], Option, Some, None, Result, Ok, Err, MatchResult, option_map}
 use Rattle.seg_spec.specs.Bytes.{word}
 use Rattle.seg_spec.specs.Header.{allocator_word}
 use Rattle.seg_spec.specs.Types.{Table}
@@ -28,7 +23,6 @@ use Rattle.seg_spec.specs.Images.{IsSound}
 use Rattle.seg_spec.specs.Reads as reads
 use Rattle.seg_raw.specs.declared.code.Code.{Code}
 use Rattle.seg_raw.specs.declared.code.Code.TheVariants as code
-use Rattle.seg_raw.specs.Refusals.{code_number}
 use Rattle.seg_cells.specs.declared.place.Place.{Place}
 use Rattle.seg_cells.specs.Places.{place_of}
 use Rattle.seg_value.specs.Stored.{Stored}
@@ -37,26 +31,15 @@ use Rattle.seg_seq.specs.Lists.{HasList}
 use Rattle.seg_map.specs.EitherMap.{WhereMaps}
 use Rattle.lezgauri_c.specs.declared.place.Place as told
 use Rattle.lezgauri_c.specs.declared.kept_types.KeptTypes.{KeptTypes}
+use Rattle.lezgauri_c.specs.Places.{code_status, TellsPlace}
 
--- ---- what C keeps, and its numbers
+-- ---- what C keeps and gets
 
 abbrev pub table_in : KeptTypes → Option Table
 table_in types = types.kept.table
 
-abbrev pub type_number : ℕ → ℕ
-type_number n = if nat_lt n 256 then n else 255
-
-abbrev pub place_at : ℕ → ℕ → Place
-place_at at n = record { at = at; type_id = type_number n }
-
-abbrev pub told_place : Place → told.Place
-told_place place = record { at = place.at; type_id = place.type_id }
-
 abbrev pub at_in : Option told.Place → Option ℕ
 at_in place = option_map (λ p. p.at) place
-
-abbrev pub code_status : Code → ℕ
-code_status code = 110 + code_number code
 
 -- ---- results
 
@@ -64,13 +47,9 @@ abbrev pub Tells : {A : Type 0} → ℕ → A → Result A Code → Type 0
 Tells status value (Ok found) = (status ≡ 0) × (value ≡ found)
 Tells status value (Err code) = status ≡ code_status code
 
-abbrev pub TellsPlace : ℕ → told.Place → Result Place Code → Type 0
-TellsPlace status place (Ok found) = (status ≡ 0) × (place ≡ told_place found)
-TellsPlace status place (Err code) = status ≡ code_status code
-
-abbrev pub GivesPlace : ℕ → told.Place → (Result Place Code → Type 0) → Type 0
-GivesPlace status place P =
-    (returned : Result Place Code) × TellsPlace status place returned × P returned
+abbrev pub ReturnsPlace : ℕ → told.Place → told.Place → (Result Place Code → Type 0) → Type 0
+ReturnsPlace status old new P =
+    (returned : Result Place Code) × TellsPlace status old new returned × P returned
 
 -- the caller has a value of which P is true, or the call returned this status and P is true of none
 abbrev pub TellsOption : {A : Type 0} → ℕ → ℕ → A → (Option A → Type 0) → Type 0

@@ -1,16 +1,13 @@
 //! What all exports that read an image in place have in common: the types that C keeps are taken out of their box for one call.
 
 ghost use Rattle.std.specs.Prelude.{◌≡◌, ◌⊎◌, ◌+◌, ◌<◌, ◌≤◌, length, Some, None, IfOk, IfErr, OnErr};
-ghost use Rattle.seg_spec.specs.Bytes.{slice};
 ghost use Rattle.seg_spec.specs.Header.{max_length};
-ghost use Rattle.lezgauri_c.specs.Values as values;
-ghost use Rattle.lezgauri_c.specs.Values.{table_in, Tells, TellsPlace};
+ghost use Rattle.lezgauri_c.specs.Values.{table_in, Tells};
 
 use crate::kept_types::KeptTypes;
-use crate::place::Place;
-use crate::status::{BAD_ARGUMENT, CODES, OK};
+use crate::status::{BAD_ARGUMENT, OK, code_status};
 use seg_raw::{Code, Fault};
-use seg_value::{Layouts, MAX_LEN, Place as ValuePlace, Reader, TypeId, View};
+use seg_value::{Layouts, MAX_LEN, Reader, View};
 use std::alloc::Global;
 
 /// A call on a reader of the image, with the types that C keeps, or a return of a status if there can't be one.
@@ -84,26 +81,6 @@ impl<'a> Opened<'a> {
     }
 }
 
-/// The type with this number. Segments have at most 32 types, so each number above 254 is that of a type that no segment has.
-pub(crate) fn type_number(number: u32) -> TypeId
-    ensures { result ≡ values.type_number number }
-{
-    match u8::try_from(number) {
-        Ok(t) => t,
-        Err(_) => u8::MAX,
-    }
-}
-
-/// The place of a value, from its numbers.
-pub(crate) fn place_at(at: u32, type_id: u32) -> ValuePlace
-    ensures { result ≡ values.place_at at type_id }
-{
-    ValuePlace {
-        at,
-        type_id: type_number(type_id),
-    }
-}
-
 /// Gives the caller the value that a call returned, and returns `OK`, or returns the status for a code.
 pub(crate) fn tell<T: Copy>(returned: Result<T, Code>, value: &mut T) -> u32
     ensures told { Tells result value.new returned }
@@ -117,30 +94,4 @@ pub(crate) fn tell<T: Copy>(returned: Result<T, Code>, value: &mut T) -> u32
         }
         Err(code) => code_status(code),
     }
-}
-
-/// Gives the caller the place that a call returned, and returns `OK`, or returns the status for a code.
-pub(crate) fn tell_place(returned: Result<ValuePlace, Code>, place: &mut Place) -> u32
-    ensures told { TellsPlace result place.new returned }
-    ensures unwritten { 0 < result → place.new ≡ place.old }
-    ensures status { (result ≡ 0) ⊎ ((111 ≤ result) × (result ≤ 117)) }
-{
-    match returned {
-        Ok(ValuePlace { at, type_id }) => {
-            *place = Place {
-                at,
-                type_id: u32::from(type_id),
-            };
-            OK
-        }
-        Err(code) => code_status(code),
-    }
-}
-
-/// The status for a code.
-pub(crate) fn code_status(code: Code) -> u32
-    ensures status { result ≡ values.code_status code }
-    ensures range { (111 ≤ result) × (result ≤ 117) }
-{
-    CODES + u32::from(code.number())
 }

@@ -7,12 +7,13 @@ ghost use Rattle.seg_manager.specs.NamedObjects.{DescribesRoot, found_as};
 ghost use Rattle.seg_manager.specs.Segments.{IsSegment, unique_at};
 ghost use Rattle.seg_image.specs.Places.{item_place};
 ghost use Rattle.lezgauri_c.specs.Names.{ReportsRoot};
-ghost use Rattle.lezgauri_c.specs.Values.{table_in, type_number, at_in, stored_in, allocator_in, TellsPlace, TellsOption, IsReadStatus, OnSound};
+ghost use Rattle.lezgauri_c.specs.Places.{type_number, TellsPlace};
+ghost use Rattle.lezgauri_c.specs.Values.{table_in, at_in, stored_in, allocator_in, TellsOption, IsReadStatus, OnSound};
 
 use crate::byte_range::{ByteRange, range_in};
 use crate::kept_types::KeptTypes;
-use crate::place::Place;
-use crate::reading::{on_reader, tell, tell_place, type_number};
+use crate::place::{Place, give, type_number};
+use crate::reading::{on_reader, tell};
 use seg_entry::NameEntry;
 use seg_image::ImageRead;
 use seg_raw::Code;
@@ -43,7 +44,7 @@ pub extern "C" fn lezgauri_raw_find(
     index: u32,
     place: &mut Place,
 ) -> u32
-    ensures finds { OnSound image.now types.old (λ picture. TellsPlace result place.new
+    ensures finds { OnSound image.now types.old (λ picture. TellsPlace result place.old place.new
         (item_place picture.table (type_number type_id) index
         (found_as (type_number type_id) (root_named picture.names name.now)))) }
     ensures unwritten { 0 < result → place.new ≡ place.old }
@@ -52,7 +53,7 @@ pub extern "C" fn lezgauri_raw_find(
 {
     let t = type_number(type_id);
     let found = on_reader!(alloc, image, types, reader => reader.find_item(name, t, index));
-    tell_place(found, place)
+    give(found, place)
 }
 
 /// The place of the unique object of a type. Fails as `ImageRead::find_unique` does.
@@ -76,7 +77,7 @@ pub extern "C" fn lezgauri_raw_find_unique(
 {
     let t = type_number(type_id);
     let found = on_reader!(alloc, image, types, reader => reader.find_unique(t));
-    tell_place(found, place)
+    give(found, place)
 }
 
 /// The object with a name, of whatever type, in an image that an earlier call found sound, or changed. Returns the status for `Absent`

@@ -5,12 +5,13 @@ ghost use Rattle.seg_cells.specs.Places.{place_of};
 ghost use Rattle.seg_seq.specs.Lists.{HasList, IsNoList};
 ghost use Rattle.seg_seq.specs.Sequences.{item_type, IsPast, ShowsItem};
 ghost use Rattle.seg_image.specs.Places.{found_position};
-ghost use Rattle.lezgauri_c.specs.Values as values;
-ghost use Rattle.lezgauri_c.specs.Values.{table_in, type_number, stored_in, allocator_in, ShowsNext, ShowsPrevious, GivesPlace, IsReadStatus, OnSound, WhereVector, WhereList};
+ghost use Rattle.lezgauri_c.specs.Places as places;
+ghost use Rattle.lezgauri_c.specs.Places.{type_number};
+ghost use Rattle.lezgauri_c.specs.Values.{table_in, stored_in, allocator_in, ShowsNext, ShowsPrevious, ReturnsPlace, IsReadStatus, OnSound, WhereVector, WhereList};
 
 use crate::kept_types::KeptTypes;
-use crate::place::Place;
-use crate::reading::{on_reader, place_at, tell_place};
+use crate::place::{Place, give, place_at};
+use crate::reading::on_reader;
 use seg_image::{ImageRead, Type};
 use seg_raw::Code;
 use seg_value::{Place as ValuePlace, Reader, ValueAt};
@@ -29,14 +30,14 @@ pub extern "C" fn lezgauri_raw_item(
     item: &mut Place,
 ) -> u32
     ensures vector { OnSound image.now types.old (λ picture.
-        WhereVector image.now picture.table (values.place_at at type_id)
-        (λ U vs blocks. GivesPlace result item.new (λ found. MatchResult (found_position found)
-        (ShowsItem (stored_in image.now picture.table) (place_of (values.place_at at type_id)) U
+        WhereVector image.now picture.table (places.place_at at type_id)
+        (λ U vs blocks. ReturnsPlace result item.old item.new (λ found. MatchResult (found_position found)
+        (ShowsItem (stored_in image.now picture.table) (place_of (places.place_at at type_id)) U
         index) (IsPast index (count vs))))) }
     ensures list { OnSound image.now types.old (λ picture.
-        WhereList image.now picture.table (values.place_at at type_id)
-        (λ U vs blocks. GivesPlace result item.new (λ found. MatchResult (found_position found)
-        (ShowsItem (stored_in image.now picture.table) (place_of (values.place_at at type_id)) U
+        WhereList image.now picture.table (places.place_at at type_id)
+        (λ U vs blocks. ReturnsPlace result item.old item.new (λ found. MatchResult (found_position found)
+        (ShowsItem (stored_in image.now picture.table) (place_of (places.place_at at type_id)) U
         index) (IsPast index (count vs))))) }
     ensures of_type { OnSound image.now types.old (λ picture. result ≡ 0 →
         item_type (form_at picture.table (type_number type_id)) ≡ Some item.new.type_id) }
@@ -48,7 +49,7 @@ pub extern "C" fn lezgauri_raw_item(
 {
     let sequence = place_at(at, type_id);
     let found = on_reader!(alloc, image, types, reader => reader.item(sequence, index));
-    tell_place(found, item)
+    give(found, item)
 }
 
 /// The place of the item after an item of a list. Returns the status for `OtherType` if the place isn't a list, for `Null` if the item is
@@ -64,10 +65,10 @@ pub extern "C" fn lezgauri_raw_next_item(
     next: &mut Place,
 ) -> u32
     ensures next { OnSound image.now types.old (λ picture.
-        WhereList image.now picture.table (values.place_at at type_id) (λ U vs blocks. (i : ℕ) →
-        ShowsItem (stored_in image.now picture.table) (place_of (values.place_at at type_id)) U i
-        item → GivesPlace result next.new (λ found.
-        ShowsNext (stored_in image.now picture.table) (place_of (values.place_at at type_id)) U (count vs) i
+        WhereList image.now picture.table (places.place_at at type_id) (λ U vs blocks. (i : ℕ) →
+        ShowsItem (stored_in image.now picture.table) (place_of (places.place_at at type_id)) U i
+        item → ReturnsPlace result next.old next.new (λ found.
+        ShowsNext (stored_in image.now picture.table) (place_of (places.place_at at type_id)) U (count vs) i
         (found_position found)))) }
     ensures of_type { OnSound image.now types.old (λ picture. result ≡ 0 →
         item_type (form_at picture.table (type_number type_id)) ≡ Some next.new.type_id) }
@@ -79,7 +80,7 @@ pub extern "C" fn lezgauri_raw_next_item(
 {
     let list = place_at(at, type_id);
     let found = on_reader!(alloc, image, types, reader => next_item(reader, list, item));
-    tell_place(found, next)
+    give(found, next)
 }
 
 /// The place of the item before an item of a list. Fails as `lezgauri_raw_next_item` does, with the status for `Null` if the item is the
@@ -95,10 +96,10 @@ pub extern "C" fn lezgauri_raw_previous_item(
     previous: &mut Place,
 ) -> u32
     ensures previous { OnSound image.now types.old (λ picture.
-        WhereList image.now picture.table (values.place_at at type_id) (λ U vs blocks. (i : ℕ) →
-        ShowsItem (stored_in image.now picture.table) (place_of (values.place_at at type_id)) U i
-        item → GivesPlace result previous.new (λ found.
-        ShowsPrevious (stored_in image.now picture.table) (place_of (values.place_at at type_id)) U i
+        WhereList image.now picture.table (places.place_at at type_id) (λ U vs blocks. (i : ℕ) →
+        ShowsItem (stored_in image.now picture.table) (place_of (places.place_at at type_id)) U i
+        item → ReturnsPlace result previous.old previous.new (λ found.
+        ShowsPrevious (stored_in image.now picture.table) (place_of (places.place_at at type_id)) U i
         (found_position found)))) }
     ensures of_type { OnSound image.now types.old (λ picture. result ≡ 0 →
         item_type (form_at picture.table (type_number type_id)) ≡ Some previous.new.type_id) }
@@ -110,7 +111,7 @@ pub extern "C" fn lezgauri_raw_previous_item(
 {
     let list = place_at(at, type_id);
     let found = on_reader!(alloc, image, types, reader => previous_item(reader, list, item));
-    tell_place(found, previous)
+    give(found, previous)
 }
 
 /// The item after another one. The first item is after the last one in the ring.

@@ -6,13 +6,14 @@ ghost use Rattle.seg_spec.specs.Types.{Form, form_at};
 ghost use Rattle.seg_spec.specs.Value.{count};
 ghost use Rattle.seg_seq.specs.Kinds.{HasNumbers};
 ghost use Rattle.seg_image.specs.Places.{object_type, shared_type, content_place, frozen_place, is_counted, FieldPlace};
-ghost use Rattle.lezgauri_c.specs.Values as values;
-ghost use Rattle.lezgauri_c.specs.Values.{table_in, type_number, TellsPlace, GivesPlace, IsReadStatus, OnSound, WhereText, WhereVector, WhereList, WhereMap};
+ghost use Rattle.lezgauri_c.specs.Places as places;
+ghost use Rattle.lezgauri_c.specs.Places.{type_number, TellsPlace};
+ghost use Rattle.lezgauri_c.specs.Values.{table_in, ReturnsPlace, IsReadStatus, OnSound, WhereText, WhereVector, WhereList, WhereMap};
 
 use crate::byte_range::{ByteRange, range_in};
 use crate::kept_types::KeptTypes;
-use crate::place::Place;
-use crate::reading::{on_reader, place_at, tell, tell_place};
+use crate::place::{Place, give, place_at};
+use crate::reading::{on_reader, tell};
 use seg_image::ImageRead;
 use seg_raw::Code;
 use seg_value::{Place as ValuePlace, Reader, count_in, start_in};
@@ -56,15 +57,15 @@ pub extern "C" fn lezgauri_raw_field(
     index: u32,
     field: &mut Place,
 ) -> u32
-    ensures field { OnSound image.now types.old (λ picture. GivesPlace result field.new
-        (FieldPlace picture.table (values.place_at at type_id) index)) }
+    ensures field { OnSound image.now types.old (λ picture. ReturnsPlace result field.old field.new
+        (FieldPlace picture.table (places.place_at at type_id) index)) }
     ensures unwritten { 0 < result → field.new ≡ field.old }
     ensures same { table_in types.new ≡ table_in types.old }
     ensures status { IsReadStatus result }
 {
     let place = place_at(at, type_id);
     let found = on_reader!(alloc, image, types, reader => reader.field(place, index));
-    tell_place(found, field)
+    give(found, field)
 }
 
 /// The number of bytes in a string, of items in a vector or a list, of keys in a map, or of objects in an own. Fails as `ImageRead::len`
@@ -79,16 +80,16 @@ pub extern "C" fn lezgauri_raw_len(
     len: &mut u32,
 ) -> u32
     ensures text { OnSound image.now types.old (λ picture.
-        WhereText image.now picture.table (values.place_at at type_id)
+        WhereText image.now picture.table (places.place_at at type_id)
         (λ xs blocks. (result ≡ 0) × (len.new ≡ length xs))) }
     ensures vector { OnSound image.now types.old (λ picture.
-        WhereVector image.now picture.table (values.place_at at type_id)
+        WhereVector image.now picture.table (places.place_at at type_id)
         (λ U vs blocks. (result ≡ 0) × (len.new ≡ count vs))) }
     ensures list { OnSound image.now types.old (λ picture.
-        WhereList image.now picture.table (values.place_at at type_id)
+        WhereList image.now picture.table (places.place_at at type_id)
         (λ U vs blocks. (result ≡ 0) × (len.new ≡ count vs))) }
     ensures keys { OnSound image.now types.old (λ picture.
-        WhereMap image.now picture.table (values.place_at at type_id)
+        WhereMap image.now picture.table (places.place_at at type_id)
         (λ U keys vs blocks. (result ≡ 0) × (len.new ≡ length keys))) }
     ensures counted { OnSound image.now types.old (λ picture.
         is_counted (form_at picture.table (type_number type_id)) ≡ true →
@@ -170,10 +171,10 @@ pub extern "C" fn lezgauri_raw_content(
 ) -> u32
     ensures own { OnSound image.now types.old (λ picture. (U : ℕ) →
         object_type (form_at picture.table (type_number type_id)) ≡ Some U →
-        TellsPlace result content.new (content_place (Some U) (target image.now at))) }
+        TellsPlace result content.old content.new (content_place (Some U) (target image.now at))) }
     ensures shared { OnSound image.now types.old (λ picture. (U : ℕ) →
         shared_type (form_at picture.table (type_number type_id)) ≡ Some U →
-        TellsPlace result content.new (frozen_place (Some U) (target image.now at))) }
+        TellsPlace result content.old content.new (frozen_place (Some U) (target image.now at))) }
     ensures other { OnSound image.now types.old (λ picture.
         object_type (form_at picture.table (type_number type_id)) ≡ None →
         shared_type (form_at picture.table (type_number type_id)) ≡ None → result ≡ 114) }
@@ -183,7 +184,7 @@ pub extern "C" fn lezgauri_raw_content(
 {
     let place = place_at(at, type_id);
     let found = on_reader!(alloc, image, types, reader => content_of(reader, place));
-    tell_place(found, content)
+    give(found, content)
 }
 
 /// The range of a string's bytes.

@@ -1,11 +1,13 @@
 ghost use Rattle.std.specs.Prelude.{◌≡◌, ◌≢◌, ◌+◌, ◌<◌, ◌≤◌, Some, length};
 ghost use Rattle.seg_spec.specs.Bytes.{signed_long, set_long, ChangesOnly};
 ghost use Rattle.seg_spec.specs.Types.{Form, form_at};
-ghost use Rattle.lezgauri_c.specs.Values.{table_in, type_number, IsReadStatus, OnSound};
+ghost use Rattle.lezgauri_c.specs.Places.{type_number};
+ghost use Rattle.lezgauri_c.specs.Values.{table_in, IsReadStatus, OnSound};
 
 use crate::kept_types::KeptTypes;
-use crate::reading::{code_status, on_reader, place_at};
-use crate::status::OK;
+use crate::place::place_at;
+use crate::reading::on_reader;
+use crate::status::{OK, code_status};
 use seg_image::ImageRead;
 use seg_raw::Code;
 use std::alloc::Global;

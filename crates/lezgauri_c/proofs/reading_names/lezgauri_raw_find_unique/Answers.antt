@@ -16,5 +16,5 @@ returns-clause-finds c sound same =
     let found = c.find_unique-returned.result in
     let finds = on_sound c.args.image.now reader.view.bytes.now c.args.types.now reader.layouts.now bytes_is table_is
     (λ b t p. T < length t → MatchResult (found_position found) (λ at. unique_at p T ≡ Some at) (λ error. (error ≡ code.Absent) × (unique_at p T ≡ None))) c.find_unique-returned.ensures.finds sound same in
-    subst (λ (n : ℕ). n < length sound.picture.table → TellsOption c.tell_place.result 113 c.tell_place.new.place (λ place. at_in place ≡ unique_at sound.picture n)) c.type_number-t.ensures
-    (λ small. tells_at code.Absent c.tell_place.result c.tell_place.new.place found (unique_at sound.picture T) c.tell_place.ensures.told (finds small))
+    subst (λ (n : ℕ). n < length sound.picture.table → TellsOption c.give.result 113 c.give.new.place (λ place. at_in place ≡ unique_at sound.picture n)) c.type_number-t.ensures
+    (λ small. tells_at code.Absent c.give.result c.args.place.now c.give.new.place found (unique_at sound.picture T) c.give.ensures.told (finds small))
