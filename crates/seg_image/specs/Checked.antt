@@ -6,5 +6,7 @@ use Rattle.seg_image.specs.declared.checked.CheckedImage.{CheckedImage}
 
 abbrev pub segment_in : CheckedImage → Stored
 segment_in image =
-    record { window = record { before = []; bytes = image.view.bytes.now; after = [] };
-    types = image.layouts }
+    record {
+      window = record { before = []; bytes = image.view.bytes.now; after = [] };
+      types = image.layouts;
+    }

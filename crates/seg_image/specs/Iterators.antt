@@ -2,16 +2,19 @@
 -- allocator and the segment of an image.
 --     item_before xs n             the item before an index, if there is one
 --     HasNamed names iterator n    it has returned the first n of these names
+--     ShowsItemBefore segment sequence U n last
+--                                  a position, if there is one, is that of the item before an index
 --     HasReturned segment U count iterator n
 --                                  it has returned the first n of so many items of type U
 --     HasKeyed keys iterator n     it has returned the first n of these keys
 --     NamesNext, ItemsNext, KeysNext, EntriesNext
 --                                  what `next` returns: the next one, or none after the last
-use Rattle.std.specs.Prelude.{◌≡◌, ⊤, ℕ, zero, suc, ◌+◌, ◌-◌, ◌≤◌, ℤ, true, List, length, Option, Some, None, IsSomeAnd, MatchOption, slice_get}
+use Rattle.std.specs.Prelude.{◌≡◌, ⊤, ℕ, zero, suc, ◌+◌, ◌-◌, ◌≤◌, ℤ, false, List, length, Option, Some, None, IsSomeAnd, MatchOption, slice_get}
 use Rattle.std.specs.Option.{option_map, IfSome}
 use Rattle.seg_spec.specs.Index.{Root}
 use Rattle.seg_spec.specs.Sound.{Picture}
-use Rattle.seg_spec.specs.Types.{Form, form_at}
+use Rattle.seg_spec.specs.Reads as places
+use Rattle.seg_spec.specs.Types.{form_at}
 use Rattle.seg_spec.specs.Value.{Values, count}
 use Rattle.seg_cells.specs.declared.place.Place.{Place}
 use Rattle.seg_cells.specs.Places.{place_of}
@@ -27,7 +30,7 @@ use Rattle.seg_image.specs.declared.iterators.Names.{Names}
 use Rattle.seg_image.specs.declared.iterators.Items.{Items}
 use Rattle.seg_image.specs.declared.iterators.Keys.{Keys}
 use Rattle.seg_image.specs.declared.iterators.Entries.{Entries}
-use Rattle.seg_image.specs.Places.{WhereMap}
+use Rattle.seg_image.specs.Places.{is_list, WhereMap}
 
 abbrev pub item_before : {X : Type 0} → List X → ℕ → Option X
 item_before xs zero = None
@@ -53,14 +56,19 @@ pub record NamesNext {S : Type 0} (allocator : S → ℕ) (stored : S → Stored
 
 -- ---- items
 
+-- the position, if there is one, is that of the item before an index
+abbrev pub ShowsItemBefore : Stored → places.Place → ℕ → ℕ → Option ℕ → Type 0
+ShowsItemBefore segment sequence U n last =
+    IfSome last (λ at. (1 ≤ n) × ShowsItem segment sequence U (n - 1) at)
+
 pub record HasReturned {S : Type 0} (segment : Stored) (U length : ℕ) (it : Items S) (n : ℕ) :
     Type 0 where
   pub item_type : it.item_type ≡ U
   pub len : it.len ≡ length
   pub left : it.left + n ≡ length
-  pub list : it.is_list ≡ true → form_at segment.types it.sequence.type_id ≡ Some (Form.list U)
-  pub last : IfSome it.last (λ at. (it.is_list ≡ true) × (1 ≤ n)
-      × ShowsItem segment (place_of it.sequence) U (n - 1) at)
+  pub is_list : it.is_list ≡ is_list (form_at segment.types it.sequence.type_id)
+  pub vector : it.is_list ≡ false → it.last ≡ None
+  pub last : ShowsItemBefore segment (place_of it.sequence) U n it.last
 
 -- the item with index n, or none after the last
 abbrev pub ReturnsItem : {S : Type 0} → Stored → ℕ → ℕ → Items S → ℕ → Option Place → Type 0

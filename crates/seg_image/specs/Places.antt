@@ -4,6 +4,7 @@
 --     item_place table T i found  the place of the object's value at an index
 --     value_count found           the number of the object's values
 --     is_counted form             the cells of values of this form have a count
+--     is_list form                the values of this form are lists
 --     object_type form            the type of the objects that they own
 --     shared_type form            the type of the objects to which they point as shared cells
 --     StandsIn image place v blocks   the place contains v, and owns these blocks
@@ -60,6 +61,10 @@ is_counted (Some Form.i64) = false
 is_counted (Some (Form.struct fields)) = false
 is_counted (Some (Form.shared T)) = false
 is_counted (Some _) = true
+
+abbrev pub is_list : Option Form → Bool
+is_list (Some (Form.list U)) = true
+is_list _ = false
 
 abbrev pub object_type : Option Form → Option ℕ
 object_type (Some (Form.own U)) = Some U

@@ -1,6 +1,6 @@
 //! A checked image in memory that is only read.
 
-ghost use Rattle.std.specs.Prelude.{◌≡◌, [], IfOk, IfErr};
+ghost use Rattle.std.specs.Prelude.{◌≡◌, IfOk, IfErr};
 ghost use Rattle.seg_spec.specs.Bytes.{word};
 ghost use Rattle.seg_spec.specs.Header.{allocator_word};
 ghost use Rattle.seg_check.specs.Faults.{IsImageOf, IsFaultOf};

@@ -1,13 +1,17 @@
 //! Iterators over what can be read of an image: its names, the items of a sequence, and the keys of a map with their
 //! values.
 
-ghost use Rattle.std.specs.Prelude.{◌≡◌, ◌≤◌, ℕ, length, None, IsSomeAnd, MatchOption, slice_get};
+ghost use Rattle.std.specs.Prelude.{◌≡◌, ◌<◌, ◌≤◌, ℕ, List, length, None, IsSomeAnd, MatchOption, slice_get};
 ghost use Rattle.std.specs.Iterator.{at_most};
 ghost use Rattle.std.specs.Option.{option_map};
 ghost use Rattle.seg_spec.specs.Sound.{Picture};
+ghost use Rattle.seg_spec.specs.Value.{Values, count};
+ghost use Rattle.seg_cells.specs.Places.{place_of};
+ghost use Rattle.seg_seq.specs.Lists.{HasList};
+ghost use Rattle.seg_seq.specs.Sequences.{HasItems, ShowsItem};
 ghost use Rattle.seg_manager.specs.NamedObjects.{DescribesRoot};
 ghost use Rattle.seg_manager.specs.Segments.{IsSegment};
-ghost use Rattle.seg_image.specs.Iterators.{item_before, NamesNext, KeysNext, EntriesNext, ItemsNext};
+ghost use Rattle.seg_image.specs.Iterators.{item_before, NamesNext, ItemsNext, ShowsItemBefore, KeysNext, EntriesNext};
 ghost use Rattle.seg_image.specs.Places.{WhereMap};
 
 use crate::read::ImageRead;
@@ -92,18 +96,37 @@ impl<'a, S: SegmentRead> Iterator for Items<'a, S> {
 
     fn next(&mut self) -> Option<Place> {
         let left = self.left.checked_sub(1)?;
-        let at = match self.last {
-            Some(last) => seg_seq::next(self.image, last),
-            None => seg_seq::at(self.image, self.sequence, self.len.saturating_sub(self.left)).ok()?,
-        };
-        if self.is_list {
-            self.last = Some(at);
-        }
+        let index = self.len.saturating_sub(self.left);
+        let at = item_after(self.image, self.sequence, self.last, index)?;
+        self.last = self.is_list.then_some(at);
         self.left = left;
         Some(Place {
             at,
             type_id: self.item_type,
         })
+    }
+}
+
+/// The position of the item with this index in a vector or a list. In a list it is the item after the last one that was
+/// returned.
+fn item_after<S: SegmentRead>(
+    image: &S,
+    sequence: Place,
+    last: Option<ValueAt>,
+    index: u32,
+) -> Option<ValueAt>
+    ensures vector { (U : ℕ) (vs : Values) (blocks : List ℕ) →
+        HasItems (S.allocator image.now) (S.stored image.now) (place_of sequence) U vs blocks →
+        index < count vs → last ≡ None →
+        IsSomeAnd result (ShowsItem (S.stored image.now) (place_of sequence) U index) }
+    ensures list { (U : ℕ) (vs : Values) (blocks : List ℕ) →
+        HasList (S.allocator image.now) (S.stored image.now) (place_of sequence) U vs blocks →
+        index < count vs → ShowsItemBefore (S.stored image.now) (place_of sequence) U index last →
+        IsSomeAnd result (ShowsItem (S.stored image.now) (place_of sequence) U index) }
+{
+    match last {
+        Some(last) => Some(seg_seq::next(image, last)),
+        None => seg_seq::at(image, sequence, index).ok(),
     }
 }
 

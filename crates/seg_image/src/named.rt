@@ -1,4 +1,4 @@
-ghost use Rattle.std.specs.Prelude.{◌≡◌, ◌<◌, ◌≤◌, false, length, None, Err, IsSomeAnd, IsTrue, IfErr, IfOk, OnOk, MatchOption, MatchResult, slice_get, is_ok};
+ghost use Rattle.std.specs.Prelude.{◌≡◌, ◌<◌, ◌≤◌, false, length, None, Err, IsTrue, IfOk, MatchResult, is_ok};
 ghost use Rattle.seg_spec.specs.Index.{root_named};
 ghost use Rattle.seg_spec.specs.Sound.{Picture};
 ghost use Rattle.seg_spec.specs.Spending.{object_asks};

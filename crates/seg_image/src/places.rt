@@ -4,7 +4,7 @@ ghost use Rattle.seg_layout.specs.Forms.{form_of};
 ghost use Rattle.seg_seq.specs.Kinds.{HasNumbers};
 ghost use Rattle.seg_seq.specs.Sequences.{item_type};
 ghost use Rattle.seg_map.specs.EitherMap.{has_keys, IsMapOf};
-ghost use Rattle.seg_image.specs.Places.{found_position, object_type, shared_type};
+ghost use Rattle.seg_image.specs.Places.{found_position, is_list, object_type, shared_type};
 
 use seg_layout::{MAX_TYPES, Type, TypeId};
 use seg_raw::Code;
@@ -98,6 +98,13 @@ pub(crate) fn item_type_at<S: SegmentRead>(source: &S, place: Place) -> Result<T
         return Err(Code::OtherType);
     };
     Ok(item)
+}
+
+/// Whether the place is a list.
+pub(crate) fn is_list_at<S: SegmentRead>(source: &S, place: Place) -> bool
+    ensures { result ≡ is_list (form_at (S.stored source.now).types place.type_id) }
+{
+    matches!(source.types().kind(place.type_id), Some(Type::List(_)))
 }
 
 /// The type of the values of a map.

@@ -23,8 +23,8 @@ ghost use Rattle.seg_image.specs.Iterators.{HasNamed, HasKeyed, HasReturned};
 
 use crate::iterators::{Entries, Items, Keys, Names};
 use crate::places::{
-    expect_number, expect_numbers, expect_string, item_type_at, known, object_type_at, placed,
-    shared_type_at, type_at, value_type_at,
+    expect_number, expect_numbers, expect_string, is_list_at, item_type_at, known, object_type_at,
+    placed, shared_type_at, type_at, value_type_at,
 };
 use seg_layout::{Type, TypeId};
 use seg_manager::Named;
@@ -310,17 +310,13 @@ pub trait ImageRead: SegmentRead {
             HasList (Self.allocator self.now) (Self.stored self.now) (place_of place) U vs blocks →
             IfOk result (λ it. HasReturned (Self.stored self.now) U (count vs) it 0) }
     {
-        let (item_type, is_list) = match type_at(self, place)? {
-            Type::Vec(item) => (item, false),
-            Type::List(item) => (item, true),
-            _ => return Err(Code::OtherType),
-        };
-        let len = SegmentRead::count(self, place.at);
+        let item_type = item_type_at(self, place)?;
+        let len = seg_seq::len(self, place)?;
         Ok(Items {
             image: self,
             sequence: place,
             item_type,
-            is_list,
+            is_list: is_list_at(self, place),
             last: None,
             len,
             left: len,

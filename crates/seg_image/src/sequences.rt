@@ -1,4 +1,4 @@
-ghost use Rattle.std.specs.Prelude.{◌≡◌, ◌≢◌, ℕ, ◌+◌, ◌-◌, ◌≤◌, false, true, List, [], ◌∷◌, ◌++◌, length, take, None, Some, Ok, Err, IsOk, IfOk, IsOkUnless, MatchResult, suc};
+ghost use Rattle.std.specs.Prelude.{◌≡◌, ◌≢◌, ℕ, ◌+◌, ◌-◌, ◌≤◌, false, true, List, [], ◌∷◌, ◌++◌, length, take, None, Some, Err, IsOk, IfOk, IsOkUnless, MatchResult, suc};
 ghost use Rattle.seg_spec.specs.Block.{has_buffer};
 ghost use Rattle.seg_spec.specs.Calls.{Refuses};
 ghost use Rattle.seg_spec.specs.Demand.{block_for};

@@ -1,4 +1,4 @@
-ghost use Rattle.std.specs.Prelude.{◌≡◌, ◌<◌, ◌≤◌, false, length, None, Some, Err, IsTrue, IfOk, MatchResult};
+ghost use Rattle.std.specs.Prelude.{◌≡◌, ◌<◌, ◌≤◌, false, length, None, Err, IsTrue, IfOk, MatchResult};
 ghost use Rattle.seg_spec.specs.Sound.{Picture};
 ghost use Rattle.seg_manager.specs.Segments.{unique_at, MakesUnique, FindsOrMakes, RefusesUnique, LosesUnique};
 ghost use Rattle.seg_image.specs.Images.{segment_of, allocator_of, types_of, IsOpen, ChangesBytes};

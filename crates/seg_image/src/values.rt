@@ -1,4 +1,4 @@
-ghost use Rattle.std.specs.Prelude.{◌≡◌, ◌≢◌, ℕ, ◌+◌, ◌≤◌, List, [], ◌∷◌, length, Some, Ok, Err, IsOk, OnOk};
+ghost use Rattle.std.specs.Prelude.{◌≡◌, ◌≢◌, ℕ, ◌+◌, ◌≤◌, List, [], ◌∷◌, length, Some, Err, IsOk, OnOk};
 ghost use Rattle.seg_spec.specs.Bytes.{signed_long, ChangesOnly};
 ghost use Rattle.seg_spec.specs.Clearing.{BesideShared, ClearsPlace};
 ghost use Rattle.seg_spec.specs.Shared.{named_in};

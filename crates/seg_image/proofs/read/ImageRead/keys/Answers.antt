@@ -1,5 +1,5 @@
-use Rattle.std.proofs.Common.{◌≡◌, Ok, length, refl, arith}
-use Rattle.seg_image.proofs.image.Image.keys.Goals as goal
+use Rattle.std.proofs.Common.{◌≡◌, length, refl, arith}
+use Rattle.seg_image.proofs.read.ImageRead.keys.Goals as goal
 
 pub returns-clause-first : goal.returns-clause-first
 returns-clause-first g c = λ U keys vs blocks m s.

@@ -1,10 +1,10 @@
-use Rattle.std.proofs.Common.{◌≡◌, ℕ, List, Option, None, Some, IsSomeAnd, MatchOption, slice_get, sym, subst, Bor}
+use Rattle.std.proofs.Common.{◌≡◌, ℕ, List, Option, None, IsSomeAnd, MatchOption, slice_get, sym, subst, Bor}
 use Rattle.std.specs.Option.{option_map}
 use Rattle.seg_spec.specs.Index.{Root}
 use Rattle.seg_manager.specs.NamedObjects.{DescribesRoot}
 use Rattle.seg_image.specs.Iterators.{item_before}
 use Rattle.seg_image.proofs.IteratorLaws.{root_next, none_before}
-use Rattle.seg_image.proofs.image.Image.name_after.Goals as goal
+use Rattle.seg_image.proofs.iterators.name_after.Goals as goal
 
 pub returns-in-Some : goal.returns-in-Some
 returns-in-Some g c = λ picture n held within e.
