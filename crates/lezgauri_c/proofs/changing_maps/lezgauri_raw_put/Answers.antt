@@ -14,4 +14,11 @@ returns-clause-puts c =
     let left_is : bytes_in left ≡ c.give_back.new.self.bytes = sym (c.give_back.ensures.bytes ∙ c.into_bytes.ensures) in
     subst (λ (p : Place). GivesPlace c.args.image.now.bytes c.give_back.new.self.bytes c.give.result c.args.value.now c.give.new.place (Puts p c.args.key)) c.place_at-map.ensures
     (subst (λ (z : ℤ). GivesPlace c.args.image.now.bytes c.give_back.new.self.bytes c.give.result c.args.value.now c.give.new.place (Puts c.place_at-map.result z)) (to_z-of_z w64 c.args.key c.ranges.key)
-    (calls opened left c.in-Ok.ensures.bytes left_is c.in-Ok.ensures.opened c.put-returned.result c.give.ensures.number c.give.ensures.told (record { bytes = c.put-returned.ensures.bytes; of_type = c.put-returned.ensures.of_type; other = c.put-returned.ensures.other; only_room = c.put-returned.ensures.code; puts = c.put-returned.ensures.puts; keeps = c.put-returned.ensures.keeps })))
+    (calls opened left c.in-Ok.ensures.bytes left_is c.in-Ok.ensures.opened c.put-returned.result c.give.ensures.number c.give.ensures.told (record {
+      bytes = c.put-returned.ensures.bytes;
+      of_type = c.put-returned.ensures.of_type;
+      other = c.put-returned.ensures.other;
+      only_room = c.put-returned.ensures.code;
+      puts = c.put-returned.ensures.puts;
+      keeps = c.put-returned.ensures.keeps;
+    })))

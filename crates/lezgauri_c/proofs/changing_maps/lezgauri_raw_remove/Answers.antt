@@ -14,4 +14,8 @@ returns c =
     let left_is : bytes_in left ≡ c.give_back.new.self.bytes = sym (c.give_back.ensures.bytes ∙ c.into_bytes.ensures) in
     subst (λ (p : Place). IsFound c.args.image.now.bytes c.give_back.new.self.bytes c.found.result (Removes p c.args.key)) c.place_at-map.ensures
     (subst (λ (z : ℤ). IsFound c.args.image.now.bytes c.give_back.new.self.bytes c.found.result (Removes c.place_at-map.result z)) (to_z-of_z w64 c.args.key c.ranges.key)
-    (calls opened left c.in-Ok.ensures.bytes left_is c.in-Ok.ensures.opened c.remove-returned.result c.found.ensures.number c.found.ensures.told (record { bytes = c.remove-returned.ensures.bytes; other = c.remove-returned.ensures.other; removes = c.remove-returned.ensures.removes })))
+    (calls opened left c.in-Ok.ensures.bytes left_is c.in-Ok.ensures.opened c.remove-returned.result c.found.ensures.number c.found.ensures.told (record {
+      bytes = c.remove-returned.ensures.bytes;
+      other = c.remove-returned.ensures.other;
+      removes = c.remove-returned.ensures.removes;
+    })))

@@ -12,4 +12,11 @@ returns c =
     let left = c.pop_back-returned.new.self in
     let left_is : bytes_in left ≡ c.give_back.new.self.bytes = sym (c.give_back.ensures.bytes ∙ c.into_bytes.ensures) in
     subst (λ (p : Place). IsDone c.args.image.now.bytes c.give_back.new.self.bytes c.done.result (PopsItem p)) c.place_at-sequence.ensures
-    (calls opened left c.in-Ok.ensures.bytes left_is c.in-Ok.ensures.opened c.pop_back-returned.result c.done.ensures.number c.done.ensures.told (record { bytes = c.pop_back-returned.ensures.bytes; text = c.pop_back-returned.ensures.text; vector = c.pop_back-returned.ensures.vector; list = c.pop_back-returned.ensures.list; other = c.pop_back-returned.ensures.other; counted = c.pop_back-returned.ensures.counted }))
+    (calls opened left c.in-Ok.ensures.bytes left_is c.in-Ok.ensures.opened c.pop_back-returned.result c.done.ensures.number c.done.ensures.told (record {
+      bytes = c.pop_back-returned.ensures.bytes;
+      text = c.pop_back-returned.ensures.text;
+      vector = c.pop_back-returned.ensures.vector;
+      list = c.pop_back-returned.ensures.list;
+      other = c.pop_back-returned.ensures.other;
+      counted = c.pop_back-returned.ensures.counted;
+    }))

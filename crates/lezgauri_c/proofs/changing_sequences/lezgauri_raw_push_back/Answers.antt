@@ -12,4 +12,10 @@ returns-clause-pushes c =
     let left = c.push_back-returned.new.self in
     let left_is : bytes_in left ≡ c.give_back.new.self.bytes = sym (c.give_back.ensures.bytes ∙ c.into_bytes.ensures) in
     subst (λ (p : Place). GivesPlace c.args.image.now.bytes c.give_back.new.self.bytes c.give.result c.args.item.now c.give.new.place (PushesItem p)) c.place_at-sequence.ensures
-    (calls opened left c.in-Ok.ensures.bytes left_is c.in-Ok.ensures.opened c.push_back-returned.result c.give.ensures.number c.give.ensures.told (record { bytes = c.push_back-returned.ensures.bytes; of_type = c.push_back-returned.ensures.of_type; vector = c.push_back-returned.ensures.vector; list = c.push_back-returned.ensures.list; other = c.push_back-returned.ensures.other }))
+    (calls opened left c.in-Ok.ensures.bytes left_is c.in-Ok.ensures.opened c.push_back-returned.result c.give.ensures.number c.give.ensures.told (record {
+      bytes = c.push_back-returned.ensures.bytes;
+      of_type = c.push_back-returned.ensures.of_type;
+      vector = c.push_back-returned.ensures.vector;
+      list = c.push_back-returned.ensures.list;
+      other = c.push_back-returned.ensures.other;
+    }))

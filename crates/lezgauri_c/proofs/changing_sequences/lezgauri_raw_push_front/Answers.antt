@@ -12,4 +12,10 @@ returns-clause-pushes c =
     let left = c.push_front-returned.new.self in
     let left_is : bytes_in left ≡ c.give_back.new.self.bytes = sym (c.give_back.ensures.bytes ∙ c.into_bytes.ensures) in
     subst (λ (p : Place). GivesPlace c.args.image.now.bytes c.give_back.new.self.bytes c.give.result c.args.item.now c.give.new.place (PushesItemFront p)) c.place_at-list.ensures
-    (calls opened left c.in-Ok.ensures.bytes left_is c.in-Ok.ensures.opened c.push_front-returned.result c.give.ensures.number c.give.ensures.told (record { bytes = c.push_front-returned.ensures.bytes; of_type = c.push_front-returned.ensures.of_type; only_room = c.push_front-returned.ensures.code; pushed = c.push_front-returned.ensures.pushed; other = c.push_front-returned.ensures.other }))
+    (calls opened left c.in-Ok.ensures.bytes left_is c.in-Ok.ensures.opened c.push_front-returned.result c.give.ensures.number c.give.ensures.told (record {
+      bytes = c.push_front-returned.ensures.bytes;
+      of_type = c.push_front-returned.ensures.of_type;
+      only_room = c.push_front-returned.ensures.code;
+      pushed = c.push_front-returned.ensures.pushed;
+      other = c.push_front-returned.ensures.other;
+    }))

@@ -12,4 +12,9 @@ returns c =
     let left = c.shrink_to_fit-returned.new.self in
     let left_is : bytes_in left ≡ c.give_back.new.self.bytes = sym (c.give_back.ensures.bytes ∙ c.into_bytes.ensures) in
     subst (λ (p : Place). IsDone c.args.image.now.bytes c.give_back.new.self.bytes c.done.result (ShrinksBuffer p)) c.place_at-container.ensures
-    (calls opened left c.in-Ok.ensures.bytes left_is c.in-Ok.ensures.opened c.shrink_to_fit-returned.result c.done.ensures.number c.done.ensures.told (record { bytes = c.shrink_to_fit-returned.ensures.bytes; shrinks = c.shrink_to_fit-returned.ensures.shrinks; done = c.shrink_to_fit-returned.ensures.done; other = c.shrink_to_fit-returned.ensures.other }))
+    (calls opened left c.in-Ok.ensures.bytes left_is c.in-Ok.ensures.opened c.shrink_to_fit-returned.result c.done.ensures.number c.done.ensures.told (record {
+      bytes = c.shrink_to_fit-returned.ensures.bytes;
+      shrinks = c.shrink_to_fit-returned.ensures.shrinks;
+      done = c.shrink_to_fit-returned.ensures.done;
+      other = c.shrink_to_fit-returned.ensures.other;
+    }))
