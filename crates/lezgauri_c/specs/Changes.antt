@@ -1,8 +1,4 @@
 -- Calls from C that change the image in lent memory, by one call of `Image`.
---     place_at at type        the place of a value, from C's two numbers
---     type_number n           the type with C's number; no segment has type 255
---     code_status code        the status that reports a code
---     TellsPlace ..           the status and the caller's place report the result of a call
 --     TellsDone, TellsFound   the status reports the result of a call
 --     OnImage old new picture claim
 --                             the sound image was open and then had other bytes; the claim is true of both
@@ -14,7 +10,7 @@
 --                             something was there, and nothing
 --     HasMoreTypes old new entries before     a longer table took the place of the image's
 --     RefusesTypes, RefusesTypesAs            why a table doesn't take its place; and as it is reported
-use Rattle.std.specs.Prelude.{◌≡◌, ◌+◌, ◌<◌, ◌≤◌, ℕ, List, Bool, true, false, None, Result, Ok, Err, nat_lt, if◌then◌else◌}
+use Rattle.std.specs.Prelude.{◌≡◌, ◌+◌, ◌<◌, ◌≤◌, ℕ, List, Bool, true, false, None, Result, Ok, Err}
 use Rattle.seg_spec.specs.Bytes.{ChangesOnly}
 use Rattle.seg_spec.specs.Header.{types_start, types_size, sharing_version}
 use Rattle.seg_spec.specs.Heap.{live}
@@ -24,7 +20,6 @@ use Rattle.seg_spec.specs.Images.{IsSound, upgraded}
 use Rattle.seg_raw.specs.declared.fault.Fault as seg_raw_fault
 use Rattle.seg_raw.specs.declared.fault.Fault.TheVariants as fault
 use Rattle.seg_raw.specs.declared.code.Code.{Code}
-use Rattle.seg_raw.specs.Refusals.{code_number}
 use Rattle.seg_cells.specs.declared.place.Place.{Place}
 use Rattle.std_alloc.specs.declared.vec.lodged.Lodged.{Lodged}
 use Rattle.seg_image.specs.declared.image.Image.{Image}
@@ -32,24 +27,9 @@ use Rattle.seg_image.specs.Images.{bytes_in, IsOpen}
 use Rattle.lezgauri_c.specs.declared.fault.Fault.{Fault}
 use Rattle.lezgauri_c.specs.declared.place.Place as told
 use Rattle.lezgauri_c.specs.Told.{told_fault}
-
--- ---- numbers
-
-abbrev pub type_number : ℕ → ℕ
-type_number n = if nat_lt n 256 then n else 255
-
-abbrev pub place_at : ℕ → ℕ → Place
-place_at at n = record { at = at; type_id = type_number n }
-
-abbrev pub code_status : Code → ℕ
-code_status code = 110 + code_number code
+pub use Rattle.lezgauri_c.specs.Places.{type_number, place_at, code_status, TellsPlace}
 
 -- ---- results
-
-abbrev pub TellsPlace : ℕ → told.Place → told.Place → Result Place Code → Type 0
-TellsPlace status old new (Ok place) =
-    (status ≡ 0) × (new ≡ record { at = place.at; type_id = place.type_id })
-TellsPlace status old new (Err code) = (status ≡ code_status code) × (new ≡ old)
 
 abbrev pub TellsDone : ℕ → Result (Unit {0}) Code → Type 0
 TellsDone status (Ok _) = status ≡ 0

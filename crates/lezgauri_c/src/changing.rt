@@ -4,14 +4,12 @@
 ghost use Rattle.std.specs.Prelude.{◌≡◌, ◌<◌, ◌≤◌, IfOk, IfErr, OnErr};
 ghost use Rattle.seg_spec.specs.Images.{IsSound};
 ghost use Rattle.seg_image.specs.Images.{bytes_in, IsOpen};
-ghost use Rattle.lezgauri_c.specs.Changes as changes;
-ghost use Rattle.lezgauri_c.specs.Changes.{TellsPlace, TellsDone, TellsFound};
+ghost use Rattle.lezgauri_c.specs.Changes.{TellsDone, TellsFound};
 
 use crate::lent::Lent;
-use crate::place::Place;
 use crate::run_in_place::open_window;
-use crate::status::{CODES, OK};
-use seg_image::{Code, Image, Place as ValuePlace, TypeId};
+use crate::status::{OK, code_status};
+use seg_image::{Code, Image};
 use std_alloc::vec::Lodged;
 
 /// A call on the image in lent memory, or a return of a fault's number.
@@ -27,6 +25,7 @@ macro_rules! on_image {
     }};
 }
 
+pub(crate) use crate::place::{give, place_at, type_number};
 pub(crate) use on_image;
 
 /// Opens an image that an earlier call found sound, or changed. Its memory is then the open image's. Other bytes may be returned with a
@@ -49,44 +48,6 @@ pub(crate) fn open_image(image: &mut Lent) -> Result<Image<Lodged>, u32>
     }
 }
 
-/// The type with this number. Segments have fewer than 255 types, so each number above 254 is that of a type that no segment has.
-pub(crate) fn type_number(number: u32) -> TypeId
-    ensures { result ≡ changes.type_number number }
-{
-    match u8::try_from(number) {
-        Ok(t) => t,
-        Err(_) => u8::MAX,
-    }
-}
-
-/// The place of a value, from its numbers.
-pub(crate) fn place_at(at: u32, type_id: u32) -> ValuePlace
-    ensures { result ≡ changes.place_at at type_id }
-{
-    ValuePlace {
-        at,
-        type_id: type_number(type_id),
-    }
-}
-
-/// Gives the caller the place that a call returned, and returns `OK`, or returns the status for a code.
-pub(crate) fn give(returned: Result<ValuePlace, Code>, place: &mut Place) -> u32
-    ensures told { TellsPlace result place.old place.new returned }
-    ensures number { 0 < result → 110 < result }
-    ensures unwritten { 0 < result → place.new ≡ place.old }
-{
-    match returned {
-        Ok(ValuePlace { at, type_id }) => {
-            *place = Place {
-                at,
-                type_id: u32::from(type_id),
-            };
-            OK
-        }
-        Err(code) => code_status(code),
-    }
-}
-
 /// `OK`, or the status for a code.
 pub(crate) fn done(returned: Result<(), Code>) -> u32
     ensures told { TellsDone result returned }
@@ -104,11 +65,4 @@ pub(crate) fn found(there: bool) -> u32
     ensures number { 0 < result → 110 < result }
 {
     if there { OK } else { code_status(Code::Absent) }
-}
-
-fn code_status(code: Code) -> u32
-    ensures status { result ≡ changes.code_status code }
-    ensures number { 110 < result }
-{
-    CODES + u32::from(code.number())
 }

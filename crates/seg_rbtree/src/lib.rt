@@ -19,6 +19,5 @@ mod tree;
 pub use node::{Colour, Side, child, child_word, node_colour};
 pub use order::{NodeOrder, UniqueKeys};
 pub use path::{DEPTH, Path};
-pub use search::Looked;
 pub use seg_ptr::NodeAt;
 pub use tree::{TREE_WORDS, Tree};
