@@ -1,6 +1,6 @@
--- What a call of `Image` that changes it promises, for the image before and after the call and the
--- call's result. The allocator and the types of an open image stay, and so does the memory around it
--- (`ChangesBytes`).
+-- What a call of `Image` that changes it promises, for the image before and after the call and for
+-- the call's result. The allocator and the types of an open image stay, and so does the memory around
+-- it (`ChangesBytes`).
 --     Constructs, FindsOrConstructs, Destroys
 --     ConstructsUnique, FindsOrConstructsUnique, DestroysUnique
 --     Assigns, Appends, PushesItem, PushesItemFront, PopsItem, PopsItemFront
