@@ -92,7 +92,7 @@ module _ {A : Type 0} (opened left : Image A) where
       found_sound None is place it none = sound_then (it.makes picture held is).becomes none
       found_sound (Some root) is place it none = elim (cases_lt T (length (types_of opened))) [
         | inl known ↦ elim (it.tells picture held known) [
-          | inl found ↦ sound_still none (bytes_same found.1.3)
+          | inl found ↦ sound_still none (bytes_same found.4)
           | inr missing ↦ let no = missing.1 in cc
         ]
         | inr past ↦ sound_still none (image_same (it.unknown past).1)

@@ -1,15 +1,16 @@
 -- Calls from C that change the image in lent memory, by one call of `Image`.
 --     TellsDone, TellsFound   the status reports the result of a call
 --     OnImage old new picture claim
---                             the sound image was open and then had other bytes; the claim is true of both
+--                             the sound image was open, and then had other bytes; the claim is
+--                             true of both
 --     Calls old new status tells claim
---                             a sound image was opened for a call, whose result is told; other bytes may
---                             be refused
+--                             a sound image was opened for a call, whose result is reported; other
+--                             bytes may be refused
 --     GivesPlace, IsDone, IsFound, IsOver
---                             the same, for a call that returns a place or a code, nothing or a code, whether
---                             something was there, and nothing
+--                             the same, for a call that returns a place or a code, nothing or a
+--                             code, whether something was there, and nothing
 --     HasMoreTypes old new entries before     a longer table took the place of the image's
---     RefusesTypes, RefusesTypesAs            why a table doesn't take its place; and as it is reported
+--     RefusesTypes, RefusesTypesAs            why it didn't, and as that is reported
 use Rattle.std.specs.Prelude.{◌≡◌, ◌+◌, ◌<◌, ◌≤◌, ℕ, List, Bool, true, false, None, Result, Ok, Err}
 use Rattle.seg_spec.specs.Bytes.{ChangesOnly}
 use Rattle.seg_spec.specs.Header.{types_start, types_size, sharing_version}

@@ -1,6 +1,6 @@
--- What a call of `Image` that changes it promises, for the image before and after the call and the
--- call's result. The allocator and the types of an open image stay, and so does the memory around it
--- (`ChangesBytes`).
+-- What a call of `Image` that changes it promises, for the image before and after the call and for
+-- the call's result. The allocator and the types of an open image stay, and so does the memory around
+-- it (`ChangesBytes`).
 --     Constructs, FindsOrConstructs, Destroys
 --     ConstructsUnique, FindsOrConstructsUnique, DestroysUnique
 --     Assigns, Appends, PushesItem, PushesItemFront, PopsItem, PopsItemFront
@@ -238,12 +238,12 @@ pub record Puts {A : Type 0} (map : Place) (key : ℤ) (old new : Image A)
       (result ≡ Err code.OtherType) × (new ≡ old)
   pub only_room : has_keys (form_at (types_of old) map.type_id) ≡ true →
       IsOkUnless (found_position result) code.BadAlloc
-  pub puts : WhereMap old map (λ U keys vs blocks.
+  pub puts : WhereMap (allocator_of old) (segment_of old) map (λ U keys vs blocks.
       PutsKey (allocator_of old) (bytes_in old) (bytes_in new) (types_of old) (place_of map) U
       keys vs key blocks
       (key_asks (bytes_in old) (types_of old) map.at (form_at (types_of old) map.type_id))
       (key_place keys key) (found_position result))
-  pub keeps : WhereMap old map (λ U keys vs blocks.
+  pub keeps : WhereMap (allocator_of old) (segment_of old) map (λ U keys vs blocks.
       KeepsTreePaths (form_at (types_of old) map.type_id) (bytes_in old) (bytes_in new)
       (types_of old) (place_of map))
 

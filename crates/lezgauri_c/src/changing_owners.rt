@@ -37,8 +37,9 @@ pub extern "C" fn lezgauri_raw_freeze(
     ensures { IsDone image.old.bytes image.new.bytes result
         (Freezes (place_at at type_id) (place_at to_at to_type_id)) }
 {
-    let (own, shared) = (place_at(at, type_id), place_at(to_at, to_type_id));
-    done(on_image!(image, opened => opened.freeze(own, shared)))
+    let owner = place_at(at, type_id);
+    let shared = place_at(to_at, to_type_id);
+    done(on_image!(image, opened => opened.freeze(owner, shared)))
 }
 
 /// Makes the shared cell at the second place point to what the one at the first place points to. Fails as `Image::share` does; then
@@ -54,6 +55,7 @@ pub extern "C" fn lezgauri_raw_share(
     ensures { IsDone image.old.bytes image.new.bytes result
         (Shares (place_at to_at to_type_id) (place_at at type_id)) }
 {
-    let (from, to) = (place_at(at, type_id), place_at(to_at, to_type_id));
+    let from = place_at(at, type_id);
+    let to = place_at(to_at, to_type_id);
     done(on_image!(image, opened => opened.share(to, from)))
 }

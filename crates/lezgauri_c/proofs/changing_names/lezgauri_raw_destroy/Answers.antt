@@ -1,22 +1,47 @@
-use Rattle.std.proofs.Common.{◌≡◌, sym, ◌∙◌}
+use Rattle.std.proofs.Common.{◌≡◌, sym, ◌∙◌, subst, ℕ}
 use Rattle.seg_image.specs.Images.{bytes_in}
+use Rattle.lezgauri_c.specs.Changes.{IsFound}
 use Rattle.lezgauri_c.specs.ImageChanges.{Destroys}
-use Rattle.lezgauri_c.proofs.ChangeLaws.{still_sound}
+use Rattle.lezgauri_c.proofs.ChangeLaws.{calls, still_sound}
 use Rattle.lezgauri_c.proofs.NamedChangeLaws.{destroy_sound, destroy_kept}
 use Rattle.lezgauri_c.proofs.changing_names.lezgauri_raw_destroy.Goals as goal
+
+pub returns-clause-destroys : goal.returns-clause-destroys
+returns-clause-destroys c =
+    let opened = c.in-Ok.image in
+    let left = c.destroy-returned.new.self in
+    let left_is : bytes_in left ≡ c.give_back.new.self.bytes = sym (c.give_back.ensures.bytes ∙ c.into_bytes.ensures) in
+    subst (λ (T : ℕ). IsFound c.args.image.now.bytes c.give_back.new.self.bytes c.found.result (Destroys c.args.name.now T)) c.type_number-t.ensures
+    (calls opened left c.in-Ok.ensures.bytes left_is c.in-Ok.ensures.opened c.destroy-returned.result c.found.ensures.number c.found.ensures.told (record {
+      bytes = c.destroy-returned.ensures.bytes;
+      tells = c.destroy-returned.ensures.tells;
+      loses = c.destroy-returned.ensures.loses;
+      unchanged = c.destroy-returned.ensures.unchanged;
+    }))
 
 pub returns-clause-sound : goal.returns-clause-sound
 returns-clause-sound c =
     let opened = c.in-Ok.image in
     let left = c.destroy-returned.new.self in
     let left_is : bytes_in left ≡ c.give_back.new.self.bytes = sym (c.give_back.ensures.bytes ∙ c.into_bytes.ensures) in
-    let it : Destroys c.args.name.now c.type_number-t.result opened left c.destroy-returned.result = record { bytes = c.destroy-returned.ensures.bytes; tells = c.destroy-returned.ensures.tells; loses = c.destroy-returned.ensures.loses; unchanged = c.destroy-returned.ensures.unchanged } in
-    still_sound opened left c.in-Ok.ensures.bytes left_is c.in-Ok.ensures.opened (λ picture held none. destroy_sound opened left picture held c.args.name.now c.type_number-t.result c.destroy-returned.result it none)
+    let it : Destroys c.args.name.now c.type_number-t.result opened left c.destroy-returned.result = record {
+      bytes = c.destroy-returned.ensures.bytes;
+      tells = c.destroy-returned.ensures.tells;
+      loses = c.destroy-returned.ensures.loses;
+      unchanged = c.destroy-returned.ensures.unchanged;
+    } in
+    still_sound opened left c.in-Ok.ensures.bytes left_is c.in-Ok.ensures.opened
+    (λ picture held none. destroy_sound opened left picture held c.args.name.now c.type_number-t.result c.destroy-returned.result it none)
 
 pub returns-clause-kept : goal.returns-clause-kept
 returns-clause-kept c some =
     let opened = c.in-Ok.image in
     let left = c.destroy-returned.new.self in
     let left_is : bytes_in left ≡ c.give_back.new.self.bytes = sym (c.give_back.ensures.bytes ∙ c.into_bytes.ensures) in
-    let it : Destroys c.args.name.now c.type_number-t.result opened left c.destroy-returned.result = record { bytes = c.destroy-returned.ensures.bytes; tells = c.destroy-returned.ensures.tells; loses = c.destroy-returned.ensures.loses; unchanged = c.destroy-returned.ensures.unchanged } in
+    let it : Destroys c.args.name.now c.type_number-t.result opened left c.destroy-returned.result = record {
+      bytes = c.destroy-returned.ensures.bytes;
+      tells = c.destroy-returned.ensures.tells;
+      loses = c.destroy-returned.ensures.loses;
+      unchanged = c.destroy-returned.ensures.unchanged;
+    } in
     sym left_is ∙ destroy_kept opened left c.args.name.now c.type_number-t.result c.found.result c.destroy-returned.result c.found.ensures.told some it ∙ c.in-Ok.ensures.bytes

@@ -26,11 +26,11 @@ returns-in-Err-open_window-clause-refused g c sound = absurd (c.in-Err-open_wind
 
 pub returns-in-Ok-agrees-clause-added : goal.returns-in-Ok-agrees-clause-added
 returns-in-Ok-agrees-clause-added g c =
-    let window = c.in-Ok-open_window.window in
-    of_image window.bytes c.args.image.items c.in-Ok-open_window.ensures.bytes c.in-Ok-open_window.types (λ b s. HasMoreTypes b c.with_types.result.items c.args.entries.now s)
+    let window = c.in-Ok-open_window.it.0 in
+    of_image window.bytes c.args.image.items c.in-Ok-open_window.ensures.bytes c.in-Ok-open_window.it.1 (λ b s. HasMoreTypes b c.with_types.result.items c.args.entries.now s)
     (λ sound same. c.with_types.ensures sound same c.in-Ok.ensures.table.1 c.args.entries.now c.in-Ok.ensures.table.2) c.in-Ok-open_window.ensures.types
 
 pub returns-in-Err-agrees-clause-refused : goal.returns-in-Err-agrees-clause-refused
 returns-in-Err-agrees-clause-refused g c sound =
-    other_entry sound.picture.table c.in-Ok-open_window.types c.in-Ok.more c.args.entries.now c.in-Err-agrees.fault
+    other_entry sound.picture.table c.in-Ok-open_window.it.1 c.in-Ok.more c.args.entries.now c.in-Err-agrees.fault
     (c.in-Ok-open_window.ensures.types sound.picture.table (image_of c.args.image.items sound)) c.in-Ok.ensures.table.2 c.in-Err-agrees.ensures.differs

@@ -1,7 +1,8 @@
-use Rattle.std.proofs.Common.{List, ℕ, sym, subst}
+use Rattle.std.proofs.Common.{List, ℕ, sym, ap, ◌∙◌, subst}
 use Rattle.std.proofs.lemmas.Result.{IfOk-at_ok, IfErr-at_err}
 use Rattle.seg_spec.specs.Images.{IsSound}
 use Rattle.lezgauri_c.specs.Changes.{HasMoreTypes, RefusesTypes}
+use Rattle.lezgauri_c.specs.Told.{told_fault}
 use Rattle.lezgauri_c.proofs.changing_types.lezgauri_raw_add_types.Goals as goal
 
 pub returns-in-Ok-clause-added : goal.returns-in-Ok-clause-added
@@ -19,6 +20,6 @@ returns-in-Err-clause-refused c some sound =
     let entries = c.args.entries.now in
     let refuses = IfErr-at_err (λ reason. (s : IsSound taken) → RefusesTypes s.picture.table entries reason) c.in-Err.is c.add_types-added.ensures.refused in (
       c.in-Err.reason,
-      ?,
+      c.from-in-Err.ensures ∙ ap told_fault c.from.ensures,
       subst (λ (b : List ℕ). (s : IsSound b) → RefusesTypes s.picture.table entries c.in-Err.reason) c.take.ensures.bytes refuses sound,
     )

@@ -1,0 +1,20 @@
+use Rattle.std.proofs.Common.{◌≡◌, sym, ◌∙◌, subst, ℕ}
+use Rattle.seg_image.specs.Images.{bytes_in}
+use Rattle.lezgauri_c.specs.Changes.{GivesPlace}
+use Rattle.lezgauri_c.specs.ImageChanges.{ConstructsAnonymous}
+use Rattle.lezgauri_c.proofs.ChangeLaws.{calls}
+use Rattle.lezgauri_c.proofs.changing_anonymous.lezgauri_raw_construct_anonymous.Goals as goal
+
+pub returns-clause-constructs : goal.returns-clause-constructs
+returns-clause-constructs c =
+    let opened = c.in-Ok.image in
+    let left = c.construct_anonymous-returned.new.self in
+    let left_is : bytes_in left ≡ c.give_back.new.self.bytes = sym (c.give_back.ensures.bytes ∙ c.into_bytes.ensures) in
+    subst (λ (T : ℕ). GivesPlace c.args.image.now.bytes c.give_back.new.self.bytes c.give.result c.args.place.now c.give.new.place (ConstructsAnonymous T)) c.type_number-t.ensures
+    (calls opened left c.in-Ok.ensures.bytes left_is c.in-Ok.ensures.opened c.construct_anonymous-returned.result c.give.ensures.number c.give.ensures.told (record {
+      bytes = c.construct_anonymous-returned.ensures.bytes;
+      of_type = c.construct_anonymous-returned.ensures.of_type;
+      unknown = c.construct_anonymous-returned.ensures.unknown;
+      only_room = c.construct_anonymous-returned.ensures.code;
+      makes = c.construct_anonymous-returned.ensures.makes;
+    }))

@@ -1,0 +1,19 @@
+use Rattle.std.proofs.Common.{◌≡◌, sym, ◌∙◌, refl, arith, ap, subst, ℕ}
+use Rattle.seg_cells.specs.declared.place.Place.{Place}
+use Rattle.seg_image.specs.Images.{bytes_in}
+use Rattle.lezgauri_c.specs.Changes.{IsOver}
+use Rattle.lezgauri_c.specs.ImageChanges.{DestroysAnonymous}
+use Rattle.lezgauri_c.proofs.ChangeLaws.{calls}
+use Rattle.lezgauri_c.proofs.changing_anonymous.lezgauri_raw_destroy_anonymous.Goals as goal
+
+pub returns : goal.returns
+returns c =
+    let opened = c.in-Ok.image in
+    let left = c.destroy_anonymous-returned.new.self in
+    let left_is : bytes_in left ≡ c.give_back.new.self.bytes = sym (c.give_back.ensures.bytes ∙ c.into_bytes.ensures) in
+    let at : c.place_at-object.result.at ≡ c.args.at = ap (λ (p : Place). p.at) c.place_at-object.ensures in
+    subst (λ (n : ℕ). IsOver c.args.image.now.bytes c.give_back.new.self.bytes 0 (DestroysAnonymous n)) at
+    (calls opened left c.in-Ok.ensures.bytes left_is c.in-Ok.ensures.opened tt (λ some. absurd (omega (arith, some))) refl (record {
+      bytes = c.destroy_anonymous-returned.ensures.bytes;
+      loses = c.destroy_anonymous-returned.ensures.loses;
+    }))

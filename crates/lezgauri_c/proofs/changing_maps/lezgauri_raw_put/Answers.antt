@@ -1,0 +1,24 @@
+use Rattle.std.proofs.Common.{◌≡◌, sym, ◌∙◌, subst, ℤ, w64}
+use Rattle.std.proofs.lemmas.Int.{to_z-of_z}
+use Rattle.seg_cells.specs.declared.place.Place.{Place}
+use Rattle.seg_image.specs.Images.{bytes_in}
+use Rattle.lezgauri_c.specs.Changes.{GivesPlace}
+use Rattle.lezgauri_c.specs.ImageChanges.{Puts}
+use Rattle.lezgauri_c.proofs.ChangeLaws.{calls}
+use Rattle.lezgauri_c.proofs.changing_maps.lezgauri_raw_put.Goals as goal
+
+pub returns-clause-puts : goal.returns-clause-puts
+returns-clause-puts c =
+    let opened = c.in-Ok.image in
+    let left = c.put-returned.new.self in
+    let left_is : bytes_in left ≡ c.give_back.new.self.bytes = sym (c.give_back.ensures.bytes ∙ c.into_bytes.ensures) in
+    subst (λ (p : Place). GivesPlace c.args.image.now.bytes c.give_back.new.self.bytes c.give.result c.args.value.now c.give.new.place (Puts p c.args.key)) c.place_at-map.ensures
+    (subst (λ (z : ℤ). GivesPlace c.args.image.now.bytes c.give_back.new.self.bytes c.give.result c.args.value.now c.give.new.place (Puts c.place_at-map.result z)) (to_z-of_z w64 c.args.key c.ranges.key)
+    (calls opened left c.in-Ok.ensures.bytes left_is c.in-Ok.ensures.opened c.put-returned.result c.give.ensures.number c.give.ensures.told (record {
+      bytes = c.put-returned.ensures.bytes;
+      of_type = c.put-returned.ensures.of_type;
+      other = c.put-returned.ensures.other;
+      only_room = c.put-returned.ensures.code;
+      puts = c.put-returned.ensures.puts;
+      keeps = c.put-returned.ensures.keeps;
+    })))

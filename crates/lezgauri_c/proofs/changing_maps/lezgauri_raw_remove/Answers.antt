@@ -1,0 +1,21 @@
+use Rattle.std.proofs.Common.{◌≡◌, sym, ◌∙◌, subst, ℤ, w64}
+use Rattle.std.proofs.lemmas.Int.{to_z-of_z}
+use Rattle.seg_cells.specs.declared.place.Place.{Place}
+use Rattle.seg_image.specs.Images.{bytes_in}
+use Rattle.lezgauri_c.specs.Changes.{IsFound}
+use Rattle.lezgauri_c.specs.ImageChanges.{Removes}
+use Rattle.lezgauri_c.proofs.ChangeLaws.{calls}
+use Rattle.lezgauri_c.proofs.changing_maps.lezgauri_raw_remove.Goals as goal
+
+pub returns : goal.returns
+returns c =
+    let opened = c.in-Ok.image in
+    let left = c.remove-returned.new.self in
+    let left_is : bytes_in left ≡ c.give_back.new.self.bytes = sym (c.give_back.ensures.bytes ∙ c.into_bytes.ensures) in
+    subst (λ (p : Place). IsFound c.args.image.now.bytes c.give_back.new.self.bytes c.found.result (Removes p c.args.key)) c.place_at-map.ensures
+    (subst (λ (z : ℤ). IsFound c.args.image.now.bytes c.give_back.new.self.bytes c.found.result (Removes c.place_at-map.result z)) (to_z-of_z w64 c.args.key c.ranges.key)
+    (calls opened left c.in-Ok.ensures.bytes left_is c.in-Ok.ensures.opened c.remove-returned.result c.found.ensures.number c.found.ensures.told (record {
+      bytes = c.remove-returned.ensures.bytes;
+      other = c.remove-returned.ensures.other;
+      removes = c.remove-returned.ensures.removes;
+    })))

@@ -1,0 +1,23 @@
+use Rattle.std.proofs.Common.{◌≡◌, sym, ◌∙◌, subst}
+use Rattle.seg_cells.specs.declared.place.Place.{Place}
+use Rattle.seg_image.specs.Images.{bytes_in}
+use Rattle.lezgauri_c.specs.Changes.{IsDone, place_at}
+use Rattle.lezgauri_c.specs.ImageChanges.{Freezes}
+use Rattle.lezgauri_c.proofs.ChangeLaws.{calls}
+use Rattle.lezgauri_c.proofs.changing_owners.lezgauri_raw_freeze.Goals as goal
+
+pub returns : goal.returns
+returns c =
+    let opened = c.in-Ok.image in
+    let left = c.freeze-returned.new.self in
+    let left_is : bytes_in left ≡ c.give_back.new.self.bytes = sym (c.give_back.ensures.bytes ∙ c.into_bytes.ensures) in
+    subst (λ (p : Place). IsDone c.args.image.now.bytes c.give_back.new.self.bytes c.done.result (Freezes p (place_at c.args.to_at c.args.to_type_id))) c.place_at-owner.ensures
+    (subst (λ (q : Place). IsDone c.args.image.now.bytes c.give_back.new.self.bytes c.done.result (Freezes c.place_at-owner.result q)) c.place_at-shared.ensures
+    (calls opened left c.in-Ok.ensures.bytes left_is c.in-Ok.ensures.opened c.freeze-returned.result c.done.ensures.number c.done.ensures.told (record {
+      bytes = c.freeze-returned.ensures.bytes;
+      other = c.freeze-returned.ensures.other;
+      empty = c.freeze-returned.ensures.empty;
+      used_up = c.freeze-returned.ensures.used_up;
+      only_room = c.freeze-returned.ensures.code;
+      freezes = c.freeze-returned.ensures.freezes;
+    })))

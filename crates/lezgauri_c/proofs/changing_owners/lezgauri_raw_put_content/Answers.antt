@@ -1,0 +1,20 @@
+use Rattle.std.proofs.Common.{◌≡◌, sym, ◌∙◌, subst}
+use Rattle.seg_cells.specs.declared.place.Place.{Place}
+use Rattle.seg_image.specs.Images.{bytes_in}
+use Rattle.lezgauri_c.specs.Changes.{GivesPlace}
+use Rattle.lezgauri_c.specs.ImageChanges.{PutsContent}
+use Rattle.lezgauri_c.proofs.ChangeLaws.{calls}
+use Rattle.lezgauri_c.proofs.changing_owners.lezgauri_raw_put_content.Goals as goal
+
+pub returns-clause-puts : goal.returns-clause-puts
+returns-clause-puts c =
+    let opened = c.in-Ok.image in
+    let left = c.put_content-returned.new.self in
+    let left_is : bytes_in left ≡ c.give_back.new.self.bytes = sym (c.give_back.ensures.bytes ∙ c.into_bytes.ensures) in
+    subst (λ (p : Place). GivesPlace c.args.image.now.bytes c.give_back.new.self.bytes c.give.result c.args.content.now c.give.new.place (PutsContent p)) c.place_at-own.ensures
+    (calls opened left c.in-Ok.ensures.bytes left_is c.in-Ok.ensures.opened c.put_content-returned.result c.give.ensures.number c.give.ensures.told (record {
+      bytes = c.put_content-returned.ensures.bytes;
+      of_type = c.put_content-returned.ensures.of_type;
+      puts = c.put_content-returned.ensures.puts;
+      other = c.put_content-returned.ensures.other;
+    }))

@@ -1,0 +1,21 @@
+use Rattle.std.proofs.Common.{◌≡◌, sym, ◌∙◌, subst}
+use Rattle.seg_cells.specs.declared.place.Place.{Place}
+use Rattle.seg_image.specs.Images.{bytes_in}
+use Rattle.lezgauri_c.specs.Changes.{IsDone, place_at}
+use Rattle.lezgauri_c.specs.ImageChanges.{Shares}
+use Rattle.lezgauri_c.proofs.ChangeLaws.{calls}
+use Rattle.lezgauri_c.proofs.changing_owners.lezgauri_raw_share.Goals as goal
+
+pub returns : goal.returns
+returns c =
+    let opened = c.in-Ok.image in
+    let left = c.share-returned.new.self in
+    let left_is : bytes_in left ≡ c.give_back.new.self.bytes = sym (c.give_back.ensures.bytes ∙ c.into_bytes.ensures) in
+    subst (λ (p : Place). IsDone c.args.image.now.bytes c.give_back.new.self.bytes c.done.result (Shares (place_at c.args.to_at c.args.to_type_id) p)) c.place_at-from.ensures
+    (subst (λ (q : Place). IsDone c.args.image.now.bytes c.give_back.new.self.bytes c.done.result (Shares q c.place_at-from.result)) c.place_at-to.ensures
+    (calls opened left c.in-Ok.ensures.bytes left_is c.in-Ok.ensures.opened c.share-returned.result c.done.ensures.number c.done.ensures.told (record {
+      bytes = c.share-returned.ensures.bytes;
+      other = c.share-returned.ensures.other;
+      done = c.share-returned.ensures.done;
+      shares = c.share-returned.ensures.shares;
+    })))

@@ -1,0 +1,22 @@
+use Rattle.std.proofs.Common.{◌≡◌, sym, ◌∙◌, subst}
+use Rattle.seg_cells.specs.declared.place.Place.{Place}
+use Rattle.seg_image.specs.Images.{bytes_in}
+use Rattle.lezgauri_c.specs.Changes.{IsDone}
+use Rattle.lezgauri_c.specs.ImageChanges.{PopsItem}
+use Rattle.lezgauri_c.proofs.ChangeLaws.{calls}
+use Rattle.lezgauri_c.proofs.changing_sequences.lezgauri_raw_pop_back.Goals as goal
+
+pub returns : goal.returns
+returns c =
+    let opened = c.in-Ok.image in
+    let left = c.pop_back-returned.new.self in
+    let left_is : bytes_in left ≡ c.give_back.new.self.bytes = sym (c.give_back.ensures.bytes ∙ c.into_bytes.ensures) in
+    subst (λ (p : Place). IsDone c.args.image.now.bytes c.give_back.new.self.bytes c.done.result (PopsItem p)) c.place_at-sequence.ensures
+    (calls opened left c.in-Ok.ensures.bytes left_is c.in-Ok.ensures.opened c.pop_back-returned.result c.done.ensures.number c.done.ensures.told (record {
+      bytes = c.pop_back-returned.ensures.bytes;
+      text = c.pop_back-returned.ensures.text;
+      vector = c.pop_back-returned.ensures.vector;
+      list = c.pop_back-returned.ensures.list;
+      other = c.pop_back-returned.ensures.other;
+      counted = c.pop_back-returned.ensures.counted;
+    }))

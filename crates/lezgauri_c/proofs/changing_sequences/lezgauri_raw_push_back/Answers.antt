@@ -1,0 +1,21 @@
+use Rattle.std.proofs.Common.{◌≡◌, sym, ◌∙◌, subst}
+use Rattle.seg_cells.specs.declared.place.Place.{Place}
+use Rattle.seg_image.specs.Images.{bytes_in}
+use Rattle.lezgauri_c.specs.Changes.{GivesPlace}
+use Rattle.lezgauri_c.specs.ImageChanges.{PushesItem}
+use Rattle.lezgauri_c.proofs.ChangeLaws.{calls}
+use Rattle.lezgauri_c.proofs.changing_sequences.lezgauri_raw_push_back.Goals as goal
+
+pub returns-clause-pushes : goal.returns-clause-pushes
+returns-clause-pushes c =
+    let opened = c.in-Ok.image in
+    let left = c.push_back-returned.new.self in
+    let left_is : bytes_in left ≡ c.give_back.new.self.bytes = sym (c.give_back.ensures.bytes ∙ c.into_bytes.ensures) in
+    subst (λ (p : Place). GivesPlace c.args.image.now.bytes c.give_back.new.self.bytes c.give.result c.args.item.now c.give.new.place (PushesItem p)) c.place_at-sequence.ensures
+    (calls opened left c.in-Ok.ensures.bytes left_is c.in-Ok.ensures.opened c.push_back-returned.result c.give.ensures.number c.give.ensures.told (record {
+      bytes = c.push_back-returned.ensures.bytes;
+      of_type = c.push_back-returned.ensures.of_type;
+      vector = c.push_back-returned.ensures.vector;
+      list = c.push_back-returned.ensures.list;
+      other = c.push_back-returned.ensures.other;
+    }))

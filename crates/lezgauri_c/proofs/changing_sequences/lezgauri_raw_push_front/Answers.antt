@@ -1,0 +1,21 @@
+use Rattle.std.proofs.Common.{◌≡◌, sym, ◌∙◌, subst}
+use Rattle.seg_cells.specs.declared.place.Place.{Place}
+use Rattle.seg_image.specs.Images.{bytes_in}
+use Rattle.lezgauri_c.specs.Changes.{GivesPlace}
+use Rattle.lezgauri_c.specs.ImageChanges.{PushesItemFront}
+use Rattle.lezgauri_c.proofs.ChangeLaws.{calls}
+use Rattle.lezgauri_c.proofs.changing_sequences.lezgauri_raw_push_front.Goals as goal
+
+pub returns-clause-pushes : goal.returns-clause-pushes
+returns-clause-pushes c =
+    let opened = c.in-Ok.image in
+    let left = c.push_front-returned.new.self in
+    let left_is : bytes_in left ≡ c.give_back.new.self.bytes = sym (c.give_back.ensures.bytes ∙ c.into_bytes.ensures) in
+    subst (λ (p : Place). GivesPlace c.args.image.now.bytes c.give_back.new.self.bytes c.give.result c.args.item.now c.give.new.place (PushesItemFront p)) c.place_at-list.ensures
+    (calls opened left c.in-Ok.ensures.bytes left_is c.in-Ok.ensures.opened c.push_front-returned.result c.give.ensures.number c.give.ensures.told (record {
+      bytes = c.push_front-returned.ensures.bytes;
+      of_type = c.push_front-returned.ensures.of_type;
+      only_room = c.push_front-returned.ensures.code;
+      pushed = c.push_front-returned.ensures.pushed;
+      other = c.push_front-returned.ensures.other;
+    }))

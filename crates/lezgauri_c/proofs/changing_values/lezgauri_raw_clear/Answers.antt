@@ -1,0 +1,18 @@
+use Rattle.std.proofs.Common.{◌≡◌, sym, ◌∙◌, refl, arith, subst}
+use Rattle.seg_cells.specs.declared.place.Place.{Place}
+use Rattle.seg_image.specs.Images.{bytes_in}
+use Rattle.lezgauri_c.specs.Changes.{IsOver}
+use Rattle.lezgauri_c.specs.ImageChanges.{Clears}
+use Rattle.lezgauri_c.proofs.ChangeLaws.{calls}
+use Rattle.lezgauri_c.proofs.changing_values.lezgauri_raw_clear.Goals as goal
+
+pub returns : goal.returns
+returns c =
+    let opened = c.in-Ok.image in
+    let left = c.clear-returned.new.self in
+    let left_is : bytes_in left ≡ c.give_back.new.self.bytes = sym (c.give_back.ensures.bytes ∙ c.into_bytes.ensures) in
+    subst (λ (p : Place). IsOver c.args.image.now.bytes c.give_back.new.self.bytes 0 (Clears p)) c.place_at-value.ensures
+    (calls opened left c.in-Ok.ensures.bytes left_is c.in-Ok.ensures.opened tt (λ some. absurd (omega (arith, some))) refl (record {
+      bytes = c.clear-returned.ensures.bytes;
+      cleared = c.clear-returned.ensures.cleared;
+    }))

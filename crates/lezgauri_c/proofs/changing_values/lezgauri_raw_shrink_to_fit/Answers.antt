@@ -1,0 +1,20 @@
+use Rattle.std.proofs.Common.{◌≡◌, sym, ◌∙◌, subst}
+use Rattle.seg_cells.specs.declared.place.Place.{Place}
+use Rattle.seg_image.specs.Images.{bytes_in}
+use Rattle.lezgauri_c.specs.Changes.{IsDone}
+use Rattle.lezgauri_c.specs.ImageChanges.{ShrinksBuffer}
+use Rattle.lezgauri_c.proofs.ChangeLaws.{calls}
+use Rattle.lezgauri_c.proofs.changing_values.lezgauri_raw_shrink_to_fit.Goals as goal
+
+pub returns : goal.returns
+returns c =
+    let opened = c.in-Ok.image in
+    let left = c.shrink_to_fit-returned.new.self in
+    let left_is : bytes_in left ≡ c.give_back.new.self.bytes = sym (c.give_back.ensures.bytes ∙ c.into_bytes.ensures) in
+    subst (λ (p : Place). IsDone c.args.image.now.bytes c.give_back.new.self.bytes c.done.result (ShrinksBuffer p)) c.place_at-container.ensures
+    (calls opened left c.in-Ok.ensures.bytes left_is c.in-Ok.ensures.opened c.shrink_to_fit-returned.result c.done.ensures.number c.done.ensures.told (record {
+      bytes = c.shrink_to_fit-returned.ensures.bytes;
+      shrinks = c.shrink_to_fit-returned.ensures.shrinks;
+      done = c.shrink_to_fit-returned.ensures.done;
+      other = c.shrink_to_fit-returned.ensures.other;
+    }))
