@@ -1281,7 +1281,7 @@ static void refused_memory(void)
         lezgauri_close(filled(memory, LEZGAURI_BEST_FIT, LEZGAURI_FLAT_INDEX, places));
         done("open in", lezgauri_open_in(memory, SIZE, SIZE, &handle, NULL));
     }
-    /* once the types are known, no call takes memory until there are other types */
+    /* once the types are known, no call takes memory */
     watch(1, NULL);
     expect("find, no memory", lezgauri_find(handle, "number", NUMBER, &place), LEZGAURI_MEMORY);
     done("find, memory", lezgauri_find(handle, "number", NUMBER, &place));
@@ -1298,9 +1298,9 @@ static void refused_memory(void)
     more[TYPES] = table[STRING];
     done("add types", lezgauri_add_types(handle, more, TYPES + 1, NULL));
     watch(1, NULL);
-    expect("load after more types", number_at(handle, place) == 141 || requests > 0, 1);
+    expect("load after more types", (uint64_t)number_at(handle, place), 141);
+    expect("load after more types: no request for memory", requests, 0);
     watch(0, NULL);
-    expect("load", (uint64_t)number_at(handle, place), 141);
     lezgauri_close(handle);
     free_memory(memory);
 }

@@ -371,10 +371,10 @@ uint32_t lezgauri_upgrade(lezgauri_handle *handle);
  * stored, and if it changes something, the image may no longer be sound.
  *
  * The calls on places and names below have these rules in common. A call whose place has another type than it needs, or a type that the
- * segment doesn't have, returns LEZGAURI_OTHER_TYPE. After a status other than LEZGAURI_OK no object and no value has changed, and nothing
- * is written through the pointers. Pointers to what a call returns aren't null. They don't point into the segment, and neither do the bytes and
- * names that a changing call takes: copy them first. A call may return LEZGAURI_MEMORY if it is the first on its handle, or the
- * first after types were added; never if the handle is open only for reading.
+ * segment doesn't have, returns LEZGAURI_OTHER_TYPE. After a status other than LEZGAURI_OK no object and no value has changed, and
+ * nothing is written through the pointers. Pointers to what a call returns aren't null. They don't point into the segment, and neither
+ * do the bytes and names that a changing call takes: copy them first. LEZGAURI_MEMORY is only possible for the first of these calls on
+ * a handle, and never if the segment is open only for reading.
  *
  * A name is 1 to 63 bytes, each from 0x21 to 0x7e, and a zero after them. It isn't null. At most 64 of its bytes are read.
  */
