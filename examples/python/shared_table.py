@@ -59,7 +59,7 @@ def main() -> int:
     path = sys.argv[1]
     try:
         make_table(path)
-        readers = [multiprocessing.Process(target=watch, args=(path,)) for _ in range(READERS)]
+        readers = [multiprocessing.Process(target=watch, args=(path,), daemon=True) for _ in range(READERS)]
         for reader in readers:
             reader.start()
         for customer in range(1, CUSTOMERS + 1):

@@ -175,14 +175,14 @@ class TypeTest(ValueCase):
         self.assertEqual(other["a"], [])
 
     def test_upgrade(self):
-        image = bytearray(base.IMAGE)
+        image = bytearray(base.IMAGE) + bytearray(1024)
         struct.pack_into("<I", image, 8, 1)
-        lezgauri.check(image)
-        with lezgauri.Segment.open_in(image) as segment:
+        with lezgauri.Segment.open_in(image, len(base.IMAGE)) as segment:
             segment.upgrade()
             self.assertEqual(image[8], 2)
             with self.unchanged(segment):
                 segment.upgrade()
+            segment.grow(1024)
             segment.add_types(t.shared(t.i64))
             self.assertEqual(segment.construct("s", t.shared(t.i64)), None)
             lezgauri.check(segment.save())
@@ -465,10 +465,12 @@ class VectorTest(ValueCase):
                 (lambda: vector["a"], TypeError),
                 (lambda: vector[2**32], lezgauri.OutOfRange),
                 (lambda: vector.pop(), IndexError),
-                (lambda: vector.append("a"), TypeError),
-                (lambda: vector.append(MOST + 1), OverflowError),
                 (lambda: vector.extend(5), TypeError),
             )
+            for wrong, error in (("a", TypeError), (MOST + 1, OverflowError)):
+                with self.assertRaises(error):
+                    vector.append(wrong)
+                self.assertEqual(vector, [])
 
     def test_out_of_memory(self):
         for segment in self.segments(NUMBERS, TEXTS, size=2048):
@@ -610,10 +612,12 @@ class ListTest(ValueCase):
                 (lambda: texts[-1], lezgauri.OutOfRange),
                 (lambda: texts.pop(), IndexError),
                 (lambda: texts.popleft(), lezgauri.NoValue),
-                (lambda: texts.append(5), TypeError),
-                (lambda: texts.appendleft(5), TypeError),
                 (lambda: texts.shrink_to_fit(), lezgauri.OtherType),
             )
+            for call in (texts.append, texts.appendleft):
+                with self.assertRaises(TypeError):
+                    call(5)
+                self.assertEqual(texts, [])
             users = segment.construct("u", t.list(USER))
             users.extend([(1, "x"), (2, "y"), (3, "z")])
             self.assertEqual([number for number, _ in users], [1, 2, 3])
@@ -1072,8 +1076,8 @@ class ReadTest(ValueCase):
                 lambda: lezgauri.run_on(segment, base.CLIENT), lambda: lezgauri.run_whole(segment, base.CLIENT),
                 lambda: client(segment),
             )
-            for number, call in enumerate(calls):
-                with self.subTest(f"call {number}"), self.assertRaises(lezgauri.ReadOnly) as caught:
+            for index, call in enumerate(calls):
+                with self.subTest(f"call {index}"), self.assertRaises(lezgauri.ReadOnly) as caught:
                     call()
                 self.assertNotIsInstance(caught.exception, lezgauri.Frozen)
             self.assertEqual((bytes(mapped), self.contents(segment)), (image, self.CONTENTS))
@@ -1178,6 +1182,7 @@ class SharedSegmentTest(ValueCase):
     def test_busy(self):
         """A call on a value of a segment that another thread uses raises Busy, and has done nothing."""
         segment = self.opened()
+        segment.grow(4096)
         number = segment.find("x")
         segment.add_types(t.str)
         text = segment.construct("t", t.str)
