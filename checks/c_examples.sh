@@ -1,8 +1,9 @@
 #!/usr/bin/env bash
-# Tests the library for C. Builds the examples for C and C++ and checks/calls.c, runs each with and without valgrind, and compares
-# what the examples print. Also runs checks/calls.c with the address and undefined behaviour sanitizers, checks/stack.c, an example
-# with each request for memory refused, and checks/cpp.sh. Needs a C and a C++ compiler with sanitizers, make, valgrind, the library that
-# `rt lib` builds in crates/lezgauri_c/out, and the program that `rt run` builds in crates/segtool/out, or another given program.
+# Tests the library for C. Builds the examples for C and C++, checks/calls.c and checks/values.c, runs each with and without valgrind, and
+# compares what the examples print. Also runs the two checks with the address and undefined behaviour sanitizers, checks/stack.c, an
+# example with each request for memory refused, and checks/cpp.sh. Needs a C and a C++ compiler with sanitizers, make, valgrind, the
+# library that `rt lib` builds in crates/lezgauri_c/out, and the program that `rt run` builds in crates/segtool/out, or another given
+# program.
 set -eu
 here=$(cd "$(dirname "$0")" && pwd)
 root=$(dirname "$here")
@@ -12,20 +13,22 @@ work=$(mktemp -d)
 trap 'rm -rf "$work"' EXIT
 
 "$library/build.sh" --link
-make -s -C "$root/examples/c" OUT="$work" SEGTOOL="$segtool" all "$work/cache.image" "$work"/{cache,enter,sum}.client
+make -s -C "$root/examples/c" OUT="$work" SEGTOOL="$segtool" all "$work/cache.image" "$work/cache.client"
 cc=(${CC:-cc} -std=c11 -Wall -Wextra -Wpedantic -Werror -O1 -g -I"$library/include" -pthread)
 wrapped=(-Wl,--wrap=malloc,--wrap=realloc)
-"${cc[@]}" "${wrapped[@]}" -o "$work/calls" "$here/calls.c" "$library/out/liblezgauri.a"
-# lezgauri.c is compiled again here, since the library has it without the sanitizers
-"${cc[@]}" "${wrapped[@]}" -fsanitize=address,undefined -fno-sanitize-recover=all -o "$work/calls.sanitized" \
-  "$here/calls.c" "$library/include/lezgauri.c" "$library/out/liblezgauri.a"
+for check in calls values; do
+  "${cc[@]}" "${wrapped[@]}" -o "$work/$check" "$here/$check.c" "$library/out/liblezgauri.a"
+  # lezgauri.c is compiled again here, since the library has it without the sanitizers
+  "${cc[@]}" "${wrapped[@]}" -fsanitize=address,undefined -fno-sanitize-recover=all -o "$work/$check.sanitized" \
+    "$here/$check.c" "$library/include/lezgauri.c" "$library/out/liblezgauri.a"
+done
 "${cc[@]}" -o "$work/stack" "$here/stack.c" "$library/out/liblezgauri.a"
 
 counter=("$work/counter" "$root/examples/counter.image" "$root/examples/increment.client")
 cache=("$work/cache" "$work/cache.image" "$work/cache.client")
 counted=("$root/examples/counter.image" "$root/examples/increment.client")
 calls=("$work/calls" "${counted[@]}")
-table=("$work/shared_table" "$work/table.image" "$work/enter.client" "$work/sum.client")
+table=("$work/shared_table" "$work/table.image")
 
 # an image with a full type table, in which each struct contains the one before
 {
@@ -56,17 +59,20 @@ miss 4489
 EOF
 
 # a table that a writer and three readers share
-echo "3 readers saw 40 entries" > "$work/table.wanted"
+echo "3 readers saw 40 values" > "$work/table.wanted"
 
 "${counter[@]}" > "$work/out" && diff "$work/counter.wanted" "$work/out"
 "${cache[@]}" > "$work/out" && diff "$work/cache.wanted" "$work/out"
 "${table[@]}" > "$work/out" && diff "$work/table.wanted" "$work/out"
 "${calls[@]}"
+"$work/values"
 "${under[@]}" "${counter[@]}" > "$work/out" && diff "$work/counter.wanted" "$work/out"
 "${under[@]}" "${cache[@]}" > "$work/out" && diff "$work/cache.wanted" "$work/out"
 "${under[@]}" "${table[@]}" > "$work/out" && diff "$work/table.wanted" "$work/out"
 "${under[@]}" "${calls[@]}"
+"${under[@]}" "$work/values"
 "$work/calls.sanitized" "${counted[@]}"
+"$work/values.sanitized"
 "$work/stack" "${counted[@]}" "$work/cache.image" "$work/cache.client" "$work/deep.image" "$work/deep.client"
 
 # refuses each request for memory in turn: the program reports that and fails, or doesn't need the memory

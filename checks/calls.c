@@ -665,6 +665,22 @@ static void read_only(void)
     expect("read-only: x", x_of(handle), 41);
     lezgauri_client_close(prepared);
     lezgauri_close(handle);
+    /* opened only for reading, also an image of version 1 */
+    mprotect(bytes, image_len, PROT_READ | PROT_WRITE);
+    bytes[8] = 1;
+    mprotect(bytes, image_len, PROT_READ);
+    int64_t x = 0;
+    lezgauri_place place;
+    expect("read", lezgauri_read(bytes, image_len, &handle, NULL), LEZGAURI_OK);
+    expect("read: prepare", lezgauri_prepare(handle, reader, client_len, &prepared, NULL), LEZGAURI_OK);
+    expect("read: run client", lezgauri_run_client(handle, prepared, NULL, 0, output, 3, NULL, NULL, NULL), LEZGAURI_READ_ONLY);
+    expect("read: free memory", lezgauri_free_memory(handle, &all, NULL), LEZGAURI_OK);
+    expect("read: find", lezgauri_find(handle, "x", 0, &place), LEZGAURI_OK);
+    expect("read: load", lezgauri_load(handle, place, &x), LEZGAURI_OK);
+    expect("read: x", (uint64_t)x, 41);
+    expect("read: store", lezgauri_store(handle, place, 42), LEZGAURI_READ_ONLY);
+    lezgauri_client_close(prepared);
+    lezgauri_close(handle);
     munmap(bytes, image_len);
     free(reader);
 }

@@ -638,6 +638,221 @@ static void files()
     std::remove(empty_name.c_str());
 }
 
+// ---- values in place
+
+enum value_type : std::uint32_t {
+    NUMBER,
+    TEXT,
+    NUMBERS,
+    LIST,
+    MAP,
+    OWN,
+    PAIR,
+    SHARED
+};
+
+static const lz::type value_types[] = {
+    lz::type_of(lz::kind::i64),          lz::type_of(lz::kind::str),         lz::type_of(lz::kind::vec, {NUMBER}),
+    lz::type_of(lz::kind::list, {TEXT}), lz::type_of(lz::kind::map, {TEXT}), lz::type_of(lz::kind::own, {TEXT}),
+    lz::type_of(lz::kind::structure, {NUMBER, TEXT}), lz::type_of(lz::kind::shared, {TEXT}),
+};
+
+// Goes through a range to its end, and returns the fault that ended it.
+template <class Range>
+static lz::fault fault_of_range(Range range)
+{
+#ifdef __cpp_exceptions
+    try {
+#endif
+        for (const auto &item : range) {
+            static_cast<void>(item);
+        }
+#ifdef __cpp_exceptions
+    } catch (const lz::error &refused) {
+        expect("a range: why", refused.why() == range.why());
+    }
+#endif
+    return range.why();
+}
+
+// A segment with an object of each type.
+template <class Policy>
+static lz::basic_segment<Policy> filled()
+{
+    auto segment = VALUE(lz::create<Policy>(1 << 14));
+    VALUE(segment.add_types(value_types));
+    const auto number = VALUE(segment.construct("number", NUMBER, 3));
+    VALUE(number.store(-41));
+    const auto numbers = VALUE(segment.construct("numbers", NUMBERS));
+    const auto list = VALUE(segment.construct("list", LIST));
+    const auto map = VALUE(segment.find_or_construct("map", MAP));
+    for (int i = 0; i < 5; i++) {
+        VALUE(VALUE(numbers.push_back()).store(i * i));
+        VALUE(VALUE(i % 2 == 0 ? list.push_back() : list.push_front()).assign(std::to_string(i)));
+        VALUE(VALUE(map.put(10 * (i * 3 % 5))).assign(std::to_string(i * 3 % 5)));
+    }
+    const auto pair = VALUE(segment.construct_unique(PAIR));
+    VALUE(VALUE(pair.field(0)).store(7));
+    VALUE(VALUE(pair.field(1)).assign(std::string_view("seven")));
+    const auto own = VALUE(segment.construct("own", OWN));
+    VALUE(VALUE(own.put_content()).assign(std::string_view("owned")));
+    VALUE(segment.construct("shared", SHARED));
+    return segment;
+}
+
+// What a segment and a reader of its image have in common.
+template <class Policy, class Segment>
+static void read_values(const Segment &segment)
+{
+    std::string names;
+    for (const lz::named &object : segment.names()) {
+        names += std::string(object.view()) + ' ' + std::to_string(object.type) + ' ' + std::to_string(object.count) + ',';
+    }
+    expect("names", names == "list 3 1,map 4 1,number 0 3,numbers 2 1,own 5 1,shared 7 1,");
+    expect("named object", VALUE(segment.named_object("number")).count == 3);
+    const auto number = VALUE(segment.find("number", NUMBER));
+    expect("load", VALUE(number.load()) == -41 && VALUE(number.template as<std::int64_t>()) == -41);
+    expect("find: index", VALUE(segment.find("number", NUMBER, 2)).at().at == number.at().at + 16);
+    const auto pair = VALUE(segment.find_unique(PAIR));
+    expect("field", VALUE(VALUE(pair.field(0)).load()) == 7 && VALUE(VALUE(pair.field(1)).text()) == "seven");
+    expect("find unique if", VALUE(segment.find_unique_if(PAIR)).value() == pair && !VALUE(segment.find_unique_if(TEXT)));
+
+    const auto vector = VALUE(segment.find("numbers", NUMBERS));
+    const lz::numbers_view numbers = VALUE(vector.template as<lz::numbers_view>());
+    std::int64_t sum = 0;
+    for (const std::int64_t one : numbers) {
+        sum += one;
+    }
+    expect("numbers", sum == 0 + 1 + 4 + 9 + 16 && numbers.size() == 5 && numbers[3] == 9 && !numbers.empty());
+    expect("numbers: iterators", numbers.end() - numbers.begin() == 5 && numbers.begin()[4] == 16 && *(numbers.end() - 1) == 16 &&
+                                     numbers.begin() < numbers.end() && numbers.bytes().size() == 40);
+    sum = 0;
+    for (const auto &item : vector.items()) {
+        sum = 100 * sum + VALUE(item.load());
+    }
+    expect("items of a vector", sum == 1040916 && VALUE(VALUE(vector.item(4)).load()) == 16);
+
+    const auto list = VALUE(segment.find("list", LIST));
+    std::string words;
+    for (const auto &item : list.items()) {
+        words += VALUE(item.text());
+    }
+    expect("items of a list", words == "31024" && VALUE(list.size()) == 5 && VALUE(VALUE(list.item(1)).text()) == "1");
+
+    const auto map = VALUE(segment.find_if("map", MAP)).value();
+    std::string entries;
+    for (const auto &entry : map.entries()) {
+        entries += std::to_string(entry.key) + '=' + std::string(VALUE(entry.value.template as<std::string_view>())) + ' ';
+    }
+    expect("entries", entries == "0=0 10=1 20=2 30=3 40=4 ");
+    sum = 0;
+    for (const std::int64_t key : map.keys()) {
+        sum += key;
+    }
+    expect("keys", sum == 100 && VALUE(map.size()) == 5);
+    expect("get", VALUE(VALUE(map.get(30)).text()) == "3" && VALUE(map.get_if(30)).value() == VALUE(map.get(30)));
+    expect("get if: no such key", !VALUE(map.get_if(31)) && !VALUE(segment.find_if("absent", MAP)));
+    const auto own = VALUE(segment.find("own", OWN));
+    const auto shared = VALUE(segment.find("shared", SHARED));
+    expect("content", VALUE(VALUE(own.content()).text()) == "owned" && VALUE(own.content_if()) && !VALUE(shared.content_if()));
+
+    const lz::fault other = image_fault(lz::status::other_type);
+    const lz::fault range = image_fault(lz::status::out_of_range);
+    const lz::fault absent = image_fault(lz::status::absent);
+    REFUSED(absent, segment.find("absent", NUMBER));
+    REFUSED(absent, segment.named_object("absent"));
+    REFUSED(absent, segment.find_unique(TEXT));
+    REFUSED(absent, map.get(31));
+    REFUSED(other, segment.find("number", TEXT));
+    REFUSED(other, segment.find_if("number", TEXT));
+    REFUSED(range, segment.find("number", NUMBER, 3));
+    REFUSED(range, list.item(5));
+    REFUSED(range, pair.field(2));
+    REFUSED(other, number.text());
+    REFUSED(other, number.numbers());
+    REFUSED(other, number.size());
+    REFUSED(other, list.load());
+    REFUSED(other, list.get_if(0));
+    REFUSED(other, number.content_if());
+    REFUSED(image_fault(lz::status::no_value), shared.content());
+    expect("ranges: refused", fault_of_range(number.items()) == other && fault_of_range(list.keys()) == other &&
+                                  fault_of_range(list.entries()) == other);
+    expect("ranges: to the end", fault_of_range(list.items()) == lz::fault{} && fault_of_range(segment.names()) == lz::fault{});
+}
+
+template <class Policy>
+static void values()
+{
+    auto segment = filled<Policy>();
+    read_values<Policy>(segment);
+    const lz::const_bytes bytes = VALUE(segment.image());
+    VALUE(lz::check<Policy>(bytes));
+    {
+        auto reader = VALUE(lz::read<Policy>(bytes));
+        read_values<Policy>(reader);
+        auto other = VALUE(reader.another());
+        reader.close();
+        std::thread thread([&] { read_values<Policy>(other); });
+        thread.join();
+        static_assert(std::is_same_v<decltype(other.get()), const lezgauri_handle *>);
+        const lz::basic_reader<Policy> moved(std::move(other));
+        expect("reader: moved", bool(moved) && !other && VALUE(moved.find_if("list", LIST)));
+        REFUSED(image_fault(lz::status::bad_argument), other.find("list", LIST));
+        REFUSED(image_fault(lz::status::bad_argument), other.another());
+    }
+    REFUSED(image_fault(lz::status::bad_header), lz::read<Policy>({bytes.data(), 16}));
+
+    // a value that may be changed is one that is read, and not the reverse
+    using changed = lz::basic_value<Policy, lezgauri_handle>;
+    using read = lz::basic_value<Policy, const lezgauri_handle>;
+    static_assert(std::is_convertible_v<changed, read> && !std::is_convertible_v<read, changed>);
+
+    const auto list = VALUE(segment.find("list", LIST));
+    const read seen = list;
+    VALUE(list.pop_back());
+    VALUE(list.pop_front());
+    expect("pop", VALUE(seen.size()) == 3 && VALUE(VALUE(seen.item(0)).text()) == "1");
+    const auto first = VALUE(list.item(0));
+    VALUE(first.append(std::string_view(" and more")));
+    expect("append", VALUE(first.text()) == "1 and more");
+    VALUE(first.assign(std::string_view("one")));
+    VALUE(first.shrink_to_fit());
+    expect("assign", VALUE(first.text()) == "one");
+    const auto map = VALUE(segment.find("map", MAP));
+    expect("remove", VALUE(map.remove(30)) && !VALUE(map.remove(30)) && !VALUE(map.get_if(30)));
+    const auto own = VALUE(segment.find("own", OWN));
+    const auto shared = VALUE(segment.find("shared", SHARED));
+    const auto second = VALUE(segment.construct("second", SHARED));
+    VALUE(own.freeze(shared));
+    VALUE(second.share(shared));
+    expect("freeze, share", !VALUE(own.content_if()) && VALUE(VALUE(second.content()).text()) == "owned" &&
+                                VALUE(second.content()) == VALUE(shared.content()));
+    VALUE(shared.clear());
+    expect("clear", !VALUE(shared.content_if()) && VALUE(VALUE(second.content()).text()) == "owned");
+    expect("destroy", VALUE(segment.destroy("second", SHARED)) && !VALUE(segment.destroy("second", SHARED)));
+    expect("destroy unique", VALUE(segment.destroy_unique(PAIR)) && !VALUE(segment.destroy_unique(PAIR)));
+    const auto pair = VALUE(segment.find_or_construct_unique(PAIR));
+    expect("find or construct unique", VALUE(VALUE(pair.field(0)).load()) == 0);
+    const auto anonymous = VALUE(segment.construct_anonymous(TEXT));
+    VALUE(anonymous.assign(std::string_view("no name")));
+    REFUSED(image_fault(lz::status::unowned, anonymous.at().at - 16), lz::check<Policy>(bytes));
+    VALUE(segment.destroy_anonymous(anonymous.at()));
+    VALUE(segment.upgrade());
+    VALUE(lz::check<Policy>(bytes));
+
+    REFUSED(image_fault(lz::status::already_exists), segment.construct("list", LIST));
+    REFUSED(image_fault(lz::status::already_exists), segment.construct_unique(PAIR));
+    REFUSED(image_fault(lz::status::out_of_range), segment.construct("no name", LIST));
+    REFUSED(image_fault(lz::status::bad_alloc), segment.construct("large", NUMBER, 65535));
+    REFUSED(image_fault(lz::status::bad_alloc), first.append(Bytes(1 << 15)));
+    REFUSED(image_fault(lz::status::no_value), own.freeze(shared));
+    REFUSED(image_fault(lz::status::other_type), first.store(1));
+    REFUSED(image_fault(lz::status::bad_argument), first.assign(bytes));
+    REFUSED(image_fault(lz::status::type_mismatch, 0), segment.add_types({value_types + 1, 1}));
+    REFUSED(image_fault(lz::status::bad_argument), changed().load());
+    VALUE(lz::check<Policy>(bytes));
+}
+
 // ---- refused memory
 
 // Refuses each request for memory of a call in turn: the call is refused with `memory`, or doesn't need it.
@@ -831,6 +1046,7 @@ static void all()
     clients<Policy>();
     conversions<Policy>();
     type_tables<Policy>();
+    values<Policy>();
     moves<Policy, Other>();
     files<Policy>();
     memory<Policy>();

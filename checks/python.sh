@@ -1,6 +1,6 @@
 #!/usr/bin/env bash
-# Tests the module for Python. Makes the shared library from the static one, compares its exports with lezgauri.h, runs
-# python/tests/test_lezgauri.py, and compares what the example prints. Needs Python 3.9 or later, a C compiler, nm, and the library that
+# Tests the module for Python. Makes the shared library from the static one, compares its exports with lezgauri.h, runs the tests in
+# python/tests, and compares what the examples print. Needs Python 3.9 or later, a C compiler, nm, and the library that
 # `rt lib` builds in crates/lezgauri_c/out, or another given one, static or shared: python.sh [LIBRARY]. PYTHON may name the program.
 set -eu
 here=$(cd "$(dirname "$0")" && pwd)
@@ -44,4 +44,10 @@ cp "$root/examples/increment.client" "$work/image"
 status=0
 "${counter[@]}" "$work/image" "$root/examples/increment.client" 2> "$work/err" || status=$?
 [ "$status" = 1 ] && grep -qx "BAD_HEADER: the image's header or its length is wrong" "$work/err"
-echo "the shared library exports the calls of lezgauri.h, and the example for Python prints what it should"
+
+# one writer and three readers of a table, in processes of their own
+[ "$("$python" -X dev "$root/examples/python/shared_table.py" "$work/table")" = "3 readers saw 20 customers; customer 20 has 200" ]
+status=0
+"$python" -X dev "$root/examples/python/shared_table.py" "$work/none/table" 2> "$work/err" || status=$?
+[ "$status" = 1 ] && grep -q "No such file" "$work/err"
+echo "the shared library exports the calls of lezgauri.h, and the examples for Python print what they should"

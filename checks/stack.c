@@ -14,7 +14,19 @@
 #include <string.h>
 #include <sys/mman.h>
 
-enum { STACK = 8 << 20, PAINT = 0xC5, MOST_OUTPUT = 1 << 16 };
+enum { STACK = 8 << 20, PAINT = 0xC5, MOST_OUTPUT = 1 << 16, SIZE = 1 << 16 };
+
+/* The first types of the segment for calls on values. The others are structs, each of which contains the one before, twice as large each
+ * time up to 1024 bytes. */
+enum { NUMBER, TEXT, NUMBERS, LIST, FLAT_MAP, MAP, OWN, SHARED, PAIR, TYPES };
+
+static const lezgauri_type first_types[TYPES] = {
+    [NUMBER] = {LEZGAURI_KIND_I64, 0, {0}, {0}},          [TEXT] = {LEZGAURI_KIND_STR, 0, {0}, {0}},
+    [NUMBERS] = {LEZGAURI_KIND_VEC, 1, {NUMBER}, {0}},    [LIST] = {LEZGAURI_KIND_LIST, 1, {MAP}, {0}},
+    [FLAT_MAP] = {LEZGAURI_KIND_FLAT_MAP, 1, {LIST}, {0}}, [MAP] = {LEZGAURI_KIND_MAP, 1, {OWN}, {0}},
+    [OWN] = {LEZGAURI_KIND_OWN, 1, {LIST}, {0}},          [SHARED] = {LEZGAURI_KIND_SHARED, 1, {LIST}, {0}},
+    [PAIR] = {LEZGAURI_KIND_STRUCT, 2, {NUMBER, TEXT}, {0}},
+};
 
 /* The arguments of a call, and its status. */
 typedef struct work {
@@ -24,6 +36,10 @@ typedef struct work {
     uint8_t *saved;
     lezgauri_handle *segment;
     lezgauri_client *prepared;
+    lezgauri_handle *values; /* a segment for calls on values */
+    lezgauri_handle *reader;
+    lezgauri_handle *other;
+    lezgauri_place place[TYPES]; /* an object of each of the first types */
     char *output;
     size_t text_len; /* of the client's text, in `output` */
     uint32_t status;
@@ -218,6 +234,100 @@ static void *close_segment(void *given)
     return NULL;
 }
 
+/* ---- values */
+
+static void *create_values(void *given)
+{
+    work *of = given;
+    of->status = lezgauri_create(SIZE, LEZGAURI_BEST_FIT, LEZGAURI_TREE_INDEX, &of->values);
+    return NULL;
+}
+
+static void *add_types(void *given)
+{
+    work *of = given;
+    lezgauri_fault fault;
+    lezgauri_type types[LEZGAURI_MOST_TYPES];
+    memcpy(types, first_types, sizeof first_types);
+    for (uint8_t i = TYPES; i < LEZGAURI_MOST_TYPES; i++) {
+        types[i] = (lezgauri_type){LEZGAURI_KIND_STRUCT, i < TYPES + 6 ? 2 : 1, {i - 1, i < TYPES + 6 ? i - 1 : 0}, {0}};
+    }
+    of->status = lezgauri_add_types(of->values, types, LEZGAURI_MOST_TYPES, &fault);
+    return NULL;
+}
+
+static void *construct(void *given)
+{
+    work *of = given;
+    of->status = LEZGAURI_OK;
+    for (uint32_t i = 0; i < TYPES && of->status == LEZGAURI_OK; i++) {
+        of->status = lezgauri_construct(of->values, (const char[]){(char)('a' + i), 0}, i, 1, &of->place[i]);
+    }
+    return NULL;
+}
+
+static void *open_reader(void *given)
+{
+    work *of = given;
+    lezgauri_bytes bytes;
+    lezgauri_image(of->values, &bytes);
+    of->status = lezgauri_read(bytes.bytes, bytes.len, &of->reader, NULL);
+    return NULL;
+}
+
+/* A call on the segment with values. */
+#define CALL(name, call)                                                                                                                \
+    static void *name(void *given)                                                                                                      \
+    {                                                                                                                                   \
+        work *of = given;                                                                                                               \
+        lezgauri_place place;                                                                                                           \
+        int64_t number;                                                                                                                 \
+        uint32_t len;                                                                                                                   \
+        lezgauri_bytes bytes;                                                                                                           \
+        lezgauri_named named;                                                                                                           \
+        (void)place, (void)number, (void)len, (void)bytes, (void)named;                                                                 \
+        of->status = call;                                                                                                              \
+        return NULL;                                                                                                                    \
+    }
+
+CALL(find, lezgauri_find(of->values, "a", NUMBER, &place))
+CALL(named_object, lezgauri_named_object(of->values, "a", &named))
+CALL(next_name, lezgauri_next_name(of->values, "a", &named))
+CALL(construct_unique, lezgauri_construct_unique(of->values, LEZGAURI_MOST_TYPES - 1, &place))
+CALL(find_unique, lezgauri_find_unique(of->values, LEZGAURI_MOST_TYPES - 1, &place))
+CALL(field, lezgauri_field(of->values, of->place[PAIR], 1, &place))
+CALL(store, lezgauri_store(of->values, of->place[NUMBER], 7))
+CALL(load, lezgauri_load(of->values, of->place[NUMBER], &number))
+CALL(assign, lezgauri_assign(of->values, of->place[TEXT], "text", 4))
+CALL(append, lezgauri_append(of->values, of->place[TEXT], "text", 4))
+CALL(text_of, lezgauri_text(of->values, of->place[TEXT], &bytes))
+CALL(push_number, lezgauri_push_back(of->values, of->place[NUMBERS], &place))
+CALL(numbers_of, lezgauri_numbers(of->values, of->place[NUMBERS], &bytes))
+CALL(push_front, lezgauri_push_front(of->values, of->place[LIST], &place))
+CALL(push_back, lezgauri_push_back(of->values, of->place[LIST], &of->place[MAP]))
+CALL(item, lezgauri_item(of->values, of->place[LIST], 1, &place))
+CALL(previous_item, lezgauri_previous_item(of->values, of->place[LIST], of->place[MAP], &place))
+CALL(put_flat, lezgauri_put(of->values, of->place[FLAT_MAP], 7, &place))
+CALL(put, lezgauri_put(of->values, of->place[MAP], 7, &place))
+CALL(get, lezgauri_get(of->values, of->place[MAP], 7, &of->place[OWN]))
+CALL(next_key, lezgauri_next_key(of->values, of->place[MAP], NULL, &number))
+CALL(put_content, lezgauri_put_content(of->values, of->place[OWN], &place))
+CALL(content, lezgauri_content(of->values, of->place[OWN], &place))
+CALL(len, lezgauri_len(of->values, of->place[MAP], &len))
+CALL(freeze, lezgauri_freeze(of->values, of->place[OWN], of->place[SHARED]))
+CALL(share, lezgauri_share(of->values, of->place[SHARED], of->place[SHARED]))
+CALL(remove_key, lezgauri_remove(of->values, of->place[MAP], 7))
+CALL(pop_back, lezgauri_pop_back(of->values, of->place[LIST]))
+CALL(pop_front, lezgauri_pop_front(of->values, of->place[LIST]))
+CALL(shrink_to_fit, lezgauri_shrink_to_fit(of->values, of->place[FLAT_MAP]))
+CALL(clear, lezgauri_clear(of->values, of->place[SHARED]))
+CALL(destroy, lezgauri_destroy(of->values, "e", FLAT_MAP))
+CALL(destroy_unique, lezgauri_destroy_unique(of->values, LEZGAURI_MOST_TYPES - 1))
+CALL(upgrade, lezgauri_upgrade(of->values))
+CALL(reader, lezgauri_reader(of->reader, &of->other))
+CALL(close_reader, (lezgauri_close(of->reader), lezgauri_close(of->other), LEZGAURI_OK))
+CALL(close_values, (lezgauri_close(of->values), LEZGAURI_OK))
+
 /* The calls in the order in which they are made, and their limits in bytes. */
 static const struct {
     const char *name;
@@ -245,6 +355,47 @@ static const struct {
     {"lezgauri_print", print, LEZGAURI_STACK_TEXT},
     {"lezgauri_assemble", assemble, LEZGAURI_STACK_TEXT},
     {"lezgauri_close", close_segment, LEZGAURI_STACK_SAVE},
+    {"lezgauri_create", create_values, LEZGAURI_STACK_RUN},
+    {"lezgauri_add_types", add_types, LEZGAURI_STACK_RUN},
+    {"lezgauri_upgrade", upgrade, LEZGAURI_STACK_RUN},
+    {"lezgauri_construct", construct, LEZGAURI_STACK_RUN},
+    {"lezgauri_find", find, LEZGAURI_STACK_READ},
+    {"lezgauri_named_object", named_object, LEZGAURI_STACK_READ},
+    {"lezgauri_next_name", next_name, LEZGAURI_STACK_READ},
+    {"lezgauri_construct_unique", construct_unique, LEZGAURI_STACK_RUN},
+    {"lezgauri_find_unique", find_unique, LEZGAURI_STACK_READ},
+    {"lezgauri_field", field, LEZGAURI_STACK_READ},
+    {"lezgauri_store", store, LEZGAURI_STACK_READ},
+    {"lezgauri_load", load, LEZGAURI_STACK_READ},
+    {"lezgauri_assign", assign, LEZGAURI_STACK_RUN},
+    {"lezgauri_append", append, LEZGAURI_STACK_RUN},
+    {"lezgauri_text", text_of, LEZGAURI_STACK_READ},
+    {"lezgauri_push_back", push_number, LEZGAURI_STACK_RUN},
+    {"lezgauri_numbers", numbers_of, LEZGAURI_STACK_READ},
+    {"lezgauri_push_front", push_front, LEZGAURI_STACK_RUN},
+    {"lezgauri_push_back", push_back, LEZGAURI_STACK_RUN},
+    {"lezgauri_item", item, LEZGAURI_STACK_READ},
+    {"lezgauri_previous_item", previous_item, LEZGAURI_STACK_READ},
+    {"lezgauri_put", put_flat, LEZGAURI_STACK_RUN},
+    {"lezgauri_put", put, LEZGAURI_STACK_RUN},
+    {"lezgauri_get", get, LEZGAURI_STACK_READ},
+    {"lezgauri_next_key", next_key, LEZGAURI_STACK_READ},
+    {"lezgauri_put_content", put_content, LEZGAURI_STACK_RUN},
+    {"lezgauri_content", content, LEZGAURI_STACK_READ},
+    {"lezgauri_len", len, LEZGAURI_STACK_READ},
+    {"lezgauri_freeze", freeze, LEZGAURI_STACK_RUN},
+    {"lezgauri_share", share, LEZGAURI_STACK_RUN},
+    {"lezgauri_read", open_reader, LEZGAURI_STACK_CHECK},
+    {"lezgauri_reader", reader, LEZGAURI_STACK_READ},
+    {"lezgauri_close", close_reader, LEZGAURI_STACK_SAVE},
+    {"lezgauri_remove", remove_key, LEZGAURI_STACK_RUN},
+    {"lezgauri_pop_back", pop_back, LEZGAURI_STACK_RUN},
+    {"lezgauri_pop_front", pop_front, LEZGAURI_STACK_RUN},
+    {"lezgauri_shrink_to_fit", shrink_to_fit, LEZGAURI_STACK_RUN},
+    {"lezgauri_clear", clear, LEZGAURI_STACK_RUN},
+    {"lezgauri_destroy", destroy, LEZGAURI_STACK_RUN},
+    {"lezgauri_destroy_unique", destroy_unique, LEZGAURI_STACK_RUN},
+    {"lezgauri_close", close_values, LEZGAURI_STACK_SAVE},
 };
 
 enum { CALLS = sizeof calls / sizeof *calls };
@@ -329,7 +480,7 @@ int main(int argc, char **argv)
     for (size_t k = 0; k < CALLS; k++) {
         const char *verdict = most[k] <= calls[k].most ? "" : ", which is too much";
         wrong += most[k] > calls[k].most;
-        printf("%-21s %7zu of %7zu bytes of stack%s\n", calls[k].name, most[k], calls[k].most, verdict);
+        printf("%-25s %7zu of %7zu bytes of stack%s\n", calls[k].name, most[k], calls[k].most, verdict);
     }
     return wrong > 0;
 }

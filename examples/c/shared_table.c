@@ -1,18 +1,18 @@
 /*
- * A table in a file that several processes use where it is. The parent process makes the table and is its only writer: it enters twenty
- * numbers, one for each run of a client, in a shared mapping of the file. Three child processes are readers: each repeats a run of
- * another client, which counts and adds the entries, until it has seen them all.
+ * A table in a file that several processes use where it is. The parent process makes the table and is its only writer: twenty times it
+ * enters two numbers, in a shared mapping of the file. Three child processes are readers, whose mappings can't be written: each counts and
+ * adds the entries, until it has seen them all.
  *
- *   shared_table TABLE ENTER SUM     the file to make, and the clients of examples/enter.text and examples/sum.text
+ *   shared_table TABLE     the file to make
  *
  * Guaranteed, if all programs that use the file lock it like this one:
  *
- *   - A reader sees the table as it is between two runs of the writer: the writer runs with an exclusive lock, a reader with a shared one.
+ *   - A reader sees both numbers of an entry or neither: the writer enters them with an exclusive lock, and a reader has a shared one.
  *   - A reader reads only a sound image: it opens the image, and so checks it, whenever it gets the lock.
- *   - A reader doesn't change the file, whichever client it runs: its mapping is private.
+ *   - Readers don't wait for each other, and write nothing.
  *
- * Not guaranteed: if the writer is killed during a run, the table is half changed. Then a reader is refused, or reads a sound table in
- * which that run is half done.
+ * Not guaranteed: if the writer is killed while it enters an entry, the table is half changed. Then a reader is refused, or reads a sound
+ * table with one of the two numbers.
  */
 #define _DEFAULT_SOURCE
 #include <lezgauri.h>
@@ -27,7 +27,15 @@
 #include <time.h>
 #include <unistd.h>
 
-enum { SIZE = 8192, RUNS = 20, READERS = 3 };
+enum { SIZE = 8192, ENTRIES = 20, READERS = 3 };
+
+/* The types of the segment. */
+enum { NUMBER, TABLE };
+
+static const lezgauri_type types[] = {
+    [NUMBER] = {LEZGAURI_KIND_I64, 0, {0}, {0}},
+    [TABLE] = {LEZGAURI_KIND_MAP, 1, {NUMBER}, {0}},
+};
 
 static _Noreturn void fail(const char *what)
 {
@@ -35,30 +43,18 @@ static _Noreturn void fail(const char *what)
     exit(EXIT_FAILURE);
 }
 
-static _Noreturn void refuse(const char *call, uint32_t status)
+/* Ends the program if a call wasn't done. */
+static void done(const char *call, uint32_t status)
 {
-    fprintf(stderr, "%s: status %u\n", call, status);
-    exit(EXIT_FAILURE);
-}
-
-/* A client's bytes. */
-static lezgauri_bytes read_client(const char *name)
-{
-    static uint8_t bytes[2][4096];
-    static size_t next;
-    FILE *file = fopen(name, "rb");
-    if (file == NULL) {
-        fail(name);
+    if (status != LEZGAURI_OK) {
+        fprintf(stderr, "%s: %s\n", call, lezgauri_status_text(status));
+        exit(EXIT_FAILURE);
     }
-    uint8_t *at = bytes[next++];
-    lezgauri_bytes client = {at, fread(at, 1, sizeof bytes[0], file)};
-    fclose(file);
-    return client;
 }
 
 static void *map(int file, int how)
 {
-    void *memory = mmap(NULL, SIZE, PROT_READ | PROT_WRITE, how, file, 0);
+    void *memory = mmap(NULL, SIZE, how, MAP_SHARED, file, 0);
     if (memory == MAP_FAILED) {
         fail("mmap");
     }
@@ -75,79 +71,84 @@ static void lock(int file, int how)
 /* Makes the file with an empty table, and returns its segment. The lock is held until then. */
 static lezgauri_handle *make_table(int file)
 {
+    lezgauri_handle *segment;
+    lezgauri_place table;
     lock(file, LOCK_EX);
     if (ftruncate(file, SIZE) != 0) {
         fail("ftruncate");
     }
-    lezgauri_handle *segment;
-    uint32_t status = lezgauri_create_in(map(file, MAP_SHARED), SIZE, SIZE, LEZGAURI_BEST_FIT, LEZGAURI_TREE_INDEX, &segment);
-    if (status != LEZGAURI_OK) {
-        refuse("create_in", status);
-    }
+    void *memory = map(file, PROT_READ | PROT_WRITE);
+    done("create_in", lezgauri_create_in(memory, SIZE, SIZE, LEZGAURI_BEST_FIT, LEZGAURI_TREE_INDEX, &segment));
+    done("add_types", lezgauri_add_types(segment, types, sizeof types / sizeof *types, NULL));
+    done("construct", lezgauri_construct(segment, "table", TABLE, 1, &table));
     lock(file, LOCK_UN);
     return segment;
 }
 
-static void enter(int file, lezgauri_handle *segment, lezgauri_bytes client)
+static void put(lezgauri_handle *segment, lezgauri_place table, int64_t key, int64_t number)
 {
-    for (int i = 0; i < RUNS; i++) {
-        const uint8_t input = (uint8_t)('A' + i);
-        char output[16];
-        size_t written;
+    lezgauri_place value;
+    done("put", lezgauri_put(segment, table, key, &value));
+    done("store", lezgauri_store(segment, value, number));
+}
+
+/* Enters the squares of the numbers from 65 on, and the negative squares under the negative numbers. So the sum of all values is 0 before
+ * and after each entry. */
+static void enter(int file, lezgauri_handle *segment)
+{
+    for (int64_t key = 65; key < 65 + ENTRIES; key++) {
+        lezgauri_place table;
         lock(file, LOCK_EX);
-        uint32_t status =
-            lezgauri_run_on(segment, client.bytes, client.len, &input, 1, output, sizeof output, &written, NULL, NULL);
+        done("find", lezgauri_find(segment, "table", TABLE, &table));
+        put(segment, table, key, key * key);
+        put(segment, table, -key, -key * key);
         lock(file, LOCK_UN);
-        if (status != LEZGAURI_OK || written > 0) {
-            refuse("enter", status);
-        }
     }
 }
 
-/* One run of the reading client: the number of entries. The sum of the values must be 0. */
-static int count(int file, lezgauri_bytes client)
+/* Counts the values of the table. Their sum must be 0. */
+static int count(int file, const void *memory)
 {
     lezgauri_handle *segment;
-    char output[64];
-    size_t written;
+    lezgauri_place table, value;
+    int64_t key, number, sum = 0;
+    const int64_t *after = NULL;
+    int values = 0;
     lock(file, LOCK_SH);
-    void *memory = map(file, MAP_PRIVATE);
-    uint32_t status = lezgauri_open_in(memory, SIZE, SIZE, &segment, NULL);
-    if (status != LEZGAURI_OK) {
-        refuse("open_in", status);
-    }
-    status = lezgauri_run_on(segment, client.bytes, client.len, NULL, 0, output, sizeof output - 1, &written, NULL, NULL);
-    lock(file, LOCK_UN);
-    if (status != LEZGAURI_OK) {
-        refuse("sum", status);
+    done("read", lezgauri_read(memory, SIZE, &segment, NULL));
+    done("find", lezgauri_find(segment, "table", TABLE, &table));
+    while (lezgauri_next_key(segment, table, after, &key) == LEZGAURI_OK) {
+        done("get", lezgauri_get(segment, table, key, &value));
+        done("load", lezgauri_load(segment, value, &number));
+        sum += number;
+        values++;
+        after = &key;
     }
     lezgauri_close(segment);
-    munmap(memory, SIZE);
-    output[written] = '\0';
-    int entries;
-    int sum;
-    if (sscanf(output, "%d\n%d\n", &entries, &sum) != 2 || sum != 0) {
-        fprintf(stderr, "a run of the writer is half done: %s\n", output);
+    lock(file, LOCK_UN);
+    if (sum != 0) {
+        fprintf(stderr, "an entry is half done: the sum is %lld\n", (long long)sum);
         exit(EXIT_FAILURE);
     }
-    return entries;
+    return values;
 }
 
 /* A reader process. It opens the file itself, since processes that share an open file share its lock. */
-static _Noreturn void read_table(const char *name, lezgauri_bytes client)
+static _Noreturn void read_table(const char *name)
 {
     int file = open(name, O_RDONLY | O_CLOEXEC);
     if (file < 0) {
         fail(name);
     }
+    const void *memory = map(file, PROT_READ);
     int before = 0;
-    while (before < 2 * RUNS) {
-        int entries = count(file, client);
-        if (entries < before) {
-            fprintf(stderr, "%d entries after %d\n", entries, before);
+    while (before < 2 * ENTRIES) {
+        int values = count(file, memory);
+        if (values < before) {
+            fprintf(stderr, "%d values after %d\n", values, before);
             exit(EXIT_FAILURE);
         }
-        before = entries;
+        before = values;
         nanosleep(&(struct timespec){.tv_nsec = 100000}, NULL);
     }
     exit(EXIT_SUCCESS);
@@ -155,12 +156,10 @@ static _Noreturn void read_table(const char *name, lezgauri_bytes client)
 
 int main(int argc, char **argv)
 {
-    if (argc != 4) {
-        fprintf(stderr, "usage: shared_table TABLE ENTER SUM\n");
+    if (argc != 2) {
+        fprintf(stderr, "usage: shared_table TABLE\n");
         return 2;
     }
-    lezgauri_bytes entering = read_client(argv[2]);
-    lezgauri_bytes adding = read_client(argv[3]);
     int file = open(argv[1], O_RDWR | O_CREAT | O_CLOEXEC, 0666);
     if (file < 0) {
         fail(argv[1]);
@@ -173,10 +172,10 @@ int main(int argc, char **argv)
         }
         if (reader == 0) {
             lezgauri_close(segment);
-            read_table(argv[1], adding);
+            read_table(argv[1]);
         }
     }
-    enter(file, segment, entering);
+    enter(file, segment);
     lezgauri_close(segment);
     int failed = 0;
     for (int i = 0; i < READERS; i++) {
@@ -187,6 +186,6 @@ int main(int argc, char **argv)
         fprintf(stderr, "%d readers failed\n", failed);
         return EXIT_FAILURE;
     }
-    printf("%d readers saw %d entries\n", READERS, 2 * RUNS);
+    printf("%d readers saw %d values\n", READERS, 2 * ENTRIES);
     return EXIT_SUCCESS;
 }

@@ -2,18 +2,15 @@
 import contextlib
 import enum
 import operator
-import threading
-import warnings
 from ctypes import byref, c_size_t, c_uint64, c_void_p
 from dataclasses import dataclass
-from types import TracebackType
-from typing import Any, Callable, Iterable, Optional, Tuple, Type, Union
+from typing import Callable, Iterable, Optional, Tuple, Union
 
 from ._buffers import Buffer, View, WritableBuffer
-from ._errors import BadArgument, BadSize, Closed, OutputFull, Status, TooSmall
-from ._library import MOST_TYPES, CBytes, CFault, CReport, CType, library, refuse
-from ._types import Kind
-from ._types import Type as SegmentType
+from ._errors import BadArgument, BadSize, OutputFull, Status, TooSmall
+from ._handles import Closeable, Handle, handle_of
+from ._library import CBytes, CFault, CReport, library, refuse
+from ._objects import Objects
 
 # The bytes of room for an output if the caller gives neither a buffer nor a capacity.
 CAPACITY = 65536
@@ -117,86 +114,30 @@ class _Room(View):
         return printed if self._given else bytes(printed)
 
 
-class _Handle:
-    """Memory of the library for a segment or a client. It is freed once: after it was closed and when no call uses it any more.
-    A `with` block is one use."""
-
-    def __init__(self, what: str, address: int, free: Callable[[int], None]) -> None:
-        self._what = what
-        self._address = address
-        self._free = free
-        self._uses = 0
-        self.closed = False
-        self._lock = threading.Lock()
-
-    def __enter__(self) -> int:
-        with self._lock:
-            if self.closed:
-                raise Closed(f"the {self._what} is closed")
-            self._uses += 1
-        return self._address
-
-    def __exit__(self, *error: object) -> None:
-        with self._lock:
-            self._uses -= 1
-            ends = self.closed and self._uses == 0
-        if ends:
-            self._free(self._address)
-
-    def close(self) -> None:
-        with self._lock:
-            ends = not self.closed and self._uses == 0
-            self.closed = True
-        if ends:
-            self._free(self._address)
-
-
-class _Closeable:
-    """What a segment and a client have in common: they are closed, also by the end of a `with` block."""
-
-    _handle: Optional[_Handle] = None
-
-    def close(self) -> None:
-        """Frees the memory. Closing twice is safe. If a call of another thread uses the object, that call ends as usual, and
-        the memory is freed then."""
-        if self._handle is not None:
-            self._handle.close()
-
-    @property
-    def closed(self) -> bool:
-        """Whether it was closed. Then each call with it raises Closed."""
-        return self._handle is None or self._handle.closed
-
-    def __enter__(self) -> Any:
-        if self.closed:
-            raise Closed(f"the {type(self).__name__.lower()} is closed")
-        return self
-
-    def __exit__(self, kind: Optional[Type[BaseException]], error: Optional[BaseException], trace: Optional[TracebackType]) -> None:
-        self.close()
-
-    def __del__(self) -> None:
-        if not self.closed:
-            warnings.warn(f"unclosed {self!r}", ResourceWarning, source=self)
-            self.close()
-
-
-class Segment(_Closeable):
-    """An open segment, whose image is checked once for many runs. `close()` or the end of a `with` block frees it.
+class Segment(Objects):
+    """An open segment, whose image is checked once. `close()` or the end of a `with` block frees it.
 
     Segment(image)          a copy of an image
     Segment.open_in(memory) an image where it is
     Segment.create(size)    a new segment without objects or types
+    read(image)             an image where it is, only for reading
+
+    It is a mapping from the names of its objects to their values: `segment["users"]`. Numbers are int, strings are bytes, and all other
+    values are views that read and change the segment (Vector, List, Map, Own, Struct, Shared). `segment["x"] = 5` changes the value of an
+    object, and `del segment["x"]` destroys the object.
 
     Segment(image) raises Fault if the image isn't sound, and OutOfMemory if there is no memory for the copy. The image's bytes may
     change while they are copied: the copy is checked."""
+
+    # the image of a segment that is open only for reading
+    _image: Optional[Buffer] = None
 
     def __init__(self, image: Buffer) -> None:
         calls = library()
         address, fault = c_void_p(), CFault()
         with View(image, "image") as of:
             refuse(calls.lezgauri_open(of.address, of.size, byref(address), byref(fault)), fault)
-        self._handle = _Handle("segment", address.value or 0, calls.lezgauri_close)
+        self._handle = Handle("segment", address.value or 0, calls.lezgauri_close)
 
     @classmethod
     def open_in(cls, memory: WritableBuffer, size: Optional[int] = None) -> "Segment":
@@ -249,6 +190,36 @@ class Segment(_Closeable):
             return cls._made(address, held.pop_all())
 
     @classmethod
+    def _read(cls, image: Buffer, handle: Optional[Handle] = None) -> "Segment":
+        """Opens an image only for reading, or if a handle on it is given another handle."""
+        calls = library()
+        address, fault = c_void_p(), CFault()
+        with contextlib.ExitStack() as held:
+            of = held.enter_context(View(image, "image"))
+            if handle is None:
+                refuse(calls.lezgauri_read(of.address, of.size, byref(address), byref(fault)), fault)
+            else:
+                with handle as first:
+                    refuse(calls.lezgauri_reader(first, byref(address)))
+            segment = cls._made(address, held.pop_all())
+        segment._image = image
+        return segment
+
+    @property
+    def read_only(self) -> bool:
+        """Whether it is open only for reading."""
+        return self._image is not None
+
+    def reader(self) -> "Segment":
+        """Another segment on the same image, which isn't checked again: for another thread. It is closed by itself.
+
+        Raises BadArgument if this segment isn't open only for reading, and OutOfMemory."""
+        handle = handle_of(self, Segment)
+        if self._image is None:
+            raise BadArgument("the segment isn't open only for reading")
+        return self._read(self._image, handle)
+
+    @classmethod
     def _made(cls, address: c_void_p, held: contextlib.ExitStack) -> "Segment":
         """A segment whose memory is held until it is closed."""
         close = library().lezgauri_close
@@ -258,14 +229,14 @@ class Segment(_Closeable):
             held.close()
 
         segment = cls.__new__(cls)
-        segment._handle = _Handle("segment", address.value or 0, free)
+        segment._handle = Handle("segment", address.value or 0, free)
         return segment
 
     @property
     def size(self) -> int:
         """The bytes of the segment's image."""
         length = c_size_t()
-        with _held(self, Segment) as handle:
+        with handle_of(self, Segment) as handle:
             refuse(library().lezgauri_size(handle, byref(length)))
         return length.value
 
@@ -273,7 +244,7 @@ class Segment(_Closeable):
     def free_memory(self) -> FreeMemory:
         """The segment's free memory. Reads the header of each block. Raises Busy."""
         whole, largest = c_size_t(), c_size_t()
-        with _held(self, Segment) as handle:
+        with handle_of(self, Segment) as handle:
             refuse(library().lezgauri_free_memory(handle, byref(whole), byref(largest)))
         return FreeMemory(whole.value, largest.value)
 
@@ -281,18 +252,19 @@ class Segment(_Closeable):
         """Adds `extra` bytes of free memory at the end, and returns the new size of the image in bytes.
 
         Raises BadSize if `extra` isn't a multiple of 16, or the new size is above 2^30; NoHostRoom if the segment is in a buffer
-        that is shorter; OutOfMemory; and Busy. Then nothing changed."""
+        that is shorter; OutOfMemory; Busy; and BufferError while a memoryview of a vector or a string exists, since the segment may
+        move. Then nothing changed."""
         more, length = operator.index(extra), c_size_t()
         if more < 0:
             raise BadSize(Status.BAD_SIZE)
-        with _held(self, Segment) as handle:
+        with handle_of(self, Segment).moving() as handle:
             refuse(library().lezgauri_grow(handle, min(more, _MOST), byref(length)))
         return length.value
 
     def shrink(self) -> int:
         """Cuts the free block at the end, and returns the new size of the image in bytes. The memory keeps its size. Raises Busy."""
         length = c_size_t()
-        with _held(self, Segment) as handle:
+        with handle_of(self, Segment) as handle:
             refuse(library().lezgauri_shrink(handle, byref(length)))
         return length.value
 
@@ -316,23 +288,15 @@ class Segment(_Closeable):
         Raises TooSmall if the buffer is shorter than the image, TypeError if it is read-only, and Busy. Then nothing is written.
         If a crash interrupts the copy to a file, the file is half written."""
         needed = c_size_t()
-        with _held(self, Segment) as handle, View(buffer, "buffer", writable=True) as room:
+        with handle_of(self, Segment) as handle, View(buffer, "buffer", writable=True) as room:
             status = library().lezgauri_save(handle, room.address, room.size, byref(needed))
         if status == Status.TOO_SMALL:
             raise TooSmall(needed.value)
         refuse(status)
         return needed.value
 
-    def types(self) -> Tuple[SegmentType, ...]:
-        """The segment's types, in the order of their numbers. A client may bring more types when it runs. Raises Busy."""
-        entries, count = (CType * MOST_TYPES)(), c_size_t()
-        with _held(self, Segment) as handle:
-            refuse(library().lezgauri_types(handle, entries, MOST_TYPES, byref(count)))
-        used = entries[: count.value]
-        return tuple(SegmentType(Kind(entry.kind), tuple(entry.components[: entry.count])) for entry in used)
 
-
-class Client(_Closeable):
+class Client(Closeable):
     """A prepared client: verified against the types of an open segment, and decoded, once for many runs. It has a copy of the
     client's bytes. It runs on each open segment whose types agree with its own, and may outlive the segment that it was prepared
     for. `close()` or the end of a `with` block frees it.
@@ -342,9 +306,9 @@ class Client(_Closeable):
     def __init__(self, segment: Segment, client: Buffer) -> None:
         calls = library()
         address, fault = c_void_p(), CFault()
-        with _held(segment, Segment) as handle, View(client, "client") as of:
+        with handle_of(segment, Segment) as handle, View(client, "client") as of:
             refuse(calls.lezgauri_prepare(handle, of.address, of.size, byref(address), byref(fault)), fault)
-        self._handle = _Handle("client", address.value or 0, calls.lezgauri_client_close)
+        self._handle = Handle("client", address.value or 0, calls.lezgauri_client_close)
 
     def __enter__(self) -> "Client":
         super().__enter__()
@@ -364,18 +328,9 @@ class Client(_Closeable):
 
         Raises Fault with TYPE_MISMATCH if the segment's types and the client's differ, for example after another client added
         types; BadArgument if the output overlaps the input; and Busy. Then nothing ran."""
-        with _held(segment, Segment) as handle, _held(self, Client) as prepared:
+        with handle_of(segment, Segment) as handle, handle_of(self, Client) as prepared:
             status, length, report, room = _run(library().lezgauri_run_client, (handle, prepared), input, output, capacity)
         return _result(length, report, room)
-
-
-def _held(of: _Closeable, kind: Type[_Closeable]) -> _Handle:
-    """The memory of a segment or a client, for a `with` block. The library can't tell them apart."""
-    if not isinstance(of, kind):
-        raise TypeError(f"a {kind.__name__} is required, not {type(of).__name__!r}")
-    if of._handle is None:
-        raise Closed(f"the {kind.__name__.lower()} wasn't made")
-    return of._handle
 
 
 def _run(
@@ -391,6 +346,17 @@ def _run(
 
 def _result(length: int, report: CReport, room: _Room) -> Result:
     return Result(room.printed(length), report.steps, Ended(report.ended), report.read)
+
+
+def read(image: Buffer) -> Segment:
+    """Opens an image only for reading, where it is: in bytes, in a file that is mapped read-only, or in any other buffer. It is checked
+    there, and nothing is copied. Any number of programs and threads may read the same image at the same time, if nobody writes it until
+    all have closed it. In one program, each thread uses a segment of its own: `segment.reader()` makes another without a check.
+
+    Calls that change the segment, and runs, raise ReadOnly. Until the segment is closed, the buffer can't be closed or resized.
+
+    Raises Fault if the image isn't sound, and OutOfMemory."""
+    return Segment._read(image)
 
 
 def check(image: Buffer) -> None:
@@ -471,7 +437,7 @@ def run_on(
 
     Raises Fault if the client is refused, OutOfMemory, BadArgument if the output overlaps other memory of the call, and Busy. Then
     nothing ran. If a crash interrupts the run, the segment is half changed: save it before, or use `run_whole`."""
-    with _held(segment, Segment) as handle, View(client, "client") as code:
+    with handle_of(segment, Segment) as handle, View(client, "client") as code:
         status, length, report, room = _run(library().lezgauri_run_on, (handle, code.address, code.size), input, output, capacity)
     return _result(length, report, room)
 
@@ -485,7 +451,7 @@ def run_whole(
     Raises OutputFull if the output has no room: then the segment is unchanged, and the call with `capacity=error.needed` succeeds,
     unless the segment was changed meanwhile or there is no memory. A buffer that was given as `output` then has unspecified bytes.
     Raises the exceptions of run_on too."""
-    with _held(segment, Segment) as handle, View(client, "client") as code:
+    with handle_of(segment, Segment) as handle, View(client, "client") as code:
         status, length, report, room = _run(library().lezgauri_run_whole, (handle, code.address, code.size), input, output, capacity)
     if status == Status.OUTPUT_FULL:
         raise OutputFull(length)

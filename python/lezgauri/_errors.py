@@ -1,6 +1,6 @@
 """The numbers that calls return, and the exceptions for them."""
 import enum
-from typing import Optional
+from typing import ClassVar, Optional
 
 
 class Status(enum.IntEnum):
@@ -29,6 +29,14 @@ class Status(enum.IntEnum):
     OUTPUT_FULL = 101
     TOO_SMALL = 102
     BUSY = 103
+    READ_ONLY = 104
+    ALREADY_EXISTS = 111
+    BAD_ALLOC = 112
+    ABSENT = 113
+    OTHER_TYPE = 114
+    OUT_OF_RANGE = 115
+    NO_VALUE = 116
+    NUMBERS_USED_UP = 117
 
 
 class Reason(enum.IntEnum):
@@ -162,6 +170,93 @@ class Busy(Error):
 
 class Closed(Error, ValueError):
     """The segment or the prepared client was closed before."""
+
+
+class Refused(Error):
+    """A call on the objects or the values of a segment is refused. Nothing changed.
+
+    number  the status, one of Status
+    name    its name, such as "ABSENT"
+    about   the name, the index, the key or the type that the call was given, or None
+    text    what the status means, in words
+    """
+
+    number: ClassVar[Status]
+
+    def __init__(self, about: object = None) -> None:
+        super().__init__(about)
+        self.about = about
+
+    @property
+    def name(self) -> str:
+        return self.number.name
+
+    @property
+    def text(self) -> str:
+        from ._library import status_text
+
+        return status_text(self.number)
+
+    def __str__(self) -> str:
+        told = self.name if self.about is None else f"{self.name} ({self.about})"
+        try:
+            return f"{told}: {self.text}"
+        except LibraryError:
+            return told
+
+
+class ReadOnly(Refused, TypeError):
+    """READ_ONLY: the segment is open only for reading."""
+
+    number = Status.READ_ONLY
+
+
+class Frozen(ReadOnly):
+    """The value is in a frozen object, which can't be changed."""
+
+    text = "the value is in a frozen object"  # type: ignore[assignment]
+
+
+class AlreadyExists(Refused, ValueError):
+    """ALREADY_EXISTS: there is an object with this name, or a unique object of this type."""
+
+    number = Status.ALREADY_EXISTS
+
+
+class BadAlloc(Refused, MemoryError):
+    """BAD_ALLOC: the segment is out of memory: no free block is large enough. `Segment.grow` adds memory."""
+
+    number = Status.BAD_ALLOC
+
+
+class Absent(Refused, KeyError):
+    """ABSENT: there is no such object or key."""
+
+    number = Status.ABSENT
+
+
+class OtherType(Refused, TypeError):
+    """OTHER_TYPE: the object or the value has another type, or the segment has no such type."""
+
+    number = Status.OTHER_TYPE
+
+
+class OutOfRange(Refused, IndexError, ValueError):
+    """OUT_OF_RANGE: an index, a count or a name isn't allowed."""
+
+    number = Status.OUT_OF_RANGE
+
+
+class NoValue(Refused, IndexError, KeyError):
+    """NO_VALUE: the container is empty, or the pointer is null."""
+
+    number = Status.NO_VALUE
+
+
+class NumbersUsedUp(Refused, OverflowError):
+    """NUMBERS_USED_UP: no number is left for one more frozen object."""
+
+    number = Status.NUMBERS_USED_UP
 
 
 class LibraryError(Error):

@@ -91,6 +91,43 @@ class Case(unittest.TestCase):
         self.assertEqual((fault.name, fault.position, fault.client, fault.reason_name), (name, position, client, reason), str(fault))
         self.assertEqual(fault.number, lezgauri.Status[name])
 
+    def start(self, work):
+        """Starts a thread, which is joined when the test ends. An error of the thread is an error of the test."""
+        errors = []
+
+        def guarded():
+            try:
+                work()
+            except BaseException as error:
+                errors.append(error)
+
+        def finish():
+            thread.join()
+            self.assertEqual(errors, [])
+
+        thread = threading.Thread(target=guarded)
+        self.addCleanup(finish)
+        thread.start()
+        return finish
+
+    def record_free(self, it, freed):
+        free = it._handle._free
+
+        def recorded(address):
+            freed.append(type(it).__name__)
+            free(address)
+
+        it._handle._free = recorded
+
+    def until_busy(self, call):
+        """Repeats a call until it raises Busy, which a call of another thread causes."""
+        for _ in range(1_000_000):
+            try:
+                call()
+            except lezgauri.Busy:
+                return
+        self.fail("it was never busy")
+
 
 class HeaderTest(Case):
     """The tables of this module are those of lezgauri.h."""
@@ -123,7 +160,10 @@ class HeaderTest(Case):
         "uint64_t *": ctypes.POINTER(ctypes.c_uint64), "size_t *": ctypes.POINTER(ctypes.c_size_t),
         "lezgauri_bytes *": ctypes.POINTER(_library.CBytes), "lezgauri_report *": ctypes.POINTER(_library.CReport),
         "lezgauri_fault *": ctypes.POINTER(_library.CFault), "lezgauri_type *": ctypes.POINTER(_library.CType),
-        "char *": ctypes.c_char_p, "uint8_t": ctypes.c_uint8,
+        "char *": ctypes.c_char_p, "uint8_t": ctypes.c_uint8, "char": ctypes.c_char, "int64_t": ctypes.c_int64,
+        "uint32_t *": ctypes.POINTER(ctypes.c_uint32), "int64_t *": ctypes.POINTER(ctypes.c_int64),
+        "lezgauri_place": _library.CPlace, "lezgauri_place *": ctypes.POINTER(_library.CPlace),
+        "lezgauri_named *": ctypes.POINTER(_library.CNamed),
     }
 
     def declared(self, text):
@@ -143,6 +183,7 @@ class HeaderTest(Case):
     def test_structs(self):
         for name, mirror in (
             ("fault", _library.CFault), ("bytes", _library.CBytes), ("report", _library.CReport), ("type", _library.CType),
+            ("place", _library.CPlace), ("named", _library.CNamed),
         ):
             body = re.search(rf"typedef struct lezgauri_{name} {{(.*?)}}", HEADER, re.DOTALL)[1]
             fields = [self.declared(field) for field in re.findall(r"^\s*([\w *]+(?:\[\d+\])?);", body, re.MULTILINE)]
@@ -733,34 +774,6 @@ class BufferTest(Case):
 class ThreadTest(Case):
     RUNS = 300
 
-    def start(self, work):
-        """Starts a thread, which is joined when the test ends. An error of the thread is an error of the test."""
-        errors = []
-
-        def guarded():
-            try:
-                work()
-            except BaseException as error:
-                errors.append(error)
-
-        def finish():
-            thread.join()
-            self.assertEqual(errors, [])
-
-        thread = threading.Thread(target=guarded)
-        self.addCleanup(finish)
-        thread.start()
-        return finish
-
-    def until_busy(self, call):
-        """Repeats a call until it raises Busy, which a call of another thread causes."""
-        for _ in range(1_000_000):
-            try:
-                call()
-            except lezgauri.Busy:
-                return
-        self.fail("it was never busy")
-
     def test_busy_segment(self):
         segment = self.opened()
         client = self.prepared(segment)
@@ -787,15 +800,6 @@ class ThreadTest(Case):
             client(other)
         finish()
         self.assertEqual(client(other).ended, lezgauri.Ended.DONE)
-
-    def record_free(self, it, freed):
-        free = it._handle._free
-
-        def recorded(address):
-            freed.append(type(it).__name__)
-            free(address)
-
-        it._handle._free = recorded
 
     def test_closed_during_a_run(self):
         """Closing doesn't disturb a call of another thread. The memory is freed when that call has ended."""

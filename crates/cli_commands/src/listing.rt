@@ -2,7 +2,7 @@
 
 use crate::made::Unmade;
 use cli_show::{Extent, all_objects, heap_lines, one_object, picture};
-use lezgauri::{Image, MAX_TYPES, Named, TypeId};
+use lezgauri::{Image, ImageRead, MAX_TYPES, Named, TypeId};
 use std::alloc::{AllocError, Global};
 
 /// The bytes of a segment, of its free memory and of its largest free block, and the number of its objects, a line each.

@@ -11,7 +11,9 @@ pub use Rattle.seg_spec.specs.Sound
 pub use Rattle.seg_spec.specs.Images as SoundImages
 -- an open image, its places and its iterators, and the results of the host's calls
 pub use Rattle.seg_image.specs.Images
+pub use Rattle.seg_image.specs.Checked
 pub use Rattle.seg_image.specs.Places
+pub use Rattle.seg_image.specs.Owners
 pub use Rattle.seg_image.specs.Iterators
 pub use Rattle.seg_image.specs.Faults
 pub use Rattle.seg_image.specs.Stored

@@ -1,7 +1,8 @@
 //! Lezgauri for a host that embeds it. A sound image is opened, on the allocator that its header asks for. Then the host's own
 //! calls and verified clients read and change it; it can grow, and it is saved.
 //!
-//! Begin with [`Image`]. [`verify`] and [`run`] run clients on an open image, and [`run_image`] runs several clients from the
+//! Begin with [`Image`], or with [`CheckedImage`] for an image in memory that is only read. [`ImageRead`] has the calls
+//! that read either. [`verify`] and [`run`] run clients on an open image, and [`run_image`] runs several clients from the
 //! bytes of an image to the bytes of the saved one.
 #![tactic(auto)]
 
@@ -16,7 +17,8 @@ pub use client_vm::{
 };
 pub use clients::{run, verify};
 pub use seg_image::{
-    AllocatorKind, BestFit, Code, ENTRY, Entries, Error, Fault, Fields, Fit, Heap, Image,
-    IndexKind, Keys, MAX_LEN, MAX_NAME, MAX_TYPES, MIN_LEN, Named, Names, Numbers, Place, Region,
-    Segment, SeqFit, Type, TypeId, TypeTable, Unopened, Window, check, is_size, type_table,
+    AllocatorKind, BestFit, CheckedImage, Code, ENTRY, Entries, Error, Fault, Fields, Fit, Heap,
+    Image, ImageRead, IndexKind, Items, Keys, MAX_LEN, MAX_NAME, MAX_TYPES, MIN_LEN, Named, Names,
+    Numbers, Place, Reader, Region, Segment, SegmentRead, SeqFit, Type, TypeId, TypeTable,
+    Unopened, Window, check, is_size, type_table,
 };

@@ -24,6 +24,27 @@ typedef struct kept {
     bool is_there;
 } kept;
 
+/* The types of a segment as reading calls need them, or none. It is `KeptTypes` of the crate lezgauri_c. Only the library reads and writes
+ * what `at` points to. */
+typedef struct kept_types {
+    void *at;
+    bool is_there;
+} kept_types;
+
+/* Bytes of an image: a position and a length. It is `ByteRange` of the crate lezgauri_c. */
+typedef struct raw_range {
+    uint32_t at;
+    uint32_t len;
+} raw_range;
+
+/* A named object: the position of its name in the image and the name's length, and the type and the number of its values. */
+typedef struct raw_named {
+    uint32_t at;
+    uint32_t len;
+    uint32_t type;
+    uint32_t count;
+} raw_named;
+
 /* The exports of the library. A slice is a pointer, never null, and a length. */
 uint32_t lezgauri_raw_check(const uint8_t *image, size_t len, lezgauri_fault *fault);
 uint32_t lezgauri_raw_verify(const uint8_t *image, size_t len, const uint8_t *client, size_t client_len, uint64_t *bound,
@@ -49,8 +70,71 @@ uint32_t lezgauri_raw_assemble(const uint8_t *text, size_t text_len, uint8_t *fi
 uint32_t lezgauri_raw_print(const uint8_t *file, size_t file_len, uint8_t *text, size_t text_len, size_t *needed,
                             lezgauri_fault *fault);
 
+/* The exports that read values of an image, with the types that lezgauri_raw_open_types read from it. */
+uint32_t lezgauri_raw_open_types(const uint8_t *image, size_t len, kept_types *types);
+void lezgauri_raw_close_types(kept_types *types);
+uint32_t lezgauri_raw_find(const uint8_t *image, size_t len, kept_types *types, const uint8_t *name, size_t name_len, uint32_t type,
+                           uint32_t index, lezgauri_place *place);
+uint32_t lezgauri_raw_named_object(const uint8_t *image, size_t len, kept_types *types, const uint8_t *name, size_t name_len,
+                                   raw_named *named);
+uint32_t lezgauri_raw_next_name(const uint8_t *image, size_t len, kept_types *types, const uint8_t *after, size_t after_len,
+                                raw_named *named);
+uint32_t lezgauri_raw_find_unique(const uint8_t *image, size_t len, kept_types *types, uint32_t type, lezgauri_place *place);
+uint32_t lezgauri_raw_load(const uint8_t *image, size_t len, kept_types *types, uint32_t at, uint32_t type, int64_t *number);
+uint32_t lezgauri_raw_field(const uint8_t *image, size_t len, kept_types *types, uint32_t at, uint32_t type, uint32_t index,
+                            lezgauri_place *field);
+uint32_t lezgauri_raw_len(const uint8_t *image, size_t len, kept_types *types, uint32_t at, uint32_t type, uint32_t *count);
+uint32_t lezgauri_raw_text(const uint8_t *image, size_t len, kept_types *types, uint32_t at, uint32_t type, raw_range *range);
+uint32_t lezgauri_raw_numbers(const uint8_t *image, size_t len, kept_types *types, uint32_t at, uint32_t type, raw_range *range);
+uint32_t lezgauri_raw_item(const uint8_t *image, size_t len, kept_types *types, uint32_t at, uint32_t type, uint32_t index,
+                           lezgauri_place *item);
+uint32_t lezgauri_raw_next_item(const uint8_t *image, size_t len, kept_types *types, uint32_t at, uint32_t type, uint32_t item,
+                                lezgauri_place *next);
+uint32_t lezgauri_raw_previous_item(const uint8_t *image, size_t len, kept_types *types, uint32_t at, uint32_t type, uint32_t item,
+                                    lezgauri_place *previous);
+uint32_t lezgauri_raw_get(const uint8_t *image, size_t len, kept_types *types, uint32_t at, uint32_t type, int64_t key,
+                          lezgauri_place *value);
+uint32_t lezgauri_raw_first_key(const uint8_t *image, size_t len, kept_types *types, uint32_t at, uint32_t type, int64_t *key);
+uint32_t lezgauri_raw_last_key(const uint8_t *image, size_t len, kept_types *types, uint32_t at, uint32_t type, int64_t *key);
+uint32_t lezgauri_raw_next_key(const uint8_t *image, size_t len, kept_types *types, uint32_t at, uint32_t type, int64_t from,
+                               int64_t *key);
+uint32_t lezgauri_raw_previous_key(const uint8_t *image, size_t len, kept_types *types, uint32_t at, uint32_t type, int64_t from,
+                                   int64_t *key);
+uint32_t lezgauri_raw_content(const uint8_t *image, size_t len, kept_types *types, uint32_t at, uint32_t type,
+                              lezgauri_place *content);
+
+/* The exports that change values of an image. Only lezgauri_raw_store takes the types; the others read them from the image. */
+uint32_t lezgauri_raw_add_types(lent *image, const uint8_t *entries, size_t len, lezgauri_fault *fault);
+uint32_t lezgauri_raw_upgrade(lent *image);
+uint32_t lezgauri_raw_construct(lent *image, const uint8_t *name, size_t name_len, uint32_t type, uint32_t count,
+                                lezgauri_place *place);
+uint32_t lezgauri_raw_find_or_construct(lent *image, const uint8_t *name, size_t name_len, uint32_t type, lezgauri_place *place);
+uint32_t lezgauri_raw_destroy(lent *image, const uint8_t *name, size_t name_len, uint32_t type);
+uint32_t lezgauri_raw_construct_unique(lent *image, uint32_t type, lezgauri_place *place);
+uint32_t lezgauri_raw_find_or_construct_unique(lent *image, uint32_t type, lezgauri_place *place);
+uint32_t lezgauri_raw_destroy_unique(lent *image, uint32_t type);
+uint32_t lezgauri_raw_construct_anonymous(lent *image, uint32_t type, lezgauri_place *place);
+uint32_t lezgauri_raw_destroy_anonymous(lent *image, uint32_t at);
+uint32_t lezgauri_raw_store(uint8_t *image, size_t len, kept_types *types, uint32_t at, uint32_t type, int64_t number);
+uint32_t lezgauri_raw_assign(lent *image, uint32_t at, uint32_t type, const uint8_t *bytes, size_t len);
+uint32_t lezgauri_raw_append(lent *image, uint32_t at, uint32_t type, const uint8_t *bytes, size_t len);
+uint32_t lezgauri_raw_push_back(lent *image, uint32_t at, uint32_t type, lezgauri_place *item);
+uint32_t lezgauri_raw_push_front(lent *image, uint32_t at, uint32_t type, lezgauri_place *item);
+uint32_t lezgauri_raw_pop_back(lent *image, uint32_t at, uint32_t type);
+uint32_t lezgauri_raw_pop_front(lent *image, uint32_t at, uint32_t type);
+uint32_t lezgauri_raw_put(lent *image, uint32_t at, uint32_t type, int64_t key, lezgauri_place *value);
+uint32_t lezgauri_raw_remove(lent *image, uint32_t at, uint32_t type, int64_t key);
+uint32_t lezgauri_raw_put_content(lent *image, uint32_t at, uint32_t type, lezgauri_place *content);
+uint32_t lezgauri_raw_clear(lent *image, uint32_t at, uint32_t type);
+uint32_t lezgauri_raw_shrink_to_fit(lent *image, uint32_t at, uint32_t type);
+uint32_t lezgauri_raw_freeze(lent *image, uint32_t at, uint32_t type, uint32_t to_at, uint32_t to_type);
+uint32_t lezgauri_raw_share(lent *image, uint32_t at, uint32_t type, uint32_t to_at, uint32_t to_type);
+
 /* The most bytes of an image. */
 #define MOST_IMAGE ((size_t)1 << 30)
+
+/* The type table of an image, and the most bytes of a name (docs/FORMATS.md). */
+enum { TABLE_AT = 64, TABLE_LEN = 512, MOST_NAME = 63 };
 
 /* ---- the memory of a call */
 
@@ -83,21 +167,21 @@ static void *or_room(void *at)
     return at != NULL ? at : empty_room;
 }
 
+/* Whether a pointer is null or has this alignment, a power of two. */
+static bool may_tell(const void *at, size_t align)
+{
+    return ((uintptr_t)at & (align - 1)) == 0;
+}
+
 /* Whether a pointer to `len` items of this size and alignment is allowed. */
 static bool may_be(const void *at, size_t len, size_t size, size_t align)
 {
-    return len <= PTRDIFF_MAX / size && (uintptr_t)at % align == 0 && (at != NULL || len == 0);
+    return len <= PTRDIFF_MAX / size && may_tell(at, align) && (at != NULL || len == 0);
 }
 
 static bool may_be_bytes(const void *at, size_t len)
 {
     return may_be(at, len, 1, 1);
-}
-
-/* Whether a pointer is null or has this alignment. */
-static bool may_tell(const void *at, size_t align)
-{
-    return (uintptr_t)at % align == 0;
 }
 
 /* The span of `size` bytes, or an empty one if the pointer is null. */
@@ -278,13 +362,23 @@ uint32_t lezgauri_run(const void *image, size_t image_len, const lezgauri_bytes 
 
 /* ---- segments that stay open */
 
+/* The memory of a segment. */
+typedef enum memory_kind {
+    OWN_BLOCK,    /* a block from malloc, which lezgauri_close frees */
+    LENT,         /* the caller's */
+    LENT_TO_READ, /* the caller's, which no call writes */
+} memory_kind;
+
 /* The first three members are atomic because a call reads them before it knows whether another call uses the segment. */
 struct lezgauri_handle {
     _Atomic(uint8_t *) image;
     atomic_size_t len;
     atomic_size_t room; /* the bytes from `image` on that the segment may grow into */
-    bool is_lent;       /* the caller's memory, which isn't freed */
-    atomic_flag busy;   /* while a call uses the segment */
+    memory_kind kind;
+    atomic_flag busy;         /* while a call uses the segment */
+    kept_types types;         /* none before the first call that reads values, unless the segment is open only for reading */
+    size_t table_len;         /* the bytes of `table` to the end of its first unused entry */
+    uint8_t table[TABLE_LEN]; /* the image's type table when `types` were read */
 };
 
 static span handle_at(const lezgauri_handle *handle)
@@ -314,6 +408,15 @@ static void release(atomic_flag *busy)
     atomic_flag_clear_explicit(busy, memory_order_release);
 }
 
+/* Begins a call that changes a segment: marks it as busy. LEZGAURI_OK, or why the call is refused. */
+static uint32_t begin_change(lezgauri_handle *handle)
+{
+    if (handle->kind == LENT_TO_READ) {
+        return LEZGAURI_READ_ONLY;
+    }
+    return acquire(&handle->busy) ? LEZGAURI_OK : LEZGAURI_BUSY;
+}
+
 /* The handle of a segment that a call only reads. For the caller it is const: the image isn't changed, and the flag isn't visible. */
 static lezgauri_handle *flagged(const lezgauri_handle *handle)
 {
@@ -327,34 +430,56 @@ static uint8_t *block_of(size_t len)
 }
 
 /* A handle of a segment in this memory, or null if malloc refuses. */
-static lezgauri_handle *new_handle(uint8_t *place, size_t len, size_t room, bool is_lent)
+static lezgauri_handle *new_handle(uint8_t *place, size_t len, size_t room, memory_kind kind)
 {
     lezgauri_handle *made = malloc(sizeof *made);
     if (made != NULL) {
         atomic_init(&made->image, place);
         atomic_init(&made->len, len);
         atomic_init(&made->room, room);
-        made->is_lent = is_lent;
+        made->kind = kind;
         atomic_flag_clear(&made->busy);
+        made->types = (kept_types){NULL, false};
     }
     return made;
 }
 
+/* Reads the types of a segment for the calls that read values. */
+static uint32_t read_types(lezgauri_handle *handle)
+{
+    const uint8_t *image = handle->image;
+    uint32_t status = lezgauri_raw_open_types(image, handle->len, &handle->types);
+    if (status == LEZGAURI_OK) {
+        memcpy(handle->table, image + TABLE_AT, TABLE_LEN);
+        /* an entry begins with its kind, which is 0 if the entry is unused */
+        size_t used = 0;
+        while (used < TABLE_LEN && handle->table[used] != 0) {
+            used += sizeof(lezgauri_type);
+        }
+        handle->table_len = used < TABLE_LEN ? used + sizeof(lezgauri_type) : TABLE_LEN;
+    }
+    return status;
+}
+
 /* Opens the image in this memory. If it isn't opened, memory that isn't lent is freed. */
-static uint32_t open_at(uint8_t *place, size_t len, size_t room, bool is_lent, lezgauri_handle **handle, lezgauri_fault *told)
+static uint32_t open_at(uint8_t *place, size_t len, size_t room, memory_kind kind, lezgauri_handle **handle, lezgauri_fault *told)
 {
     *told = (lezgauri_fault){.client = LEZGAURI_NO_CLIENT, .number = LEZGAURI_MEMORY};
     uint32_t status = LEZGAURI_MEMORY;
-    lezgauri_handle *made = new_handle(place, len, room, is_lent);
+    lezgauri_handle *made = new_handle(place, len, room, kind);
     if (made != NULL) {
         status = lezgauri_raw_check(place, len, told);
+    }
+    if (status == LEZGAURI_OK && kind == LENT_TO_READ) {
+        status = read_types(made);
+        told->number = status;
     }
     if (status == LEZGAURI_OK) {
         *handle = made;
         return status;
     }
     free(made);
-    if (!is_lent) {
+    if (kind == OWN_BLOCK) {
         free(place);
     }
     return status;
@@ -384,12 +509,14 @@ uint32_t lezgauri_open(const void *image, size_t len, lezgauri_handle **handle, 
     /* check the copy, because another process may write the caller's bytes */
     memcpy(copy, or_empty(image), len);
     lezgauri_fault told;
-    uint32_t status = open_at(copy, len, len, false, handle, &told);
+    uint32_t status = open_at(copy, len, len, OWN_BLOCK, handle, &told);
     tell(fault, &told);
     return status;
 }
 
-uint32_t lezgauri_open_in(void *memory_lent, size_t len, size_t room, lezgauri_handle **handle, lezgauri_fault *fault)
+/* Opens an image in the caller's memory. */
+static uint32_t open_lent(void *memory_lent, size_t len, size_t room, memory_kind kind, lezgauri_handle **handle,
+                          lezgauri_fault *fault)
 {
     span spans[] = {one(fault, sizeof *fault), one(handle, sizeof *handle), one(memory_lent, room)};
     memory of = MEMORY(spans, 3);
@@ -407,18 +534,49 @@ uint32_t lezgauri_open_in(void *memory_lent, size_t len, size_t room, lezgauri_h
         return refuse(LEZGAURI_BAD_ARGUMENT, fault, of);
     }
     lezgauri_fault told;
-    uint32_t status = open_at(or_room(memory_lent), len, room, true, handle, &told);
+    uint32_t status = open_at(or_room(memory_lent), len, room, kind, handle, &told);
     tell(fault, &told);
     return status;
 }
 
+uint32_t lezgauri_open_in(void *memory_lent, size_t len, size_t room, lezgauri_handle **handle, lezgauri_fault *fault)
+{
+    return open_lent(memory_lent, len, room, LENT, handle, fault);
+}
+
+/* For the handle the memory isn't const, like memory that is changed. No call on the handle writes it. */
+uint32_t lezgauri_read(const void *memory_lent, size_t len, lezgauri_handle **handle, lezgauri_fault *fault)
+{
+    return open_lent((void *)memory_lent, len, len, LENT_TO_READ, handle, fault);
+}
+
+uint32_t lezgauri_reader(const lezgauri_handle *handle, lezgauri_handle **other)
+{
+    span spans[] = {one(other, sizeof *other), handle_at(handle), segment_at(handle)};
+    bool is_place = other != NULL && may_tell(other, _Alignof(lezgauri_handle *)) && are_apart(MEMORY(spans, 1));
+    if (is_place) {
+        *other = NULL;
+    }
+    if (!is_place || handle == NULL || handle->kind != LENT_TO_READ) {
+        return LEZGAURI_BAD_ARGUMENT;
+    }
+    lezgauri_handle *made = new_handle(handle->image, handle->len, handle->room, LENT_TO_READ);
+    uint32_t status = made != NULL ? read_types(made) : LEZGAURI_MEMORY;
+    if (status == LEZGAURI_OK) {
+        *other = made;
+    } else {
+        free(made);
+    }
+    return status;
+}
+
 /* Makes a segment in this memory. If none is made, memory that isn't lent is freed. */
-static uint32_t create_at(uint8_t *place, size_t room, size_t size, uint32_t allocator, uint32_t index, bool is_lent,
+static uint32_t create_at(uint8_t *place, size_t room, size_t size, uint32_t allocator, uint32_t index, memory_kind kind,
                           lezgauri_handle **handle)
 {
     lent memory_lent = {place, room, room};
     uint32_t status = LEZGAURI_MEMORY;
-    lezgauri_handle *made = new_handle(place, size, room, is_lent);
+    lezgauri_handle *made = new_handle(place, size, room, kind);
     if (made != NULL) {
         status = lezgauri_raw_create(&memory_lent, (uint32_t)size, allocator, index);
     }
@@ -427,7 +585,7 @@ static uint32_t create_at(uint8_t *place, size_t room, size_t size, uint32_t all
         return status;
     }
     free(made);
-    if (!is_lent) {
+    if (kind == OWN_BLOCK) {
         free(place);
     }
     return status;
@@ -446,7 +604,7 @@ uint32_t lezgauri_create(size_t size, uint32_t allocator, uint32_t index, lezgau
     if (block == NULL) {
         return LEZGAURI_MEMORY;
     }
-    return create_at(block, size, size, allocator, index, false, handle);
+    return create_at(block, size, size, allocator, index, OWN_BLOCK, handle);
 }
 
 uint32_t lezgauri_create_in(void *memory_lent, size_t room, size_t size, uint32_t allocator, uint32_t index, lezgauri_handle **handle)
@@ -462,7 +620,7 @@ uint32_t lezgauri_create_in(void *memory_lent, size_t room, size_t size, uint32_
     if (size > MOST_IMAGE) {
         return LEZGAURI_BAD_SIZE;
     }
-    return create_at(or_room(memory_lent), room, size, allocator, index, true, handle);
+    return create_at(or_room(memory_lent), room, size, allocator, index, LENT, handle);
 }
 
 /* Grows a segment that the call has marked as busy. A block from malloc that is too small is made larger. */
@@ -470,7 +628,7 @@ static uint32_t grow(lezgauri_handle *handle, uint32_t extra)
 {
     lent image = {handle->image, handle->len, handle->room};
     uint32_t status = lezgauri_raw_grow(&image, extra);
-    if (status == LEZGAURI_NO_HOST_ROOM && !handle->is_lent) {
+    if (status == LEZGAURI_NO_HOST_ROOM && handle->kind == OWN_BLOCK) {
         size_t room = handle->len + extra;
         uint8_t *block = realloc(handle->image, room);
         if (block == NULL) {
@@ -494,10 +652,11 @@ uint32_t lezgauri_grow(lezgauri_handle *handle, size_t extra, size_t *size)
     if (extra > MOST_IMAGE) {
         return LEZGAURI_BAD_SIZE;
     }
-    if (!acquire(&handle->busy)) {
-        return LEZGAURI_BUSY;
+    uint32_t status = begin_change(handle);
+    if (status != LEZGAURI_OK) {
+        return status;
     }
-    uint32_t status = grow(handle, (uint32_t)extra);
+    status = grow(handle, (uint32_t)extra);
     size_t len = handle->len;
     release(&handle->busy);
     if (size != NULL && status == LEZGAURI_OK) {
@@ -512,11 +671,12 @@ uint32_t lezgauri_shrink(lezgauri_handle *handle, size_t *size)
     if (handle == NULL || !may_tell(size, _Alignof(size_t)) || !are_apart(MEMORY(spans, 3))) {
         return LEZGAURI_BAD_ARGUMENT;
     }
-    if (!acquire(&handle->busy)) {
-        return LEZGAURI_BUSY;
+    uint32_t status = begin_change(handle);
+    if (status != LEZGAURI_OK) {
+        return status;
     }
     lent image = image_of(handle);
-    uint32_t status = lezgauri_raw_shrink(&image);
+    status = lezgauri_raw_shrink(&image);
     handle->len = image.len;
     release(&handle->busy);
     if (size != NULL && status == LEZGAURI_OK) {
@@ -649,17 +809,15 @@ typedef struct run_arguments {
     lezgauri_fault *fault;
 } run_arguments;
 
-/* Marks the segment and the client as busy. Returns false if another call uses one of them. */
-static bool acquire_both(const run_arguments *with)
+/* Marks the segment and the client as busy. LEZGAURI_OK, or why the run is refused. */
+static uint32_t acquire_both(const run_arguments *with)
 {
-    if (!acquire(&with->handle->busy)) {
-        return false;
-    }
-    if (with->prepared != NULL && !acquire(&with->prepared->busy)) {
+    uint32_t status = begin_change(with->handle);
+    if (status == LEZGAURI_OK && with->prepared != NULL && !acquire(&with->prepared->busy)) {
         release(&with->handle->busy);
-        return false;
+        return LEZGAURI_BUSY;
     }
-    return true;
+    return status;
 }
 
 static void release_both(const run_arguments *with)
@@ -689,15 +847,15 @@ static uint32_t run_on(const run_arguments *with, run_kind kind)
         !may_tell(with->fault, _Alignof(lezgauri_fault)) || !are_apart(of)) {
         return refuse(LEZGAURI_BAD_ARGUMENT, with->fault, of);
     }
-    if (!acquire_both(with)) {
-        return refuse(LEZGAURI_BUSY, with->fault, of);
+    uint32_t status = acquire_both(with);
+    if (status != LEZGAURI_OK) {
+        return refuse(status, with->fault, of);
     }
     lent image = image_of(with->handle);
     lent printed = {or_room(with->output), 0, with->capacity};
     size_t length = 0;
     lezgauri_report reported = {0};
     lezgauri_fault told;
-    uint32_t status;
     if (kind == RUN_WHOLE) {
         status = lezgauri_raw_run_whole(&image, or_empty(with->client), with->client_len, or_empty(with->input), with->input_len,
                                         &printed, &length, &reported, &told);
@@ -787,7 +945,11 @@ uint32_t lezgauri_save(const lezgauri_handle *handle, void *buffer, size_t capac
 
 void lezgauri_close(lezgauri_handle *handle)
 {
-    if (handle != NULL && !handle->is_lent) {
+    if (handle == NULL) {
+        return;
+    }
+    lezgauri_raw_close_types(&handle->types);
+    if (handle->kind == OWN_BLOCK) {
         free(handle->image);
     }
     free(handle);
@@ -815,6 +977,467 @@ uint32_t lezgauri_types(const lezgauri_handle *handle, lezgauri_type *types, siz
         *needed = count;
     }
     return status;
+}
+
+/* ---- values in place */
+
+/* The segment that a reading export is given: the image and its types. */
+#define SEGMENT(handle) (handle)->image, (handle)->len, &flagged(handle)->types
+
+/* Whether memory overlaps neither the segment nor its handle. */
+static bool is_outside(const lezgauri_handle *handle, const void *at, size_t len)
+{
+    return !overlap(one(at, len), handle_at(handle)) && !overlap(one(at, len), segment_at(handle));
+}
+
+/* Whether a call on this handle may return something at `at`. */
+static bool may_return(const lezgauri_handle *handle, const void *at, size_t len, size_t align)
+{
+    return handle != NULL && at != NULL && may_tell(at, align) && is_outside(handle, at, len);
+}
+
+static bool may_return_place(const lezgauri_handle *handle, const lezgauri_place *place)
+{
+    return may_return(handle, place, sizeof *place, _Alignof(lezgauri_place));
+}
+
+/* Whether the types that the handle keeps are the segment's. Other handles and runs may have added types: then the first unused entry
+ * differs. */
+static bool has_types(const lezgauri_handle *handle)
+{
+    return handle->kind == LENT_TO_READ ||
+           (handle->types.is_there && memcmp(handle->table, handle->image + TABLE_AT, handle->table_len) == 0);
+}
+
+/* Marks a segment as busy, and reads its types if it has new ones. LEZGAURI_OK, or why the call is refused. */
+static uint32_t begin_with_types(lezgauri_handle *handle)
+{
+    if (!acquire(&handle->busy)) {
+        return LEZGAURI_BUSY;
+    }
+    uint32_t status = has_types(handle) ? LEZGAURI_OK : read_types(handle);
+    if (status != LEZGAURI_OK) {
+        release(&handle->busy);
+    }
+    return status;
+}
+
+/* Begins a call that reads values, and returns something if `is_allowed`. */
+static uint32_t begin_read(const lezgauri_handle *handle, bool is_allowed)
+{
+    return is_allowed ? begin_with_types(flagged(handle)) : LEZGAURI_BAD_ARGUMENT;
+}
+
+/* Ends a call on a segment, and returns its status. */
+static uint32_t end(const lezgauri_handle *handle, uint32_t status)
+{
+    release(&flagged(handle)->busy);
+    return status;
+}
+
+/* The bytes of a name before its zero. At most 64, so that the export refuses a name that is too long. */
+static lezgauri_bytes name_at(const char *name)
+{
+    if (name == NULL) {
+        return (lezgauri_bytes){(const uint8_t *)or_empty(NULL), 0};
+    }
+    const char *zero = memchr(name, 0, MOST_NAME + 1);
+    return (lezgauri_bytes){(const uint8_t *)name, zero != NULL ? (size_t)(zero - name) : MOST_NAME + 1};
+}
+
+/* Whether a call that takes this name may return a place. */
+static bool may_return_by_name(const lezgauri_handle *handle, const char *name, lezgauri_bytes bytes, const lezgauri_place *place)
+{
+    return name != NULL && may_return_place(handle, place) && !overlap(one(place, sizeof *place), (span){name, bytes.len + 1});
+}
+
+/* ---- reading */
+
+uint32_t lezgauri_find(const lezgauri_handle *handle, const char *name, uint32_t type, lezgauri_place *place)
+{
+    return lezgauri_find_item(handle, name, type, 0, place);
+}
+
+uint32_t lezgauri_find_item(const lezgauri_handle *handle, const char *name, uint32_t type, uint32_t index, lezgauri_place *place)
+{
+    lezgauri_bytes bytes = name_at(name);
+    uint32_t status = begin_read(handle, may_return_by_name(handle, name, bytes, place));
+    if (status != LEZGAURI_OK) {
+        return status;
+    }
+    return end(handle, lezgauri_raw_find(SEGMENT(handle), bytes.bytes, bytes.len, type, index, place));
+}
+
+/* An export that finds a named object by a name. */
+typedef uint32_t name_call(const uint8_t *image, size_t len, kept_types *types, const uint8_t *name, size_t name_len, raw_named *named);
+
+static uint32_t find_named(const lezgauri_handle *handle, const char *name, lezgauri_named *named, name_call *call)
+{
+    uint32_t status = begin_read(handle, may_return(handle, named, sizeof *named, _Alignof(lezgauri_named)));
+    if (status != LEZGAURI_OK) {
+        return status;
+    }
+    lezgauri_bytes bytes = name_at(name);
+    raw_named found;
+    status = call(SEGMENT(handle), bytes.bytes, bytes.len, &found);
+    if (status == LEZGAURI_OK && found.len > MOST_NAME) {
+        /* only in an image that isn't sound */
+        status = LEZGAURI_BAD_INDEX;
+    }
+    if (status == LEZGAURI_OK) {
+        *named = (lezgauri_named){.type = found.type, .count = found.count};
+        memcpy(named->name, handle->image + found.at, found.len);
+    }
+    return end(handle, status);
+}
+
+uint32_t lezgauri_named_object(const lezgauri_handle *handle, const char *name, lezgauri_named *named)
+{
+    return name != NULL ? find_named(handle, name, named, lezgauri_raw_named_object) : LEZGAURI_BAD_ARGUMENT;
+}
+
+uint32_t lezgauri_next_name(const lezgauri_handle *handle, const char *after, lezgauri_named *named)
+{
+    return find_named(handle, after, named, lezgauri_raw_next_name);
+}
+
+uint32_t lezgauri_find_unique(const lezgauri_handle *handle, uint32_t type, lezgauri_place *place)
+{
+    uint32_t status = begin_read(handle, may_return_place(handle, place));
+    return status != LEZGAURI_OK ? status : end(handle, lezgauri_raw_find_unique(SEGMENT(handle), type, place));
+}
+
+uint32_t lezgauri_load(const lezgauri_handle *handle, lezgauri_place place, int64_t *number)
+{
+    uint32_t status = begin_read(handle, may_return(handle, number, sizeof *number, _Alignof(int64_t)));
+    return status != LEZGAURI_OK ? status : end(handle, lezgauri_raw_load(SEGMENT(handle), place.at, place.type, number));
+}
+
+uint32_t lezgauri_len(const lezgauri_handle *handle, lezgauri_place place, uint32_t *len)
+{
+    uint32_t status = begin_read(handle, may_return(handle, len, sizeof *len, _Alignof(uint32_t)));
+    return status != LEZGAURI_OK ? status : end(handle, lezgauri_raw_len(SEGMENT(handle), place.at, place.type, len));
+}
+
+/* An export that finds the bytes of a value. */
+typedef uint32_t range_call(const uint8_t *image, size_t len, kept_types *types, uint32_t at, uint32_t type, raw_range *range);
+
+static uint32_t bytes_of(const lezgauri_handle *handle, lezgauri_place place, lezgauri_bytes *bytes, range_call *call)
+{
+    uint32_t status = begin_read(handle, may_return(handle, bytes, sizeof *bytes, _Alignof(lezgauri_bytes)));
+    if (status != LEZGAURI_OK) {
+        return status;
+    }
+    raw_range range;
+    status = call(SEGMENT(handle), place.at, place.type, &range);
+    if (status == LEZGAURI_OK) {
+        *bytes = (lezgauri_bytes){handle->image + range.at, range.len};
+    }
+    return end(handle, status);
+}
+
+uint32_t lezgauri_text(const lezgauri_handle *handle, lezgauri_place place, lezgauri_bytes *text)
+{
+    return bytes_of(handle, place, text, lezgauri_raw_text);
+}
+
+uint32_t lezgauri_numbers(const lezgauri_handle *handle, lezgauri_place place, lezgauri_bytes *numbers)
+{
+    return bytes_of(handle, place, numbers, lezgauri_raw_numbers);
+}
+
+uint32_t lezgauri_field(const lezgauri_handle *handle, lezgauri_place place, uint32_t index, lezgauri_place *field)
+{
+    uint32_t status = begin_read(handle, may_return_place(handle, field));
+    return status != LEZGAURI_OK ? status : end(handle, lezgauri_raw_field(SEGMENT(handle), place.at, place.type, index, field));
+}
+
+uint32_t lezgauri_item(const lezgauri_handle *handle, lezgauri_place place, uint32_t index, lezgauri_place *item)
+{
+    uint32_t status = begin_read(handle, may_return_place(handle, item));
+    return status != LEZGAURI_OK ? status : end(handle, lezgauri_raw_item(SEGMENT(handle), place.at, place.type, index, item));
+}
+
+uint32_t lezgauri_next_item(const lezgauri_handle *handle, lezgauri_place list, lezgauri_place item, lezgauri_place *next)
+{
+    uint32_t status = begin_read(handle, may_return_place(handle, next));
+    return status != LEZGAURI_OK ? status : end(handle, lezgauri_raw_next_item(SEGMENT(handle), list.at, list.type, item.at, next));
+}
+
+uint32_t lezgauri_previous_item(const lezgauri_handle *handle, lezgauri_place list, lezgauri_place item, lezgauri_place *previous)
+{
+    uint32_t status = begin_read(handle, may_return_place(handle, previous));
+    return status != LEZGAURI_OK ? status
+                                 : end(handle, lezgauri_raw_previous_item(SEGMENT(handle), list.at, list.type, item.at, previous));
+}
+
+uint32_t lezgauri_content(const lezgauri_handle *handle, lezgauri_place own, lezgauri_place *content)
+{
+    uint32_t status = begin_read(handle, may_return_place(handle, content));
+    return status != LEZGAURI_OK ? status : end(handle, lezgauri_raw_content(SEGMENT(handle), own.at, own.type, content));
+}
+
+uint32_t lezgauri_get(const lezgauri_handle *handle, lezgauri_place map, int64_t key, lezgauri_place *value)
+{
+    uint32_t status = begin_read(handle, may_return_place(handle, value));
+    return status != LEZGAURI_OK ? status : end(handle, lezgauri_raw_get(SEGMENT(handle), map.at, map.type, key, value));
+}
+
+/* Two aligned pointers to numbers are the same or apart, so `from` is read before `key` is written. */
+static uint32_t begin_key(const lezgauri_handle *handle, const int64_t *from, const int64_t *key)
+{
+    return begin_read(handle, may_tell(from, _Alignof(int64_t)) && may_return(handle, key, sizeof *key, _Alignof(int64_t)));
+}
+
+uint32_t lezgauri_next_key(const lezgauri_handle *handle, lezgauri_place map, const int64_t *after, int64_t *key)
+{
+    uint32_t status = begin_key(handle, after, key);
+    if (status != LEZGAURI_OK) {
+        return status;
+    }
+    if (after == NULL) {
+        return end(handle, lezgauri_raw_first_key(SEGMENT(handle), map.at, map.type, key));
+    }
+    return end(handle, lezgauri_raw_next_key(SEGMENT(handle), map.at, map.type, *after, key));
+}
+
+uint32_t lezgauri_previous_key(const lezgauri_handle *handle, lezgauri_place map, const int64_t *before, int64_t *key)
+{
+    uint32_t status = begin_key(handle, before, key);
+    if (status != LEZGAURI_OK) {
+        return status;
+    }
+    if (before == NULL) {
+        return end(handle, lezgauri_raw_last_key(SEGMENT(handle), map.at, map.type, key));
+    }
+    return end(handle, lezgauri_raw_previous_key(SEGMENT(handle), map.at, map.type, *before, key));
+}
+
+/* ---- changing */
+
+/* Begins a call that changes values, if its arguments are allowed. *image is the segment for the export. */
+static uint32_t begin_values(lezgauri_handle *handle, bool is_allowed, lent *image)
+{
+    if (!is_allowed) {
+        return LEZGAURI_BAD_ARGUMENT;
+    }
+    uint32_t status = begin_change(handle);
+    *image = image_of(handle);
+    return status;
+}
+
+/* Whether a changing call may take a name. */
+static bool may_take_name(const lezgauri_handle *handle, const char *name, lezgauri_bytes bytes)
+{
+    return handle != NULL && name != NULL && is_outside(handle, name, bytes.len + 1);
+}
+
+uint32_t lezgauri_add_types(lezgauri_handle *handle, const lezgauri_type *types, size_t count, lezgauri_fault *fault)
+{
+    bool are_types = may_be(types, count, sizeof *types, _Alignof(lezgauri_type));
+    size_t len = are_types ? count * sizeof *types : 0;
+    span spans[] = {one(fault, sizeof *fault), handle_at(handle), segment_at(handle), one(types, len)};
+    memory of = MEMORY(spans, 3);
+    if (handle == NULL || !are_types || !may_tell(fault, _Alignof(lezgauri_fault)) || !are_apart(of)) {
+        return refuse(LEZGAURI_BAD_ARGUMENT, fault, of);
+    }
+    uint32_t status = begin_change(handle);
+    if (status != LEZGAURI_OK) {
+        return refuse(status, fault, of);
+    }
+    lent image = image_of(handle);
+    lezgauri_fault told;
+    status = end(handle, lezgauri_raw_add_types(&image, or_empty(types), len, &told));
+    tell(fault, &told);
+    return status;
+}
+
+uint32_t lezgauri_upgrade(lezgauri_handle *handle)
+{
+    lent image;
+    uint32_t status = begin_values(handle, handle != NULL, &image);
+    return status != LEZGAURI_OK ? status : end(handle, lezgauri_raw_upgrade(&image));
+}
+
+uint32_t lezgauri_construct(lezgauri_handle *handle, const char *name, uint32_t type, uint32_t count, lezgauri_place *place)
+{
+    lezgauri_bytes bytes = name_at(name);
+    lent image;
+    bool is_allowed = may_take_name(handle, name, bytes) && may_return_by_name(handle, name, bytes, place);
+    uint32_t status = begin_values(handle, is_allowed, &image);
+    return status != LEZGAURI_OK ? status : end(handle, lezgauri_raw_construct(&image, bytes.bytes, bytes.len, type, count, place));
+}
+
+uint32_t lezgauri_find_or_construct(lezgauri_handle *handle, const char *name, uint32_t type, lezgauri_place *place)
+{
+    lezgauri_bytes bytes = name_at(name);
+    lent image;
+    bool is_allowed = may_take_name(handle, name, bytes) && may_return_by_name(handle, name, bytes, place);
+    uint32_t status = begin_values(handle, is_allowed, &image);
+    return status != LEZGAURI_OK ? status : end(handle, lezgauri_raw_find_or_construct(&image, bytes.bytes, bytes.len, type, place));
+}
+
+uint32_t lezgauri_destroy(lezgauri_handle *handle, const char *name, uint32_t type)
+{
+    lezgauri_bytes bytes = name_at(name);
+    lent image;
+    uint32_t status = begin_values(handle, may_take_name(handle, name, bytes), &image);
+    return status != LEZGAURI_OK ? status : end(handle, lezgauri_raw_destroy(&image, bytes.bytes, bytes.len, type));
+}
+
+/* An export that makes an object of a type, or finds it. */
+typedef uint32_t object_call(lent *image, uint32_t type, lezgauri_place *place);
+
+static uint32_t make_object(lezgauri_handle *handle, uint32_t type, lezgauri_place *place, object_call *call)
+{
+    lent image;
+    uint32_t status = begin_values(handle, may_return_place(handle, place), &image);
+    return status != LEZGAURI_OK ? status : end(handle, call(&image, type, place));
+}
+
+uint32_t lezgauri_construct_unique(lezgauri_handle *handle, uint32_t type, lezgauri_place *place)
+{
+    return make_object(handle, type, place, lezgauri_raw_construct_unique);
+}
+
+uint32_t lezgauri_find_or_construct_unique(lezgauri_handle *handle, uint32_t type, lezgauri_place *place)
+{
+    return make_object(handle, type, place, lezgauri_raw_find_or_construct_unique);
+}
+
+uint32_t lezgauri_construct_anonymous(lezgauri_handle *handle, uint32_t type, lezgauri_place *place)
+{
+    return make_object(handle, type, place, lezgauri_raw_construct_anonymous);
+}
+
+uint32_t lezgauri_destroy_unique(lezgauri_handle *handle, uint32_t type)
+{
+    lent image;
+    uint32_t status = begin_values(handle, handle != NULL, &image);
+    return status != LEZGAURI_OK ? status : end(handle, lezgauri_raw_destroy_unique(&image, type));
+}
+
+uint32_t lezgauri_destroy_anonymous(lezgauri_handle *handle, lezgauri_place object)
+{
+    lent image;
+    uint32_t status = begin_values(handle, handle != NULL, &image);
+    return status != LEZGAURI_OK ? status : end(handle, lezgauri_raw_destroy_anonymous(&image, object.at));
+}
+
+uint32_t lezgauri_store(lezgauri_handle *handle, lezgauri_place place, int64_t number)
+{
+    if (handle == NULL) {
+        return LEZGAURI_BAD_ARGUMENT;
+    }
+    if (handle->kind == LENT_TO_READ) {
+        return LEZGAURI_READ_ONLY;
+    }
+    uint32_t status = begin_with_types(handle);
+    return status != LEZGAURI_OK ? status : end(handle, lezgauri_raw_store(SEGMENT(handle), place.at, place.type, number));
+}
+
+/* An export that changes a string by the caller's bytes. */
+typedef uint32_t bytes_call(lent *image, uint32_t at, uint32_t type, const uint8_t *bytes, size_t len);
+
+static uint32_t change_text(lezgauri_handle *handle, lezgauri_place string, const void *bytes, size_t len, bytes_call *call)
+{
+    lent image;
+    bool is_allowed = handle != NULL && may_be_bytes(bytes, len) && is_outside(handle, bytes, len);
+    uint32_t status = begin_values(handle, is_allowed, &image);
+    return status != LEZGAURI_OK ? status : end(handle, call(&image, string.at, string.type, or_empty(bytes), len));
+}
+
+uint32_t lezgauri_assign(lezgauri_handle *handle, lezgauri_place string, const void *bytes, size_t len)
+{
+    return change_text(handle, string, bytes, len, lezgauri_raw_assign);
+}
+
+uint32_t lezgauri_append(lezgauri_handle *handle, lezgauri_place string, const void *bytes, size_t len)
+{
+    return change_text(handle, string, bytes, len, lezgauri_raw_append);
+}
+
+/* An export that makes a value in another one. */
+typedef uint32_t part_call(lent *image, uint32_t at, uint32_t type, lezgauri_place *part);
+
+static uint32_t make_part(lezgauri_handle *handle, lezgauri_place whole, lezgauri_place *part, part_call *call)
+{
+    lent image;
+    uint32_t status = begin_values(handle, may_return_place(handle, part), &image);
+    return status != LEZGAURI_OK ? status : end(handle, call(&image, whole.at, whole.type, part));
+}
+
+uint32_t lezgauri_push_back(lezgauri_handle *handle, lezgauri_place sequence, lezgauri_place *item)
+{
+    return make_part(handle, sequence, item, lezgauri_raw_push_back);
+}
+
+uint32_t lezgauri_push_front(lezgauri_handle *handle, lezgauri_place list, lezgauri_place *item)
+{
+    return make_part(handle, list, item, lezgauri_raw_push_front);
+}
+
+uint32_t lezgauri_put_content(lezgauri_handle *handle, lezgauri_place own, lezgauri_place *content)
+{
+    return make_part(handle, own, content, lezgauri_raw_put_content);
+}
+
+uint32_t lezgauri_put(lezgauri_handle *handle, lezgauri_place map, int64_t key, lezgauri_place *value)
+{
+    lent image;
+    uint32_t status = begin_values(handle, may_return_place(handle, value), &image);
+    return status != LEZGAURI_OK ? status : end(handle, lezgauri_raw_put(&image, map.at, map.type, key, value));
+}
+
+uint32_t lezgauri_remove(lezgauri_handle *handle, lezgauri_place map, int64_t key)
+{
+    lent image;
+    uint32_t status = begin_values(handle, handle != NULL, &image);
+    return status != LEZGAURI_OK ? status : end(handle, lezgauri_raw_remove(&image, map.at, map.type, key));
+}
+
+/* An export that changes a value. */
+typedef uint32_t value_call(lent *image, uint32_t at, uint32_t type);
+
+static uint32_t change_value(lezgauri_handle *handle, lezgauri_place place, value_call *call)
+{
+    lent image;
+    uint32_t status = begin_values(handle, handle != NULL, &image);
+    return status != LEZGAURI_OK ? status : end(handle, call(&image, place.at, place.type));
+}
+
+uint32_t lezgauri_pop_back(lezgauri_handle *handle, lezgauri_place sequence)
+{
+    return change_value(handle, sequence, lezgauri_raw_pop_back);
+}
+
+uint32_t lezgauri_pop_front(lezgauri_handle *handle, lezgauri_place list)
+{
+    return change_value(handle, list, lezgauri_raw_pop_front);
+}
+
+uint32_t lezgauri_clear(lezgauri_handle *handle, lezgauri_place place)
+{
+    return change_value(handle, place, lezgauri_raw_clear);
+}
+
+uint32_t lezgauri_shrink_to_fit(lezgauri_handle *handle, lezgauri_place container)
+{
+    return change_value(handle, container, lezgauri_raw_shrink_to_fit);
+}
+
+uint32_t lezgauri_freeze(lezgauri_handle *handle, lezgauri_place own, lezgauri_place shared)
+{
+    lent image;
+    uint32_t status = begin_values(handle, handle != NULL, &image);
+    return status != LEZGAURI_OK ? status : end(handle, lezgauri_raw_freeze(&image, own.at, own.type, shared.at, shared.type));
+}
+
+uint32_t lezgauri_share(lezgauri_handle *handle, lezgauri_place to, lezgauri_place from)
+{
+    lent image;
+    uint32_t status = begin_values(handle, handle != NULL, &image);
+    return status != LEZGAURI_OK ? status : end(handle, lezgauri_raw_share(&image, from.at, from.type, to.at, to.type));
 }
 
 /* ---- texts of clients */
@@ -900,6 +1523,14 @@ static const meaning statuses[] = {
     {LEZGAURI_OUTPUT_FULL, "the output has no room for what a client prints"},
     {LEZGAURI_TOO_SMALL, "the caller's memory is too small"},
     {LEZGAURI_BUSY, "another call uses the open segment or the prepared client"},
+    {LEZGAURI_READ_ONLY, "the segment is open only for reading"},
+    {LEZGAURI_ALREADY_EXISTS, "the object exists already"},
+    {LEZGAURI_BAD_ALLOC, "out of memory: no free block of the segment is large enough"},
+    {LEZGAURI_ABSENT, "no such object or key"},
+    {LEZGAURI_OTHER_TYPE, "wrong type"},
+    {LEZGAURI_OUT_OF_RANGE, "out of range"},
+    {LEZGAURI_NO_VALUE, "no value"},
+    {LEZGAURI_NUMBERS_USED_UP, "no number is left for a frozen object"},
 };
 
 static const meaning reasons[] = {

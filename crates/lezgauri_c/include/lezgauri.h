@@ -1,13 +1,13 @@
 /*
- * Lezgauri for C and C++: managed memory segments whose images are checked before use, and client programs in bytecode that are
- * verified before they run. docs/FORMATS.md specifies images, clients and their text. Lengths and positions are in bytes, unless
- * stated otherwise.
+ * Lezgauri for C and C++: managed memory segments whose images are checked before use. A program reads and changes their values where
+ * they are, or runs clients on them: programs in bytecode that are verified before they run. docs/FORMATS.md specifies images, clients
+ * and their text. Lengths and positions are in bytes, unless stated otherwise.
  *
  * Status: a call that can fail returns LEZGAURI_OK, the number of a fault, or one of the numbers from 100 on below. After a fault,
  * LEZGAURI_BAD_ARGUMENT or LEZGAURI_BUSY nothing ran, and the caller's memory is unchanged except *fault, *written, *needed, *handle and
- * *prepared. No call aborts, unwinds, prints, or reads or writes beyond the lengths that it is given. A call takes memory from malloc
- * and frees it before it returns, except the memory of an open segment and of a prepared client. LEZGAURI_MEMORY means that malloc
- * refused.
+ * *prepared. A call on a value changes nothing unless it returns LEZGAURI_OK. No call aborts, unwinds, prints, or reads or writes beyond
+ * the lengths that it is given. A call takes memory from malloc and frees it before it returns, except the memory of an open segment and
+ * of a prepared client. LEZGAURI_MEMORY means that malloc refused.
  *
  * Tested by each call: null pointers with a length other than 0, lengths above PTRDIFF_MAX, pointers to numbers or structs that
  * aren't aligned, and overlap of what the call writes (numbers and structs that it returns, reports, an output, a saved image, an open
@@ -25,6 +25,14 @@
  * client: another returns LEZGAURI_BUSY at once and has done nothing. Threads that run the same client on different segments prepare it
  * once each.
  *
+ * Reading: any number of handles may read one image at the same time, of one thread or of many, in one process or in many that map the
+ * same file. Each thread opens a handle of its own, by lezgauri_read or lezgauri_reader. No call on such a handle takes a lock, and none
+ * writes to the image, which may be mapped read-only. Nobody may write the image until the last of these handles is closed.
+ *
+ * Proofs: each call is a thin layer of C over a function that is proved. It is proved that for any bytes of an image, and any place, this
+ * function returns, and reads and writes only memory that it is passed; and that on a sound image, with valid places, it does what is
+ * stated here and leaves a sound image. C tests pointers and lengths, and is itself only tested. CALLING.md states both in detail.
+ *
  * Stack: each call touches at most LEZGAURI_STACK_.. bytes of its thread's stack, in addition to what malloc and the caller use.
  */
 #ifndef LEZGAURI_H
@@ -37,38 +45,48 @@
 extern "C" {
 #endif
 
-/* What calls return. Numbers below 100 are faults, as segtool prints them. */
+/* What calls return. Numbers below 100 are faults, as segtool prints them. Those above 110 are codes of clients (docs/FORMATS.md), plus
+ * 110. */
 enum {
     LEZGAURI_OK = 0,
-    LEZGAURI_MEMORY = 1,         /* a request for host memory was refused */
-    LEZGAURI_MISPLACED = 2,      /* the segment can't be at this base; no call here returns it */
-    LEZGAURI_BAD_TYPE = 3,       /* position: the first wrong entry of the image's type table, from 0 */
-    LEZGAURI_TYPE_MISMATCH = 4,  /* position: the first entry that differs between the client's types and the image's */
-    LEZGAURI_BAD_SIZE = 5,       /* a segment can't have this size */
-    LEZGAURI_NO_HOST_ROOM = 6,   /* the segment's memory ends before a segment of this size would */
-    LEZGAURI_BAD_HEADER = 10,    /* the image's header, or its length */
-    LEZGAURI_BAD_BLOCK = 11,     /* position: of the block, in bytes from the image's start, like the next six */
-    LEZGAURI_BAD_FREE = 12,      /* position: of the pointer word in the free structure */
-    LEZGAURI_BAD_INDEX = 13,     /* position: of the index's entry, or of its pointer */
-    LEZGAURI_BAD_POINTER = 14,   /* position: of a pointer that doesn't refer to a block of the right kind */
-    LEZGAURI_DOUBLE_OWNER = 15,  /* position: of the block with two owners */
-    LEZGAURI_UNOWNED = 16,       /* position: of the allocated block without an owner */
-    LEZGAURI_BAD_VALUE = 17,     /* position: of the value */
-    LEZGAURI_BAD_CODE = 20,      /* position: of the first field of the client that is wrong or cut, in bytes from its start */
-    LEZGAURI_BAD_LINE = 21,      /* position: the first wrong line of a client's text, from 1 */
-    LEZGAURI_REJECTED = 22,      /* position: the instruction that is refused, from 0; reason: why (docs/FORMATS.md) */
-    LEZGAURI_TOO_LONG = 23,      /* a run of the client could take more than 1,000,000,000 steps */
-    LEZGAURI_BAD_ARGUMENT = 100, /* a pointer or a length isn't allowed; nothing else was examined */
-    LEZGAURI_OUTPUT_FULL = 101,  /* the output has no room for what a client prints */
-    LEZGAURI_TOO_SMALL = 102,    /* the caller's memory is too small for what the call writes there */
-    LEZGAURI_BUSY = 103          /* another call uses the open segment or the prepared client */
+    LEZGAURI_MEMORY = 1,           /* a request for host memory was refused */
+    LEZGAURI_MISPLACED = 2,        /* the segment can't be at this base; no call here returns it */
+    LEZGAURI_BAD_TYPE = 3,         /* position: the first wrong entry of the image's type table, from 0 */
+    LEZGAURI_TYPE_MISMATCH = 4,    /* position: the first entry that differs between the client's types and the image's */
+    LEZGAURI_BAD_SIZE = 5,         /* a segment can't have this size */
+    LEZGAURI_NO_HOST_ROOM = 6,     /* the segment's memory ends before a segment of this size would */
+    LEZGAURI_BAD_HEADER = 10,      /* the image's header, or its length */
+    LEZGAURI_BAD_BLOCK = 11,       /* position: of the block, in bytes from the image's start, like the next six */
+    LEZGAURI_BAD_FREE = 12,        /* position: of the pointer word in the free structure */
+    LEZGAURI_BAD_INDEX = 13,       /* position: of the index's entry, or of its pointer */
+    LEZGAURI_BAD_POINTER = 14,     /* position: of a pointer that doesn't refer to a block of the right kind */
+    LEZGAURI_DOUBLE_OWNER = 15,    /* position: of the block with two owners */
+    LEZGAURI_UNOWNED = 16,         /* position: of the allocated block without an owner */
+    LEZGAURI_BAD_VALUE = 17,       /* position: of the value */
+    LEZGAURI_BAD_CODE = 20,        /* position: of the first field of the client that is wrong or cut, in bytes from its start */
+    LEZGAURI_BAD_LINE = 21,        /* position: the first wrong line of a client's text, from 1 */
+    LEZGAURI_REJECTED = 22,        /* position: the instruction that is refused, from 0; reason: why (docs/FORMATS.md) */
+    LEZGAURI_TOO_LONG = 23,        /* a run of the client could take more than 1,000,000,000 steps */
+    LEZGAURI_BAD_ARGUMENT = 100,   /* a pointer or a length isn't allowed; nothing else was examined */
+    LEZGAURI_OUTPUT_FULL = 101,    /* the output has no room for what a client prints */
+    LEZGAURI_TOO_SMALL = 102,      /* the caller's memory is too small for what the call writes there */
+    LEZGAURI_BUSY = 103,           /* another call uses the open segment or the prepared client */
+    LEZGAURI_READ_ONLY = 104,      /* the segment is open only for reading */
+    LEZGAURI_ALREADY_EXISTS = 111, /* an object with this name, or a unique object of this type, exists already */
+    LEZGAURI_BAD_ALLOC = 112,      /* out of memory: no free block of the segment is large enough */
+    LEZGAURI_ABSENT = 113,         /* there is no such object or key */
+    LEZGAURI_OTHER_TYPE = 114,     /* the object or the place has another type, or the segment has no such type */
+    LEZGAURI_OUT_OF_RANGE = 115,   /* a count, an index or a name is out of range */
+    LEZGAURI_NO_VALUE = 116,       /* there is no value: a null pointer, an empty container, or nothing further */
+    LEZGAURI_NUMBERS_USED_UP = 117 /* no number is left for one more frozen object */
 };
 
 /* The most bytes of stack that a call touches. */
 enum {
-    LEZGAURI_STACK_CHECK = 32 * 1024, /* lezgauri_check, lezgauri_verify, lezgauri_run, lezgauri_open, lezgauri_open_in */
+    LEZGAURI_STACK_CHECK = 32 * 1024, /* lezgauri_check, lezgauri_verify, lezgauri_run, lezgauri_open, lezgauri_open_in, lezgauri_read */
     LEZGAURI_STACK_RUN = 20 * 1024,   /* all other calls */
     LEZGAURI_STACK_TEXT = 40 * 1024,  /* lezgauri_assemble, lezgauri_print */
+    LEZGAURI_STACK_READ = 8 * 1024,   /* lezgauri_reader, lezgauri_store, the calls from lezgauri_find to lezgauri_content */
     LEZGAURI_STACK_SAVE = 4 * 1024    /* lezgauri_save, lezgauri_size, lezgauri_image, lezgauri_types, lezgauri_close, lezgauri_client_close, the
                                        * calls that return a text */
 };
@@ -164,6 +182,24 @@ uint32_t lezgauri_open(const void *image, size_t len, lezgauri_handle **handle, 
  * version 1 sets its version to 2. So a client that only reads leaves every page of a mapped file clean.
  */
 uint32_t lezgauri_open_in(void *memory, size_t len, size_t room, lezgauri_handle **handle, lezgauri_fault *fault);
+
+/*
+ * Opens an image only for reading, where it is: in memory that may be mapped read-only, and that others may read at the same time. It is
+ * checked as by lezgauri_open_in, and nothing is copied or written. The result and the pointers are as for lezgauri_open.
+ *
+ * The caller promises that the memory stays at its address, and that nobody writes it until lezgauri_close. Calls that change a segment
+ * or its size, and runs, return LEZGAURI_READ_ONLY. All other calls take this handle as they take any other. Once the segment is open,
+ * calls that read values take no memory from malloc.
+ */
+uint32_t lezgauri_read(const void *memory, size_t len, lezgauri_handle **handle, lezgauri_fault *fault);
+
+/*
+ * Opens another handle on a segment that is open only for reading, without checking its image again: LEZGAURI_OK, and *other is the
+ * handle. Otherwise *other is null, unless `other` is null, isn't aligned, or overlaps other memory of the call. LEZGAURI_BAD_ARGUMENT if
+ * `handle` isn't from lezgauri_read or lezgauri_reader. Each handle is closed by itself, in any order. The call may be made while another
+ * call uses `handle`.
+ */
+uint32_t lezgauri_reader(const lezgauri_handle *handle, lezgauri_handle **other);
 
 /* The allocators of a segment: the first free block that is large enough, or the smallest one. */
 enum {
@@ -308,6 +344,200 @@ typedef struct lezgauri_type {
  * number of types, at most LEZGAURI_MOST_TYPES; `needed` may be null. LEZGAURI_TOO_SMALL if the room is less; then nothing is copied.
  */
 uint32_t lezgauri_types(const lezgauri_handle *handle, lezgauri_type *types, size_t capacity, size_t *needed);
+
+/*
+ * Adds types to an open segment. `types` has `count` types: those of the segment in the order of their numbers, and after them the new
+ * ones. Types are never removed, so a table that isn't longer than the segment's adds nothing. `fault` may be null.
+ *
+ * LEZGAURI_BAD_TYPE if an entry isn't allowed; if there are more than LEZGAURI_MOST_TYPES, the position is LEZGAURI_MOST_TYPES.
+ * LEZGAURI_TYPE_MISMATCH if an entry differs from the segment's type with its number. Then nothing has changed. After LEZGAURI_OK the image
+ * has version 2.
+ */
+uint32_t lezgauri_add_types(lezgauri_handle *handle, const lezgauri_type *types, size_t count, lezgauri_fault *fault);
+
+/*
+ * Makes an image of version 1 one of version 2, which may have frozen objects. An image of version 2 stays the same. Only this call, runs
+ * and lezgauri_add_types change the version.
+ */
+uint32_t lezgauri_upgrade(lezgauri_handle *handle);
+
+/*
+ * The place of a value in an open segment: its position and its type. Calls return places and take them by value. A place means the same
+ * to each handle on the image, and also after the image was mapped elsewhere, grown or shrunk.
+ *
+ * A place becomes invalid when its object is destroyed, and when a container around it gets or loses a value, is cleared or is shrunk to
+ * fit. The containers around a value are the vectors, lists, maps, owns and shared cells that it is in, but not the structs. No call can
+ * test whether a place is valid. With an invalid place a call still uses only bytes of the segment, but it may read a value that was never
+ * stored, and if it changes something, the image may no longer be sound.
+ *
+ * The calls on places and names below have these rules in common. A call whose place has another type than it needs, or a type that the
+ * segment doesn't have, returns LEZGAURI_OTHER_TYPE. After a status other than LEZGAURI_OK no object and no value has changed, and nothing
+ * is written through the pointers. Pointers to what a call returns aren't null. They don't point into the segment, and neither do the bytes and
+ * names that a changing call takes: copy them first. A call may return LEZGAURI_MEMORY if it is the first on its handle, or the
+ * first after types were added; never if the handle is open only for reading.
+ *
+ * A name is 1 to 63 bytes, each from 0x21 to 0x7e, and a zero after them. It isn't null. At most 64 of its bytes are read.
+ */
+typedef struct lezgauri_place {
+    uint32_t at;   /* in bytes from the image's start */
+    uint32_t type; /* the number of the value's type */
+} lezgauri_place;
+
+/* A named object of a segment. */
+typedef struct lezgauri_named {
+    char name[64];  /* ends with a zero; the bytes after it are 0 too */
+    uint32_t type;  /* the number of its values' type */
+    uint32_t count; /* how many values it has, 1 to 65535 */
+} lezgauri_named;
+
+/*
+ * Finds the first value of the object with this name, whose values have this type. LEZGAURI_ABSENT if no object has the name,
+ * LEZGAURI_OTHER_TYPE if its values have another type.
+ */
+uint32_t lezgauri_find(const lezgauri_handle *handle, const char *name, uint32_t type, lezgauri_place *place);
+
+/* Like lezgauri_find, but the value with this index, counted from 0. LEZGAURI_OUT_OF_RANGE if the object has fewer values. */
+uint32_t lezgauri_find_item(const lezgauri_handle *handle, const char *name, uint32_t type, uint32_t index, lezgauri_place *place);
+
+/* The object with this name, of any type. LEZGAURI_ABSENT if there is none. */
+uint32_t lezgauri_named_object(const lezgauri_handle *handle, const char *name, lezgauri_named *named);
+
+/*
+ * The first object in order of the names, byte by byte, whose name comes after `after`, which need not be the name of an object. The first
+ * object of all if `after` is null. LEZGAURI_NO_VALUE if there is none. `after` may be the name in *named.
+ */
+uint32_t lezgauri_next_name(const lezgauri_handle *handle, const char *after, lezgauri_named *named);
+
+/* Finds the unique object of a type. LEZGAURI_ABSENT if there is none. */
+uint32_t lezgauri_find_unique(const lezgauri_handle *handle, uint32_t type, lezgauri_place *place);
+
+/* The number at the place of an i64. */
+uint32_t lezgauri_load(const lezgauri_handle *handle, lezgauri_place place, int64_t *number);
+
+/* The place of a field of a struct, by its index from 0. LEZGAURI_OUT_OF_RANGE if the struct has fewer fields. */
+uint32_t lezgauri_field(const lezgauri_handle *handle, lezgauri_place place, uint32_t index, lezgauri_place *field);
+
+/* *len is the number of bytes of a string, of items of a vector or list, of keys of a map, or of objects of an own: 0 or 1. */
+uint32_t lezgauri_len(const lezgauri_handle *handle, lezgauri_place place, uint32_t *len);
+
+/* The bytes of a string, to be read where they are, until the next call on the segment that may change it. Nobody may write them. */
+uint32_t lezgauri_text(const lezgauri_handle *handle, lezgauri_place place, lezgauri_bytes *text);
+
+/*
+ * The numbers of a vector of i64, to be read where they are, as the bytes of lezgauri_text: 8 bytes for each number, little-endian. They
+ * are aligned to 8 bytes if the image is.
+ */
+uint32_t lezgauri_numbers(const lezgauri_handle *handle, lezgauri_place place, lezgauri_bytes *numbers);
+
+/*
+ * The place of an item of a vector or list, by its index from 0. LEZGAURI_OUT_OF_RANGE if there are fewer items. In a list it is found
+ * step by step from the nearer end.
+ */
+uint32_t lezgauri_item(const lezgauri_handle *handle, lezgauri_place place, uint32_t index, lezgauri_place *item);
+
+/* The item after an item of a list, in one step. LEZGAURI_NO_VALUE after the last one. Only the position of `item` counts. */
+uint32_t lezgauri_next_item(const lezgauri_handle *handle, lezgauri_place list, lezgauri_place item, lezgauri_place *next);
+
+/* The item before an item of a list, in one step. LEZGAURI_NO_VALUE before the first one. */
+uint32_t lezgauri_previous_item(const lezgauri_handle *handle, lezgauri_place list, lezgauri_place item, lezgauri_place *previous);
+
+/* The place of the value of a key of a map or flat map. LEZGAURI_ABSENT if it doesn't have the key. */
+uint32_t lezgauri_get(const lezgauri_handle *handle, lezgauri_place map, int64_t key, lezgauri_place *value);
+
+/*
+ * The least key of a map or flat map that is above *after, which need not be a key. The least key of all if `after` is null.
+ * LEZGAURI_NO_VALUE if there is none. `after` and `key` may be the same pointer.
+ */
+uint32_t lezgauri_next_key(const lezgauri_handle *handle, lezgauri_place map, const int64_t *after, int64_t *key);
+
+/* Like lezgauri_next_key, but the greatest key that is below *before, or the greatest key of all. */
+uint32_t lezgauri_previous_key(const lezgauri_handle *handle, lezgauri_place map, const int64_t *before, int64_t *key);
+
+/*
+ * The place of the object of an own, or of the frozen object of a shared. LEZGAURI_NO_VALUE if it is null. Nothing in a frozen object may be
+ * changed: other cells may point to it, and the image may no longer be sound.
+ */
+uint32_t lezgauri_content(const lezgauri_handle *handle, lezgauri_place own, lezgauri_place *content);
+
+/*
+ * Makes an object with this name, of `count` default values, 1 to 65535, and returns the place of the first one. LEZGAURI_OUT_OF_RANGE if the
+ * name or the count isn't allowed, LEZGAURI_ALREADY_EXISTS if an object has the name, LEZGAURI_BAD_ALLOC.
+ */
+uint32_t lezgauri_construct(lezgauri_handle *handle, const char *name, uint32_t type, uint32_t count, lezgauri_place *place);
+
+/* Finds the object with this name as lezgauri_find does. If there is none, it makes one of one value as lezgauri_construct does. */
+uint32_t lezgauri_find_or_construct(lezgauri_handle *handle, const char *name, uint32_t type, lezgauri_place *place);
+
+/* Destroys the object with this name, and all that its values own. LEZGAURI_ABSENT if no object of this type has the name. */
+uint32_t lezgauri_destroy(lezgauri_handle *handle, const char *name, uint32_t type);
+
+/* Makes the unique object of a type, of one default value. LEZGAURI_ALREADY_EXISTS if there is one, LEZGAURI_BAD_ALLOC. */
+uint32_t lezgauri_construct_unique(lezgauri_handle *handle, uint32_t type, lezgauri_place *place);
+
+/* Finds the unique object of a type, or makes it as lezgauri_construct_unique does. */
+uint32_t lezgauri_find_or_construct_unique(lezgauri_handle *handle, uint32_t type, lezgauri_place *place);
+
+/* Destroys the unique object of a type, and all that it owns. LEZGAURI_ABSENT if there is none. */
+uint32_t lezgauri_destroy_unique(lezgauri_handle *handle, uint32_t type);
+
+/*
+ * Makes an object of one default value that has no name and no owner. LEZGAURI_BAD_ALLOC. As long as there is such an object, the image
+ * isn't sound: the checker refuses an object without an owner. So destroy it by lezgauri_destroy_anonymous before the image is saved or
+ * the segment closed. No call here gives it to an owner; lezgauri_put_content makes an object that has one.
+ */
+uint32_t lezgauri_construct_anonymous(lezgauri_handle *handle, uint32_t type, lezgauri_place *place);
+
+/* Destroys an object that lezgauri_construct_anonymous made, and all that it owns. Only the position of `object` counts. */
+uint32_t lezgauri_destroy_anonymous(lezgauri_handle *handle, lezgauri_place object);
+
+/* Stores a number at the place of an i64. It writes these 8 bytes and nothing else. */
+uint32_t lezgauri_store(lezgauri_handle *handle, lezgauri_place place, int64_t number);
+
+/* Replaces the bytes of a string by `len` others. LEZGAURI_BAD_ALLOC. */
+uint32_t lezgauri_assign(lezgauri_handle *handle, lezgauri_place string, const void *bytes, size_t len);
+
+/* Adds `len` bytes at the end of a string. LEZGAURI_BAD_ALLOC. */
+uint32_t lezgauri_append(lezgauri_handle *handle, lezgauri_place string, const void *bytes, size_t len);
+
+/* Adds a default item at the end of a vector or list, and returns its place. LEZGAURI_BAD_ALLOC. */
+uint32_t lezgauri_push_back(lezgauri_handle *handle, lezgauri_place sequence, lezgauri_place *item);
+
+/* Adds a default item at the front of a list, and returns its place. LEZGAURI_BAD_ALLOC. */
+uint32_t lezgauri_push_front(lezgauri_handle *handle, lezgauri_place list, lezgauri_place *item);
+
+/* Destroys the last item of a vector or list, or drops the last byte of a string. LEZGAURI_NO_VALUE if it is empty. */
+uint32_t lezgauri_pop_back(lezgauri_handle *handle, lezgauri_place sequence);
+
+/* Destroys the first item of a list. LEZGAURI_NO_VALUE if it is empty. */
+uint32_t lezgauri_pop_front(lezgauri_handle *handle, lezgauri_place list);
+
+/* The place of the value of a key of a map or flat map. A missing key is added with a default value; LEZGAURI_BAD_ALLOC. */
+uint32_t lezgauri_put(lezgauri_handle *handle, lezgauri_place map, int64_t key, lezgauri_place *value);
+
+/* Removes a key of a map or flat map, and destroys its value. LEZGAURI_ABSENT if it doesn't have the key, or is no map. */
+uint32_t lezgauri_remove(lezgauri_handle *handle, lezgauri_place map, int64_t key);
+
+/* Makes a new object of one default value for an own, and destroys the one that it had. LEZGAURI_BAD_ALLOC. */
+uint32_t lezgauri_put_content(lezgauri_handle *handle, lezgauri_place own, lezgauri_place *content);
+
+/*
+ * Makes a value of any type the default of this type: 0, empty, null, or for a struct the default of each field. It frees all that the
+ * value owns, and each frozen object to which no other cell points. Nothing changes if the segment doesn't have the type.
+ */
+uint32_t lezgauri_clear(lezgauri_handle *handle, lezgauri_place place);
+
+/* Gives back the memory that a string, vector or flat map has beyond its items. The items stay where they are. */
+uint32_t lezgauri_shrink_to_fit(lezgauri_handle *handle, lezgauri_place container);
+
+/*
+ * Freezes the object of an own: the place `shared` then points to it and no longer to its old target, and the own is null. A frozen object
+ * is destroyed when no place points to it. LEZGAURI_OTHER_TYPE if the types of both don't have the same component, LEZGAURI_NO_VALUE if the
+ * own is null, LEZGAURI_NUMBERS_USED_UP, LEZGAURI_BAD_ALLOC. The place `shared` isn't in the object that the own has.
+ */
+uint32_t lezgauri_freeze(lezgauri_handle *handle, lezgauri_place own, lezgauri_place shared);
+
+/* Makes the shared place `to` point to what `from` points to, which may be null. LEZGAURI_OTHER_TYPE if their types differ. */
+uint32_t lezgauri_share(lezgauri_handle *handle, lezgauri_place to, lezgauri_place from);
 
 /*
  * Assembles the text of a client (docs/FORMATS.md, "Assembler text"): writes the client's file to `buffer`, which has room for

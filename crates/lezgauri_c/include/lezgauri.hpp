@@ -1,6 +1,11 @@
 // Lezgauri for C++17 and later, in one header over lezgauri.h. That header specifies each call: what it tests, what the caller
 // promises, and how much stack it touches. This one adds owners of handles, views of memory, names of statuses, and errors.
 //
+// Values. A `value` is a place with its segment: it reads a number, a text, items and keys where they are, and changes them. A value of a
+// `reader`, which is a segment that is open only for reading, is a `const_value`: it has the same functions, without those that change
+// something. Both are as valid as their place, and the segment isn't moved or closed while they are used. Ranges (`items`, `keys`,
+// `entries`, `names`) go through a container once, and the container isn't changed meanwhile.
+//
 // Refused calls. A call is refused if its status is neither `ok` nor `output_full`. In namespace `lezgauri` a refused call throws
 // `error`. In namespace `lezgauri::results` the same calls are noexcept and return an `expected`: std::expected if the compiler has
 // it, and `result` otherwise. Both are the same templates, with the policy `throwing` or `returning`. With -fno-exceptions only the
@@ -25,6 +30,7 @@
 #include <cstdio>
 #include <cstdlib>
 #include <exception>
+#include <initializer_list>
 #include <iterator>
 #include <memory>
 #include <optional>
@@ -72,7 +78,15 @@ enum class status : std::uint32_t {
     bad_argument = LEZGAURI_BAD_ARGUMENT,
     output_full = LEZGAURI_OUTPUT_FULL,
     too_small = LEZGAURI_TOO_SMALL,
-    busy = LEZGAURI_BUSY
+    busy = LEZGAURI_BUSY,
+    read_only = LEZGAURI_READ_ONLY,
+    already_exists = LEZGAURI_ALREADY_EXISTS,
+    bad_alloc = LEZGAURI_BAD_ALLOC,
+    absent = LEZGAURI_ABSENT,
+    other_type = LEZGAURI_OTHER_TYPE,
+    out_of_range = LEZGAURI_OUT_OF_RANGE,
+    no_value = LEZGAURI_NO_VALUE,
+    numbers_used_up = LEZGAURI_NUMBERS_USED_UP
 };
 
 // Why the verifier rejects an instruction: the reason of `rejected`. docs/FORMATS.md has the rules.
@@ -111,6 +125,14 @@ constexpr std::string_view name(status of) noexcept
     case status::output_full: return "OutputFull";
     case status::too_small: return "TooSmall";
     case status::busy: return "Busy";
+    case status::read_only: return "ReadOnly";
+    case status::already_exists: return "AlreadyExists";
+    case status::bad_alloc: return "BadAlloc";
+    case status::absent: return "Absent";
+    case status::other_type: return "OtherType";
+    case status::out_of_range: return "OutOfRange";
+    case status::no_value: return "NoValue";
+    case status::numbers_used_up: return "NumbersUsedUp";
     }
     return {};
 }
@@ -642,6 +664,553 @@ struct close_client {
 
 } // namespace detail
 
+// ---- values in place
+
+using place = lezgauri_place;
+
+// The types of a table for `add_types`: type_of(kind::i64), type_of(kind::vec, {0}), type_of(kind::structure, {0, 1}).
+inline type type_of(kind of, std::initializer_list<std::uint8_t> components = {}) noexcept
+{
+    type made{};
+    made.kind = static_cast<std::uint8_t>(of);
+    made.count = static_cast<std::uint8_t>(components.size());
+    std::size_t next = 0;
+    for (const std::uint8_t component : components) {
+        if (next < sizeof made.components) {
+            made.components[next++] = component;
+        }
+    }
+    return made;
+}
+
+// A named object: its name, the number of its type, and the number of its values.
+struct named : lezgauri_named {
+    std::string_view view() const noexcept { return {name}; }
+};
+
+namespace detail {
+
+// The bytes of a number.
+constexpr int number_size = 8;
+
+} // namespace detail
+
+// The numbers of a vector, where they are. It is like a std::span of std::int64_t, but their bytes may have any address and the host any
+// byte order.
+class numbers_view {
+public:
+    class iterator {
+    public:
+        using iterator_category = std::random_access_iterator_tag;
+        using value_type = std::int64_t;
+        using difference_type = std::ptrdiff_t;
+        using pointer = const std::int64_t *;
+        using reference = std::int64_t;
+
+        constexpr iterator() noexcept = default;
+        explicit iterator(const std::uint8_t *at) noexcept : at_(at) {}
+
+        std::int64_t operator*() const noexcept { return number_at(at_); }
+        std::int64_t operator[](difference_type n) const noexcept { return *(*this + n); }
+        iterator &operator++() noexcept { return *this += 1; }
+        iterator operator++(int) noexcept { return std::exchange(*this, *this + 1); }
+        iterator &operator--() noexcept { return *this -= 1; }
+        iterator operator--(int) noexcept { return std::exchange(*this, *this - 1); }
+        iterator &operator+=(difference_type n) noexcept { return at_ += n * detail::number_size, *this; }
+        iterator &operator-=(difference_type n) noexcept { return at_ -= n * detail::number_size, *this; }
+        friend iterator operator+(iterator it, difference_type n) noexcept { return it += n; }
+        friend iterator operator+(difference_type n, iterator it) noexcept { return it += n; }
+        friend iterator operator-(iterator it, difference_type n) noexcept { return it -= n; }
+        friend difference_type operator-(iterator a, iterator b) noexcept { return (a.at_ - b.at_) / detail::number_size; }
+        friend bool operator==(iterator a, iterator b) noexcept { return a.at_ == b.at_; }
+        friend bool operator!=(iterator a, iterator b) noexcept { return a.at_ != b.at_; }
+        friend bool operator<(iterator a, iterator b) noexcept { return a.at_ < b.at_; }
+        friend bool operator>(iterator a, iterator b) noexcept { return b < a; }
+        friend bool operator<=(iterator a, iterator b) noexcept { return !(b < a); }
+        friend bool operator>=(iterator a, iterator b) noexcept { return !(a < b); }
+
+    private:
+        const std::uint8_t *at_ = nullptr;
+    };
+
+    constexpr numbers_view() noexcept = default;
+    explicit numbers_view(const lezgauri_bytes &bytes) noexcept : at_(bytes.bytes), count_(bytes.len / detail::number_size) {}
+
+    std::size_t size() const noexcept { return count_; }
+    bool empty() const noexcept { return count_ == 0; }
+    std::int64_t operator[](std::size_t index) const noexcept { return number_at(at_ + index * detail::number_size); }
+    iterator begin() const noexcept { return iterator(at_); }
+    iterator end() const noexcept { return iterator(at_ + count_ * detail::number_size); }
+    const_bytes bytes() const noexcept { return {at_, count_ * detail::number_size}; }
+
+private:
+    // compilers make this one load
+    static std::int64_t number_at(const std::uint8_t *at) noexcept
+    {
+        std::uint64_t number = 0;
+        for (int i = 0; i < detail::number_size; i++) {
+            number |= std::uint64_t(at[i]) << (8 * i);
+        }
+        return static_cast<std::int64_t>(number);
+    }
+
+    const std::uint8_t *at_ = nullptr;
+    std::size_t count_ = 0;
+};
+
+namespace detail {
+
+// Returns nothing, or why the call was refused.
+template <class Policy>
+result_of<Policy, void> done(std::uint32_t number) noexcept(Policy::is_noexcept)
+{
+    if (number != LEZGAURI_OK) {
+        return Policy::template refuse<void>(fault_of(number));
+    }
+    return result_of<Policy, void>();
+}
+
+// Returns whether there was something. `none` is the status if there wasn't.
+template <class Policy>
+result_of<Policy, bool> was_there(std::uint32_t number, std::uint32_t none) noexcept(Policy::is_noexcept)
+{
+    return if_ok<Policy>(number == none ? std::uint32_t(LEZGAURI_OK) : number, number != none);
+}
+
+// Returns a value, or nothing if the status is `none`.
+template <class Policy, class T>
+result_of<Policy, std::optional<T>> if_there(std::uint32_t number, std::uint32_t none, const T &value) noexcept(Policy::is_noexcept)
+{
+    if (number == none) {
+        return std::optional<T>();
+    }
+    return if_ok<Policy>(number, std::optional<T>(value));
+}
+
+// A range that is gone through once. `Source` has `Item`, and `next(item)`, the status of finding the first or the next item:
+// LEZGAURI_NO_VALUE at the end. If a call is refused, the range throws `error`, or without exceptions ends, and `why` is the fault.
+template <class Policy, class Source>
+class once {
+public:
+    class iterator {
+    public:
+        using iterator_category = std::input_iterator_tag;
+        using value_type = typename Source::Item;
+        using difference_type = std::ptrdiff_t;
+        using pointer = const value_type *;
+        using reference = const value_type &;
+
+        iterator() noexcept = default;
+        explicit iterator(once *range) noexcept(Policy::is_noexcept) : range_(range) { advance(); }
+
+        reference operator*() const noexcept { return range_->item_; }
+        pointer operator->() const noexcept { return &range_->item_; }
+        iterator &operator++() noexcept(Policy::is_noexcept) { return advance(), *this; }
+        void operator++(int) noexcept(Policy::is_noexcept) { advance(); }
+        friend bool operator==(const iterator &a, const iterator &b) noexcept { return a.range_ == b.range_; }
+        friend bool operator!=(const iterator &a, const iterator &b) noexcept { return a.range_ != b.range_; }
+
+    private:
+        void advance() noexcept(Policy::is_noexcept)
+        {
+            const std::uint32_t number = range_->source_.next(range_->item_);
+            if (number == LEZGAURI_OK) {
+                return;
+            }
+            if (number != LEZGAURI_NO_VALUE) {
+                range_->why_ = fault_of(number);
+                static_cast<void>(Policy::template refuse<std::size_t>(range_->why_));
+            }
+            range_ = nullptr;
+        }
+
+        once *range_ = nullptr;
+    };
+
+    explicit once(Source source) noexcept : source_(source) {}
+
+    iterator begin() noexcept(Policy::is_noexcept) { return iterator(this); }
+    iterator end() noexcept { return iterator(); }
+
+    // After the range ended: `ok`, or the fault that ended it.
+    const fault &why() const noexcept { return why_; }
+
+private:
+    Source source_;
+    typename Source::Item item_{};
+    fault why_;
+};
+
+// The named objects of a segment, in order of the names.
+struct name_source {
+    using Item = named;
+
+    const lezgauri_handle *handle;
+    bool is_first = true;
+
+    std::uint32_t next(named &item) noexcept
+    {
+        return lezgauri_next_name(handle, std::exchange(is_first, false) ? nullptr : item.name, &item);
+    }
+};
+
+// The items of a vector or a list in order. Those of a vector are found by their index, those of a list step by step.
+template <class Value, class Handle>
+struct item_source {
+    using Item = Value;
+
+    Handle *handle;
+    place sequence;
+    std::uint32_t index = 0;
+    bool is_list = false;
+
+    std::uint32_t next(Value &item) noexcept
+    {
+        place found{};
+        std::uint32_t number = is_list ? lezgauri_next_item(handle, sequence, item.at(), &found)
+                                       : lezgauri_item(handle, sequence, index, &found);
+        if (number == LEZGAURI_OUT_OF_RANGE) {
+            return LEZGAURI_NO_VALUE;
+        }
+        if (number == LEZGAURI_OK) {
+            item = Value(handle, found);
+            if (index++ == 0) {
+                place second{};
+                is_list = lezgauri_next_item(handle, sequence, found, &second) != LEZGAURI_OTHER_TYPE;
+            }
+        }
+        return number;
+    }
+};
+
+// The keys of a map in ascending order.
+struct key_source {
+    using Item = std::int64_t;
+
+    const lezgauri_handle *handle;
+    place map;
+    bool is_first = true;
+
+    std::uint32_t next(std::int64_t &key) noexcept
+    {
+        return lezgauri_next_key(handle, map, std::exchange(is_first, false) ? nullptr : &key, &key);
+    }
+};
+
+// The keys of a map in ascending order, each with its value.
+template <class Value, class Handle>
+struct entry_source {
+    struct Item {
+        std::int64_t key = 0;
+        Value value;
+    };
+
+    Handle *handle;
+    place map;
+    bool is_first = true;
+
+    std::uint32_t next(Item &entry) noexcept
+    {
+        place found{};
+        std::uint32_t number = lezgauri_next_key(handle, map, std::exchange(is_first, false) ? nullptr : &entry.key, &entry.key);
+        if (number == LEZGAURI_OK) {
+            number = lezgauri_get(handle, map, entry.key, &found);
+            entry.value = Value(handle, found);
+        }
+        return number;
+    }
+};
+
+} // namespace detail
+
+// A value of an open segment: its place, and the segment. `Handle` is `const lezgauri_handle` if the segment is open only for reading; then
+// the functions that change something don't compile. A call on a value of another type is refused with `other_type`.
+template <class Policy, class Handle>
+class basic_value {
+    template <class T>
+    using result = detail::result_of<Policy, T>;
+
+public:
+    using items_range = detail::once<Policy, detail::item_source<basic_value, Handle>>;
+    using keys_range = detail::once<Policy, detail::key_source>;
+    using entries_range = detail::once<Policy, detail::entry_source<basic_value, Handle>>;
+
+    basic_value() noexcept = default;
+    basic_value(Handle *segment, place at) noexcept : handle_(segment), at_(at) {}
+
+    // A value that may be changed is also a value that is read.
+    template <class Other, std::enable_if_t<std::is_same_v<const Other, Handle>, int> = 0>
+    basic_value(const basic_value<Policy, Other> &other) noexcept : handle_(other.segment()), at_(other.at())
+    {
+    }
+
+    Handle *segment() const noexcept { return handle_; }
+    place at() const noexcept { return at_; }
+
+    // Whether both are the same place of the same segment.
+    friend bool operator==(const basic_value &a, const basic_value &b) noexcept
+    {
+        return a.handle_ == b.handle_ && a.at_.at == b.at_.at && a.at_.type == b.at_.type;
+    }
+    friend bool operator!=(const basic_value &a, const basic_value &b) noexcept { return !(a == b); }
+
+    // ---- reading
+
+    // The value as an std::int64_t, an std::string_view or a numbers_view: `load`, `text` or `numbers`.
+    template <class T>
+    [[nodiscard]] result<T> as() const noexcept(Policy::is_noexcept)
+    {
+        static_assert(std::is_same_v<T, std::int64_t> || std::is_same_v<T, std::string_view> || std::is_same_v<T, numbers_view>,
+                      "a value is a std::int64_t, a std::string_view or a numbers_view");
+        if constexpr (std::is_same_v<T, std::int64_t>) {
+            return load();
+        } else if constexpr (std::is_same_v<T, std::string_view>) {
+            return text();
+        } else {
+            return numbers();
+        }
+    }
+
+    // lezgauri_load: the number of an i64.
+    [[nodiscard]] result<std::int64_t> load() const noexcept(Policy::is_noexcept)
+    {
+        std::int64_t found = 0;
+        const std::uint32_t number = lezgauri_load(handle_, at_, &found);
+        return detail::if_ok<Policy>(number, found);
+    }
+
+    // lezgauri_text: the bytes of a string where they are, until the next call that changes the segment.
+    [[nodiscard]] result<std::string_view> text() const noexcept(Policy::is_noexcept)
+    {
+        lezgauri_bytes bytes{};
+        const std::uint32_t number = lezgauri_text(handle_, at_, &bytes);
+        return detail::if_ok<Policy>(number, std::string_view(reinterpret_cast<const char *>(bytes.bytes), bytes.len));
+    }
+
+    // lezgauri_numbers: the numbers of a vector of i64 where they are, until the next call that changes the segment.
+    [[nodiscard]] result<numbers_view> numbers() const noexcept(Policy::is_noexcept)
+    {
+        lezgauri_bytes bytes{};
+        const std::uint32_t number = lezgauri_numbers(handle_, at_, &bytes);
+        return detail::if_ok<Policy>(number, numbers_view(bytes));
+    }
+
+    // lezgauri_len: the number of bytes, items, keys or objects.
+    [[nodiscard]] result<std::uint32_t> size() const noexcept(Policy::is_noexcept)
+    {
+        std::uint32_t len = 0;
+        const std::uint32_t number = lezgauri_len(handle_, at_, &len);
+        return detail::if_ok<Policy>(number, len);
+    }
+
+    // lezgauri_field: a field of a struct, by its index from 0.
+    [[nodiscard]] result<basic_value> field(std::uint32_t index) const noexcept(Policy::is_noexcept)
+    {
+        place found{};
+        const std::uint32_t number = lezgauri_field(handle_, at_, index, &found);
+        return detail::if_ok<Policy>(number, basic_value(handle_, found));
+    }
+
+    // lezgauri_item: an item of a vector or a list, by its index from 0.
+    [[nodiscard]] result<basic_value> item(std::uint32_t index) const noexcept(Policy::is_noexcept)
+    {
+        place found{};
+        const std::uint32_t number = lezgauri_item(handle_, at_, index, &found);
+        return detail::if_ok<Policy>(number, basic_value(handle_, found));
+    }
+
+    // lezgauri_get: the value of a key of a map. Refused with `absent` if the map doesn't have the key.
+    [[nodiscard]] result<basic_value> get(std::int64_t key) const noexcept(Policy::is_noexcept)
+    {
+        place found{};
+        const std::uint32_t number = lezgauri_get(handle_, at_, key, &found);
+        return detail::if_ok<Policy>(number, basic_value(handle_, found));
+    }
+
+    // The same, or nothing if the map doesn't have the key.
+    [[nodiscard]] result<std::optional<basic_value>> get_if(std::int64_t key) const noexcept(Policy::is_noexcept)
+    {
+        place found{};
+        const std::uint32_t number = lezgauri_get(handle_, at_, key, &found);
+        return detail::if_there<Policy>(number, LEZGAURI_ABSENT, basic_value(handle_, found));
+    }
+
+    // lezgauri_content: the object of an own, or the frozen object of a shared. Refused with `no_value` if it is null.
+    [[nodiscard]] result<basic_value> content() const noexcept(Policy::is_noexcept)
+    {
+        place found{};
+        const std::uint32_t number = lezgauri_content(handle_, at_, &found);
+        return detail::if_ok<Policy>(number, basic_value(handle_, found));
+    }
+
+    // The same, or nothing if it is null.
+    [[nodiscard]] result<std::optional<basic_value>> content_if() const noexcept(Policy::is_noexcept)
+    {
+        place found{};
+        const std::uint32_t number = lezgauri_content(handle_, at_, &found);
+        return detail::if_there<Policy>(number, LEZGAURI_NO_VALUE, basic_value(handle_, found));
+    }
+
+    // The items of a vector or a list in order: for (const lezgauri::value &item : list.items()) ..
+    [[nodiscard]] items_range items() const noexcept { return items_range({handle_, at_}); }
+
+    // The keys of a map in ascending order, and with their values: for (const auto &[key, value] : map.entries()) ..
+    [[nodiscard]] keys_range keys() const noexcept { return keys_range({handle_, at_}); }
+    [[nodiscard]] entries_range entries() const noexcept { return entries_range({handle_, at_}); }
+
+    // ---- changing
+
+    // lezgauri_store: stores a number in an i64.
+    result<void> store(std::int64_t number) const noexcept(Policy::is_noexcept)
+    {
+        return detail::done<Policy>(lezgauri_store(handle_, at_, number));
+    }
+
+    // lezgauri_assign: replaces the bytes of a string. They aren't in the segment.
+    result<void> assign(const_bytes bytes) const noexcept(Policy::is_noexcept)
+    {
+        return detail::done<Policy>(lezgauri_assign(handle_, at_, bytes.data(), bytes.size()));
+    }
+
+    // lezgauri_append: adds bytes at the end of a string.
+    result<void> append(const_bytes bytes) const noexcept(Policy::is_noexcept)
+    {
+        return detail::done<Policy>(lezgauri_append(handle_, at_, bytes.data(), bytes.size()));
+    }
+
+    // lezgauri_push_back: adds a default item at the end of a vector or a list, and returns it.
+    result<basic_value> push_back() const noexcept(Policy::is_noexcept)
+    {
+        place made{};
+        const std::uint32_t number = lezgauri_push_back(handle_, at_, &made);
+        return detail::if_ok<Policy>(number, basic_value(handle_, made));
+    }
+
+    // lezgauri_push_front: adds a default item at the front of a list, and returns it.
+    result<basic_value> push_front() const noexcept(Policy::is_noexcept)
+    {
+        place made{};
+        const std::uint32_t number = lezgauri_push_front(handle_, at_, &made);
+        return detail::if_ok<Policy>(number, basic_value(handle_, made));
+    }
+
+    // lezgauri_pop_back, lezgauri_pop_front. Refused with `no_value` if it is empty.
+    result<void> pop_back() const noexcept(Policy::is_noexcept) { return detail::done<Policy>(lezgauri_pop_back(handle_, at_)); }
+    result<void> pop_front() const noexcept(Policy::is_noexcept) { return detail::done<Policy>(lezgauri_pop_front(handle_, at_)); }
+
+    // lezgauri_put: the value of a key of a map, which is added if it is missing.
+    result<basic_value> put(std::int64_t key) const noexcept(Policy::is_noexcept)
+    {
+        place found{};
+        const std::uint32_t number = lezgauri_put(handle_, at_, key, &found);
+        return detail::if_ok<Policy>(number, basic_value(handle_, found));
+    }
+
+    // lezgauri_remove. Returns whether the map had the key.
+    result<bool> remove(std::int64_t key) const noexcept(Policy::is_noexcept)
+    {
+        return detail::was_there<Policy>(lezgauri_remove(handle_, at_, key), LEZGAURI_ABSENT);
+    }
+
+    // lezgauri_put_content: makes a new object for an own, and returns it.
+    result<basic_value> put_content() const noexcept(Policy::is_noexcept)
+    {
+        place made{};
+        const std::uint32_t number = lezgauri_put_content(handle_, at_, &made);
+        return detail::if_ok<Policy>(number, basic_value(handle_, made));
+    }
+
+    // lezgauri_clear, lezgauri_shrink_to_fit.
+    result<void> clear() const noexcept(Policy::is_noexcept) { return detail::done<Policy>(lezgauri_clear(handle_, at_)); }
+    result<void> shrink_to_fit() const noexcept(Policy::is_noexcept)
+    {
+        return detail::done<Policy>(lezgauri_shrink_to_fit(handle_, at_));
+    }
+
+    // lezgauri_freeze: freezes the object of this own, and makes a shared value point to it.
+    result<void> freeze(const basic_value &shared) const noexcept(Policy::is_noexcept)
+    {
+        return detail::done<Policy>(lezgauri_freeze(handle_, at_, shared.at_));
+    }
+
+    // lezgauri_share: makes this shared value point to the frozen object of another one.
+    result<void> share(const basic_value &from) const noexcept(Policy::is_noexcept)
+    {
+        return detail::done<Policy>(lezgauri_share(handle_, at_, from.at_));
+    }
+
+private:
+    Handle *handle_ = nullptr;
+    place at_{};
+};
+
+namespace detail {
+
+// What segments and readers have in common: finding objects.
+template <class Segment, class Policy, class Handle>
+class objects {
+    using value = basic_value<Policy, Handle>;
+
+public:
+    using names_range = once<Policy, name_source>;
+
+    // lezgauri_find: the first value of the object with this name and type. Refused with `absent` if there is none.
+    [[nodiscard]] result_of<Policy, value> find(const char *name, std::uint32_t type_id) const noexcept(Policy::is_noexcept)
+    {
+        return find(name, type_id, 0);
+    }
+
+    // lezgauri_find_item: the value with this index, counted from 0.
+    [[nodiscard]] result_of<Policy, value> find(const char *name, std::uint32_t type_id,
+                                                std::uint32_t index) const noexcept(Policy::is_noexcept)
+    {
+        place found{};
+        const std::uint32_t number = lezgauri_find_item(handle(), name, type_id, index, &found);
+        return if_ok<Policy>(number, value(handle(), found));
+    }
+
+    // lezgauri_find, or nothing if no object has the name.
+    [[nodiscard]] result_of<Policy, std::optional<value>> find_if(const char *name,
+                                                                  std::uint32_t type_id) const noexcept(Policy::is_noexcept)
+    {
+        place found{};
+        const std::uint32_t number = lezgauri_find(handle(), name, type_id, &found);
+        return if_there<Policy>(number, LEZGAURI_ABSENT, value(handle(), found));
+    }
+
+    // lezgauri_named_object: the object with this name, of any type.
+    [[nodiscard]] result_of<Policy, named> named_object(const char *name) const noexcept(Policy::is_noexcept)
+    {
+        named found{};
+        const std::uint32_t number = lezgauri_named_object(handle(), name, &found);
+        return if_ok<Policy>(number, found);
+    }
+
+    // The named objects in order of their names: for (const lezgauri::named &object : segment.names()) ..
+    [[nodiscard]] names_range names() const noexcept { return names_range({handle()}); }
+
+    // lezgauri_find_unique: the unique object of a type. Refused with `absent` if there is none.
+    [[nodiscard]] result_of<Policy, value> find_unique(std::uint32_t type_id) const noexcept(Policy::is_noexcept)
+    {
+        place found{};
+        const std::uint32_t number = lezgauri_find_unique(handle(), type_id, &found);
+        return if_ok<Policy>(number, value(handle(), found));
+    }
+
+    // The same, or nothing if there is none.
+    [[nodiscard]] result_of<Policy, std::optional<value>> find_unique_if(std::uint32_t type_id) const noexcept(Policy::is_noexcept)
+    {
+        place found{};
+        const std::uint32_t number = lezgauri_find_unique(handle(), type_id, &found);
+        return if_there<Policy>(number, LEZGAURI_ABSENT, value(handle(), found));
+    }
+
+private:
+    Handle *handle() const noexcept { return static_cast<const Segment *>(this)->get(); }
+};
+
+} // namespace detail
+
 // ---- segments and clients
 
 template <class Policy>
@@ -686,8 +1255,10 @@ private:
 // Owns an open segment: its memory, or if that was lent by the caller only the right to use it. It is empty if it was made without one,
 // moved from or closed; then its calls are refused with `bad_argument`.
 template <class Policy>
-class basic_segment {
+class basic_segment : public detail::objects<basic_segment<Policy>, Policy, lezgauri_handle> {
 public:
+    using value = basic_value<Policy, lezgauri_handle>;
+
     basic_segment() noexcept = default;
     explicit basic_segment(lezgauri_handle *owned) noexcept : handle_(owned) {}
 
@@ -797,6 +1368,110 @@ public:
         return found;
     }
 
+    // lezgauri_add_types: adds types after those of the segment, which come first in `table`.
+    detail::result_of<Policy, void> add_types(items<const type> table) noexcept(Policy::is_noexcept)
+    {
+        lezgauri_fault told;
+        const std::uint32_t number = lezgauri_add_types(get(), table.data(), table.size(), &told);
+        if (number != LEZGAURI_OK) {
+            return Policy::template refuse<void>(detail::fault_of(number, told));
+        }
+        return detail::result_of<Policy, void>();
+    }
+
+    // lezgauri_upgrade.
+    detail::result_of<Policy, void> upgrade() noexcept(Policy::is_noexcept) { return detail::done<Policy>(lezgauri_upgrade(get())); }
+
+    // lezgauri_construct: makes an object of `count` default values, and returns the first one.
+    detail::result_of<Policy, value> construct(const char *name, std::uint32_t type_id,
+                                               std::uint32_t count = 1) noexcept(Policy::is_noexcept)
+    {
+        place made{};
+        const std::uint32_t number = lezgauri_construct(get(), name, type_id, count, &made);
+        return detail::if_ok<Policy>(number, value(get(), made));
+    }
+
+    // lezgauri_find_or_construct.
+    detail::result_of<Policy, value> find_or_construct(const char *name, std::uint32_t type_id) noexcept(Policy::is_noexcept)
+    {
+        place found{};
+        const std::uint32_t number = lezgauri_find_or_construct(get(), name, type_id, &found);
+        return detail::if_ok<Policy>(number, value(get(), found));
+    }
+
+    // lezgauri_destroy. Returns whether there was such an object.
+    detail::result_of<Policy, bool> destroy(const char *name, std::uint32_t type_id) noexcept(Policy::is_noexcept)
+    {
+        return detail::was_there<Policy>(lezgauri_destroy(get(), name, type_id), LEZGAURI_ABSENT);
+    }
+
+    // lezgauri_construct_unique.
+    detail::result_of<Policy, value> construct_unique(std::uint32_t type_id) noexcept(Policy::is_noexcept)
+    {
+        place made{};
+        const std::uint32_t number = lezgauri_construct_unique(get(), type_id, &made);
+        return detail::if_ok<Policy>(number, value(get(), made));
+    }
+
+    // lezgauri_find_or_construct_unique.
+    detail::result_of<Policy, value> find_or_construct_unique(std::uint32_t type_id) noexcept(Policy::is_noexcept)
+    {
+        place found{};
+        const std::uint32_t number = lezgauri_find_or_construct_unique(get(), type_id, &found);
+        return detail::if_ok<Policy>(number, value(get(), found));
+    }
+
+    // lezgauri_destroy_unique. Returns whether there was such an object.
+    detail::result_of<Policy, bool> destroy_unique(std::uint32_t type_id) noexcept(Policy::is_noexcept)
+    {
+        return detail::was_there<Policy>(lezgauri_destroy_unique(get(), type_id), LEZGAURI_ABSENT);
+    }
+
+    // lezgauri_construct_anonymous: the image isn't sound until destroy_anonymous.
+    [[nodiscard]] detail::result_of<Policy, value> construct_anonymous(std::uint32_t type_id) noexcept(Policy::is_noexcept)
+    {
+        place made{};
+        const std::uint32_t number = lezgauri_construct_anonymous(get(), type_id, &made);
+        return detail::if_ok<Policy>(number, value(get(), made));
+    }
+
+    // lezgauri_destroy_anonymous.
+    detail::result_of<Policy, void> destroy_anonymous(place object) noexcept(Policy::is_noexcept)
+    {
+        return detail::done<Policy>(lezgauri_destroy_anonymous(get(), object));
+    }
+
+private:
+    std::unique_ptr<lezgauri_handle, detail::close_segment> handle_;
+};
+
+// Owns a handle on a segment that is open only for reading. Its memory is the caller's, and outlives it. It is empty if it was made
+// without one, moved from or closed; then its calls are refused with `bad_argument`.
+template <class Policy>
+class basic_reader : public detail::objects<basic_reader<Policy>, Policy, const lezgauri_handle> {
+public:
+    basic_reader() noexcept = default;
+    explicit basic_reader(lezgauri_handle *owned) noexcept : handle_(owned) {}
+
+    // The same segment with the other policy.
+    template <class Other>
+    explicit basic_reader(basic_reader<Other> &&other) noexcept : handle_(other.release())
+    {
+    }
+
+    explicit operator bool() const noexcept { return handle_ != nullptr; }
+    const lezgauri_handle *get() const noexcept { return handle_.get(); }
+    [[nodiscard]] lezgauri_handle *release() noexcept { return handle_.release(); }
+    void close() noexcept { handle_.reset(); }
+
+    // lezgauri_reader: another reader of the same segment, for another thread. It may be made while this one is used.
+    [[nodiscard]] detail::result_of<Policy, basic_reader> another() const noexcept(Policy::is_noexcept)
+    {
+        lezgauri_handle *handle = nullptr;
+        const std::uint32_t number = lezgauri_reader(get(), &handle);
+        return detail::if_ok<Policy>(number, basic_reader(handle));
+    }
+
 private:
     std::unique_ptr<lezgauri_handle, detail::close_segment> handle_;
 };
@@ -884,6 +1559,19 @@ template <class Policy = default_policy>
     return open_in<Policy>(memory, memory.size());
 }
 
+// lezgauri_read: opens the image in the caller's memory only for reading. The memory may be mapped read-only, and must outlive the reader.
+template <class Policy = default_policy>
+[[nodiscard]] detail::result_of<Policy, basic_reader<Policy>> read(const_bytes memory) noexcept(Policy::is_noexcept)
+{
+    lezgauri_handle *handle = nullptr;
+    lezgauri_fault told;
+    const std::uint32_t number = lezgauri_read(memory.data(), memory.size(), &handle, &told);
+    if (number != LEZGAURI_OK) {
+        return Policy::template refuse<basic_reader<Policy>>(detail::fault_of(number, told));
+    }
+    return basic_reader<Policy>(handle);
+}
+
 // lezgauri_create: makes and opens a segment of `size` bytes without objects or types.
 template <class Policy = default_policy>
 [[nodiscard]] detail::result_of<Policy, basic_segment<Policy>>
@@ -949,11 +1637,17 @@ template <class Policy = default_policy>
 // ---- the two namespaces
 
 using segment = basic_segment<default_policy>;
+using reader = basic_reader<default_policy>;
+using value = basic_value<default_policy, lezgauri_handle>;
+using const_value = basic_value<default_policy, const lezgauri_handle>;
 using client = basic_client<default_policy>;
 
 namespace results {
 
 using segment = basic_segment<returning>;
+using reader = basic_reader<returning>;
+using value = basic_value<returning, lezgauri_handle>;
+using const_value = basic_value<returning, const lezgauri_handle>;
 using client = basic_client<returning>;
 
 template <class Policy = returning>
@@ -991,6 +1685,12 @@ template <class Policy = returning>
 [[nodiscard]] expected<segment> open_in(mutable_bytes memory) noexcept
 {
     return lezgauri::open_in<Policy>(memory);
+}
+
+template <class Policy = returning>
+[[nodiscard]] expected<reader> read(const_bytes memory) noexcept
+{
+    return lezgauri::read<Policy>(memory);
 }
 
 template <class Policy = returning>

@@ -18,9 +18,9 @@ pub struct Kept {
 }
 
 impl Model for Kept {
-    ghost use Rattle.lezgauri_c.specs.Kept.{may_own};
+    ghost use Rattle.lezgauri_c.specs.Kept.{kept_row, may_own};
 
-    ghost also_owns = { λ kept. may_own kept.at kept.value };
+    ghost also_owns = { λ kept. may_own kept_row kept.at kept.value };
 }
 
 unsafe impl Send for Kept {}

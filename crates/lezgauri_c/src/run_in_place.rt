@@ -182,7 +182,7 @@ fn run_on<F: Fit, A: Allocator, W: Sink>(
 
 /// Makes an image one of the version that may have frozen objects. Writes nothing to an image of that version, so that a run that
 /// only reads leaves the pages of a mapped file as they are.
-fn upgrade<A: Allocator>(window: &mut Window<A>)
+pub(crate) fn upgrade<A: Allocator>(window: &mut Window<A>)
     ensures { window.new ≡ with_bytes window.old (upgraded window.old.bytes) }
 {
     if !header::shares(window.view()) {

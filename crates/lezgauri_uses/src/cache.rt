@@ -1,4 +1,6 @@
-use lezgauri::{AllocatorKind, Code, Error, Image, IndexKind, Place, Type, TypeId, type_table};
+use lezgauri::{
+    AllocatorKind, Code, Error, Image, ImageRead, IndexKind, Place, Type, TypeId, type_table,
+};
 use std::alloc::Global;
 
 /// The types of the cache, by number: a number, a map of numbers, and a list of numbers.

@@ -1,4 +1,6 @@
-use lezgauri::{AllocatorKind, Error, Fields, Image, IndexKind, Type, TypeId, type_table};
+use lezgauri::{
+    AllocatorKind, Error, Fields, Image, ImageRead, IndexKind, Type, TypeId, type_table,
+};
 use std::alloc::Global;
 
 /// The types of the table, by number: a number, a text, a map of numbers, and a struct of a map and a text.

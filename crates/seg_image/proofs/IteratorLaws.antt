@@ -1,8 +1,9 @@
--- The next name and the next key, by the index of the last one.
-use Rattle.std.proofs.Common.{◌≡◌, ℕ, zero, suc, ◌+◌, ◌<◌, ◌≤◌, ◌⊎◌, inl, inr, List, length, Option, Some, None, Result, Ok, Err, refl, sym, ap, subst, arith}
-use Rattle.std.specs.Prelude.{ℤ, slice_get, get_or}
+-- The next name, the next item and the next key, by the index of the last one.
+use Rattle.std.proofs.Common.{◌≡◌, ℕ, zero, suc, ◌+◌, ◌-◌, ◌<◌, ◌≤◌, ◌⊎◌, inl, inr, List, length, Option, Some, None, Result, Ok, Err, refl, sym, ap, subst, arith}
+use Rattle.std.specs.Prelude.{ℤ, slice_get, get_or, true, nat_lt, if◌then◌else◌, IsSomeAnd, MatchResult}
 use Rattle.std.specs.Option.{option_map}
 use Rattle.std.specs.Result.{result_ok}
+use Rattle.std.proofs.lemmas.Bool.Decides.{nat_tests}
 use Rattle.std.proofs.lemmas.Option.{slice_get_cases}
 use Rattle.seg_spec.specs.Index.{Root}
 use Rattle.seg_spec.specs.Owning.{Stands}
@@ -12,6 +13,7 @@ use Rattle.seg_spec.specs.Value.{Values, Map, IsAscending}
 use Rattle.seg_spec.specs.Items.{key_place}
 use Rattle.seg_index.specs.Lists.{root_after}
 use Rattle.seg_index.proofs.RootOrder.{InOrder, stands_there, found_next}
+use Rattle.seg_seq.specs.Sequences.{IsPast}
 use Rattle.seg_map.specs.EitherMap.{IsMapOf}
 use Rattle.seg_map.specs.Maps.{first_of, keys_above}
 use Rattle.seg_map.proofs.KeyLaws as key_laws
@@ -38,6 +40,20 @@ none_before f xs (suc n) within e = go (slice_get_cases xs n).1
     go : ((x : _) × (n < length xs) × (slice_get xs n ≡ Some x) × (get_or xs n x ≡ x)) ⊎ ((length xs ≤ n) × (slice_get xs n ≡ None)) → suc n ≡ 0
     go (inl it) = let at = it.2 in cc
     go (inr past) = absurd (let far = past.0 in omega arith)
+
+-- ---- items
+
+-- the index of the item after the one before an index
+pub next_index : (n i : ℕ) → 1 ≤ i → i < n → (if nat_lt (i - 1 + 1) n then i - 1 + 1 else i - 1 + 1 - n) ≡ i
+next_index n i some below =
+    let same : i - 1 + 1 ≡ i = omega (arith, some) in
+    let on : nat_lt (i - 1 + 1) n ≡ true = grind (arith, nat_tests) in
+    rw on same
+
+-- an item below the count is found
+pub shown : (P : ℕ → Type 0) (i n : ℕ) (r : Result ℕ Code) → i < n → MatchResult r P (IsPast i n) → IsSomeAnd (result_ok r) P
+shown P i n (Ok at) below it = it
+shown P i n (Err code) below it = absurd (let past = it.past in omega (arith, below, past))
 
 -- ---- keys
 

@@ -1,5 +1,6 @@
 pub mod Growth
 pub mod Images
+pub mod Checked
 pub mod Places
 pub mod Owners
 pub mod Iterators

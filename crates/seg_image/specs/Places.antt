@@ -4,21 +4,27 @@
 --     item_place table T i found  the place of the object's value at an index
 --     value_count found           the number of the object's values
 --     is_counted form             the cells of values of this form have a count
+--     is_list form                the values of this form are lists
 --     object_type form            the type of the objects that they own
+--     shared_type form            the type of the objects to which they point as shared cells
 --     StandsIn image place v blocks   the place contains v, and owns these blocks
---     WhereMap image map claim    the claim is true of the map at a place
+--     WhereMap allocator segment map claim
+--                                 the claim is true of the map at a place
 --     content_place U at          the place of the object to which an own points
+--     frozen_place T payload      the place of the frozen object to which a shared cell points
 --     FieldPlace table place i result
 --                                 the place of a field of a struct, or why the struct has no such field
 use Rattle.std.specs.Prelude.{◌≡◌, ℕ, ◌+◌, ◌*◌, ◌%◌, ◌^◌, ℤ, ◌==◌, nat_lt, if◌then◌else◌, Bool, true, false, List, length, Option, Some, None, slice_get, MatchOption, Result, Ok, Err}
 use Rattle.seg_spec.specs.Types.{Form, Table, fields_of, size}
 use Rattle.seg_spec.specs.Value.{Value, Values}
 use Rattle.seg_spec.specs.Owning.{Stands}
+use Rattle.seg_spec.specs.Frozen.{frozen_words}
 use Rattle.seg_raw.specs.declared.code.Code.{Code}
 use Rattle.seg_raw.specs.declared.code.Code.TheVariants as code
 use Rattle.seg_manager.specs.declared.names.Found.{Found}
 use Rattle.seg_cells.specs.declared.place.Place.{Place}
 use Rattle.seg_cells.specs.Places.{place_of}
+use Rattle.seg_value.specs.Stored.{Stored}
 use Rattle.seg_map.specs.EitherMap.{WhereMaps}
 use Rattle.seg_image.specs.declared.image.Image.{Image}
 use Rattle.seg_image.specs.Images.{allocator_of, bytes_in, types_of}
@@ -56,9 +62,17 @@ is_counted (Some (Form.struct fields)) = false
 is_counted (Some (Form.shared T)) = false
 is_counted (Some _) = true
 
+abbrev pub is_list : Option Form → Bool
+is_list (Some (Form.list U)) = true
+is_list _ = false
+
 abbrev pub object_type : Option Form → Option ℕ
 object_type (Some (Form.own U)) = Some U
 object_type _ = None
+
+abbrev pub shared_type : Option Form → Option ℕ
+shared_type (Some (Form.shared T)) = Some T
+shared_type _ = None
 
 -- ---- values
 
@@ -69,16 +83,22 @@ StandsIn image place v blocks =
 
 -- If the place has a map, the claim is true of the type of the map's values, its keys and values,
 -- and the blocks that it owns.
-abbrev pub WhereMap : {A : Type 0} → Image A → Place →
-    (ℕ → List ℤ → Values → List ℕ → Type 0) → Type 0
-WhereMap image map claim =
-    WhereMaps (allocator_of image) (bytes_in image) (types_of image) (place_of map) claim
+abbrev pub WhereMap : ℕ → Stored → Place → (ℕ → List ℤ → Values → List ℕ → Type 0) → Type 0
+WhereMap allocator segment map claim =
+    WhereMaps allocator segment.window.bytes segment.types (place_of map) claim
 
 -- the place of the object to which an own points, by their types
 abbrev pub content_place : Option ℕ → Option ℕ → Result Place Code
 content_place None at = Err code.OtherType
 content_place (Some U) None = Err code.Null
 content_place (Some U) (Some at) = Ok (record { at = at; type_id = U })
+
+-- the place of the frozen object to which a shared cell points, by their types
+abbrev pub frozen_place : Option ℕ → Option ℕ → Result Place Code
+frozen_place None payload = Err code.OtherType
+frozen_place (Some T) None = Err code.Null
+frozen_place (Some T) (Some payload) =
+    Ok (record { at = (payload + frozen_words) % 2 ^ 32; type_id = T })
 
 -- the place of a field of a struct, by its index from 0
 abbrev pub FieldPlace : Table → Place → ℕ → Result Place Code → Type 0

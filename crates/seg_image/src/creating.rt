@@ -1,4 +1,4 @@
-ghost use Rattle.std.specs.Prelude.{◌≡◌, ◌⊎◌, ◌≤◌, replicate, IfOk, IfErr};
+ghost use Rattle.std.specs.Prelude.{◌≡◌, ◌⊎◌, replicate, IfOk, IfErr};
 ghost use Rattle.seg_spec.specs.Faulty.{IsImageLength};
 ghost use Rattle.seg_space.specs.NewSegments.{IsNewSegment};
 ghost use Rattle.seg_image.specs.Images.{segment_of, allocator_of, allocator_number};

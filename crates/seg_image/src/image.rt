@@ -10,10 +10,11 @@ ghost use Rattle.seg_image.specs.Images.{segment_of, allocator_of, bytes_in, IsO
 
 use seg_bestfit::BestFit;
 use seg_check::save;
-use seg_layout::TypeTable;
-use seg_manager::{Segment, Window};
+use seg_layout::{TypeId, TypeTable};
+use seg_manager::{Segment, View, Window};
 use seg_raw::Fault;
 use seg_seqfit::SeqFit;
+use seg_value::{CellAt, Content, PayloadAt, SegmentRead};
 use std::alloc::Allocator;
 
 /// An open image: a segment with the allocator that the image's header selects.
@@ -101,5 +102,35 @@ impl<A: Allocator> Image<A> {
         ensures { result.items ≡ (segment_of self).window.bytes }
     {
         on!(self, segment => segment.into_window().into_bytes())
+    }
+}
+
+impl<A: Allocator> SegmentRead for Image<A> {
+    ghost stored = { segment_of };
+
+    ghost allocator = { allocator_of };
+
+    fn view(&self) -> View<'_> {
+        on!(self, segment => segment.view())
+    }
+
+    fn types(&self) -> &TypeTable {
+        on!(self, segment => segment.types())
+    }
+
+    fn content(&self, t: TypeId) -> Option<Content> {
+        on!(self, segment => segment.content(t))
+    }
+
+    fn count(&self, cell: CellAt) -> u32 {
+        on!(self, segment => segment.count(cell))
+    }
+
+    fn start(&self, cell: CellAt) -> PayloadAt {
+        on!(self, segment => segment.start(cell))
+    }
+
+    fn load(&self, at: CellAt) -> i64 {
+        on!(self, segment => segment.load(at))
     }
 }

@@ -1,163 +1,167 @@
-//! Iterators over an open image: its names, and the keys of a map with their values.
+//! Iterators over what can be read of an image: its names, the items of a sequence, and the keys of a map with their
+//! values.
 
-ghost use Rattle.std.specs.Prelude.{◌≡◌, ◌≤◌, ℕ, length, true, false, None, Ok, Err, IfOk, IsOk, IsSomeAnd, MatchOption, slice_get};
+ghost use Rattle.std.specs.Prelude.{◌≡◌, ◌<◌, ◌≤◌, ℕ, List, length, None, IsSomeAnd, MatchOption, slice_get};
 ghost use Rattle.std.specs.Iterator.{at_most};
 ghost use Rattle.std.specs.Option.{option_map};
 ghost use Rattle.seg_spec.specs.Sound.{Picture};
-ghost use Rattle.seg_spec.specs.Types.{form_at};
-ghost use Rattle.seg_map.specs.EitherMap.{has_keys};
+ghost use Rattle.seg_spec.specs.Value.{Values, count};
+ghost use Rattle.seg_cells.specs.Places.{place_of};
+ghost use Rattle.seg_seq.specs.Lists.{HasList};
+ghost use Rattle.seg_seq.specs.Sequences.{HasItems, ShowsItem};
 ghost use Rattle.seg_manager.specs.NamedObjects.{DescribesRoot};
-ghost use Rattle.seg_image.specs.Images.{types_of, IsOpen};
-ghost use Rattle.seg_image.specs.Iterators.{item_before, HasNamed, NamesNext, HasKeyed, KeysNext, EntriesNext};
+ghost use Rattle.seg_manager.specs.Segments.{IsSegment};
+ghost use Rattle.seg_image.specs.Iterators.{item_before, NamesNext, ItemsNext, ShowsItemBefore, KeysNext, EntriesNext};
 ghost use Rattle.seg_image.specs.Places.{WhereMap};
 
-use crate::image::{Image, on};
+use crate::read::ImageRead;
+use seg_layout::TypeId;
 use seg_manager::Named;
-use seg_raw::Code;
-use seg_value::Place;
-use std::alloc::Allocator;
+use seg_value::{Place, SegmentRead, ValueAt};
 
-/// The names of an image in order, from [`Image::names`].
+/// The names of an image in order, from [`ImageRead::names`].
 #[derive(Drop)]
-pub struct Names<'a, A: Allocator> {
-    image: &'a Image<A>,
-    last: Option<&'a [u8]>,
-    left: u32,
+pub struct Names<'a, S> {
+    pub(crate) image: &'a S,
+    pub(crate) last: Option<&'a [u8]>,
+    pub(crate) left: u32,
 }
 
-/// The keys of a map in order, from [`Image::keys`].
+/// The places of the items of a vector or a list in order, from [`ImageRead::items`].
 #[derive(Drop)]
-pub struct Keys<'a, A: Allocator> {
-    image: &'a Image<A>,
-    map: Place,
-    last: Option<i64>,
-    left: u32,
+pub struct Items<'a, S> {
+    pub(crate) image: &'a S,
+    pub(crate) sequence: Place,
+    pub(crate) item_type: TypeId,
+    pub(crate) is_list: bool,
+    /// The position of the last item that was returned, in a list.
+    pub(crate) last: Option<ValueAt>,
+    pub(crate) len: u32,
+    pub(crate) left: u32,
 }
 
-/// The keys of a map in order with the places of their values, from [`Image::entries`].
+/// The keys of a map in order, from [`ImageRead::keys`].
 #[derive(Drop)]
-pub struct Entries<'a, A: Allocator>(Keys<'a, A>);
-
-impl<A: Allocator> Image<A> {
-    /// The names in order, each with the type of its object and the number of its values.
-    pub fn names(&self) -> Names<'_, A>
-        ensures image { result.image.now ≡ self.now }
-        ensures first { (picture : Picture) → IsOpen self.now picture →
-            HasNamed picture.names result 0 }
-    {
-        Names {
-            image: self,
-            last: None,
-            left: self.num_named(),
-        }
-    }
-
-    /// The keys of a map in order. `OtherType` if the place isn't a map.
-    pub fn keys(&self, map: Place) -> Result<Keys<'_, A>, Code>
-        ensures image { IfOk result (λ it. (it.image.now ≡ self.now) × (it.map ≡ map)) }
-        ensures other { has_keys (form_at (types_of self.now) map.type_id) ≡ false →
-            result ≡ Err Code.OtherType }
-        ensures some { has_keys (form_at (types_of self.now) map.type_id) ≡ true → IsOk result }
-        ensures first { WhereMap self.now map
-            (λ U keys vs blocks. IfOk result (λ it. HasKeyed keys it 0)) }
-    {
-        let left = self.key_count(map)?;
-        Ok(Keys {
-            image: self,
-            map,
-            last: None,
-            left,
-        })
-    }
-
-    /// How many keys a map has.
-    fn key_count(&self, map: Place) -> Result<u32, Code>
-        ensures other { has_keys (form_at (types_of self.now) map.type_id) ≡ false →
-            result ≡ Err Code.OtherType }
-        ensures some { has_keys (form_at (types_of self.now) map.type_id) ≡ true → IsOk result }
-        ensures keys { WhereMap self.now map (λ U keys vs blocks. result ≡ Ok (length keys)) }
-    {
-        on!(self, segment => seg_map::len(segment.heap(), map))
-    }
-
-    /// The keys of a map in order, each with the place of its value. `OtherType` if the place isn't a map.
-    pub fn entries(&self, map: Place) -> Result<Entries<'_, A>, Code>
-        ensures image { IfOk result (λ it. (it.0.image.now ≡ self.now) × (it.0.map ≡ map)) }
-        ensures other { has_keys (form_at (types_of self.now) map.type_id) ≡ false →
-            result ≡ Err Code.OtherType }
-        ensures some { has_keys (form_at (types_of self.now) map.type_id) ≡ true → IsOk result }
-        ensures first { WhereMap self.now map
-            (λ U keys vs blocks. IfOk result (λ it. HasKeyed keys it.0 0)) }
-    {
-        Ok(Entries(self.keys(map)?))
-    }
-
-    /// The first name after another one, or the first of all.
-    fn name_after(&self, last: Option<&[u8]>) -> Option<Named<'_>>
-        ensures { (picture : Picture) (n : ℕ) → IsOpen self.now picture →
-            n ≤ length picture.names →
-            option_map (λ name. name.now) last.entry
-            ≡ option_map (λ r. r.name) (item_before picture.names n) →
-            MatchOption result (slice_get picture.names n ≡ None)
-            (λ it. IsSomeAnd (slice_get picture.names n)
-            (DescribesRoot it.name.now it.type_id it.count)) }
-    {
-        match last {
-            Some(name) => self.next_name(name),
-            None => self.first_name(),
-        }
-    }
-
-    /// The least key of a map above another one, or the least of all.
-    fn key_after(&self, map: Place, last: Option<i64>) -> Option<i64>
-        ensures { WhereMap self.now map (λ U keys vs blocks. (n : ℕ) → n ≤ length keys →
-            last ≡ item_before keys n → result ≡ slice_get keys n) }
-    {
-        match last {
-            Some(key) => self.next_key(map, key).ok(),
-            None => self.first_key(map).ok(),
-        }
-    }
+pub struct Keys<'a, S> {
+    pub(crate) image: &'a S,
+    pub(crate) map: Place,
+    pub(crate) last: Option<i64>,
+    pub(crate) left: u32,
 }
 
-impl<'a, A: Allocator> Iterator for Names<'a, A> {
+/// The keys of a map in order with the places of their values, from [`ImageRead::entries`].
+#[derive(Drop)]
+pub struct Entries<'a, S>(pub(crate) Keys<'a, S>);
+
+impl<'a, S: SegmentRead> Iterator for Names<'a, S> {
     type Item = Named<'a>;
 
-    ghost next_gives = { NamesNext };
+    ghost next_gives = { NamesNext S.allocator S.stored };
 
     // On any bytes it ends after this many names.
     ghost remaining = { λ names. at_most names.left };
 
     fn next(&mut self) -> Option<Named<'a>> {
         let left = self.left.checked_sub(1)?;
-        let image = self.image;
-        let named = image.name_after(self.last)?;
+        let named = name_after(self.image, self.last)?;
         self.last = Some(named.name);
         self.left = left;
         Some(named)
     }
 }
 
-impl<'a, A: Allocator> Iterator for Keys<'a, A> {
+/// The first name after another one, or the first of all.
+fn name_after<'a, S: SegmentRead>(image: &'a S, last: Option<&[u8]>) -> Option<Named<'a>>
+    ensures { (picture : Picture) (n : ℕ) →
+        IsSegment (S.allocator image.now) (S.stored image.now) picture →
+        n ≤ length picture.names →
+        option_map (λ name. name.now) last.entry
+        ≡ option_map (λ r. r.name) (item_before picture.names n) →
+        MatchOption result (slice_get picture.names n ≡ None)
+        (λ it. IsSomeAnd (slice_get picture.names n)
+        (DescribesRoot it.name.now it.type_id it.count)) }
+{
+    match last {
+        Some(name) => seg_manager::next_name(image, name),
+        None => seg_manager::first_name(image),
+    }
+}
+
+impl<'a, S: SegmentRead> Iterator for Items<'a, S> {
+    type Item = Place;
+
+    ghost next_gives = { ItemsNext S.allocator S.stored };
+
+    ghost remaining = { λ items. at_most items.left };
+
+    fn next(&mut self) -> Option<Place> {
+        let left = self.left.checked_sub(1)?;
+        let index = self.len.saturating_sub(self.left);
+        let at = item_after(self.image, self.sequence, self.last, index)?;
+        self.last = self.is_list.then_some(at);
+        self.left = left;
+        Some(Place {
+            at,
+            type_id: self.item_type,
+        })
+    }
+}
+
+/// The position of the item with this index in a vector or a list. In a list it is the item after the last one that was
+/// returned.
+fn item_after<S: SegmentRead>(
+    image: &S,
+    sequence: Place,
+    last: Option<ValueAt>,
+    index: u32,
+) -> Option<ValueAt>
+    ensures vector { (U : ℕ) (vs : Values) (blocks : List ℕ) →
+        HasItems (S.allocator image.now) (S.stored image.now) (place_of sequence) U vs blocks →
+        index < count vs → last ≡ None →
+        IsSomeAnd result (ShowsItem (S.stored image.now) (place_of sequence) U index) }
+    ensures list { (U : ℕ) (vs : Values) (blocks : List ℕ) →
+        HasList (S.allocator image.now) (S.stored image.now) (place_of sequence) U vs blocks →
+        index < count vs → ShowsItemBefore (S.stored image.now) (place_of sequence) U index last →
+        IsSomeAnd result (ShowsItem (S.stored image.now) (place_of sequence) U index) }
+{
+    match last {
+        Some(last) => Some(seg_seq::next(image, last)),
+        None => seg_seq::at(image, sequence, index).ok(),
+    }
+}
+
+impl<'a, S: SegmentRead> Iterator for Keys<'a, S> {
     type Item = i64;
 
-    ghost next_gives = { KeysNext };
+    ghost next_gives = { KeysNext S.allocator S.stored };
 
     ghost remaining = { λ keys. at_most keys.left };
 
     fn next(&mut self) -> Option<i64> {
         let left = self.left.checked_sub(1)?;
-        let key = self.image.key_after(self.map, self.last)?;
+        let key = key_after(self.image, self.map, self.last)?;
         self.last = Some(key);
         self.left = left;
         Some(key)
     }
 }
 
-impl<'a, A: Allocator> Iterator for Entries<'a, A> {
+/// The least key of a map above another one, or the least of all.
+fn key_after<S: SegmentRead>(image: &S, map: Place, last: Option<i64>) -> Option<i64>
+    ensures { WhereMap (S.allocator image.now) (S.stored image.now) map
+        (λ U keys vs blocks. (n : ℕ) → n ≤ length keys →
+        last ≡ item_before keys n → result ≡ slice_get keys n) }
+{
+    match last {
+        Some(key) => seg_map::next_key(image, map, key).ok(),
+        None => seg_map::first_key(image, map).ok(),
+    }
+}
+
+impl<'a, S: SegmentRead> Iterator for Entries<'a, S> {
     type Item = (i64, Place);
 
-    ghost next_gives = { EntriesNext };
+    ghost next_gives = { EntriesNext S.allocator S.stored };
 
     ghost remaining = { λ entries. at_most entries.0.left };
 

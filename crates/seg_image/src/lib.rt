@@ -2,9 +2,11 @@
 //! host's own calls, grown, and saved.
 //!
 //! Begin with [`Image`]. It has the calls of the crates below, for an allocator that is only known when the image is
-//! opened.
+//! opened. A [`CheckedImage`] is an image in memory that is only read. [`ImageRead`] has the calls that read either.
 #![tactic(auto)]
 
+mod anonymous;
+mod checked;
 mod creating;
 mod error;
 mod image;
@@ -14,21 +16,25 @@ mod named;
 mod opening;
 mod owners;
 mod places;
+mod read;
 mod sequences;
+mod sharing;
 mod size;
 mod table;
 mod uniques;
 mod values;
 
+pub use checked::CheckedImage;
 pub use creating::AllocatorKind;
 pub use error::Error;
 pub use image::Image;
-pub use iterators::{Entries, Keys, Names};
+pub use iterators::{Entries, Items, Keys, Names};
 pub use opening::{Unopened, check};
+pub use read::ImageRead;
 pub use seg_bestfit::BestFit;
 pub use seg_manager::{
     Code, ENTRY, Fault, Fields, Fit, Heap, IndexKind, MAX_LEN, MAX_NAME, MAX_TYPES, MIN_LEN, Named,
-    Place, Region, Segment, Type, TypeId, TypeTable, Window, is_size,
+    Place, Reader, Region, Segment, SegmentRead, Type, TypeId, TypeTable, Window, is_size,
 };
 pub use seg_seq::Numbers;
 pub use seg_seqfit::SeqFit;

@@ -1,39 +1,22 @@
 ghost use Rattle.std.specs.Prelude.{◌≡◌, ℕ, ℤ, List, true, false, Err, IfOk, IsOkUnless};
-ghost use Rattle.std.specs.Result.{result_ok};
 ghost use Rattle.seg_spec.specs.Items.{key_place};
 ghost use Rattle.seg_spec.specs.Types.{form_at};
 ghost use Rattle.seg_cells.specs.Places.{place_of};
 ghost use Rattle.seg_map.specs.EitherMap.{has_keys, IsMapOf, key_asks, KeepsTreePaths, KeepsKeysBut};
-ghost use Rattle.seg_map.specs.Maps.{FindsValue, PutsKey, RemovesKey, first_of, keys_above};
+ghost use Rattle.seg_map.specs.Maps.{PutsKey, RemovesKey};
 ghost use Rattle.seg_image.specs.Images.{segment_of, allocator_of, bytes_in, types_of, ChangesBytes};
 ghost use Rattle.seg_spec.specs.Value.{Values, Map};
 ghost use Rattle.seg_image.specs.Places.{found_position, StandsIn, WhereMap};
 
 use crate::image::{Image, on};
-use crate::places::placed;
-use seg_map::{first_key, get, next_key, put, remove};
+use crate::places::{placed, value_type_at};
+use seg_map::{put, remove};
 use seg_raw::Code;
 use seg_value::Place;
 use std::alloc::Allocator;
 
 /// Flat maps and maps, from numbers to values. Calls on a place of another type fail with `OtherType`.
 impl<A: Allocator> Image<A> {
-    /// The place of a key's value. `Absent` if the map doesn't have the key.
-    pub fn get(&self, map: Place, key: i64) -> Result<Place, Code>
-        ensures of_type { IfOk result
-            (λ value. IsMapOf (form_at (types_of self.now) map.type_id) value.type_id) }
-        ensures other { has_keys (form_at (types_of self.now) map.type_id) ≡ false →
-            result ≡ Err Code.OtherType }
-        ensures code { has_keys (form_at (types_of self.now) map.type_id) ≡ true →
-            IsOkUnless (found_position result) Code.Absent }
-        ensures finds { WhereMap self.now map
-            (λ U keys vs blocks. FindsValue (bytes_in self.now) (types_of self.now) (place_of map)
-            U keys key (result_ok (found_position result))) }
-    {
-        let value = self.value_type(map)?;
-        on!(self, segment => placed(get(segment.heap(), map, key), value))
-    }
-
     /// The place of a key's value. A missing key is added with a default value. `BadAlloc` if there is no room for it;
     /// then nothing changes. Values of a flat map may move, so earlier places in it become invalid.
     pub fn put(&mut self, map: Place, key: i64) -> Result<Place, Code>
@@ -44,17 +27,17 @@ impl<A: Allocator> Image<A> {
             (result ≡ Err Code.OtherType) × (self.new ≡ self.old) }
         ensures code { has_keys (form_at (types_of self.old) map.type_id) ≡ true →
             IsOkUnless (found_position result) Code.BadAlloc }
-        ensures puts { WhereMap self.old map
+        ensures puts { WhereMap (allocator_of self.old) (segment_of self.old) map
             (λ U keys vs blocks. PutsKey (allocator_of self.old) (bytes_in self.old)
             (bytes_in self.new) (types_of self.old) (place_of map) U keys vs key blocks
             (key_asks (bytes_in self.old) (types_of self.old) map.at
             (form_at (types_of self.old) map.type_id)) (key_place keys key)
             (found_position result)) }
-        ensures keeps { WhereMap self.old map
+        ensures keeps { WhereMap (allocator_of self.old) (segment_of self.old) map
             (λ U keys vs blocks. KeepsTreePaths (form_at (types_of self.old) map.type_id)
             (bytes_in self.old) (bytes_in self.new) (types_of self.old) (place_of map)) }
     {
-        let value = self.value_type(map)?;
+        let value = value_type_at(self, map)?;
         on!(self, segment => placed(put(segment.heap_mut(), map, key), value))
     }
 
@@ -72,29 +55,5 @@ impl<A: Allocator> Image<A> {
             (key_place keys key) result }
     {
         on!(self, segment => remove(segment.heap_mut(), map, key))
-    }
-
-    /// The least key. `Null` if the map is empty.
-    pub fn first_key(&self, map: Place) -> Result<i64, Code>
-        ensures other { has_keys (form_at (types_of self.now) map.type_id) ≡ false →
-            result ≡ Err Code.OtherType }
-        ensures code { has_keys (form_at (types_of self.now) map.type_id) ≡ true →
-            IsOkUnless result Code.Null }
-        ensures first { WhereMap self.now map
-            (λ U keys vs blocks. result_ok result ≡ first_of keys) }
-    {
-        on!(self, segment => first_key(segment.heap(), map))
-    }
-
-    /// The least key above another one, which need not exist. `Null` if there is none.
-    pub fn next_key(&self, map: Place, after: i64) -> Result<i64, Code>
-        ensures other { has_keys (form_at (types_of self.now) map.type_id) ≡ false →
-            result ≡ Err Code.OtherType }
-        ensures code { has_keys (form_at (types_of self.now) map.type_id) ≡ true →
-            IsOkUnless result Code.Null }
-        ensures next { WhereMap self.now map
-            (λ U keys vs blocks. result_ok result ≡ first_of (keys_above keys after)) }
-    {
-        on!(self, segment => next_key(segment.heap(), map, after))
     }
 }

@@ -1,9 +1,8 @@
-ghost use Rattle.std.specs.Prelude.{◌≡◌, ◌≤◌, Err, length, IfOk, IfErr, OnOk};
+ghost use Rattle.std.specs.Prelude.{◌≡◌, ◌≤◌, IfOk, IfErr};
 ghost use Rattle.seg_spec.specs.Bytes.{word};
 ghost use Rattle.seg_spec.specs.Header.{allocator_word};
 ghost use Rattle.seg_spec.specs.Images.{upgraded};
-ghost use Rattle.seg_raw.specs.declared.fault.Fault.TheVariants.{Memory};
-ghost use Rattle.seg_check.specs.Faults.{IsImageOf, IsFaultOf, IsFrontRight};
+ghost use Rattle.seg_check.specs.Faults.{IsImageOf, IsFaultOf};
 ghost use Rattle.seg_image.specs.Images.{segment_of, allocator_of};
 
 use crate::image::Image;
@@ -11,7 +10,6 @@ use seg_bestfit::BestFit;
 use seg_layout::TypeTable;
 use seg_manager::{Fit, MAX_LEN, Segment, View, Window, header};
 use seg_raw::{Fault, Region};
-use seg_seqfit::SeqFit;
 use std::alloc::Allocator;
 
 /// Bytes that weren't opened, and why. `?` converts it to the fault.
@@ -36,13 +34,21 @@ pub fn check<A: Allocator>(alloc: A, bytes: &[u8]) -> Result<TypeTable, Fault>
     ensures image { IfOk result (IsImageOf bytes.now) }
     ensures fault { IfErr result (IsFaultOf bytes.now) }
 {
+    seg_check::check(alloc, view_of(bytes)?)
+}
+
+/// The view of an image's bytes. No image has more bytes than a segment may have.
+pub(crate) fn view_of(bytes: &[u8]) -> Result<View<'_>, Fault>
+    ensures view { IfOk result (λ view. view.bytes.now ≡ bytes.now) }
+    ensures fault { IfErr result (IsFaultOf bytes.now) }
+{
     if bytes.len() > MAX_LEN as usize {
         return Err(Fault::BadHeader);
     }
-    seg_check::check(alloc, View::new(bytes))
+    Ok(View::new(bytes))
 }
 
-impl<A: Allocator + Copy> Image<A> {
+impl<A: Allocator> Image<A> {
     /// Opens a sound image in its own memory. It then is one of the version that may have frozen objects. Otherwise it
     /// returns the bytes with the image's first fault, or with `Memory` if host memory for the check is refused: as
     /// much as for [`check`].
@@ -56,35 +62,32 @@ impl<A: Allocator + Copy> Image<A> {
         ensures fault { IfErr result (λ unopened. IsFaultOf bytes.items unopened.fault) }
         ensures refused { IfErr result (λ unopened. unopened.bytes.items ≡ bytes.items) }
     {
-        let window = window_of(bytes)?;
-        if window.get32(header::ALLOCATOR) == BestFit::word() {
-            Ok(Image::Best(open_on(alloc, window)?))
-        } else {
-            Ok(Image::Seq(open_on(alloc, window)?))
+        let mut window = window_of(bytes)?;
+        match seg_check::check(alloc, window.view()) {
+            Ok(types) => {
+                header::upgrade(&mut window);
+                Ok(Image::in_window(window, types))
+            }
+            Err(fault) => Err(Unopened {
+                fault,
+                bytes: window.into_bytes(),
+            }),
         }
     }
-}
 
-/// The segment of an image, on one allocator.
-fn open_on<F: Fit, A: Allocator + Copy>(
-    alloc: A,
-    mut window: Window<A>,
-) -> Result<Segment<F, A>, Unopened<A>>
-    ensures opened { IfOk result (λ segment.
-        segment.window.bytes ≡ upgraded window.bytes) }
-    ensures image { IfOk result (λ segment. IsImageOf window.bytes segment.types) }
-    ensures allocator { OnOk result (word window.bytes allocator_word ≡ F.allocator) }
-    ensures fault { (word window.bytes allocator_word ≤ 1 →
-        word window.bytes allocator_word ≡ F.allocator) →
-        IfErr result (λ unopened. IsFaultOf window.bytes unopened.fault) }
-    ensures refused { IfErr result (λ unopened. unopened.bytes.items ≡ window.bytes) }
-{
-    match seg_check::open::<F, A, A>(alloc, &mut window) {
-        Ok(types) => Ok(Segment::new(window, types)),
-        Err(fault) => Err(Unopened {
-            fault,
-            bytes: window.into_bytes(),
-        }),
+    /// The image in a window, with these types, on the allocator that its header selects. The image isn't checked: an
+    /// earlier call found it sound, with these types.
+    pub fn in_window(window: Window<A>, types: TypeTable) -> Image<A>
+        ensures window { (segment_of result).window ≡ window }
+        ensures types { (segment_of result).types ≡ types }
+        ensures allocator { word window.bytes allocator_word ≤ 1 →
+            allocator_of result ≡ word window.bytes allocator_word }
+    {
+        if window.get32(header::ALLOCATOR) == BestFit::word() {
+            Image::Best(Segment::new(window, types))
+        } else {
+            Image::Seq(Segment::new(window, types))
+        }
     }
 }
 

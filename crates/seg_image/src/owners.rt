@@ -1,7 +1,6 @@
 ghost use Rattle.std.specs.Prelude.{◌≡◌, ℕ, List, ◌∷◌, None, Some, Err, IfOk, MatchResult};
 ghost use Rattle.seg_spec.specs.Clearing.{BesideShared};
 ghost use Rattle.seg_spec.specs.Owning.{Stands};
-ghost use Rattle.seg_spec.specs.Pointer.{target};
 ghost use Rattle.seg_spec.specs.Shared.{named_in};
 ghost use Rattle.seg_spec.specs.Types.{Form, form_at};
 ghost use Rattle.seg_spec.specs.Value.{Value};
@@ -11,10 +10,10 @@ ghost use Rattle.seg_manager.specs.Segments.{one_value};
 ghost use Rattle.seg_seq.specs.Sequences.{LacksRoom};
 ghost use Rattle.seg_image.specs.Images.{segment_of, allocator_of, bytes_in, types_of, ChangesBytes};
 ghost use Rattle.seg_image.specs.Owners.{PutsNew};
-ghost use Rattle.seg_image.specs.Places.{found_position, object_type, content_place, StandsIn};
+ghost use Rattle.seg_image.specs.Places.{found_position, object_type, StandsIn};
 
 use crate::image::{Image, on};
-use crate::places::placed;
+use crate::places::{object_type_at, placed};
 use seg_layout::TypeId;
 use seg_manager::Fit;
 use seg_raw::Code;
@@ -23,18 +22,6 @@ use std::alloc::Allocator;
 
 /// Owns: values that own one object without a name, or none.
 impl<A: Allocator> Image<A> {
-    /// The value of the object that an own has. `OtherType` if the place isn't an own, `Null` if it is empty.
-    pub fn content(&self, own: Place) -> Result<Place, Code>
-        ensures { result ≡ content_place (object_type (form_at (types_of self.now) own.type_id))
-            (target (bytes_in self.now) own.at) }
-    {
-        let type_id = self.object_type(own)?;
-        match self.window().target(own.at as usize) {
-            Some(at) => Ok(Place { at, type_id }),
-            None => Err(Code::Null),
-        }
-    }
-
     /// Makes a new object with a default value for the own. The own's previous object is destroyed. `OtherType` if the
     /// place isn't an own, `BadAlloc` if there is no room; then nothing changes.
     pub fn put_content(&mut self, own: Place) -> Result<Place, Code>
@@ -52,7 +39,7 @@ impl<A: Allocator> Image<A> {
         ensures other { object_type (form_at (types_of self.old) own.type_id) ≡ None →
             (result ≡ Err Code.OtherType) × (self.new ≡ self.old) }
     {
-        let object = self.object_type(own)?;
+        let object = object_type_at(self, own)?;
         on!(self, segment => placed(put_new(segment.heap_mut(), own, object), object))
     }
 }

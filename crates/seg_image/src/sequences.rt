@@ -1,43 +1,29 @@
-ghost use Rattle.std.specs.Prelude.{◌≡◌, ◌≢◌, ℕ, ◌+◌, ◌-◌, ◌≤◌, false, true, List, [], ◌∷◌, ◌++◌, length, take, None, Some, Ok, Err, IsOk, IfOk, IsOkUnless, MatchResult, suc};
-ghost use Rattle.seg_spec.specs.Bytes.{slice};
+ghost use Rattle.std.specs.Prelude.{◌≡◌, ◌≢◌, ℕ, ◌+◌, ◌-◌, ◌≤◌, false, true, List, [], ◌∷◌, ◌++◌, length, take, None, Some, Err, IsOk, IfOk, IsOkUnless, MatchResult, suc};
+ghost use Rattle.seg_spec.specs.Block.{has_buffer};
 ghost use Rattle.seg_spec.specs.Calls.{Refuses};
 ghost use Rattle.seg_spec.specs.Demand.{block_for};
 ghost use Rattle.seg_spec.specs.Items.{without_last};
-ghost use Rattle.seg_spec.specs.Reads.{count_at, start};
+ghost use Rattle.seg_spec.specs.Reads.{count_at};
+ghost use Rattle.seg_spec.specs.Shrinking.{ShrinksPlace};
 ghost use Rattle.seg_spec.specs.Types.{Form, form_at, size};
 ghost use Rattle.seg_spec.specs.Value.{Value, Values, Text, nil, cons, count, append, default_of};
 ghost use Rattle.seg_cells.specs.Places.{place_of};
 ghost use Rattle.seg_seq.specs.Kinds.{is_sequence, HasNumbers};
 ghost use Rattle.seg_seq.specs.Lists.{HasList, IsNoList, AddsItem, LosesItem};
-ghost use Rattle.seg_seq.specs.Sequences.{HasText, HasItems, item_type, Declines, HasNone, ComesToHold, LacksRoom, Rewrites, push_asks, PushesNumber, PushesBack, PopsBack, IsPast, ShowsItem};
+ghost use Rattle.seg_seq.specs.Sequences.{HasText, HasItems, item_type, Declines, HasNone, ComesToHold, LacksRoom, Rewrites, push_asks, PushesNumber, PushesBack, PopsBack};
 ghost use Rattle.seg_image.specs.Images.{segment_of, allocator_of, bytes_in, types_of, ChangesBytes};
-ghost use Rattle.seg_image.specs.Places.{found_position, is_counted, WhereMap};
+ghost use Rattle.seg_image.specs.Places.{found_position, StandsIn};
 
 use crate::image::{Image, on};
-use crate::places::placed;
+use crate::places::{item_type_at, placed, type_at};
 use seg_layout::Type;
 use seg_raw::Code;
-use seg_seq::{Numbers, append, assign, at, pop_back, pop_front, push_back, push_front};
-use seg_value::{Place, count, start};
+use seg_seq::{Numbers, append, assign, pop_back, pop_front, push_back, push_front};
+use seg_value::Place;
 use std::alloc::Allocator;
 
 /// Strings.
 impl<A: Allocator> Image<A> {
-    /// The bytes of a string. `OtherType` if the place isn't a string.
-    pub fn text(&self, place: Place) -> Result<&[u8], Code>
-        ensures bytes { MatchResult result
-            (λ text. (form_at (types_of self.now) place.type_id ≡ Some Form.str)
-            × (text.now ≡ slice (bytes_in self.now) (start (bytes_in self.now) place.at)
-            (count_at (bytes_in self.now) place.at)))
-            (λ code. (code ≡ Code.OtherType)
-            × (form_at (types_of self.now) place.type_id ≢ Some Form.str)) }
-    {
-        self.string(place)?;
-        let window = self.window();
-        let (from, len) = (start(window, place.at), count(window, place.at));
-        Ok(window.slice(from as usize, len as usize))
-    }
-
     /// Replaces the bytes of a string. `OtherType` if the place isn't a string, `BadAlloc` if there is no room; then
     /// nothing changes.
     pub fn assign(&mut self, place: Place, bytes: &[u8]) -> Result<(), Code>
@@ -68,58 +54,6 @@ impl<A: Allocator> Image<A> {
 
 /// Vectors and lists, and the calls that they have in common with strings and maps.
 impl<A: Allocator> Image<A> {
-    /// The number of bytes in a string, of items in a vector or a list, of keys in a map, or of objects in an own.
-    /// `OtherType` for other places.
-    pub fn len(&self, place: Place) -> Result<u32, Code>
-        ensures text { (xs blocks : List ℕ) →
-            HasText (allocator_of self.now) (segment_of self.now) (place_of place) xs blocks →
-            result ≡ Ok (length xs) }
-        ensures vector { (U : ℕ) (vs : Values) (blocks : List ℕ) →
-            HasItems (allocator_of self.now) (segment_of self.now) (place_of place) U vs blocks →
-            result ≡ Ok (count vs) }
-        ensures list { (U : ℕ) (vs : Values) (blocks : List ℕ) →
-            HasList (allocator_of self.now) (segment_of self.now) (place_of place) U vs blocks →
-            result ≡ Ok (count vs) }
-        ensures keys { WhereMap self.now place (λ U keys vs blocks. result ≡ Ok (length keys)) }
-        ensures counted { is_counted (form_at (types_of self.now) place.type_id) ≡ true →
-            result ≡ Ok (count_at (bytes_in self.now) place.at) }
-        ensures other { is_counted (form_at (types_of self.now) place.type_id) ≡ false →
-            result ≡ Err Code.OtherType }
-    {
-        match self.kind(place)? {
-            Type::Str | Type::Vec(_) | Type::List(_) => {
-                on!(self, segment => seg_seq::len(segment.heap(), place))
-            }
-            Type::FlatMap(_) | Type::Map(_) => {
-                on!(self, segment => seg_map::len(segment.heap(), place))
-            }
-            Type::Own(_) => Ok(count(self.window(), place.at)),
-            Type::I64 | Type::Struct(_) | Type::Shared(_) => Err(Code::OtherType),
-        }
-    }
-
-    /// The place of an item of a vector or a list, by its index from 0. `OtherType` if the place is neither,
-    /// `OutOfRange` if it has fewer items. In a list it is found step by step from the nearer end.
-    pub fn item(&self, place: Place, index: u32) -> Result<Place, Code>
-        ensures of_type { IfOk result (λ item.
-            item_type (form_at (types_of self.now) place.type_id) ≡ Some item.type_id) }
-        ensures vector { (U : ℕ) (vs : Values) (blocks : List ℕ) →
-            HasItems (allocator_of self.now) (segment_of self.now) (place_of place) U vs blocks →
-            MatchResult (found_position result)
-            (ShowsItem (segment_of self.now) (place_of place) U index)
-            (IsPast index (count vs)) }
-        ensures list { (U : ℕ) (vs : Values) (blocks : List ℕ) →
-            HasList (allocator_of self.now) (segment_of self.now) (place_of place) U vs blocks →
-            MatchResult (found_position result)
-            (ShowsItem (segment_of self.now) (place_of place) U index)
-            (IsPast index (count vs)) }
-        ensures other { item_type (form_at (types_of self.now) place.type_id) ≡ None →
-            result ≡ Err Code.OtherType }
-    {
-        let item = self.item_type(place)?;
-        on!(self, segment => placed(at(segment.heap(), place, index), item))
-    }
-
     /// Adds a default item at the end of a vector or a list. `OtherType` if the place is neither, `BadAlloc` if there
     /// is no room; then nothing changes. Items of a vector may move, so earlier places in it become invalid.
     pub fn push_back(&mut self, place: Place) -> Result<Place, Code>
@@ -145,7 +79,7 @@ impl<A: Allocator> Image<A> {
         ensures other { item_type (form_at (types_of self.old) place.type_id) ≡ None →
             (result ≡ Err Code.OtherType) × (self.new ≡ self.old) }
     {
-        let item = self.item_type(place)?;
+        let item = item_type_at(self, place)?;
         on!(self, segment => placed(push_back(segment.heap_mut(), place), item))
     }
 
@@ -190,7 +124,7 @@ impl<A: Allocator> Image<A> {
             (found_position result ≡ Err Code.OtherType)
             × (bytes_in self.new ≡ bytes_in self.old) }
     {
-        let item = self.item_type(place)?;
+        let item = item_type_at(self, place)?;
         on!(self, segment => placed(push_front(segment.heap_mut(), place), item))
     }
 
@@ -242,5 +176,25 @@ impl<A: Allocator> Image<A> {
             (place_of place) (cons v vs) 0 vs it.stands.home blocks }
     {
         on!(self, segment => pop_front(segment.heap_mut(), place))
+    }
+
+    /// Cuts the buffer of a string, a vector or a flat map to what it uses. `OtherType` for other places.
+    pub fn shrink_to_fit(&mut self, container: Place) -> Result<(), Code>
+        ensures bytes { ChangesBytes self.old self.new }
+        ensures shrinks { (form : Form) (v : Value) (blocks : List ℕ) →
+            form_at (types_of self.old) container.type_id ≡ Some form →
+            has_buffer (Some form) ≡ true → StandsIn self.old container v blocks →
+            (others : List ℕ) × ShrinksPlace (bytes_in self.old) (bytes_in self.new)
+            (types_of self.old) (place_of container) form v blocks others }
+        ensures done { has_buffer (form_at (types_of self.old) container.type_id) ≡ true →
+            IsOk result }
+        ensures other { has_buffer (form_at (types_of self.old) container.type_id) ≡ false →
+            (result ≡ Err Code.OtherType) × (self.new ≡ self.old) }
+    {
+        let (Type::Str | Type::Vec(_) | Type::FlatMap(_)) = type_at(self, container)? else {
+            return Err(Code::OtherType);
+        };
+        on!(self, segment => segment.heap_mut().shrink_to_fit(container));
+        Ok(())
     }
 }

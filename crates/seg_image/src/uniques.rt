@@ -1,11 +1,11 @@
-ghost use Rattle.std.specs.Prelude.{◌≡◌, ◌<◌, ◌≤◌, false, length, None, Some, Err, IsTrue, IfOk, MatchResult};
+ghost use Rattle.std.specs.Prelude.{◌≡◌, ◌<◌, ◌≤◌, false, length, None, Err, IsTrue, IfOk, MatchResult};
 ghost use Rattle.seg_spec.specs.Sound.{Picture};
 ghost use Rattle.seg_manager.specs.Segments.{unique_at, MakesUnique, FindsOrMakes, RefusesUnique, LosesUnique};
 ghost use Rattle.seg_image.specs.Images.{segment_of, allocator_of, types_of, IsOpen, ChangesBytes};
 ghost use Rattle.seg_image.specs.Places.{found_position};
 
 use crate::image::{Image, on};
-use crate::places::placed;
+use crate::places::{known, placed};
 use seg_layout::TypeId;
 use seg_raw::Code;
 use seg_value::Place;
@@ -27,22 +27,8 @@ impl<A: Allocator> Image<A> {
             (RefusesUnique (allocator_of self.old) (segment_of self.old) (segment_of self.new)
             picture t) }
     {
-        self.known(t)?;
+        known(self, t)?;
         on!(self, segment => placed(segment.construct_unique(t), t))
-    }
-
-    /// The place of the unique object of a type. `OtherType` if the image has no such type, `Absent` if there is no
-    /// such object.
-    pub fn find_unique(&self, t: TypeId) -> Result<Place, Code>
-        ensures of_type { IfOk result (λ place. place.type_id ≡ t) }
-        ensures unknown { length (types_of self.now) ≤ t → result ≡ Err Code.OtherType }
-        ensures finds { (picture : Picture) → IsOpen self.now picture →
-            t < length (types_of self.now) → MatchResult (found_position result)
-            (λ at. unique_at picture t ≡ Some at)
-            (λ code. (code ≡ Code.Absent) × (unique_at picture t ≡ None)) }
-    {
-        self.known(t)?;
-        on!(self, segment => placed(segment.find_unique(t), t))
     }
 
     /// The place of the unique object of a type, which is made if it doesn't exist. Fails as
@@ -59,7 +45,7 @@ impl<A: Allocator> Image<A> {
             (λ code. (code ≡ Code.BadAlloc) × RefusesUnique (allocator_of self.old)
             (segment_of self.old) (segment_of self.new) picture t code) }
     {
-        self.known(t)?;
+        known(self, t)?;
         on!(self, segment => placed(segment.find_or_construct_unique(t), t))
     }
 
@@ -74,17 +60,9 @@ impl<A: Allocator> Image<A> {
             t < length (types_of self.old) → result ≡ false → unique_at picture t ≡ None }
         ensures unchanged { result ≡ false → self.new ≡ self.old }
     {
-        if self.known(t).is_err() {
+        if known(self, t).is_err() {
             return false;
         }
         on!(self, segment => segment.destroy_unique(t))
-    }
-
-    /// How many unique objects there are.
-    pub fn num_unique(&self) -> usize
-        ensures { (picture : Picture) → IsOpen self.now picture →
-            result ≡ length picture.uniques }
-    {
-        on!(self, segment => segment.num_unique())
     }
 }

@@ -9,7 +9,7 @@ mod names;
 mod segment;
 mod uniques;
 
-pub use listing::{Named, first_name, next_name, num_named};
+pub use listing::{Named, find_named, first_name, next_name, num_named};
 pub use names::{Found, find};
 pub use seg_index::{IndexKind, MAX_NAME};
 pub use seg_value::{

@@ -1,5 +1,5 @@
 ghost use Rattle.std.specs.Prelude.{◌≡◌, ◌<◌, length, None, MatchOption, IsSomeAnd, slice_get};
-ghost use Rattle.seg_spec.specs.Index.{Root};
+ghost use Rattle.seg_spec.specs.Index.{Root, root_named};
 ghost use Rattle.seg_spec.specs.Sound.{Picture};
 ghost use Rattle.seg_index.specs.Lists.{IsNamed, entry_of, root_after};
 ghost use Rattle.seg_manager.specs.Segments.{IsSegment};
@@ -23,6 +23,17 @@ pub fn num_named<S: SegmentRead>(source: &S) -> u32
         result ≡ length picture.names }
 {
     name_count_in(source.view())
+}
+
+/// The object with a name, whatever its type is.
+pub fn find_named<'s, S: SegmentRead>(source: &'s S, name: &[u8]) -> Option<Named<'s>>
+    ensures { (picture : Picture) →
+        IsSegment (S.allocator source.now) (S.stored source.now) picture →
+        MatchOption result (root_named picture.names name.now ≡ None)
+        (λ it. IsSomeAnd (root_named picture.names name.now)
+        (DescribesRoot it.name.now it.type_id it.count)) }
+{
+    read_entry(source, seg_index::find(source, name)?)
 }
 
 /// The first name in order.

@@ -1,8 +1,9 @@
 -- A flat map in memory: its entries lie in the segment, and read as its keys and values.
-use Rattle.std.proofs.Common.{◌≡◌, ℕ, zero, suc, ◌+◌, ◌-◌, ◌*◌, ◌%◌, ◌^◌, ◌<◌, ◌≤◌, min, ◌⊎◌, inl, inr, ℤ, ◌<ℤ◌, List, [], ◌∷◌, length, map, Option, Some, None, Result, Ok, Err, MatchResult, IfOk, IfErr, refl, sym, ap, ◌∙◌, subst, arith}
+use Rattle.std.proofs.Common.{◌≡◌, ℕ, zero, suc, ◌+◌, ◌-◌, ◌*◌, ◌%◌, ◌^◌, ◌<◌, ◌≤◌, min, ◌⊎◌, inl, inr, ℤ, ◌<ℤ◌, List, [], ◌∷◌, length, take, map, Option, Some, None, Result, Ok, Err, MatchResult, IfOk, IfErr, refl, sym, ap, ◌∙◌, subst, arith}
 use Rattle.std.specs.Prelude.{slice_get, IsErr}
 use Rattle.std.proofs.Math.Nat.{mul-le-mul_left, mul-le-mul_right}
 use Rattle.std.proofs.lemmas.Bool.{cases_lt, false≢true}
+use Rattle.std.proofs.lemmas.List.{length-take-le, take_all}
 use Rattle.std.proofs.lemmas.Option.{slice_get_past}
 use Rattle.std.specs.Result.{result_ok}
 use Rattle.std.specs.Ordering.{int_cmp}
@@ -27,8 +28,8 @@ use Rattle.seg_value.proofs.Runs.{spaced_get, map_get}
 use Rattle.seg_cells.specs.Search.{IsBetween}
 use Rattle.seg_cells.specs.Entries.{IsEntryOf}
 use Rattle.seg_cells.specs.declared.entry.Entry.{Entry}
-use Rattle.seg_map.specs.Maps.{value_of, first_of, keys_above}
-use Rattle.seg_map.proofs.KeyLaws.{Parted, parted_at, parted_front, parted_after, found_place, missing_place, missing_below, place_below, found_next, missing_next, parted_found, parted_missing}
+use Rattle.seg_map.specs.Maps.{value_of, first_of, last_of, keys_above, lower_keys}
+use Rattle.seg_map.proofs.KeyLaws.{Parted, parted_at, parted_front, parted_after, found_place, missing_place, missing_below, place_below, found_next, missing_next, parted_found, parted_missing, get_take, index_low, found_lower, missing_lower}
 
 -- ---- results
 
@@ -303,3 +304,24 @@ module _ (allocator : ℕ) (bytes : List ℕ) (table : Table) (place : Place) (U
   next_read_missing key passed i r read same h is read_is =
       let none : (key_place keys key ≡ None) × (i ≡ keys_below keys key) = subst (Searched key) is (subst (λ k. Searched k r) same h) in
       read_is ∙ sym (missing_next keys key i (parted_missing keys key i ascending none.0 none.1))
+
+  -- the last key before an index
+  pub read_before : (i j : ℕ) (read : Option ℤ) → j ≡ i - 1 → 1 ≤ i → i ≤ length keys → read ≡ slice_get keys j → read ≡ last_of (take i keys)
+  read_before i j read j_is some low read_is =
+      let long : length (take i keys) ≡ i = length-take-le i keys low in
+      read_is ∙ ap (slice_get keys) j_is ∙ sym (get_take keys i (i - 1) (omega arith)) ∙ ap (λ n. slice_get (take i keys) (n - 1)) (sym long)
+
+  pub read_last : (i : ℕ) (read : Option ℤ) → i ≡ n → (i ≤ length keys → read ≡ last_of (take i keys)) → read ≡ last_of keys
+  read_last i read i_is read_is =
+      let all : take i keys ≡ keys = take_all i keys (omega (arith, length_is)) in
+      read_is (omega (arith, length_is)) ∙ ap last_of all
+
+  -- the last key below another, by the result of a search
+  pub previous_read : (key passed : ℤ) (i : ℕ) (r : Result ℕ ℕ) (read : Option ℤ) → passed ≡ key → Searched passed r → (r ≡ Ok i) ⊎ (r ≡ Err i) → (i ≤ length keys → read ≡ last_of (take i keys)) → read ≡ last_of (lower_keys keys key)
+  previous_read key passed i r read same h (inl is) read_is =
+      let p = parted_found keys key i ascending (found_at key i r (subst (λ k. Searched k r) same h) (ap result_ok is)) in
+      read_is (index_low keys key i (key ∷ []) p) ∙ ap last_of (sym (found_lower keys key i p))
+  previous_read key passed i r read same h (inr is) read_is =
+      let none : (key_place keys key ≡ None) × (i ≡ keys_below keys key) = subst (Searched key) is (subst (λ k. Searched k r) same h) in
+      let p = parted_missing keys key i ascending none.0 none.1 in
+      read_is (index_low keys key i [] p) ∙ ap last_of (sym (missing_lower keys key i p))

@@ -3,6 +3,7 @@ use Rattle.std.proofs.Common.{◌≡◌, ℕ, zero, suc, ◌+◌, ◌<◌, ◌�
 use Rattle.std.proofs.Common.{◌-◌, ◌≤◌, zero-add, length-append, lt-ltb, le-ltb, ltb-true}
 use Rattle.std.specs.Prelude.{int_lt, filter, count_by, nat_lt, slice_get, insert, remove}
 use Rattle.std.specs.List.{AllByRecursion, prefix_len}
+use Rattle.std.proofs.lemmas.List.{append-nil}
 use Rattle.std.proofs.lemmas.List.Sums.{sum_by-cons}
 use Rattle.std.specs.Ordering.{int_cmp}
 use Rattle.std.specs.Cmp.{int_chain, int_ranked}
@@ -13,7 +14,7 @@ use Rattle.std.proofs.lemmas.Bool.{cases_lt}
 use Rattle.seg_value.proofs.Runs.{remove_key}
 use Rattle.seg_spec.specs.Value.{IsAscending, same_int}
 use Rattle.seg_spec.specs.Items.{key_place, keys_below}
-use Rattle.seg_map.specs.Maps.{first_of, keys_above}
+use Rattle.seg_map.specs.Maps.{first_of, keys_above, lower_keys}
 
 -- ---- two numbers
 
@@ -320,3 +321,37 @@ module _ (keys : List ℤ) (k : ℤ) (i : ℕ) (p : Parted keys k i []) where
 
   pub inserted_ascends : IsAscending keys → IsAscending (insert keys i k)
   inserted_ascends a = rw inserted (ascending_with p.below k p.above (subst IsAscending p.keys_are a) p.all_below p.all_above)
+
+-- ---- keys below another
+
+pub get_take : (xs : List ℤ) (i j : ℕ) → j < i → slice_get (take i xs) j ≡ slice_get xs j
+get_take xs zero j h = absurd (omega arith)
+get_take [] (suc i) j h = refl
+get_take (x ∷ xs) (suc i) zero h = refl
+get_take (x ∷ xs) (suc i) (suc j) h = get_take xs i j (omega arith)
+
+lower_front : (xs ys : List ℤ) (k : ℤ) → AllBelow k xs → lower_keys (xs ++ ys) k ≡ xs ++ lower_keys ys k
+lower_front [] ys k all = refl
+lower_front (x ∷ xs) ys k all = rw (less_true x k all.0) (ap (λ zs. x ∷ zs) (lower_front xs ys k all.1))
+
+none_lower : (xs : List ℤ) (k : ℤ) → AllAbove k xs → lower_keys xs k ≡ []
+none_lower [] k all = refl
+none_lower (x ∷ xs) k all = rw (less_false k x all.0) (none_lower xs k all.1)
+
+-- the keys below another are those before its index
+module _ (keys : List ℤ) (k : ℤ) (i : ℕ) where
+  before_index : (these : List ℤ) (p : Parted keys k i these) → lower_keys (these ++ p.above) k ≡ [] → lower_keys keys k ≡ take i keys
+  before_index these p none =
+      let rest = these ++ p.above in
+      let lower : lower_keys (p.below ++ rest) k ≡ p.below = lower_front p.below rest k p.all_below ∙ ap (λ zs. p.below ++ zs) none ∙ append-nil p.below in
+      let front : take i (p.below ++ rest) ≡ p.below = subst (λ n. take n (p.below ++ rest) ≡ p.below) p.at_is (take_front p.below rest) in
+      rw p.keys_are (lower ∙ sym front)
+
+  pub found_lower : Parted keys k i (k ∷ []) → lower_keys keys k ≡ take i keys
+  found_lower p = before_index (k ∷ []) p (rw (not_self k) (none_lower p.above k p.all_above))
+
+  pub missing_lower : Parted keys k i [] → lower_keys keys k ≡ take i keys
+  missing_lower p = before_index [] p (none_lower p.above k p.all_above)
+
+  pub index_low : (these : List ℤ) → Parted keys k i these → i ≤ length keys
+  index_low these p = let e : length keys ≡ length (p.below ++ (these ++ p.above)) = ap length p.keys_are in omega (arith, e, length-append p.below (these ++ p.above), p.at_is)

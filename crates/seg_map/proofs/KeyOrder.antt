@@ -1,10 +1,11 @@
 -- Nodes in ascending order of their numbers: the results of searches, and adding or removing a
 -- node.
-use Rattle.std.proofs.Common.{◌≡◌, ◌≢◌, ℕ, zero, suc, ◌+◌, Bool, true, false, cond, ltb, not, ◌&&◌, ℤ, ◌<ℤ◌, List, [], ◌∷◌, ◌++◌, ◌⊎◌, inl, inr, length, map, take, drop}
+use Rattle.std.proofs.Common.{◌≡◌, ◌≢◌, ℕ, zero, suc, ◌+◌, ◌-◌, Bool, true, false, cond, ltb, not, ◌&&◌, ℤ, ◌<ℤ◌, List, [], ◌∷◌, ◌++◌, ◌⊎◌, inl, inr, length, map, take, drop}
 use Rattle.std.proofs.Common.{Option, Some, None, MatchOption, option_map, refl, sym, ap, ◌∙◌, subst, arith, zero-add}
 use Rattle.std.specs.Prelude.{int_lt, slice_get, insert, remove, position, eqb}
 use Rattle.std.specs.List.{prefix_len}
 use Rattle.std.specs.List.{AllByRecursion}
+use Rattle.std.specs.Option.{option_or}
 use Rattle.std.specs.Ordering.{int_cmp, is_eq, is_lt, ordering_reverse, MatchOrdering}
 use Rattle.std.specs.Cmp.{int_cmp_is, int_ranks, int_cmp_total}
 use Rattle.std.specs.declared.cmp.Ordering.{Ordering}
@@ -19,7 +20,10 @@ use Rattle.seg_spec.proofs.Values.PathFrameLaws.{each_at}
 use Rattle.seg_rbtree.specs.Changes.{with_node, without_node}
 use Rattle.seg_rbtree.specs.Paths.{IsEqualAmong}
 use Rattle.seg_rbtree.proofs.Orders.{ascend-parts}
-use Rattle.seg_map.specs.Maps.{first_of, keys_above}
+use Rattle.seg_rbtree.specs.Sides.{last_where}
+use Rattle.seg_rbtree.proofs.FirstNodeSearchLaws.{or_none}
+use Rattle.seg_rbtree.proofs.SideSearchLaws.{last_more}
+use Rattle.seg_map.specs.Maps.{first_of, last_of, keys_above, lower_keys}
 
 -- ---- two numbers
 
@@ -62,6 +66,19 @@ equal_self a = sym (int_cmp_is a a Equal refl)
 
 pub less_of_greater : (a b : ℤ) → int_cmp a b ≡ Greater → int_cmp b a ≡ Less
 less_of_greater a b e = int_cmp_total.antisymm b a ∙ ap ordering_reverse e
+
+-- ---- the last number
+
+end_there : (x : ℤ) (xs : List ℤ) (o : Option ℤ) → option_or (slice_get (x ∷ xs) (length xs)) o ≡ slice_get (x ∷ xs) (length xs)
+end_there x [] o = refl
+end_there x (y ∷ ys) o = end_there y ys o
+
+last_of_more : (x : ℤ) (xs : List ℤ) → last_of (x ∷ xs) ≡ option_or (last_of xs) (Some x)
+last_of_more x [] = refl
+last_of_more x (y ∷ ys) =
+    let end : suc (suc (length ys)) - 1 ≡ suc (length ys) = omega arith in
+    let end_of_rest : length ys ≡ suc (length ys) - 1 = omega arith in
+    ap (slice_get (x ∷ y ∷ ys)) end ∙ sym (end_there y ys (Some x)) ∙ ap (λ n. option_or (slice_get (y ∷ ys) n) (Some x)) end_of_rest
 
 -- ---- nodes and their numbers
 
@@ -230,6 +247,33 @@ module _ (f : ℕ → ℤ) where
           → option_map f (cond b (Some x) (first_where (λ y. reaches Greater (int_cmp (f y) k)) xs)) ≡ first_of (cond (int_lt k (f x)) (f x ∷ keys_above (map f xs) k) (keys_above (map f xs) k))
       go true e h = ap (λ b. first_of (cond b (f x ∷ keys_above (map f xs) k) (keys_above (map f xs) k))) (sym e ∙ above_test k x)
       go false e h = h ∙ ap (λ b. first_of (cond b (f x ∷ keys_above (map f xs) k) (keys_above (map f xs) k))) (sym e ∙ above_test k x)
+
+  mapped_or : (o : Option ℕ) (x : ℕ) → option_map f (option_or o (Some x)) ≡ option_or (option_map f o) (Some (f x))
+  mapped_or None x = refl
+  mapped_or (Some y) x = refl
+
+  pub last_found : (nodes : List ℕ) → option_map f (last_where (λ x. true) nodes) ≡ last_of (map f nodes)
+  last_found [] = refl
+  last_found (x ∷ xs) =
+      ap (option_map f) (last_more (λ y. true) x xs) ∙ mapped_or (last_where (λ y. true) xs) x ∙ ap (λ o. option_or o (Some (f x))) (last_found xs) ∙ sym (last_of_more (f x) (map f xs))
+
+  below_test : (k : ℤ) (x : ℕ) → is_lt (int_cmp (f x) k) ≡ int_lt (f x) k
+  below_test k x = go (int_cmp (f x) k) refl
+    where
+      go : (r : Ordering) → int_cmp (f x) k ≡ r → is_lt r ≡ int_lt (f x) k
+      go Less e = sym (less_tests (f x) k e).0
+      go Equal e = sym (equal_tests (f x) k e).0
+      go Greater e = sym (greater_tests (f x) k e).0
+
+  pub previous_found : (k : ℤ) (nodes : List ℕ) → option_map f (last_where (λ x. is_lt (int_cmp (f x) k)) nodes) ≡ last_of (lower_keys (map f nodes) k)
+  previous_found k [] = refl
+  previous_found k (x ∷ xs) = ap (option_map f) (last_more (λ y. is_lt (int_cmp (f y) k)) x xs) ∙ go (is_lt (int_cmp (f x) k)) refl (last_where (λ y. is_lt (int_cmp (f y) k)) xs) (previous_found k xs)
+    where
+      go : (b : Bool) → is_lt (int_cmp (f x) k) ≡ b → (o : Option ℕ) → option_map f o ≡ last_of (lower_keys (map f xs) k)
+          → option_map f (option_or o (cond b (Some x) None)) ≡ last_of (cond (int_lt (f x) k) (f x ∷ lower_keys (map f xs) k) (lower_keys (map f xs) k))
+      go true e o h = mapped_or o x ∙ ap (λ r. option_or r (Some (f x))) h ∙ sym (last_of_more (f x) (lower_keys (map f xs) k))
+          ∙ ap (λ b. last_of (cond b (f x ∷ lower_keys (map f xs) k) (lower_keys (map f xs) k))) (sym e ∙ below_test k x)
+      go false e o h = ap (option_map f) (or_none o) ∙ h ∙ ap (λ b. last_of (cond b (f x ∷ lower_keys (map f xs) k) (lower_keys (map f xs) k))) (sym e ∙ below_test k x)
 
   -- ---- a node is added or removed
 

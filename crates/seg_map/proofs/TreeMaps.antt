@@ -3,7 +3,7 @@ use Rattle.std.proofs.Common.{◌≡◌, ℕ, ◌+◌, ◌*◌, ◌%◌, ◌^◌
 use Rattle.std.specs.Prelude.{slice_get}
 use Rattle.std.proofs.lemmas.List.{length-map}
 use Rattle.std.specs.List.{AllByRecursion}
-use Rattle.std.specs.Ordering.{int_cmp, is_eq}
+use Rattle.std.specs.Ordering.{int_cmp, is_eq, is_lt}
 use Rattle.std.specs.declared.cmp.Ordering.TheVariants.{Greater}
 use Rattle.seg_spec.specs.Bytes.{signed_long}
 use Rattle.seg_spec.specs.Types.{Form, Table, form_at, size}
@@ -21,8 +21,9 @@ use Rattle.seg_spec.proofs.Heap.LiveBlockLaws.{times-append, times-same, times-m
 use Rattle.seg_spec.proofs.Values.PlaceWriteLaws.{owned_live}
 use Rattle.seg_spec.proofs.Heap.BlockCountLaws.{no_more, few_live}
 use Rattle.seg_spec.proofs.Values.PathFrameLaws.{each_at}
-use Rattle.seg_map.specs.Maps.{FindsValue, value_of, first_of, keys_above}
-use Rattle.seg_map.proofs.KeyOrder.{ascend_of, found, AtPlace, first_found, next_found}
+use Rattle.seg_rbtree.specs.Sides.{last_where}
+use Rattle.seg_map.specs.Maps.{FindsValue, value_of, first_of, last_of, keys_above, lower_keys}
+use Rattle.seg_map.proofs.KeyOrder.{ascend_of, found, AtPlace, first_found, next_found, last_found, previous_found}
 
 -- the key of a node
 abbrev pub key_at : List ℕ → ℕ → ℤ
@@ -168,6 +169,15 @@ module _ (allocator : ℕ) (bytes : List ℕ) (table : Table) (place : Place) (U
     next_is after o e =
         let found_there : o ≡ first_where (λ x. reaches Greater (int_cmp (key_at bytes x) after)) nodes = e its.opens.tree there_too in_order ∙ ap (λ bs. first_where (λ x. reaches Greater (int_cmp (key_at bs x) after)) nodes) same in
         ap (option_map (key_at bytes)) found_there ∙ next_found (key_at bytes) after nodes ∙ ap (λ ks. first_of (keys_above ks after)) (sym keys_are)
+
+    pub last_is : (o : Option ℕ) → ((shape : Tree) → IsSearchTree now root shape → o ≡ last_where (λ x. true) (nodes_of shape)) → option_map (key_at bytes) o ≡ last_of keys
+    last_is o e = ap (option_map (key_at bytes)) (e its.opens.tree there_too) ∙ last_found (key_at bytes) nodes ∙ ap last_of (sym keys_are)
+
+    pub previous_is : (before : ℤ) (o : Option ℕ) → ((shape : Tree) → IsSearchTree now root shape → Ascend (λ x y. int_cmp (key_at now x) (key_at now y)) (nodes_of shape)
+        → o ≡ last_where (λ x. is_lt (int_cmp (key_at now x) before)) (nodes_of shape)) → option_map (key_at bytes) o ≡ last_of (lower_keys keys before)
+    previous_is before o e =
+        let found_there : o ≡ last_where (λ x. is_lt (int_cmp (key_at bytes x) before)) nodes = e its.opens.tree there_too in_order ∙ ap (λ bs. last_where (λ x. is_lt (int_cmp (key_at bs x) before)) nodes) same in
+        ap (option_map (key_at bytes)) found_there ∙ previous_found (key_at bytes) before nodes ∙ ap (λ ks. last_of (lower_keys ks before)) (sym keys_are)
 
     value_by : (key : ℤ) (o : Option ℕ) → MatchOption o (key_place (map (key_at bytes) nodes) key ≡ None) (AtPlace (key_at bytes) key nodes)
         → FindsValue bytes table place U keys key (option_map (λ node. node + 24) o)

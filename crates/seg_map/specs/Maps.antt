@@ -1,7 +1,9 @@
 -- Calls on maps of one kind. U is the type of the values, `keys` and vs are the keys and the values
 -- in order, and `blocks` the blocks that the map owns. An index of a key is its index in `keys`.
 --     first_of keys               the first of keys, if there is one
+--     last_of keys                the last of keys, if there is one
 --     keys_above keys after       the keys above another, in their order
+--     lower_keys keys before      the keys below another, in their order
 --     value_of U at               the place of a value of type U
 --     WhereMap form allocator bytes table cell claim
 --                                 the claim is true of each map of this form at a cell
@@ -11,7 +13,7 @@
 --     TakesKey, RemovesKey        a key was removed from a map; the result of `remove`
 --     KeepsLowerKeys old new table map key
 --                                 paths through keys below another still reach the same places
-use Rattle.std.specs.Prelude.{◌≡◌, ◌<ℤ◌, ℕ, Bool, true, false, ℤ, int_lt, List, [], ◌∷◌, filter, slice_get, Option, Some, None, MatchOption, Result, MatchResult}
+use Rattle.std.specs.Prelude.{◌≡◌, ◌-◌, ◌<ℤ◌, ℕ, Bool, true, false, ℤ, int_lt, List, [], ◌∷◌, length, filter, slice_get, Option, Some, None, MatchOption, Result, MatchResult}
 use Rattle.seg_spec.specs.Types.{Form, Table, form_at}
 use Rattle.seg_spec.specs.Value.{Value, Values, Map, Selector, nth, default_of}
 use Rattle.seg_spec.specs.Items.{key_place, with_entry, without_entry}
@@ -30,6 +32,12 @@ first_of keys = slice_get keys 0
 
 abbrev pub keys_above : List ℤ → ℤ → List ℤ
 keys_above keys after = filter (λ x. int_lt after x) keys
+
+abbrev pub last_of : List ℤ → Option ℤ
+last_of keys = slice_get keys (length keys - 1)
+
+abbrev pub lower_keys : List ℤ → ℤ → List ℤ
+lower_keys keys before = filter (λ x. int_lt x before) keys
 
 abbrev pub value_of : ℕ → ℕ → Place
 value_of U at = record { at = at; type = U }

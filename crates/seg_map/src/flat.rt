@@ -1,6 +1,6 @@
 //! A flat map: a buffer of entries {key, value} in ascending order of their keys.
 
-ghost use Rattle.std.specs.Prelude.{◌≡◌, ℕ, ℤ, List, Some, None, IsOkUnless, MatchResult, slice_get};
+ghost use Rattle.std.specs.Prelude.{◌≡◌, ◌≤◌, ℕ, ℤ, List, length, take, Some, None, IsOkUnless, MatchResult, slice_get};
 ghost use Rattle.seg_spec.specs.Items.{key_place, keys_below};
 ghost use Rattle.seg_spec.specs.Owning.{Stands};
 ghost use Rattle.seg_spec.specs.Types.{Form, form_at};
@@ -9,7 +9,7 @@ ghost use Rattle.seg_spec.specs.Window.{KeepsHost};
 ghost use Rattle.seg_cells.specs.Places.{object_at};
 ghost use Rattle.seg_cells.specs.Entries.{IsEntryOf};
 ghost use Rattle.seg_value.specs.Entries.{NamesFlatMap, flat_asks};
-ghost use Rattle.seg_map.specs.Maps.{WhereMap, FindsValue, PutsKey, RemovesKey, KeepsLowerKeys, first_of, keys_above};
+ghost use Rattle.seg_map.specs.Maps.{WhereMap, FindsValue, PutsKey, RemovesKey, KeepsLowerKeys, first_of, last_of, keys_above, lower_keys};
 
 use seg_raw::Code;
 use seg_value::{CellAt, Content, Entry, Fit, Heap, SegmentRead, ValueAt, binary_search};
@@ -164,4 +164,42 @@ pub(crate) fn next_key<S: SegmentRead>(
         Err(index) => index,
     };
     key_of(source, entry, cell, index)
+}
+
+/// The key of the last entry before an index, if there is one.
+fn key_before<S: SegmentRead>(source: &S, entry: Entry, cell: CellAt, index: u32) -> Option<i64>
+    ensures { WhereMap Form.flat_map (S.allocator source.now) (S.stored source.now).window.bytes
+        (S.stored source.now).types cell
+        (λ T U keys vs blocks. IsEntryOf (S.stored source.now).types 8 U entry →
+        index ≤ length keys → result ≡ last_of (take index keys)) }
+{
+    key_of(source, entry, cell, index.checked_sub(1)?)
+}
+
+/// The greatest key.
+pub(crate) fn last_key<S: SegmentRead>(source: &S, entry: Entry, cell: CellAt) -> Option<i64>
+    ensures { WhereMap Form.flat_map (S.allocator source.now) (S.stored source.now).window.bytes
+        (S.stored source.now).types cell
+        (λ T U keys vs blocks. IsEntryOf (S.stored source.now).types 8 U entry →
+        result ≡ last_of keys) }
+{
+    key_before(source, entry, cell, source.count(cell))
+}
+
+/// The greatest key below another.
+pub(crate) fn previous_key<S: SegmentRead>(
+    source: &S,
+    entry: Entry,
+    cell: CellAt,
+    before: i64,
+) -> Option<i64>
+    ensures { WhereMap Form.flat_map (S.allocator source.now) (S.stored source.now).window.bytes
+        (S.stored source.now).types cell
+        (λ T U keys vs blocks. IsEntryOf (S.stored source.now).types 8 U entry →
+        result ≡ last_of (lower_keys keys before)) }
+{
+    let index = match search(source, entry, cell, before) {
+        Ok(index) | Err(index) => index,
+    };
+    key_before(source, entry, cell, index)
 }

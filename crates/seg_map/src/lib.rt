@@ -7,4 +7,6 @@ mod flat;
 mod map;
 mod tree;
 
-pub use map::{first_key, first_key_by, get, len, next_key, next_key_by, put, remove};
+pub use map::{
+    first_key, first_key_by, get, last_key, len, next_key, next_key_by, previous_key, put, remove,
+};

@@ -9,7 +9,7 @@ ghost use Rattle.seg_spec.specs.Window.{KeepsHost};
 ghost use Rattle.seg_cells.specs.Places.{place_of};
 ghost use Rattle.seg_rbtree.specs.Following.{LeadsInside};
 ghost use Rattle.seg_map.specs.EitherMap.{has_keys, IsMapOf, WhereMaps, key_asks, KeepsTreePaths, KeepsKeysBut};
-ghost use Rattle.seg_map.specs.Maps.{FindsValue, PutsKey, RemovesKey, first_of, keys_above};
+ghost use Rattle.seg_map.specs.Maps.{FindsValue, PutsKey, RemovesKey, first_of, last_of, keys_above, lower_keys};
 
 use crate::{flat, tree};
 use seg_raw::Code;
@@ -198,6 +198,41 @@ pub fn next_key_by<S: SegmentRead>(
     match MapKind::of(source, map)? {
         MapKind::Flat(content) => flat::next_key(source, content.entry, map.at, after),
         MapKind::Tree(_) => tree::next_key(source, cursor, map.at, after),
+    }
+    .ok_or(Code::Null)
+}
+
+/// The greatest key. `OtherType` if the place isn't a map, `Null` if the map is empty.
+pub fn last_key<S: SegmentRead>(source: &S, map: Place) -> Result<i64, Code>
+    ensures other { has_keys (form_at (S.stored source.now).types map.type_id) ≡ false →
+        result ≡ Err Code.OtherType }
+    ensures code { has_keys (form_at (S.stored source.now).types map.type_id) ≡ true →
+        IsOkUnless result Code.Null }
+    ensures last { WhereMaps (S.allocator source.now) (S.stored source.now).window.bytes
+        (S.stored source.now).types (place_of map)
+        (λ U keys vs blocks. result_ok result ≡ last_of keys) }
+{
+    match MapKind::of(source, map)? {
+        MapKind::Flat(content) => flat::last_key(source, content.entry, map.at),
+        MapKind::Tree(_) => tree::last_key(source, map.at),
+    }
+    .ok_or(Code::Null)
+}
+
+/// The greatest key below another, which need not exist. `OtherType` if the place isn't a map, `Null` if no key is
+/// below it.
+pub fn previous_key<S: SegmentRead>(source: &S, map: Place, before: i64) -> Result<i64, Code>
+    ensures other { has_keys (form_at (S.stored source.now).types map.type_id) ≡ false →
+        result ≡ Err Code.OtherType }
+    ensures code { has_keys (form_at (S.stored source.now).types map.type_id) ≡ true →
+        IsOkUnless result Code.Null }
+    ensures previous { WhereMaps (S.allocator source.now) (S.stored source.now).window.bytes
+        (S.stored source.now).types (place_of map)
+        (λ U keys vs blocks. result_ok result ≡ last_of (lower_keys keys before)) }
+{
+    match MapKind::of(source, map)? {
+        MapKind::Flat(content) => flat::previous_key(source, content.entry, map.at, before),
+        MapKind::Tree(_) => tree::previous_key(source, map.at, before),
     }
     .ok_or(Code::Null)
 }

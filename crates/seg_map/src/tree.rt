@@ -21,7 +21,7 @@ ghost use Rattle.seg_rbtree.specs.Following.{LeadsInside};
 ghost use Rattle.seg_rbtree.proofs.Keys.{equal_to_one};
 ghost use Rattle.seg_cells.specs.Entries.{IsEntryOf};
 ghost use Rattle.seg_cells.specs.Places.{object_at};
-ghost use Rattle.seg_map.specs.Maps.{WhereMap, FindsValue, PutsKey, RemovesKey, first_of, keys_above};
+ghost use Rattle.seg_map.specs.Maps.{WhereMap, FindsValue, PutsKey, RemovesKey, first_of, last_of, keys_above, lower_keys};
 ghost use Rattle.seg_map.specs.Trees.{VALUE, NamesTree, KeepsOtherKeys};
 
 use seg_raw::Code;
@@ -199,5 +199,26 @@ pub(crate) fn next_key<S: SegmentRead>(
 {
     let view = source.view();
     let node = cursor.next_after(view, tree_of(cell), &ByKey, after)?;
+    Some(key_of(view, node))
+}
+
+/// The greatest key.
+pub(crate) fn last_key<S: SegmentRead>(source: &S, cell: CellAt) -> Option<i64>
+    ensures { WhereMap Form.map (S.allocator source.now) (S.stored source.now).window.bytes
+        (S.stored source.now).types cell (λ T U keys vs blocks. result ≡ last_of keys) }
+{
+    let view = source.view();
+    let node = tree_of(cell).last(view)?;
+    Some(key_of(view, node))
+}
+
+/// The greatest key below another.
+pub(crate) fn previous_key<S: SegmentRead>(source: &S, cell: CellAt, before: i64) -> Option<i64>
+    ensures { WhereMap Form.map (S.allocator source.now) (S.stored source.now).window.bytes
+        (S.stored source.now).types cell
+        (λ T U keys vs blocks. result ≡ last_of (lower_keys keys before)) }
+{
+    let view = source.view();
+    let node = tree_of(cell).last_below(view, &ByKey, before)?;
     Some(key_of(view, node))
 }

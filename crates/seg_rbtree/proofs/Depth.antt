@@ -34,9 +34,13 @@ deep-64 tree r few = go (cases_lt 32 r.height)
         absurd (omega (arith, many_nodes tree r.height r.balanced))
     go (inr low) = omega (arith, (few_deep tree r.height r.balanced).1 r.root)
 
-taller : (side : Side) (at : ℕ) (colour : Colour) (near far : Tree) → suc (tall near) ≤ tall (branch side at colour near far)
+pub taller : (side : Side) (at : ℕ) (colour : Colour) (near far : Tree) → suc (tall near) ≤ tall (branch side at colour near far)
 taller Left at colour near far = omega arith
 taller Right at colour near far = omega arith
+
+pub taller_far : (side : Side) (at : ℕ) (colour : Colour) (near far : Tree) → suc (tall far) ≤ tall (branch side at colour near far)
+taller_far Left at colour near far = omega arith
+taller_far Right at colour near far = omega arith
 
 -- the layers and a path in the subtree below them make one path
 pub layers-deep : (tree : Tree) (layers : List Layer) → length layers + tall tree ≤ tall (plug tree layers)

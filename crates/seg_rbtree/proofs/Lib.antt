@@ -6,6 +6,8 @@ pub mod LowNodes
 pub mod WordWriteLaws
 pub mod LocalChangeLaws
 pub mod Depth
+pub mod SideSearchLaws
+pub mod CountedSearchLaws
 pub mod PlacePathLaws
 pub mod Orders
 pub mod ColourLaws

@@ -1,9 +1,11 @@
 //! Searches in a tree.
 
 ghost use Rattle.std.specs.Prelude.{◌≡◌, ◌+◌, ◌^◌, ◌≤◌, [], length, Some, IfSome};
-ghost use Rattle.std.specs.Ordering.{is_eq, ordering_reverse};
+ghost use Rattle.std.specs.Ordering.{is_eq, is_lt, ordering_reverse};
 ghost use Rattle.seg_spec.specs.Shapes.{nodes_of};
 ghost use Rattle.seg_spec.specs.Search.{reaches, first_where, looks, IsSearchTree};
+ghost use Rattle.seg_rbtree.specs.Nodes.{opposite};
+ghost use Rattle.seg_rbtree.specs.Sides.{nodes_from, is_beyond, last_where};
 ghost use Rattle.seg_rbtree.specs.Ways.{LeadsTo};
 ghost use Rattle.seg_rbtree.specs.Paths.{WhereOrdered, FindsEqual, IsAmong, node_at, sought_by};
 ghost use Rattle.seg_rbtree.specs.Roots.{root_word, path_root};
@@ -26,14 +28,20 @@ pub struct Looked {
     pub looks: u32,
 }
 
-/// Whether a node that compares like this with a key is far enough up: at the key or above it, or only above it.
-fn is_reached(least: Ordering, found: Ordering) -> bool
-    ensures { result ≡ reaches least found }
+/// Whether a node that compares like this with a key is at the key or above it.
+fn is_at_least(found: Ordering) -> bool
+    ensures { result ≡ reaches Ordering.Equal found }
 {
-    match least {
-        Ordering::Less => true,
-        Ordering::Equal => found != Ordering::Less,
-        Ordering::Greater => found == Ordering::Greater,
+    found != Ordering::Less
+}
+
+/// Whether a node that compares like this with a key is on this side of the key.
+fn is_beyond(side: Side, found: Ordering) -> bool
+    ensures { result ≡ is_beyond side found }
+{
+    match side {
+        Side::Left => found == Ordering::Less,
+        Side::Right => found == Ordering::Greater,
     }
 }
 
@@ -75,7 +83,24 @@ impl Tree {
             → WhereOrdered (O.compare order.now) view.entry.bytes.now (root_word self)
             (λ shape. 2 ^ result.looks ≤ (length (nodes_of shape) + 1) ^ 2) }
     {
-        self.first_from(view, order, key, Ordering::Equal)
+        let mut place = view.target(self.root);
+        let mut found = Looked {
+            node: None,
+            looks: 0,
+        };
+        while found.looks < MOST_LOOKS {
+            let Some(node) = place else {
+                break;
+            };
+            found.looks += 1;
+            if is_at_least(order.key(view, node, key)) {
+                found.node = Some(node);
+                place = child_in(view, node, Side::Left);
+            } else {
+                place = child_in(view, node, Side::Right);
+            }
+        }
+        found
     }
 
     /// The first node that is above a key.
@@ -91,47 +116,53 @@ impl Tree {
             (O.compare_key order.now view.entry.bytes.now node key))
             (nodes_of shape)) }
     {
-        self.first_from(view, order, key, Ordering::Greater).node
+        self.nearest(view, order, key, Side::Right)
     }
 
-    /// The first node that is far enough up from a key.
-    fn first_from<K: Copy, O: NodeOrder<K>>(
+    /// The last node that is below a key.
+    pub fn last_below<K: Copy, O: NodeOrder<K>>(
         self,
         view: View,
         order: &O,
         key: K,
-        least: Ordering,
-    ) -> Looked
-        ensures node { O.exact
-            → WhereOrdered (O.compare order.now) view.entry.bytes.now (root_word self)
-            (λ shape. result.node ≡ first_where
-            (λ node. reaches least (O.compare_key order.now view.entry.bytes.now node key))
+    ) -> Option<NodeAt>
+        ensures { O.exact → WhereOrdered (O.compare order.now) view.entry.bytes.now (root_word self)
+            (λ shape. result ≡ last_where
+            (λ node. is_lt (O.compare_key order.now view.entry.bytes.now node key))
             (nodes_of shape)) }
-        ensures looks { O.exact
-            → WhereOrdered (O.compare order.now) view.entry.bytes.now (root_word self)
-            (λ shape. result.looks
-            ≡ looks (λ node. reaches least (O.compare_key order.now view.entry.bytes.now node key))
-            shape) }
-        ensures bound { result.looks ≤ DEPTH }
+    {
+        self.nearest(view, order, key, Side::Left)
+    }
+
+    /// The node on one side of a key that is nearest to it: the first node above the key, or the last node below it.
+    // Inlined, so that each caller's search is compiled for its side.
+    #[inline(always)]
+    fn nearest<K: Copy, O: NodeOrder<K>>(
+        self,
+        view: View,
+        order: &O,
+        key: K,
+        side: Side,
+    ) -> Option<NodeAt>
+        ensures { O.exact → WhereOrdered (O.compare order.now) view.entry.bytes.now (root_word self)
+            (λ shape. result ≡ first_where
+            (λ node. is_beyond side (O.compare_key order.now view.entry.bytes.now node key))
+            (nodes_from (opposite side) shape)) }
     {
         let mut place = view.target(self.root);
-        let mut found = Looked {
-            node: None,
-            looks: 0,
-        };
-        while found.looks < MOST_LOOKS {
+        let mut nearest = None;
+        for _ in 0..DEPTH {
             let Some(node) = place else {
                 break;
             };
-            found.looks += 1;
-            if is_reached(least, order.key(view, node, key)) {
-                found.node = Some(node);
-                place = child_in(view, node, Side::Left);
+            if is_beyond(side, order.key(view, node, key)) {
+                nearest = Some(node);
+                place = child_in(view, node, side.other());
             } else {
-                place = child_in(view, node, Side::Right);
+                place = child_in(view, node, side);
             }
         }
-        found
+        nearest
     }
 
     /// The path to the node that equals a key, or to the empty place to insert one at.

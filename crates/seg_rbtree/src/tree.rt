@@ -2,6 +2,7 @@ ghost use Rattle.std.specs.Prelude.{◌≡◌, ◌↔◌, IsTrue, true, []};
 ghost use Rattle.seg_spec.specs.Shapes.{nodes_of};
 ghost use Rattle.seg_spec.specs.Search.{first_where, IsSearchTree};
 ghost use Rattle.seg_rbtree.specs.Roots.{root_word};
+ghost use Rattle.seg_rbtree.specs.Sides.{nodes_from, last_where};
 
 use crate::node::{Side, child_in};
 use crate::path::DEPTH;
@@ -37,15 +38,32 @@ impl Tree {
         ensures { (shape : _) → IsSearchTree view.entry.bytes.now (root_word self) shape
             → result ≡ first_where (λ _. true) (nodes_of shape) }
     {
+        self.outermost(view, Side::Left)
+    }
+
+    /// The last node.
+    pub fn last(self, view: View) -> Option<NodeAt>
+        ensures { (shape : _) → IsSearchTree view.entry.bytes.now (root_word self) shape
+            → result ≡ last_where (λ _. true) (nodes_of shape) }
+    {
+        self.outermost(view, Side::Right)
+    }
+
+    /// The outermost node on a side: the first node, or the last one.
+    #[inline(always)]
+    fn outermost(self, view: View, side: Side) -> Option<NodeAt>
+        ensures { (shape : _) → IsSearchTree view.entry.bytes.now (root_word self) shape
+            → result ≡ first_where (λ _. true) (nodes_from side shape) }
+    {
         let mut place = view.target(self.root);
-        let mut first = None;
+        let mut outermost = None;
         for _ in 0..DEPTH {
             let Some(node) = place else {
                 break;
             };
-            first = Some(node);
-            place = child_in(view, node, Side::Left);
+            outermost = Some(node);
+            place = child_in(view, node, side);
         }
-        first
+        outermost
     }
 }

@@ -130,6 +130,9 @@ fn finds_nodes_by_number(rt: HostRuntime) -> Result<(), Fail> {
         Some(node_of(6))
     );
     assert_eq!(rt; tree.next_after(w.view(), &ByNumber, 6), None);
+    assert_eq!(rt; tree.last(w.view()), Some(node_of(6)));
+    assert_eq!(rt; tree.last_below(w.view(), &ByNumber, 5), Some(node_of(4)));
+    assert_eq!(rt; tree.last_below(w.view(), &ByNumber, 1), None);
     let mut path = Path::new(0);
     assert_eq!(rt;
         path.lead_to_first(&w, tree, &ByNumber, 5),

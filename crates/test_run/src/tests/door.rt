@@ -1,7 +1,7 @@
 //! The calls on an image, without contracts, so that the proof of a test with many calls is short.
 
 use lezgauri::{
-    AllocatorKind, Code, Entries, Fault, Image, IndexKind, Keys, Named, Names, Numbers, Place,
+    AllocatorKind, Code, Entries, Fault, Image, ImageRead, IndexKind, Keys, Named, Names, Numbers, Place,
     Ready, Report, Through, Type, TypeId, TypeTable, Verified, check, prepare, run, type_table,
     verify,
 };
@@ -157,7 +157,7 @@ impl Host {
         self.image.next_name(after)
     }
 
-    pub(crate) fn names(&self) -> Names<'_, Global> {
+    pub(crate) fn names(&self) -> Names<'_, Image<Global>> {
         self.image.names()
     }
 
@@ -275,11 +275,11 @@ impl Host {
         self.image.next_key(map, after)
     }
 
-    pub(crate) fn keys(&self, map: Place) -> Result<Keys<'_, Global>, Code> {
+    pub(crate) fn keys(&self, map: Place) -> Result<Keys<'_, Image<Global>>, Code> {
         self.image.keys(map)
     }
 
-    pub(crate) fn entries(&self, map: Place) -> Result<Entries<'_, Global>, Code> {
+    pub(crate) fn entries(&self, map: Place) -> Result<Entries<'_, Image<Global>>, Code> {
         self.image.entries(map)
     }
 }

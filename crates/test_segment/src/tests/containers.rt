@@ -6,7 +6,7 @@ use crate::tests::tiles::is_one_gap;
 use seg_bestfit::BestFit;
 use seg_block::Fit;
 use seg_manager::Code;
-use seg_map::{first_key, get, next_key, put, remove};
+use seg_map::{first_key, get, last_key, next_key, previous_key, put, remove};
 use seg_seq::{
     append, assign, at, next, pop_back, pop_front, previous, push_back, push_byte, push_front,
 };
@@ -116,11 +116,25 @@ fn calls_on_maps<F: Fit>(rt: &(impl Abort + AllocGlobal), map: Spelled) -> Resul
     Ok(())
 }
 
+/// The keys from the greatest one down, once from a key that the map doesn't have.
+fn keys_downwards<F: Fit>(rt: &(impl Abort + AllocGlobal), map: Spelled) -> Result<(), Fail> {
+    let empty = root_of::<F>(rt.alloc(), map)?;
+    assert_eq!(rt; last_key(&empty.heap, empty.root), Err(Code::Null));
+    let s = three_keys::<F>(rt.alloc(), map)?;
+    assert_eq!(rt; last_key(&s.heap, s.root), Ok(4));
+    assert_eq!(rt; previous_key(&s.heap, s.root, 4), Ok(3));
+    assert_eq!(rt; previous_key(&s.heap, s.root, 0), Ok(-5));
+    assert_eq!(rt; previous_key(&s.heap, s.root, -5), Err(Code::Null));
+    Ok(())
+}
+
 #[test]
 fn each_call_on_a_map(rt: HostRuntime) -> Result<(), Fail> {
     for map in [flat_map_of(0), map_of(0)] {
         calls_on_maps::<SeqFit>(&rt, map)?;
         calls_on_maps::<BestFit>(&rt, map)?;
+        keys_downwards::<SeqFit>(&rt, map)?;
+        keys_downwards::<BestFit>(&rt, map)?;
     }
     Ok(())
 }

@@ -20,7 +20,7 @@ use Rattle.client_vm.proofs.ready.Ready.TheSendSync as ready
 inside : IsSend kept_row
 inside = ready.the_send static_lft global.the_row ghosts heap.send heap.frees
 
-owned : (p : Ptr) (client : Option kept_row.Denot) → Keyless (may_own p client)
+owned : (p : Ptr) (client : Option kept_row.Denot) → Keyless (may_own kept_row p client)
 owned p None = tt
 owned p (Some client) = (lies kept_row inside p client, heap.frees.frees c_heap (raw (lone kept_row.mir)) p)
 

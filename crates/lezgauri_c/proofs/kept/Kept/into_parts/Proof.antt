@@ -53,8 +53,8 @@ module _ {M : Type 1} {𝓤 : Ura M} (𝓛 : Logic 𝓤) (at_mem : Memory → SP
       qed 𝓛 ((‵ ftrue ⊛ ‵ (owns (types_at (F.signature).params z.0.0) z.0.3 z.0.4)) ∷ raw (fact 𝓤 (is_some v.value ≡ true)) ∷ []) ∵
       move ! (1 ∷ []) $ heard ! (is_some v.value ≡ true) (λ there. let one = one_there v.value there in let x = one.0 in split ! $ drop ! $
       fsplit ! $ fsplit ! $ fpick ! (λ vss. fsplit ! $ feq_l ! (λ ev. fsplit ! $ feq_l ! (λ ep. drop ! $
-      rewrite ! 0 (λ (k : Option kept_row.Denot). ‵ (may_own v.at k)) one.1 refl $
-      in_a_block ! v.at (λ p. may_own p (Some x)) (fst∗ 𝓤 (never 𝓤) (sem 𝓛 (ghosts.dealloc_token c_heap (bare (τ E)) null_ptr))) (λ b o at.
+      rewrite ! 0 (λ (k : Option kept_row.Denot). ‵ (may_own kept_row v.at k)) one.1 refl $
+      in_a_block ! v.at (λ p. may_own kept_row p (Some x)) (fst∗ 𝓤 (never 𝓤) (sem 𝓛 (ghosts.dealloc_token c_heap (bare (τ E)) null_ptr))) (λ b o at.
       move ! (1 ∷ []) $ fsplit ! $ handle_tells E.al ! a z.0.4.1.0 (λ h ea fits. move ! (1 ∷ []) $ drop ! $
       let w : Val = vstruct (vcons (vptr b o) vnil) in
       let d : D E = record { ptr = block_ptr b o; alloc = a; value = x } in

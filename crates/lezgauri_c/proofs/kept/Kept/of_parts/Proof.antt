@@ -30,7 +30,7 @@ use Rattle.std.specs.Prelude.{Some}
 use Rattle.std.proofs.alloc.Calls.{Goes-blank}
 use Rattle.std_alloc.proofs.BoxSteps.Form.{D, B, word, box_typed}
 use Rattle.std_alloc.proofs.BoxSteps.Steps.{box_out}
-use Rattle.lezgauri_c.specs.Kept.{may_own}
+use Rattle.lezgauri_c.specs.Kept.{kept_row, may_own}
 use Rattle.lezgauri_c.proofs.KeptBox.{E, FromParts as From}
 use Rattle.lezgauri_c.specs.contracts.kept.Kept.{the_type, the_row}
 use Rattle.lezgauri_c.specs.contracts.kept.Kept.of_parts as F
@@ -54,7 +54,7 @@ module _ {M : Type 1} {𝓤 : Ura M} (𝓛 : Logic 𝓤) (at_mem : Memory → SP
       let made : the_row.Denot = record { at = block_ptr b o; value = Some v.value } in
       let had = word E hv b o in
       let w : Val = vstruct (vcons (vptr b o) vnil) in
-      let Γ : List (Item 𝓤) = ‵ (may_own (block_ptr b o) (Some v.value)) ∷ [] in
+      let Γ : List (Item 𝓤) = ‵ (may_own kept_row (block_ptr b o) (Some v.value)) ∷ [] in
       by ! (subst (λ (us : List Val). ent 𝓤 (types.Kit.⋆ 𝓛 Γ) (WpFn 𝓤 H 𝓣.C 𝓣.Λ code.function (us ++ []) Post)) (sym ws)
       (qed 𝓛 Γ ∵ enter ! 𝓣.C 𝓣.Λ code.function (had ∷ []) _ $ alloc_all ! (λ ls. pass_all ! refl (box_typed E hv b o fa, tt) $
       sets ! (of_opd ! (get_in ! (fld ! refl (stop !)) (sub ! 0 refl (whole !)))) refl (tt, tt) $ sets ! (of_opd ! (get ! refl)) refl (tt, tt) $

@@ -1,4 +1,4 @@
-use Rattle.std.proofs.Common.{rules, ◌≡◌, ℤ, Some, None, Result, slice_get, refl, sym, ap, ◌∙◌, subst, w64, to_z, of_z}
+use Rattle.std.proofs.Common.{rules, ◌≡◌, Some, None, Result, sym, ap, ◌∙◌, subst, w64, to_z, of_z}
 use Rattle.std.specs.Prelude.{IfOk}
 use Rattle.std.specs.Result.{result_ok}
 use Rattle.std.proofs.lemmas.Int.{to_z-of_z}
@@ -9,7 +9,6 @@ use Rattle.seg_cells.specs.declared.place.Place.{Place}
 use Rattle.seg_raw.specs.declared.code.Code.{Code}
 use Rattle.seg_map.specs.EitherMap.{IsMapOf}
 use Rattle.seg_map.specs.Maps.{FindsValue}
-use Rattle.seg_image.specs.Images.{allocator_of, bytes_in, types_of}
 use Rattle.seg_image.specs.Places.{found_position}
 use Rattle.seg_image.proofs.IteratorLaws.{keys_ascend, key_there, ok_of, err_of}
 use Rattle.seg_image.proofs.iterators.EntriesIterator.next.Goals as goal
@@ -29,7 +28,7 @@ returns-in_err-key-clause-steps g c =
 pub returns-in_err-value-clause-steps : goal.returns-in_err-value-clause-steps
 returns-in_err-value-clause-steps g c =
     let steps = c.in_ok-key.ensures.steps in
-    let image = c.args.self.now.0.image.now in
+    let stored = g.S.SegmentRead.stored c.args.self.now.0.image.now in
     let map = c.args.self.now.0.map in
     let key = c.in_ok-key.key in
     let same : to_z w64 (of_z w64 key) ≡ key = to_z-of_z w64 key (search rules) in
@@ -37,10 +36,10 @@ returns-in_err-value-clause-steps g c =
       image = steps.image;
       map = steps.map;
       next = λ U keys vs blocks m s n h.
-          let ascending = keys_ascend (allocator_of image) (bytes_in image) (types_of image) (place_of map) U keys vs blocks m s in
+          let ascending = keys_ascend (g.S.SegmentRead.allocator c.args.self.now.0.image.now) stored.window.bytes stored.types (place_of map) U keys vs blocks m s in
           let there = key_there keys n ascending key (sym (steps.next U keys vs blocks m s n h).0) in
           let gone = err_of c.get.result c.in_err-value.ensures.value in
-          let finds = subst (λ (r : Result Place Code). FindsValue (bytes_in image) (types_of image) (place_of map) U keys (to_z w64 (of_z w64 key)) (result_ok (found_position r))) gone.1 (c.get.ensures.finds U keys vs blocks m s) in
+          let finds = subst (λ (r : Result Place Code). FindsValue stored.window.bytes stored.types (place_of map) U keys (to_z w64 (of_z w64 key)) (result_ok (found_position r))) gone.1 (c.get.ensures.finds U keys vs blocks m s) in
           let missing : key_place keys key ≡ None = subst (λ k. key_place keys k ≡ None) same finds in
           absurd (cc);
     }
@@ -48,7 +47,7 @@ returns-in_err-value-clause-steps g c =
 pub returns-clause-steps : goal.returns-clause-steps
 returns-clause-steps g c =
     let steps = c.in_ok-key.ensures.steps in
-    let image = c.args.self.now.0.image.now in
+    let stored = g.S.SegmentRead.stored c.args.self.now.0.image.now in
     let map = c.args.self.now.0.map in
     let key = c.in_ok-key.key in
     let same : to_z w64 (of_z w64 key) ≡ key = to_z-of_z w64 key (search rules) in
@@ -61,8 +60,8 @@ returns-clause-steps g c =
             ap Some same ∙ it.0,
             (
               record {
-                of_type = subst (λ (r : Result Place Code). IfOk r (λ value. IsMapOf (form_at (types_of image) map.type_id) value.type_id)) found c.get.ensures.of_type;
-                finds = subst (λ (r : Result Place Code). FindsValue (bytes_in image) (types_of image) (place_of map) U keys (to_z w64 (of_z w64 key)) (result_ok (found_position r))) found (c.get.ensures.finds U keys vs blocks m s);
+                of_type = subst (λ (r : Result Place Code). IfOk r (λ value. IsMapOf (form_at stored.types map.type_id) value.type_id)) found c.get.ensures.of_type;
+                finds = subst (λ (r : Result Place Code). FindsValue stored.window.bytes stored.types (place_of map) U keys (to_z w64 (of_z w64 key)) (result_ok (found_position r))) found (c.get.ensures.finds U keys vs blocks m s);
               },
               it.1,
             ),

@@ -1,4 +1,4 @@
-use Rattle.std.proofs.Common.{rules, ◌≡◌, Some, None, slice_get, refl, ap, ◌∙◌, w64, to_z, of_z, arith}
+use Rattle.std.proofs.Common.{rules, ◌≡◌, Some, None, refl, ap, ◌∙◌, w64, to_z, of_z, arith}
 use Rattle.std.proofs.lemmas.Int.{to_z-of_z}
 use Rattle.seg_image.proofs.iterators.KeysIterator.next.Goals as goal
 

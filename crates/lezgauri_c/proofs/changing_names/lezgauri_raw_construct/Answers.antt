@@ -1,0 +1,22 @@
+use Rattle.std.proofs.Common.{◌≡◌, sym, ◌∙◌}
+use Rattle.seg_image.specs.Images.{bytes_in}
+use Rattle.lezgauri_c.specs.ImageChanges.{Constructs}
+use Rattle.lezgauri_c.proofs.ChangeLaws.{still_sound, still_same}
+use Rattle.lezgauri_c.proofs.NamedChangeLaws.{construct_sound, construct_kept}
+use Rattle.lezgauri_c.proofs.changing_names.lezgauri_raw_construct.Goals as goal
+
+pub returns-clause-sound : goal.returns-clause-sound
+returns-clause-sound c =
+    let opened = c.in-Ok.image in
+    let left = c.construct-returned.new.self in
+    let left_is : bytes_in left ≡ c.give_back.new.self.bytes = sym (c.give_back.ensures.bytes ∙ c.into_bytes.ensures) in
+    let it : Constructs c.args.name.now c.type_number-t.result c.args.count opened left c.construct-returned.result = record { bytes = c.construct-returned.ensures.bytes; of_type = c.construct-returned.ensures.of_type; unknown = c.construct-returned.ensures.unknown; tells = c.construct-returned.ensures.tells; makes = c.construct-returned.ensures.makes; no_room = c.construct-returned.ensures.no_room } in
+    still_sound opened left c.in-Ok.ensures.bytes left_is c.in-Ok.ensures.opened (λ picture held none. construct_sound opened left picture held c.args.name.now c.type_number-t.result c.args.count c.construct-returned.result it none)
+
+pub returns-clause-kept : goal.returns-clause-kept
+returns-clause-kept c some other sound =
+    let opened = c.in-Ok.image in
+    let left = c.construct-returned.new.self in
+    let left_is : bytes_in left ≡ c.give_back.new.self.bytes = sym (c.give_back.ensures.bytes ∙ c.into_bytes.ensures) in
+    let it : Constructs c.args.name.now c.type_number-t.result c.args.count opened left c.construct-returned.result = record { bytes = c.construct-returned.ensures.bytes; of_type = c.construct-returned.ensures.of_type; unknown = c.construct-returned.ensures.unknown; tells = c.construct-returned.ensures.tells; makes = c.construct-returned.ensures.makes; no_room = c.construct-returned.ensures.no_room } in
+    still_same opened left c.in-Ok.ensures.bytes left_is c.in-Ok.ensures.opened (λ picture held. construct_kept opened left picture held c.args.name.now c.type_number-t.result c.args.count c.give.result c.args.place.now c.give.new.place c.construct-returned.result c.give.ensures.told some other it) sound

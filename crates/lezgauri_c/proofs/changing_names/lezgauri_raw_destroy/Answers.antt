@@ -1,0 +1,22 @@
+use Rattle.std.proofs.Common.{◌≡◌, sym, ◌∙◌}
+use Rattle.seg_image.specs.Images.{bytes_in}
+use Rattle.lezgauri_c.specs.ImageChanges.{Destroys}
+use Rattle.lezgauri_c.proofs.ChangeLaws.{still_sound}
+use Rattle.lezgauri_c.proofs.NamedChangeLaws.{destroy_sound, destroy_kept}
+use Rattle.lezgauri_c.proofs.changing_names.lezgauri_raw_destroy.Goals as goal
+
+pub returns-clause-sound : goal.returns-clause-sound
+returns-clause-sound c =
+    let opened = c.in-Ok.image in
+    let left = c.destroy-returned.new.self in
+    let left_is : bytes_in left ≡ c.give_back.new.self.bytes = sym (c.give_back.ensures.bytes ∙ c.into_bytes.ensures) in
+    let it : Destroys c.args.name.now c.type_number-t.result opened left c.destroy-returned.result = record { bytes = c.destroy-returned.ensures.bytes; tells = c.destroy-returned.ensures.tells; loses = c.destroy-returned.ensures.loses; unchanged = c.destroy-returned.ensures.unchanged } in
+    still_sound opened left c.in-Ok.ensures.bytes left_is c.in-Ok.ensures.opened (λ picture held none. destroy_sound opened left picture held c.args.name.now c.type_number-t.result c.destroy-returned.result it none)
+
+pub returns-clause-kept : goal.returns-clause-kept
+returns-clause-kept c some =
+    let opened = c.in-Ok.image in
+    let left = c.destroy-returned.new.self in
+    let left_is : bytes_in left ≡ c.give_back.new.self.bytes = sym (c.give_back.ensures.bytes ∙ c.into_bytes.ensures) in
+    let it : Destroys c.args.name.now c.type_number-t.result opened left c.destroy-returned.result = record { bytes = c.destroy-returned.ensures.bytes; tells = c.destroy-returned.ensures.tells; loses = c.destroy-returned.ensures.loses; unchanged = c.destroy-returned.ensures.unchanged } in
+    sym left_is ∙ destroy_kept opened left c.args.name.now c.type_number-t.result c.found.result c.destroy-returned.result c.found.ensures.told some it ∙ c.in-Ok.ensures.bytes

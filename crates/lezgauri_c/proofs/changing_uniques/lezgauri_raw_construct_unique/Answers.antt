@@ -1,0 +1,22 @@
+use Rattle.std.proofs.Common.{◌≡◌, sym, ◌∙◌}
+use Rattle.seg_image.specs.Images.{bytes_in}
+use Rattle.lezgauri_c.specs.ImageChanges.{ConstructsUnique}
+use Rattle.lezgauri_c.proofs.ChangeLaws.{still_sound, still_same}
+use Rattle.lezgauri_c.proofs.UniqueChangeLaws.{construct_unique_sound, construct_unique_kept}
+use Rattle.lezgauri_c.proofs.changing_uniques.lezgauri_raw_construct_unique.Goals as goal
+
+pub returns-clause-sound : goal.returns-clause-sound
+returns-clause-sound c =
+    let opened = c.in-Ok.image in
+    let left = c.construct_unique-returned.new.self in
+    let left_is : bytes_in left ≡ c.give_back.new.self.bytes = sym (c.give_back.ensures.bytes ∙ c.into_bytes.ensures) in
+    let it : ConstructsUnique c.type_number-t.result opened left c.construct_unique-returned.result = record { bytes = c.construct_unique-returned.ensures.bytes; of_type = c.construct_unique-returned.ensures.of_type; unknown = c.construct_unique-returned.ensures.unknown; makes = c.construct_unique-returned.ensures.makes } in
+    still_sound opened left c.in-Ok.ensures.bytes left_is c.in-Ok.ensures.opened (λ picture held none. construct_unique_sound opened left picture held c.type_number-t.result c.construct_unique-returned.result it none)
+
+pub returns-clause-kept : goal.returns-clause-kept
+returns-clause-kept c some sound =
+    let opened = c.in-Ok.image in
+    let left = c.construct_unique-returned.new.self in
+    let left_is : bytes_in left ≡ c.give_back.new.self.bytes = sym (c.give_back.ensures.bytes ∙ c.into_bytes.ensures) in
+    let it : ConstructsUnique c.type_number-t.result opened left c.construct_unique-returned.result = record { bytes = c.construct_unique-returned.ensures.bytes; of_type = c.construct_unique-returned.ensures.of_type; unknown = c.construct_unique-returned.ensures.unknown; makes = c.construct_unique-returned.ensures.makes } in
+    still_same opened left c.in-Ok.ensures.bytes left_is c.in-Ok.ensures.opened (λ picture held. construct_unique_kept opened left picture held c.type_number-t.result c.give.result c.args.place.now c.give.new.place c.construct_unique-returned.result c.give.ensures.told some it) sound

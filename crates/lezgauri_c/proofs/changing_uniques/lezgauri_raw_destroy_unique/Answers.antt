@@ -1,0 +1,22 @@
+use Rattle.std.proofs.Common.{◌≡◌, sym, ◌∙◌}
+use Rattle.seg_image.specs.Images.{bytes_in}
+use Rattle.lezgauri_c.specs.ImageChanges.{DestroysUnique}
+use Rattle.lezgauri_c.proofs.ChangeLaws.{still_sound}
+use Rattle.lezgauri_c.proofs.UniqueChangeLaws.{destroy_unique_sound, destroy_unique_kept}
+use Rattle.lezgauri_c.proofs.changing_uniques.lezgauri_raw_destroy_unique.Goals as goal
+
+pub returns-clause-sound : goal.returns-clause-sound
+returns-clause-sound c =
+    let opened = c.in-Ok.image in
+    let left = c.destroy_unique-returned.new.self in
+    let left_is : bytes_in left ≡ c.give_back.new.self.bytes = sym (c.give_back.ensures.bytes ∙ c.into_bytes.ensures) in
+    let it : DestroysUnique c.type_number-t.result opened left c.destroy_unique-returned.result = record { bytes = c.destroy_unique-returned.ensures.bytes; unknown = c.destroy_unique-returned.ensures.unknown; loses = c.destroy_unique-returned.ensures.loses; none = c.destroy_unique-returned.ensures.none; unchanged = c.destroy_unique-returned.ensures.unchanged } in
+    still_sound opened left c.in-Ok.ensures.bytes left_is c.in-Ok.ensures.opened (λ picture held none. destroy_unique_sound opened left picture held c.type_number-t.result c.destroy_unique-returned.result it none)
+
+pub returns-clause-kept : goal.returns-clause-kept
+returns-clause-kept c some =
+    let opened = c.in-Ok.image in
+    let left = c.destroy_unique-returned.new.self in
+    let left_is : bytes_in left ≡ c.give_back.new.self.bytes = sym (c.give_back.ensures.bytes ∙ c.into_bytes.ensures) in
+    let it : DestroysUnique c.type_number-t.result opened left c.destroy_unique-returned.result = record { bytes = c.destroy_unique-returned.ensures.bytes; unknown = c.destroy_unique-returned.ensures.unknown; loses = c.destroy_unique-returned.ensures.loses; none = c.destroy_unique-returned.ensures.none; unchanged = c.destroy_unique-returned.ensures.unchanged } in
+    sym left_is ∙ destroy_unique_kept opened left c.type_number-t.result c.found.result c.destroy_unique-returned.result c.found.ensures.told some it ∙ c.in-Ok.ensures.bytes

@@ -1,0 +1,33 @@
+use Rattle.std.proofs.Common.{◌≡◌, ℤ, true, Some, sym, ap, ◌∙◌, subst}
+use Rattle.std.proofs.lemmas.Int.{to_z-of_z}
+use mir.Syntax.{w64}
+use mir.Val.{to_z, of_z}
+use Rattle.std.specs.Prelude.{IsOkUnless, IfOk}
+use Rattle.std.specs.Result.{result_ok}
+use Rattle.seg_spec.specs.Types.{form_at}
+use Rattle.seg_raw.specs.declared.code.Code.TheVariants as code
+use Rattle.seg_cells.specs.declared.place.Place.{Place}
+use Rattle.seg_cells.specs.Places.{place_of}
+use Rattle.seg_map.specs.EitherMap.{has_keys, IsMapOf}
+use Rattle.seg_map.specs.Maps.{FindsValue}
+use Rattle.seg_image.specs.Places.{found_position}
+use Rattle.lezgauri_c.specs.Values.{at_in, TellsOption, WhereMap}
+use Rattle.lezgauri_c.proofs.ReadLaws.{on_image, tells_place, told_type, map_keys}
+use Rattle.lezgauri_c.proofs.reading_maps.lezgauri_raw_get.Goals as goal
+
+pub returns-clause-finds : goal.returns-clause-finds
+returns-clause-finds c sound same =
+    let reader = c.reader-reader.result in
+    let bytes_is = c.reader-reader.ensures.image ∙ c.in-Ok.ensures.image in
+    let table_is = c.in-Ok.ensures.types ∙ ap Some (sym c.reader-reader.ensures.types) in
+    let map = c.place_at-map.result in
+    let image = c.args.image.now in
+    let table = sound.picture.table in
+    let found = c.get-returned.result in
+    let is = subst (λ (k : ℤ). WhereMap image table map (λ U keys vs blocks. FindsValue image table (place_of map) U keys k (result_ok (found_position found)))) (to_z-of_z w64 c.args.key c.ranges.key)
+    (on_image image reader.view.bytes.now c.args.types.now reader.layouts.now bytes_is table_is
+    (λ b t p. WhereMap b t map (λ U keys vs blocks. FindsValue b t (place_of map) U keys (to_z w64 (of_z w64 c.args.key)) (result_ok (found_position found)))) (λ p. c.get-returned.ensures.finds) sound same) in
+    let only = on_image image reader.view.bytes.now c.args.types.now reader.layouts.now bytes_is table_is (λ b t p. has_keys (form_at t map.type_id) ≡ true → IsOkUnless (found_position found) code.Absent) (λ p. c.get-returned.ensures.code) sound same in
+    subst (λ (place : Place). WhereMap image table place (λ U keys vs blocks. TellsOption c.tell_place.result 113 c.tell_place.new.place (λ value. FindsValue image table (place_of place) U keys c.args.key (at_in value)))) c.place_at-map.ensures
+    (λ U keys vs blocks form stands. tells_place code.Absent c.tell_place.result c.tell_place.new.place found (FindsValue image table (place_of map) U keys c.args.key) c.tell_place.ensures.told
+    (only (map_keys (form_at table map.type_id) U form)) (is U keys vs blocks form stands))

@@ -1,0 +1,25 @@
+use Rattle.std.proofs.Common.{ℕ, Some, sym, ap, ◌∙◌, subst}
+use Rattle.seg_spec.specs.Value.{count}
+use Rattle.seg_cells.specs.declared.place.Place.{Place}
+use Rattle.seg_cells.specs.Places.{place_of}
+use Rattle.seg_seq.specs.Sequences.{ShowsItem}
+use Rattle.seg_image.specs.Places.{found_position}
+use Rattle.lezgauri_c.specs.Values.{stored_in, GivesPlace, WhereList, ShowsPrevious}
+use Rattle.lezgauri_c.proofs.ReadLaws.{on_image}
+use Rattle.lezgauri_c.proofs.reading_sequences.lezgauri_raw_previous_item.Goals as goal
+
+pub returns-clause-previous : goal.returns-clause-previous
+returns-clause-previous c sound same =
+    let reader = c.reader-reader.result in
+    let bytes_is = c.reader-reader.ensures.image ∙ c.in-Ok.ensures.image in
+    let table_is = c.in-Ok.ensures.types ∙ ap Some (sym c.reader-reader.ensures.types) in
+    let list = c.place_at-list.result in
+    let image = c.args.image.now in
+    let table = sound.picture.table in
+    let found = c.previous_item-returned.result in
+    let is = on_image image reader.view.bytes.now c.args.types.now reader.layouts.now bytes_is table_is
+    (λ b t p. WhereList b t list (λ U vs blocks. (i : ℕ) → ShowsItem (stored_in b t) (place_of list) U i c.args.item → ShowsPrevious (stored_in b t) (place_of list) U i (found_position found)))
+    (λ p U vs blocks has i shows. c.previous_item-returned.ensures.previous U i vs blocks has shows) sound same in
+    subst (λ (place : Place). WhereList image table place (λ U vs blocks. (i : ℕ) → ShowsItem (stored_in image table) (place_of place) U i c.args.item →
+    GivesPlace c.tell_place.result c.tell_place.new.place (λ r. ShowsPrevious (stored_in image table) (place_of place) U i (found_position r)))) c.place_at-list.ensures
+    (λ U vs blocks has i shows. (found, c.tell_place.ensures.told, is U vs blocks has i shows))

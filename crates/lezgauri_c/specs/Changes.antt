@@ -1,0 +1,124 @@
+-- Calls from C that change the image in lent memory, by one call of `Image`.
+--     place_at at type        the place of a value, from C's two numbers
+--     type_number n           the type with C's number; no segment has type 255
+--     code_status code        the status that reports a code
+--     TellsPlace ..           the status and the caller's place report the result of a call
+--     TellsDone, TellsFound   the status reports the result of a call
+--     OnImage old new picture claim
+--                             the sound image was open and then had other bytes; the claim is true of both
+--     Calls old new status tells claim
+--                             a sound image was opened for a call, whose result is told; other bytes may
+--                             be refused
+--     GivesPlace, IsDone, IsFound, IsOver
+--                             the same, for a call that returns a place or a code, nothing or a code, whether
+--                             something was there, and nothing
+--     HasMoreTypes old new entries before     a longer table took the place of the image's
+--     RefusesTypes, RefusesTypesAs            why a table doesn't take its place; and as it is reported
+use Rattle.std.specs.Prelude.{◌≡◌, ◌+◌, ◌<◌, ◌≤◌, ℕ, List, Bool, true, false, None, Result, Ok, Err, nat_lt, if◌then◌else◌}
+use Rattle.seg_spec.specs.Bytes.{ChangesOnly}
+use Rattle.seg_spec.specs.Header.{types_start, types_size, sharing_version}
+use Rattle.seg_spec.specs.Heap.{live}
+use Rattle.seg_spec.specs.Sound.{Picture}
+use Rattle.seg_spec.specs.Types.{Table, Agree, Spells, IsFirstWrong, IsFirstDifference, longer}
+use Rattle.seg_spec.specs.Images.{IsSound, upgraded}
+use Rattle.seg_raw.specs.declared.fault.Fault as seg_raw_fault
+use Rattle.seg_raw.specs.declared.fault.Fault.TheVariants as fault
+use Rattle.seg_raw.specs.declared.code.Code.{Code}
+use Rattle.seg_raw.specs.Refusals.{code_number}
+use Rattle.seg_cells.specs.declared.place.Place.{Place}
+use Rattle.std_alloc.specs.declared.vec.lodged.Lodged.{Lodged}
+use Rattle.seg_image.specs.declared.image.Image.{Image}
+use Rattle.seg_image.specs.Images.{bytes_in, IsOpen}
+use Rattle.lezgauri_c.specs.declared.fault.Fault.{Fault}
+use Rattle.lezgauri_c.specs.declared.place.Place as told
+use Rattle.lezgauri_c.specs.Told.{told_fault}
+
+-- ---- numbers
+
+abbrev pub type_number : ℕ → ℕ
+type_number n = if nat_lt n 256 then n else 255
+
+abbrev pub place_at : ℕ → ℕ → Place
+place_at at n = record { at = at; type_id = type_number n }
+
+abbrev pub code_status : Code → ℕ
+code_status code = 110 + code_number code
+
+-- ---- results
+
+abbrev pub TellsPlace : ℕ → told.Place → told.Place → Result Place Code → Type 0
+TellsPlace status old new (Ok place) =
+    (status ≡ 0) × (new ≡ record { at = place.at; type_id = place.type_id })
+TellsPlace status old new (Err code) = (status ≡ code_status code) × (new ≡ old)
+
+abbrev pub TellsDone : ℕ → Result (Unit {0}) Code → Type 0
+TellsDone status (Ok _) = status ≡ 0
+TellsDone status (Err code) = status ≡ code_status code
+
+abbrev pub TellsFound : ℕ → Bool → Type 0
+TellsFound status true = status ≡ 0
+TellsFound status false = status ≡ 113
+
+-- ---- calls
+
+-- The image with this picture was open, and had the old bytes. Then it had the new ones.
+pub record OnImage (old new : List ℕ) (picture : Picture)
+    (claim : Image Lodged → Image Lodged → Type 0) : Type 0 where
+  pub opened : Image Lodged
+  pub left : Image Lodged
+  pub is_open : IsOpen opened picture
+  pub opened_is : bytes_in opened ≡ old
+  pub left_is : bytes_in left ≡ new
+  pub called : claim opened left
+
+-- On a sound image the call was done, and the status is 0 or a code's. Bytes that are refused for a
+-- fault are unchanged.
+pub record Calls {R : Type 0} (old new : List ℕ) (status : ℕ) (tells : R → Type 0)
+    (claim : Image Lodged → Image Lodged → R → Type 0) : Type 0 where
+  pub on_image : (sound : IsSound old) → OnImage old new sound.picture
+      (λ opened left. (returned : R) × tells returned × claim opened left returned)
+  pub unsound : 0 < status → status ≤ 100 → IsSound old → ⊥
+  pub kept : 0 < status → status ≤ 100 → new ≡ old
+
+abbrev pub GivesPlace : List ℕ → List ℕ → ℕ → told.Place → told.Place →
+    (Image Lodged → Image Lodged → Result Place Code → Type 0) → Type 0
+GivesPlace old new status before after claim =
+    Calls old new status (TellsPlace status before after) claim
+
+abbrev pub IsDone : List ℕ → List ℕ → ℕ →
+    (Image Lodged → Image Lodged → Result (Unit {0}) Code → Type 0) → Type 0
+IsDone old new status claim = Calls old new status (TellsDone status) claim
+
+abbrev pub IsFound : List ℕ → List ℕ → ℕ →
+    (Image Lodged → Image Lodged → Bool → Type 0) → Type 0
+IsFound old new status claim = Calls old new status (TellsFound status) claim
+
+abbrev pub IsOver : List ℕ → List ℕ → ℕ → (Image Lodged → Image Lodged → Type 0) → Type 0
+IsOver old new status claim =
+    Calls {R = Unit {0}} old new status (λ _. status ≡ 0) (λ opened left _. claim opened left)
+
+-- ---- types
+
+-- The image is one of version 2, and has the longer of its table and the one whose entries these
+-- are. The blocks and the other bytes are the same.
+pub record HasMoreTypes (old new entries : List ℕ) (before : IsSound old) : Type 0 where
+  pub more : Table
+  pub spelled : Spells entries more
+  pub agree : Agree before.picture.table more
+  pub sound : IsSound new
+  pub picture_is : sound.picture
+      ≡ record before.picture { table = longer before.picture.table more }
+  pub changes : ChangesOnly (upgraded old) new types_start types_size
+  pub live_is : live new ≡ live (upgraded old)
+
+-- an entry is wrong, or differs from that of the image's table
+abbrev pub RefusesTypes : Table → List ℕ → seg_raw_fault.Fault → Type 0
+RefusesTypes table entries (fault.BadType k) = IsFirstWrong sharing_version entries k
+RefusesTypes table entries (fault.TypeMismatch k) =
+    (more : Table) × Spells entries more × IsFirstDifference table more k
+RefusesTypes table entries _ = ⊥
+
+abbrev pub RefusesTypesAs : Table → List ℕ → Fault → Type 0
+RefusesTypesAs table entries report = (reason : seg_raw_fault.Fault) ×
+    (report ≡ told_fault (record { client = None; fault = reason })) ×
+    RefusesTypes table entries reason

@@ -1,0 +1,138 @@
+-- Calls from C on the values of an image, with the types that C keeps.
+--     table_in types            the types that C keeps, if there are any
+--     type_number n             the type with C's number; no segment has type 255
+--     place_at at n             the place of a value, from C's two numbers
+--     told_place place          a place, in C's numbers
+--     at_in place               the position of a place that was found, if any
+--     code_status code          the status that reports a code
+--     Tells status value returned     the status and the caller's value report the result of a call
+--     TellsPlace status place returned      the same, of a place
+--     GivesPlace status place P       the call returned a place or a code, and P is true of that result
+--     TellsOption status none value P
+--                               the caller has a value, or the status is `none`; P is true of that option
+--     IsReadStatus status       what a call that reads may return
+--     stored_in, allocator_in   the segment that is the whole of an image, and its allocator
+--     OnSound image types P     if the image is sound and C keeps its types, P is true of its picture
+--     ShowsNext segment list U n i result, ShowsPrevious segment list U i result
+--                               the position of the item after or before item i of n, or `Null` if there is
+--                               none
+--     WhereText, WhereVector, WhereList, WhereMap image table place claim
+--                               the claim is true of the string, the vector, the list or the map at a place
+use Rattle.std.specs.Prelude.{◌≡◌, ◌⊎◌, ◌+◌, ◌-◌, ◌<◌, ◌≤◌, ℕ, ℤ, List, [], Option, Some, None, Result, Ok, Err, MatchResult, nat_lt, if◌then◌else◌, option_map}
+use Rattle.seg_spec.specs.Bytes.{word}
+use Rattle.seg_spec.specs.Header.{allocator_word}
+use Rattle.seg_spec.specs.Types.{Table}
+use Rattle.seg_spec.specs.Value.{Values}
+use Rattle.seg_spec.specs.Sound.{Picture}
+use Rattle.seg_spec.specs.Images.{IsSound}
+use Rattle.seg_spec.specs.Reads as reads
+use Rattle.seg_raw.specs.declared.code.Code.{Code}
+use Rattle.seg_raw.specs.declared.code.Code.TheVariants as code
+use Rattle.seg_raw.specs.Refusals.{code_number}
+use Rattle.seg_cells.specs.declared.place.Place.{Place}
+use Rattle.seg_cells.specs.Places.{place_of}
+use Rattle.seg_value.specs.Stored.{Stored}
+use Rattle.seg_seq.specs.Sequences.{HasText, HasItems, ShowsItem}
+use Rattle.seg_seq.specs.Lists.{HasList}
+use Rattle.seg_map.specs.EitherMap.{WhereMaps}
+use Rattle.lezgauri_c.specs.declared.place.Place as told
+use Rattle.lezgauri_c.specs.declared.kept_types.KeptTypes.{KeptTypes}
+
+-- ---- what C keeps, and its numbers
+
+abbrev pub table_in : KeptTypes → Option Table
+table_in types = types.kept.table
+
+abbrev pub type_number : ℕ → ℕ
+type_number n = if nat_lt n 256 then n else 255
+
+abbrev pub place_at : ℕ → ℕ → Place
+place_at at n = record { at = at; type_id = type_number n }
+
+abbrev pub told_place : Place → told.Place
+told_place place = record { at = place.at; type_id = place.type_id }
+
+abbrev pub at_in : Option told.Place → Option ℕ
+at_in place = option_map (λ p. p.at) place
+
+abbrev pub code_status : Code → ℕ
+code_status code = 110 + code_number code
+
+-- ---- results
+
+abbrev pub Tells : {A : Type 0} → ℕ → A → Result A Code → Type 0
+Tells status value (Ok found) = (status ≡ 0) × (value ≡ found)
+Tells status value (Err code) = status ≡ code_status code
+
+abbrev pub TellsPlace : ℕ → told.Place → Result Place Code → Type 0
+TellsPlace status place (Ok found) = (status ≡ 0) × (place ≡ told_place found)
+TellsPlace status place (Err code) = status ≡ code_status code
+
+abbrev pub GivesPlace : ℕ → told.Place → (Result Place Code → Type 0) → Type 0
+GivesPlace status place P =
+    (returned : Result Place Code) × TellsPlace status place returned × P returned
+
+-- the caller has a value of which P is true, or the call returned this status and P is true of none
+abbrev pub TellsOption : {A : Type 0} → ℕ → ℕ → A → (Option A → Type 0) → Type 0
+TellsOption status none value P =
+    ((status ≡ 0) × P (Some value)) ⊎ ((status ≡ none) × P None)
+
+-- OK, no types are kept, an image that is longer than any segment, or a code
+abbrev pub IsReadStatus : ℕ → Type 0
+IsReadStatus status = (status ≡ 0) ⊎ (status ≡ 100) ⊎ (status ≡ 10)
+    ⊎ ((111 ≤ status) × (status ≤ 117))
+
+-- ---- sound images
+
+-- the segment that is the whole of an image
+abbrev pub stored_in : List ℕ → Table → Stored
+stored_in image table = record {
+  window = record { before = []; bytes = image; after = [] };
+  types = table;
+}
+
+abbrev pub allocator_in : List ℕ → ℕ
+allocator_in image = word image allocator_word
+
+abbrev pub OnSound : List ℕ → KeptTypes → (Picture → Type 0) → Type 0
+OnSound image types P = (sound : IsSound image) →
+    table_in types ≡ Some sound.picture.table → P sound.picture
+
+-- ---- items of a list
+
+abbrev pub ShowsNext : Stored → reads.Place → ℕ → ℕ → ℕ → Result ℕ Code → Type 0
+ShowsNext segment list U n i result = MatchResult result
+    (λ p. (i + 1 < n) × ShowsItem segment list U (i + 1) p)
+    (λ error. (error ≡ code.Null) × (i + 1 ≡ n))
+
+abbrev pub ShowsPrevious : Stored → reads.Place → ℕ → ℕ → Result ℕ Code → Type 0
+ShowsPrevious segment list U i result = MatchResult result
+    (λ p. (1 ≤ i) × ShowsItem segment list U (i - 1) p)
+    (λ error. (error ≡ code.Null) × (i ≡ 0))
+
+-- ---- values at places
+
+-- If the place has a string, the claim is true of its bytes and of the blocks that it owns.
+abbrev pub WhereText : List ℕ → Table → Place → (List ℕ → List ℕ → Type 0) → Type 0
+WhereText image table place claim = (xs blocks : List ℕ) →
+    HasText (allocator_in image) (stored_in image table) (place_of place) xs blocks →
+    claim xs blocks
+
+-- If the place has a vector, the claim is true of the type of its items, the items, and the blocks
+-- that it owns.
+abbrev pub WhereVector : List ℕ → Table → Place → (ℕ → Values → List ℕ → Type 0) → Type 0
+WhereVector image table place claim = (U : ℕ) (vs : Values) (blocks : List ℕ) →
+    HasItems (allocator_in image) (stored_in image table) (place_of place) U vs blocks →
+    claim U vs blocks
+
+-- the same for a list
+abbrev pub WhereList : List ℕ → Table → Place → (ℕ → Values → List ℕ → Type 0) → Type 0
+WhereList image table place claim = (U : ℕ) (vs : Values) (blocks : List ℕ) →
+    HasList (allocator_in image) (stored_in image table) (place_of place) U vs blocks →
+    claim U vs blocks
+
+-- If the place has a map, the claim is true of the type of the map's values, its keys and values,
+-- and the blocks that it owns.
+abbrev pub WhereMap : List ℕ → Table → Place → (ℕ → List ℤ → Values → List ℕ → Type 0) → Type 0
+WhereMap image table place claim =
+    WhereMaps (allocator_in image) image table (place_of place) claim

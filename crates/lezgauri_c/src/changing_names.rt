@@ -1,0 +1,64 @@
+ghost use Rattle.std.specs.Prelude.{◌≡◌, ◌≢◌, ◌<◌};
+ghost use Rattle.seg_spec.specs.Images.{IsSound};
+ghost use Rattle.lezgauri_c.specs.Changes.{type_number, GivesPlace, IsFound};
+ghost use Rattle.lezgauri_c.specs.ImageChanges.{Constructs, FindsOrConstructs, Destroys};
+
+use crate::changing::{found, give, on_image, type_number};
+use crate::lent::Lent;
+use crate::place::Place;
+
+/// Makes an object of `count` default values in an image that an earlier call found sound, or changed, and gives the place of the first
+/// one. Fails as `Image::construct` does; then no object changes.
+#[unsafe(no_mangle)]
+pub extern "C" fn lezgauri_raw_construct(
+    image: &mut Lent,
+    name: &[u8],
+    type_id: u32,
+    count: u32,
+    place: &mut Place,
+) -> u32
+    ensures constructs { GivesPlace image.old.bytes image.new.bytes result place.old place.new
+        (Constructs name.now (type_number type_id) count) }
+    ensures sound { IsSound image.old.bytes → IsSound image.new.bytes }
+    ensures kept { 0 < result → result ≢ 112 → IsSound image.old.bytes →
+        image.new.bytes ≡ image.old.bytes }
+    ensures unwritten { 0 < result → place.new ≡ place.old }
+{
+    let t = type_number(type_id);
+    let made = on_image!(image, opened => opened.construct(name, t, count));
+    give(made, place)
+}
+
+/// Gives the place of the first value of the object with this name. If there is none, it is made with one default value. Fails as
+/// `Image::find_or_construct` does; then no object changes.
+#[unsafe(no_mangle)]
+pub extern "C" fn lezgauri_raw_find_or_construct(
+    image: &mut Lent,
+    name: &[u8],
+    type_id: u32,
+    place: &mut Place,
+) -> u32
+    ensures finds { GivesPlace image.old.bytes image.new.bytes result place.old place.new
+        (FindsOrConstructs name.now (type_number type_id)) }
+    ensures sound { IsSound image.old.bytes → IsSound image.new.bytes }
+    ensures kept { 0 < result → result ≢ 112 → IsSound image.old.bytes →
+        image.new.bytes ≡ image.old.bytes }
+    ensures unwritten { 0 < result → place.new ≡ place.old }
+{
+    let t = type_number(type_id);
+    let made = on_image!(image, opened => opened.find_or_construct(name, t));
+    give(made, place)
+}
+
+/// Destroys the object with this name, and everything that its values own. Returns the status for `Absent` if there is none of this
+/// type.
+#[unsafe(no_mangle)]
+pub extern "C" fn lezgauri_raw_destroy(image: &mut Lent, name: &[u8], type_id: u32) -> u32
+    ensures destroys { IsFound image.old.bytes image.new.bytes result
+        (Destroys name.now (type_number type_id)) }
+    ensures sound { IsSound image.old.bytes → IsSound image.new.bytes }
+    ensures kept { 0 < result → image.new.bytes ≡ image.old.bytes }
+{
+    let t = type_number(type_id);
+    found(on_image!(image, opened => opened.destroy(name, t)))
+}

@@ -1,0 +1,84 @@
+ghost use Rattle.std.specs.Prelude.{◌≡◌, ◌<◌};
+ghost use Rattle.lezgauri_c.specs.Changes.{place_at, GivesPlace, IsDone};
+ghost use Rattle.lezgauri_c.specs.ImageChanges.{Assigns, Appends, PushesItem, PushesItemFront, PopsItem, PopsItemFront};
+
+use crate::changing::{done, give, on_image, place_at};
+use crate::lent::Lent;
+use crate::place::Place;
+
+/// Replaces the bytes of the string at a place of an image that an earlier call found sound, or changed. Fails as `Image::assign` does;
+/// then nothing changes.
+#[unsafe(no_mangle)]
+pub extern "C" fn lezgauri_raw_assign(image: &mut Lent, at: u32, type_id: u32, bytes: &[u8]) -> u32
+    ensures { IsDone image.old.bytes image.new.bytes result
+        (Assigns (place_at at type_id) bytes.now) }
+{
+    let string = place_at(at, type_id);
+    done(on_image!(image, opened => opened.assign(string, bytes)))
+}
+
+/// Appends bytes to the string at a place. Fails as `lezgauri_raw_assign` does.
+#[unsafe(no_mangle)]
+pub extern "C" fn lezgauri_raw_append(image: &mut Lent, at: u32, type_id: u32, bytes: &[u8]) -> u32
+    ensures { IsDone image.old.bytes image.new.bytes result
+        (Appends (place_at at type_id) bytes.now) }
+{
+    let string = place_at(at, type_id);
+    done(on_image!(image, opened => opened.append(string, bytes)))
+}
+
+/// Adds a default item at the end of the vector or list at a place, and gives the item's place. Fails as `Image::push_back` does; then
+/// nothing changes.
+#[unsafe(no_mangle)]
+pub extern "C" fn lezgauri_raw_push_back(
+    image: &mut Lent,
+    at: u32,
+    type_id: u32,
+    item: &mut Place,
+) -> u32
+    ensures pushes { GivesPlace image.old.bytes image.new.bytes result item.old item.new
+        (PushesItem (place_at at type_id)) }
+    ensures unwritten { 0 < result → item.new ≡ item.old }
+{
+    let sequence = place_at(at, type_id);
+    let pushed = on_image!(image, opened => opened.push_back(sequence));
+    give(pushed, item)
+}
+
+/// Adds a default item at the front of the list at a place, and gives the item's place. Fails as `Image::push_front` does; then nothing
+/// changes.
+#[unsafe(no_mangle)]
+pub extern "C" fn lezgauri_raw_push_front(
+    image: &mut Lent,
+    at: u32,
+    type_id: u32,
+    item: &mut Place,
+) -> u32
+    ensures pushes { GivesPlace image.old.bytes image.new.bytes result item.old item.new
+        (PushesItemFront (place_at at type_id)) }
+    ensures unwritten { 0 < result → item.new ≡ item.old }
+{
+    let list = place_at(at, type_id);
+    let pushed = on_image!(image, opened => opened.push_front(list));
+    give(pushed, item)
+}
+
+/// Destroys the last item of the vector or list at a place, or drops the last byte of a string. Fails as `Image::pop_back` does; then
+/// nothing changes.
+#[unsafe(no_mangle)]
+pub extern "C" fn lezgauri_raw_pop_back(image: &mut Lent, at: u32, type_id: u32) -> u32
+    ensures { IsDone image.old.bytes image.new.bytes result (PopsItem (place_at at type_id)) }
+{
+    let sequence = place_at(at, type_id);
+    done(on_image!(image, opened => opened.pop_back(sequence)))
+}
+
+/// Destroys the first item of the list at a place. Fails as `Image::pop_front` does; then nothing changes.
+#[unsafe(no_mangle)]
+pub extern "C" fn lezgauri_raw_pop_front(image: &mut Lent, at: u32, type_id: u32) -> u32
+    ensures { IsDone image.old.bytes image.new.bytes result
+        (PopsItemFront (place_at at type_id)) }
+{
+    let list = place_at(at, type_id);
+    done(on_image!(image, opened => opened.pop_front(list)))
+}

@@ -1,0 +1,93 @@
+ghost use Rattle.std.specs.Prelude.{◌≡◌, ◌<◌, false};
+ghost use Rattle.seg_spec.specs.Types.{form_at};
+ghost use Rattle.seg_cells.specs.Places.{place_of};
+ghost use Rattle.seg_map.specs.EitherMap.{has_keys, IsMapOf};
+ghost use Rattle.seg_map.specs.Maps.{FindsValue, first_of, keys_above};
+ghost use Rattle.lezgauri_c.specs.Values as values;
+ghost use Rattle.lezgauri_c.specs.Values.{table_in, type_number, at_in, TellsOption, IsReadStatus, OnSound, WhereMap};
+
+use crate::kept_types::KeptTypes;
+use crate::place::Place;
+use crate::reading::{on_reader, place_at, tell, tell_place};
+use seg_image::ImageRead;
+use std::alloc::Global;
+
+/// The place of a key's value in the map at a place of an image that an earlier call found sound, or changed. Fails as `ImageRead::get`
+/// does.
+#[unsafe(no_mangle)]
+pub extern "C" fn lezgauri_raw_get(
+    alloc: Global,
+    image: &[u8],
+    types: &mut KeptTypes,
+    at: u32,
+    type_id: u32,
+    key: i64,
+    value: &mut Place,
+) -> u32
+    ensures finds { OnSound image.now types.old (λ picture.
+        WhereMap image.now picture.table (values.place_at at type_id)
+        (λ U keys vs blocks. TellsOption result 113 value.new
+        (λ found. FindsValue image.now picture.table (place_of (values.place_at at type_id)) U
+        keys key (at_in found)))) }
+    ensures of_type { OnSound image.now types.old (λ picture. result ≡ 0 →
+        IsMapOf (form_at picture.table (type_number type_id)) value.new.type_id) }
+    ensures other { OnSound image.now types.old (λ picture.
+        has_keys (form_at picture.table (type_number type_id)) ≡ false → result ≡ 114) }
+    ensures unwritten { 0 < result → value.new ≡ value.old }
+    ensures same { table_in types.new ≡ table_in types.old }
+    ensures status { IsReadStatus result }
+{
+    let map = place_at(at, type_id);
+    let found = on_reader!(alloc, image, types, reader => reader.get(map, key));
+    tell_place(found, value)
+}
+
+/// The least key of a map. Fails as `ImageRead::first_key` does.
+#[unsafe(no_mangle)]
+pub extern "C" fn lezgauri_raw_first_key(
+    alloc: Global,
+    image: &[u8],
+    types: &mut KeptTypes,
+    at: u32,
+    type_id: u32,
+    key: &mut i64,
+) -> u32
+    ensures first { OnSound image.now types.old (λ picture.
+        WhereMap image.now picture.table (values.place_at at type_id)
+        (λ U keys vs blocks. TellsOption result 116 key.new (λ found. found ≡ first_of keys))) }
+    ensures other { OnSound image.now types.old (λ picture.
+        has_keys (form_at picture.table (type_number type_id)) ≡ false → result ≡ 114) }
+    ensures unwritten { 0 < result → key.new ≡ key.old }
+    ensures same { table_in types.new ≡ table_in types.old }
+    ensures status { IsReadStatus result }
+{
+    let map = place_at(at, type_id);
+    let found = on_reader!(alloc, image, types, reader => reader.first_key(map));
+    tell(found, key)
+}
+
+/// The least key of a map above another one, which need not exist. Fails as `ImageRead::next_key` does.
+#[unsafe(no_mangle)]
+pub extern "C" fn lezgauri_raw_next_key(
+    alloc: Global,
+    image: &[u8],
+    types: &mut KeptTypes,
+    at: u32,
+    type_id: u32,
+    after: i64,
+    key: &mut i64,
+) -> u32
+    ensures next { OnSound image.now types.old (λ picture.
+        WhereMap image.now picture.table (values.place_at at type_id)
+        (λ U keys vs blocks. TellsOption result 116 key.new
+        (λ found. found ≡ first_of (keys_above keys after)))) }
+    ensures other { OnSound image.now types.old (λ picture.
+        has_keys (form_at picture.table (type_number type_id)) ≡ false → result ≡ 114) }
+    ensures unwritten { 0 < result → key.new ≡ key.old }
+    ensures same { table_in types.new ≡ table_in types.old }
+    ensures status { IsReadStatus result }
+{
+    let map = place_at(at, type_id);
+    let found = on_reader!(alloc, image, types, reader => reader.next_key(map, after));
+    tell(found, key)
+}

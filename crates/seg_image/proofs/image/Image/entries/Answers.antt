@@ -1,4 +1,0 @@
-use Rattle.seg_image.proofs.image.Image.entries.Goals as goal
-
-pub returns-clause-first : goal.returns-clause-first
-returns-clause-first g c = c.in_ok-keys.ensures.first

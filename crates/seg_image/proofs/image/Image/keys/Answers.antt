@@ -1,8 +1,0 @@
-use Rattle.std.proofs.Common.{◌≡◌, Ok, length, refl, arith}
-use Rattle.seg_image.proofs.image.Image.keys.Goals as goal
-
-pub returns-clause-first : goal.returns-clause-first
-returns-clause-first g c = λ U keys vs blocks m s.
-    let e = c.in_ok-left.ensures.keys U keys vs blocks m s in
-    let same : c.in_ok-left.left ≡ length keys = cc in
-    record { last = refl; left = omega (arith, same) }
