@@ -4,16 +4,15 @@
     table.py LIBRARY [--time ROUNDS] [--disk FOLDER] [--only TABLE,..] [--no-count]
 
 LIBRARY is crates/lezgauri_c/out/liblezgauri.a, which build.py makes (lezgauri_c). table.c and table_peers.cpp do the works, each
-in a process of its own. The script prints three tables in Markdown:
+in a process of its own, and the tables take turns. Prints a table in Markdown. Its rows are:
 
 - times: the shortest of ROUNDS rounds of processor time, system calls included, with the files in memory;
-- instructions without the kernel's, by callgrind, with fewer repetitions;
-- memory after opening, and for some works the pages of 4 KiB that they dirty in the mapped file, or write by system calls. The
-  files are on a disk (in FOLDER) and synced, since all pages of a file in memory count as dirty.
+- instructions by callgrind, without the kernel's, of fewer repetitions;
+- memory that opening adds, and the pages of 4 KiB that a work dirties in the mapped file, or writes by system calls. For these rows
+  the files are on a disk (in FOLDER) and synced, since all pages of a file in memory count as dirty.
 
-It fails if two tables return different sums.
-
-Needs valgrind, g++, flatbuffers-compiler, libflatbuffers-dev, libboost-dev, liblmdb-dev and libsqlite3-dev."""
+Fails if two tables return different sums. Needs valgrind, cc, g++, flatbuffers-compiler, libflatbuffers-dev, libboost-dev,
+liblmdb-dev and libsqlite3-dev."""
 import argparse
 import os
 import shutil
@@ -24,8 +23,20 @@ from functools import partial
 from operations import HERE, MEMORY, instructions, least, run
 
 KEYS, PAGE = 1000000, 4096
-TABLES = ("lezgauri-tree", "boost-tree", "lezgauri-flat", "boost-flat", "lmdb", "sqlite", "flatbuffers")
-# the tables with transactions; an update is one, or all are
+
+# the tables, and what the table in Markdown calls them. A ratio follows each pair that differs only in the library.
+TABLES = {
+    "lezgauri-tree": "Lezgauri, map",
+    "boost-tree": "Boost, map",
+    "lezgauri-flat": "Lezgauri, flat map",
+    "boost-flat": "Boost, flat map",
+    "lmdb": "LMDB",
+    "sqlite": "SQLite",
+    "flatbuffers": "FlatBuffers",
+}
+RATIOS = {"boost-tree": "lezgauri-tree", "boost-flat": "lezgauri-flat"}
+
+# the tables with transactions
 TRANSACTIONS = ("lmdb", "sqlite")
 NO_CHECK = ("lmdb",)
 
@@ -33,26 +44,32 @@ NO_CHECK = ("lmdb",)
 @dataclass
 class Work:
     name: str
-    timed: int  # repetitions to measure the time
-    counted: int  # and to count instructions; 0 if they aren't counted
-    unit: float  # in nanoseconds, of a repetition
     row: str
-    changes: bool = False
+    timed: int  # repetitions to measure the time
+    counted: int = 0  # and to count instructions, unless it is 0
+    unit: str = "ns"  # of the time of a repetition
 
 
 WORKS = (
-    Work("open", 1, 0, 1e6, "open it to write, check it, look up a key: ms"),
-    Work("read", 1, 0, 1e6, "open it to read, check it, look up a key: ms"),
-    Work("check", 1, 0, 1e6, "check it alone: ms"),
-    Work("look-up", KEYS, 100000, 1, "look up a key: ns"),
-    Work("update", KEYS, 100000, 1, "update a value, all in one transaction: ns", True),
-    Work("update-singly", 50000, 5000, 1, "update a value, a transaction for each: ns", True),
-    Work("sum", KEYS, 100000, 1, "next value in the order of keys: ns"),
+    Work("open", "open to write, and check", 1, unit="ms"),
+    Work("read", "open to read, and check", 1, unit="ms"),
+    Work("check", "check alone", 1, unit="ms"),
+    Work("look-up", "look up a key", KEYS, 100000),
+    Work("update", "update a value", KEYS, 100000),
+    Work("update-singly", "update in a transaction of its own", 50000, 5000),
+    Work("sum", "next value in order", KEYS, 100000),
 )
-BUILD = Work("build", KEYS, 0, 1, "build it, put a key: ns")
+BUILD = Work("build", "build, a key", KEYS)
+NANOSECONDS = {"ns": 1, "ms": 1e6}
 
-# the works whose dirty pages are counted, and how often they are repeated
-DIRTY = (("open", 1), ("read", 1), ("look-up", 1000), ("update", 1), ("update", 1000), ("update-singly", 1000))
+# the works whose dirty pages are counted, how often they are repeated, and the row
+DIRTY = (
+    ("open", 1, "opening"),
+    ("look-up", 1000, "1,000 lookups"),
+    ("update", 1, "an update"),
+    ("update", 1000, "1,000 updates"),
+    ("update-singly", 1000, "1,000 single updates"),
+)
 
 
 def is_done(table, work):
@@ -123,17 +140,45 @@ class Bench:
 
 
 def shown(number):
-    if number is None:
-        return ""
-    return f"{number:,.0f}" if number >= 100 else f"{number:.1f}" if number >= 1 else f"{number:.2g}"
+    return "" if number is None else f"{number:,.0f}" if number >= 100 or number == int(number) else f"{number:.3g}"
 
 
-def head(first, columns):
-    print(f"\n| {first} | " + " | ".join(columns) + " |\n|" + "---|" * (len(columns) + 1))
+def row(name, found, ratios=True):
+    """A row of the table in Markdown, with what was found of each table."""
+    cells = [name]
+    for table, number in found.items():
+        cells.append(shown(number))
+        if table in RATIOS:
+            ours = found.get(RATIOS[table])
+            cells.append(f"{ours / number:.2f}" if ratios and ours and number else "")
+    print("| " + " | ".join(cells) + " |", flush=True)
 
 
-def line(first, cells):
-    print(f"| {first} | " + " | ".join(map(shown, cells)) + " |", flush=True)
+def head(tables):
+    cells = [""]
+    for table in tables:
+        cells += [TABLES[table], "ratio"] if table in RATIOS else [TABLES[table]]
+    print("| " + " | ".join(cells) + " |\n|" + "---|" * len(cells))
+
+
+def print_rows(bench, rounds, counts):
+    times = bench.times((BUILD, *WORKS), rounds)
+
+    def of_each(work, measure):
+        return {table: measure(table) if is_done(table, work) else None for table in bench.tables}
+
+    head(bench.tables)
+    for work in (*WORKS, BUILD):
+        unit = NANOSECONDS[work.unit]
+        row(f"{work.row}, {work.unit}", of_each(work.name, lambda table: times[work.name, table] / unit))
+        if counts and work.counted:
+            row(f"{work.row}, instructions", of_each(work.name, lambda table: bench.count(table, work)))
+    row("file, MiB", of_each("build", lambda table: os.path.getsize(f"{bench.folder}/{table}.built") / 2**20), False)
+    opened = of_each("read", lambda table: bench.memory(table, "read", 1))
+    for place, what in enumerate(("own memory after opening", "mapped pages after opening", "both, at the peak of opening")):
+        row(f"{what}, MiB", {table: found[place] / 1024 for table, found in opened.items()}, False)
+    for work, count, what in DIRTY:
+        row(f"pages dirtied by {what}", of_each(work, lambda table: bench.memory(table, work, count)[3] * 1024 / PAGE), False)
 
 
 def main():
@@ -144,26 +189,8 @@ def main():
     parser.add_argument("--only", default=",".join(TABLES), metavar="TABLE,..")
     parser.add_argument("--no-count", action="store_true")
     words = parser.parse_args()
-    tables = words.only.split(",")
     with tempfile.TemporaryDirectory(dir=MEMORY) as folder, tempfile.TemporaryDirectory(dir=words.disk) as disk:
-        bench = Bench(words.library, tables, folder, disk)
-        times = bench.times((BUILD, *WORKS), words.time)
-        head("Time", tables)
-        for work in (*WORKS, BUILD):
-            found = [times.get((work.name, table)) for table in tables]
-            line(work.row, [it and it / work.unit for it in found])
-        line("the file's length: MiB", [os.path.getsize(f"{folder}/{table}.built") / 2**20 for table in tables])
-        head("Instructions", tables)
-        for work in WORKS if not words.no_count else ():
-            if work.counted:
-                line(work.row, [bench.count(table, work) if is_done(table, work.name) else None for table in tables])
-        head("Memory and pages", tables)
-        opened = {table: bench.memory(table, "open", 1) for table in tables}
-        for place, row in enumerate(("own memory after opening: MiB", "mapped pages after opening: MiB", "both, at the peak of opening: MiB")):
-            line(row, [opened[table][place] / 1024 for table in tables])
-        for work, count in DIRTY:
-            cells = [bench.memory(table, work, count)[3] / 4 if is_done(table, work) else None for table in tables]
-            line(f"pages dirtied by {work}, {count:,}", cells)
+        print_rows(Bench(words.library, words.only.split(","), folder, disk), words.time, not words.no_count)
 
 
 if __name__ == "__main__":
