@@ -5,8 +5,8 @@ use Rattle.seg_spec.specs.Images.{IsSound}
 use Rattle.seg_value.specs.Stored.{Stored}
 use Rattle.seg_manager.specs.Segments.{Becomes}
 use Rattle.std_alloc.specs.declared.vec.lodged.Lodged.{Lodged}
-use Rattle.seg_image.specs.declared.image.Image.{Image}
-use Rattle.seg_image.specs.Images.{bytes_in, IsOpen}
+use Rattle.lezgauri.specs.Image.{Image}
+use Rattle.lezgauri.specs.Images.{bytes_in, IsOpen}
 use Rattle.lezgauri_c.specs.Changes.{Calls}
 
 module _ {old new : List ℕ} (opened left : Image Lodged) (opened_is : bytes_in opened ≡ old) (left_is : bytes_in left ≡ new)

@@ -7,11 +7,11 @@ use Rattle.seg_spec.specs.Index.{Root, root_named}
 use Rattle.seg_spec.specs.Images.{IsSound}
 use Rattle.seg_raw.specs.declared.code.Code.{Code}
 use Rattle.seg_raw.specs.declared.code.Code.TheVariants as code
-use Rattle.seg_cells.specs.declared.place.Place.{Place}
+use Rattle.lezgauri.specs.Place.{Place}
 use Rattle.seg_value.specs.Stored.{Stored}
 use Rattle.seg_manager.specs.NamedObjects.{RefusesName, FindsOrMakesNamed, RefusesToFind}
-use Rattle.seg_image.specs.declared.image.Image.{Image}
-use Rattle.seg_image.specs.Images.{segment_of, bytes_in, types_of, IsOpen}
+use Rattle.lezgauri.specs.Image.{Image}
+use Rattle.lezgauri.specs.Images.{segment_of, bytes_in, types_of, IsOpen}
 use Rattle.lezgauri_c.specs.declared.place.Place as told
 use Rattle.lezgauri_c.specs.Changes.{code_status, TellsPlace, TellsFound}
 use Rattle.lezgauri_c.specs.ImageChanges.{Constructs, FindsOrConstructs, Destroys}

@@ -5,8 +5,8 @@ use Rattle.seg_spec.specs.Header.{allocator_word, next_word}
 use Rattle.seg_spec.specs.Types.{Table}
 use Rattle.seg_spec.specs.Sound.{Picture, IsHeld}
 use Rattle.seg_spec.specs.Counting.{AreCounted}
-use Rattle.seg_image.specs.declared.image.Image.{Image}
-use Rattle.seg_image.specs.Images.{bytes_in, types_of, allocator_of, IsOpen}
+use Rattle.lezgauri.specs.Image.{Image}
+use Rattle.lezgauri.specs.Images.{bytes_in, types_of, allocator_of, IsOpen}
 
 pub opened_on : {A : Type 0} (image : Image A) (bytes : List ℕ) (picture : Picture) → IsHeld bytes picture → AreCounted (word bytes next_word) picture
     → bytes_in image ≡ bytes → types_of image ≡ picture.table → (word (bytes_in image) allocator_word ≤ 1 → allocator_of image ≡ word (bytes_in image) allocator_word)

@@ -7,10 +7,10 @@ use Rattle.seg_spec.specs.Types.{Form, Table}
 use Rattle.seg_spec.specs.Sound.{Picture}
 use Rattle.seg_spec.specs.Images.{IsSound}
 use Rattle.seg_raw.specs.declared.code.Code.{Code}
-use Rattle.seg_cells.specs.declared.place.Place.{Place}
-use Rattle.seg_map.specs.EitherMap.{has_keys, IsMapOf}
+use Rattle.lezgauri.specs.Place.{Place}
+use Rattle.lezgauri.specs.EitherMap.{has_keys, IsMapOf}
 use Rattle.seg_manager.specs.Segments.{IsSegment}
-use Rattle.seg_image.specs.Places.{found_position}
+use Rattle.lezgauri.specs.Places.{found_position}
 use Rattle.lezgauri_c.specs.declared.place.Place as told
 use Rattle.lezgauri_c.specs.declared.kept_types.KeptTypes.{KeptTypes}
 use Rattle.lezgauri_c.specs.Places.{code_status, TellsPlace}

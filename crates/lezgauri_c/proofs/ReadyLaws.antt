@@ -5,15 +5,15 @@ use Rattle.std.specs.Global.{Global}
 use Rattle.std.proofs.Math.Logic.{∥∥₁_elim}
 use Rattle.seg_spec.specs.Types.{Table, Agree, IsFirstDifference}
 use Rattle.seg_raw.specs.declared.fault.Fault.TheVariants as fault
-use Rattle.seg_check.specs.Faults.{IsImageOf}
+use Rattle.lezgauri.specs.Faults.{IsImageOf}
 use Rattle.client_spec.specs.Syntax.{Client}
 use Rattle.client_spec.specs.Grammar.{SpellsClient}
 use Rattle.client_spec.specs.Run.{bound}
 use Rattle.client_spec.specs.Clients.{IsVerified}
-use Rattle.client_verify.specs.declared.verified.TheConstants.{MOST_STEPS}
+use Rattle.lezgauri.specs.VerifierConstants.{MOST_STEPS}
 use Rattle.client_vm.specs.declared.ready.Ready.{Ready}
 use Rattle.client_vm.proofs.AcceptedLaws.{accepted_so}
-use Rattle.client_output.specs.declared.refused.Refused.{Refused}
+use Rattle.lezgauri.specs.Refused.{Refused}
 use Rattle.client_vm.specs.Admitted.{IsWrong}
 use Rattle.client_vm.proofs.RefusalLaws.{if_wrong}
 use Rattle.lezgauri_c.specs.Prepared.{client_bytes_of}

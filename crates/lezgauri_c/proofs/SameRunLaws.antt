@@ -2,9 +2,9 @@
 -- ones.
 use Rattle.std.proofs.Common.{◌≡◌, ℕ, List, [], ◌∷◌, length, Some, subst, sym}
 use Rattle.seg_spec.specs.Images.{IsSound}
-use Rattle.client_output.specs.declared.report.Report.{Report}
-use Rattle.client_output.specs.declared.report.Ended.{Ended}
-use Rattle.client_output.specs.declared.refused.Refused.{Refused}
+use Rattle.lezgauri.specs.Report.{Report}
+use Rattle.lezgauri.specs.Ended.{Ended}
+use Rattle.lezgauri.specs.Refused.{Refused}
 use Rattle.client_vm.specs.Admitted.{IsWrong}
 use Rattle.client_vm.specs.Outcomes.{HasOutcome, IsRefusedFor}
 use Rattle.client_vm.proofs.RefusalLaws.{why}

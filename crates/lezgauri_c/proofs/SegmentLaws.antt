@@ -8,7 +8,7 @@ use Rattle.seg_spec.specs.Types.{Table}
 use Rattle.seg_spec.specs.Sound.{Picture, IsHeld, times, positions}
 use Rattle.seg_spec.specs.Counting.{AreCounted}
 use Rattle.seg_spec.specs.Images.{IsSound}
-use Rattle.seg_check.specs.Faults.{IsImageOf}
+use Rattle.lezgauri.specs.Faults.{IsImageOf}
 use Rattle.seg_space.specs.NewSegments.{nothing}
 use Rattle.seg_space.specs.Sizes.{used_front, Grows, ShrinksSegment}
 use Rattle.lezgauri.specs.Stored.{Stored}

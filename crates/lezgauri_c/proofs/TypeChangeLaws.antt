@@ -8,8 +8,8 @@ use Rattle.seg_spec.specs.Sound.{Picture}
 use Rattle.seg_spec.specs.Images.{IsSound, upgraded}
 use Rattle.seg_spec.proofs.Images.UpgradeLaws.{upgraded_held, upgraded_counted, upgraded_version}
 use Rattle.seg_manager.specs.Segments.{AddsTypes}
-use Rattle.seg_image.specs.declared.image.Image.{Image}
-use Rattle.seg_image.specs.Images.{segment_of, bytes_in, types_of, allocator_of, IsOpen}
+use Rattle.lezgauri.specs.Image.{Image}
+use Rattle.lezgauri.specs.Images.{segment_of, bytes_in, types_of, allocator_of, IsOpen}
 use Rattle.lezgauri_c.specs.Changes.{HasMoreTypes}
 use Rattle.lezgauri_c.proofs.OpenLaws.{opened_on}
 

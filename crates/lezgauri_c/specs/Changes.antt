@@ -21,10 +21,10 @@ use Rattle.seg_spec.specs.Images.{IsSound, upgraded}
 use Rattle.seg_raw.specs.declared.fault.Fault as seg_raw_fault
 use Rattle.seg_raw.specs.declared.fault.Fault.TheVariants as fault
 use Rattle.seg_raw.specs.declared.code.Code.{Code}
-use Rattle.seg_cells.specs.declared.place.Place.{Place}
+use Rattle.lezgauri.specs.Place.{Place}
 use Rattle.std_alloc.specs.declared.vec.lodged.Lodged.{Lodged}
-use Rattle.seg_image.specs.declared.image.Image.{Image}
-use Rattle.seg_image.specs.Images.{bytes_in, IsOpen}
+use Rattle.lezgauri.specs.Image.{Image}
+use Rattle.lezgauri.specs.Images.{bytes_in, IsOpen}
 use Rattle.lezgauri_c.specs.declared.fault.Fault.{Fault}
 use Rattle.lezgauri_c.specs.declared.place.Place as told
 use Rattle.lezgauri_c.specs.Told.{told_fault}

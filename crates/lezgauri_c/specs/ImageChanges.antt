@@ -29,21 +29,21 @@ use Rattle.seg_spec.specs.Shrinking.{ShrinksPlace}
 use Rattle.seg_spec.specs.Spending.{object_asks}
 use Rattle.seg_raw.specs.declared.code.Code.{Code}
 use Rattle.seg_raw.specs.declared.code.Code.TheVariants as code
-use Rattle.seg_cells.specs.declared.place.Place.{Place}
-use Rattle.seg_cells.specs.Places.{place_of, object_at}
+use Rattle.lezgauri.specs.Place.{Place}
+use Rattle.lezgauri.specs.CellPlaces.{place_of, object_at}
 use Rattle.seg_seq.specs.Kinds.{is_sequence}
 use Rattle.seg_seq.specs.Lists.{HasList, IsNoList, AddsItem, LosesItem}
 use Rattle.seg_seq.specs.Sequences.{HasText, HasItems, item_type, Declines, HasNone, ComesToHold, LacksRoom, Rewrites, push_asks, PushesBack, PopsBack}
-use Rattle.seg_map.specs.EitherMap.{has_keys, IsMapOf, key_asks, KeepsTreePaths, KeepsKeysBut}
-use Rattle.seg_map.specs.Maps.{PutsKey, RemovesKey}
+use Rattle.lezgauri.specs.EitherMap.{has_keys, IsMapOf, key_asks, KeepsTreePaths, KeepsKeysBut}
+use Rattle.lezgauri.specs.Maps.{PutsKey, RemovesKey}
 use Rattle.seg_manager.specs.Segments.{one_value, MakesLoose, LosesLoose, unique_at, MakesUnique, FindsOrMakes, RefusesUnique, LosesUnique}
 use Rattle.seg_manager.specs.NamedObjects.{found_as, IsMissing, IsCount, RefusesName, FindsOrMakesNamed, RefusesToFind}
 use Rattle.seg_manager.specs.NewNamed.{MakesNamed, FindsNoRoom}
 use Rattle.seg_manager.specs.LeavingNamed.{LosesNamed}
-use Rattle.seg_image.specs.declared.image.Image.{Image}
-use Rattle.seg_image.specs.Images.{segment_of, allocator_of, bytes_in, types_of, IsOpen, ChangesBytes}
-use Rattle.seg_image.specs.Owners.{PutsNew, OwnAndShared, AreShared, FreezesOwn}
-use Rattle.seg_image.specs.Places.{found_position, object_type, StandsIn, WhereMap}
+use Rattle.lezgauri.specs.Image.{Image}
+use Rattle.lezgauri.specs.Images.{segment_of, allocator_of, bytes_in, types_of, IsOpen, ChangesBytes}
+use Rattle.lezgauri.specs.Owners.{PutsNew, OwnAndShared, AreShared, FreezesOwn}
+use Rattle.lezgauri.specs.Places.{found_position, object_type, StandsIn, WhereMap}
 
 -- ---- named objects
 

@@ -8,7 +8,7 @@
 use Rattle.std.specs.Prelude.{◌≡◌, ◌+◌, ℕ, Result, Ok, Err, nat_lt, if◌then◌else◌}
 use Rattle.seg_raw.specs.declared.code.Code.{Code}
 use Rattle.seg_raw.specs.Refusals.{code_number}
-use Rattle.seg_cells.specs.declared.place.Place.{Place}
+use Rattle.lezgauri.specs.Place.{Place}
 use Rattle.lezgauri_c.specs.declared.place.Place as told
 
 abbrev pub type_number : ℕ → ℕ

@@ -11,7 +11,7 @@ use Rattle.seg_raw.specs.declared.fault.Fault.TheVariants as fault
 use Rattle.client_spec.specs.Syntax.{Client}
 use Rattle.client_spec.specs.Grammar.{IsClient, SpellsClient, client_bytes}
 use Rattle.client_spec.specs.Text.{SpellsInText, text_of}
-use Rattle.client_output.specs.declared.refused.Refused.{Refused}
+use Rattle.lezgauri.specs.Refused.{Refused}
 use Rattle.lezgauri_c.specs.declared.fault.Fault.{Fault}
 use Rattle.lezgauri_c.specs.Told.{told_fault}
 

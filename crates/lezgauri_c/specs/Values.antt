@@ -23,12 +23,12 @@ use Rattle.seg_spec.specs.Images.{IsSound}
 use Rattle.seg_spec.specs.Reads as reads
 use Rattle.seg_raw.specs.declared.code.Code.{Code}
 use Rattle.seg_raw.specs.declared.code.Code.TheVariants as code
-use Rattle.seg_cells.specs.declared.place.Place.{Place}
-use Rattle.seg_cells.specs.Places.{place_of}
+use Rattle.lezgauri.specs.Place.{Place}
+use Rattle.lezgauri.specs.CellPlaces.{place_of}
 use Rattle.seg_value.specs.Stored.{Stored}
 use Rattle.seg_seq.specs.Sequences.{HasText, HasItems, ShowsItem}
 use Rattle.seg_seq.specs.Lists.{HasList}
-use Rattle.seg_map.specs.EitherMap.{WhereMaps}
+use Rattle.lezgauri.specs.EitherMap.{WhereMaps}
 use Rattle.lezgauri_c.specs.declared.place.Place as told
 use Rattle.lezgauri_c.specs.declared.kept_types.KeptTypes.{KeptTypes}
 use Rattle.lezgauri_c.specs.Places.{code_status, TellsPlace}

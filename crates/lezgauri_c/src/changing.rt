@@ -3,13 +3,13 @@
 
 ghost use Rattle.std.specs.Prelude.{◌≡◌, ◌<◌, ◌≤◌, IfOk, IfErr, OnErr};
 ghost use Rattle.seg_spec.specs.Images.{IsSound};
-ghost use Rattle.seg_image.specs.Images.{bytes_in, IsOpen};
+ghost use Rattle.lezgauri.specs.Images.{bytes_in, IsOpen};
 ghost use Rattle.lezgauri_c.specs.Changes.{TellsDone, TellsFound};
 
 use crate::lent::Lent;
 use crate::run_in_place::open_window;
 use crate::status::{OK, code_status};
-use seg_image::{Code, Image};
+use lezgauri::{Code, Image};
 use std_alloc::vec::Lodged;
 
 /// A call on the image in lent memory, or a return of a fault's number.

@@ -9,8 +9,7 @@ use crate::lent::Lent;
 use crate::run_in_place::{open_window, upgrade};
 use crate::status::OK;
 use client_vm::{Refused, Window};
-use lezgauri::TypeTable;
-use seg_image::Image;
+use lezgauri::{Image, TypeTable};
 use seg_raw::Fault as Reason;
 use std::alloc::Allocator;
 

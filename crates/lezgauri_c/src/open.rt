@@ -1,6 +1,6 @@
 ghost use Rattle.std.specs.Prelude.{◌≡◌, ◌≤◌, ◌<◌, [], ◌∷◌};
 ghost use Rattle.seg_spec.specs.Images.{IsSound};
-ghost use Rattle.client_output.specs.declared.report.Ended.{Ended};
+ghost use Rattle.lezgauri.specs.Ended.{Ended};
 ghost use Rattle.lezgauri_c.specs.Calls.{HasRunOn, IsRefusedAs};
 ghost use Rattle.lezgauri_c.specs.Told.{no_fault, status_number};
 

@@ -4,8 +4,7 @@ ghost use Rattle.lezgauri_c.specs.Values.{table_in};
 
 use crate::kept_types::KeptTypes;
 use crate::status::OK;
-use seg_check::read_types;
-use seg_layout::TypeTable;
+use lezgauri::{TypeTable, read_types};
 use seg_raw::Fault;
 use seg_value::{Layouts, MAX_LEN, View};
 use std::alloc::Global;
@@ -14,11 +13,7 @@ use std::alloc::Global;
 /// Returns `OK`, or a fault's number, and then nothing changes. For a sound image only `Memory` is possible, and only if no types were
 /// kept.
 #[unsafe(no_mangle)]
-pub extern "C" fn lezgauri_raw_open_types(
-    alloc: Global,
-    image: &[u8],
-    types: &mut KeptTypes,
-) -> u32
+pub extern "C" fn lezgauri_raw_open_types(alloc: Global, image: &[u8], types: &mut KeptTypes) -> u32
     ensures types { (sound : IsSound image.now) → result ≡ 0 →
         table_in types.new ≡ Some sound.picture.table }
     ensures done { IsSound image.now → (result ≡ 0) ⊎ (result ≡ 1) }

@@ -1,8 +1,8 @@
 ghost use Rattle.std.specs.Prelude.{◌≡◌, ◌<◌, false};
 ghost use Rattle.seg_spec.specs.Types.{form_at};
-ghost use Rattle.seg_cells.specs.Places.{place_of};
-ghost use Rattle.seg_map.specs.EitherMap.{has_keys, IsMapOf};
-ghost use Rattle.seg_map.specs.Maps.{FindsValue, first_of, last_of, keys_above, lower_keys};
+ghost use Rattle.lezgauri.specs.CellPlaces.{place_of};
+ghost use Rattle.lezgauri.specs.EitherMap.{has_keys, IsMapOf};
+ghost use Rattle.lezgauri.specs.Maps.{FindsValue, first_of, last_of, keys_above, lower_keys};
 ghost use Rattle.lezgauri_c.specs.Places as places;
 ghost use Rattle.lezgauri_c.specs.Places.{type_number};
 ghost use Rattle.lezgauri_c.specs.Values.{table_in, at_in, TellsOption, IsReadStatus, OnSound, WhereMap};
@@ -10,8 +10,7 @@ ghost use Rattle.lezgauri_c.specs.Values.{table_in, at_in, TellsOption, IsReadSt
 use crate::kept_types::KeptTypes;
 use crate::place::{Place, give, place_at};
 use crate::reading::{on_reader, tell};
-use seg_image::ImageRead;
-use seg_map::{last_key, previous_key};
+use lezgauri::ImageRead;
 use std::alloc::Global;
 
 /// The place of a key's value in the map at a place of an image that an earlier call found sound, or changed. Fails as `ImageRead::get`
@@ -114,7 +113,7 @@ pub extern "C" fn lezgauri_raw_last_key(
     ensures status { IsReadStatus result }
 {
     let map = place_at(at, type_id);
-    let found = on_reader!(alloc, image, types, reader => last_key(&reader, map));
+    let found = on_reader!(alloc, image, types, reader => reader.last_key(map));
     tell(found, key)
 }
 
@@ -140,6 +139,6 @@ pub extern "C" fn lezgauri_raw_previous_key(
     ensures status { IsReadStatus result }
 {
     let map = place_at(at, type_id);
-    let found = on_reader!(alloc, image, types, reader => previous_key(&reader, map, before));
+    let found = on_reader!(alloc, image, types, reader => reader.previous_key(map, before));
     tell(found, key)
 }

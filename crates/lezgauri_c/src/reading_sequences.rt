@@ -1,10 +1,10 @@
 ghost use Rattle.std.specs.Prelude.{◌≡◌, ◌<◌, ℕ, List, None, Some, Err, IfOk, MatchResult};
 ghost use Rattle.seg_spec.specs.Types.{form_at};
 ghost use Rattle.seg_spec.specs.Value.{Values, count};
-ghost use Rattle.seg_cells.specs.Places.{place_of};
+ghost use Rattle.lezgauri.specs.CellPlaces.{place_of};
 ghost use Rattle.seg_seq.specs.Lists.{HasList, IsNoList};
 ghost use Rattle.seg_seq.specs.Sequences.{item_type, IsPast, ShowsItem};
-ghost use Rattle.seg_image.specs.Places.{found_position};
+ghost use Rattle.lezgauri.specs.Places.{found_position};
 ghost use Rattle.lezgauri_c.specs.Places as places;
 ghost use Rattle.lezgauri_c.specs.Places.{type_number};
 ghost use Rattle.lezgauri_c.specs.Values.{table_in, stored_in, allocator_in, ShowsNext, ShowsPrevious, ReturnsPlace, IsReadStatus, OnSound, WhereVector, WhereList};
@@ -12,7 +12,7 @@ ghost use Rattle.lezgauri_c.specs.Values.{table_in, stored_in, allocator_in, Sho
 use crate::kept_types::KeptTypes;
 use crate::place::{Place, give, place_at};
 use crate::reading::on_reader;
-use seg_image::{ImageRead, Type};
+use lezgauri::{ImageRead, Type};
 use seg_raw::Code;
 use seg_value::{Place as ValuePlace, Reader, ValueAt};
 use std::alloc::Global;

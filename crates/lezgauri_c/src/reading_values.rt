@@ -5,7 +5,7 @@ ghost use Rattle.seg_spec.specs.Reads.{count_at, start};
 ghost use Rattle.seg_spec.specs.Types.{Form, form_at};
 ghost use Rattle.seg_spec.specs.Value.{count};
 ghost use Rattle.seg_seq.specs.Kinds.{HasNumbers};
-ghost use Rattle.seg_image.specs.Places.{object_type, shared_type, content_place, frozen_place, is_counted, FieldPlace};
+ghost use Rattle.lezgauri.specs.Places.{object_type, shared_type, content_place, frozen_place, is_counted, FieldPlace};
 ghost use Rattle.lezgauri_c.specs.Places as places;
 ghost use Rattle.lezgauri_c.specs.Places.{type_number, TellsPlace};
 ghost use Rattle.lezgauri_c.specs.Values.{table_in, ReturnsPlace, IsReadStatus, OnSound, WhereText, WhereVector, WhereList, WhereMap};
@@ -14,7 +14,7 @@ use crate::byte_range::{ByteRange, range_in};
 use crate::kept_types::KeptTypes;
 use crate::place::{Place, give, place_at};
 use crate::reading::{on_reader, tell};
-use seg_image::ImageRead;
+use lezgauri::ImageRead;
 use seg_raw::Code;
 use seg_value::{Place as ValuePlace, Reader, count_in, start_in};
 use std::alloc::Global;
@@ -200,7 +200,10 @@ fn text_range(reader: Reader<'_>, place: ValuePlace) -> Result<ByteRange, Code>
         (λ text. text.at + text.len ≤ length reader.entry.view.bytes.now) }
 {
     let _ = reader.text(place)?;
-    let (from, len) = (start_in(reader.view, place.at), count_in(reader.view, place.at));
+    let (from, len) = (
+        start_in(reader.view, place.at),
+        count_in(reader.view, place.at),
+    );
     Ok(range_in(reader.view, from as usize, len as usize))
 }
 
@@ -217,7 +220,10 @@ fn numbers_range(reader: Reader<'_>, vector: ValuePlace) -> Result<ByteRange, Co
         (λ numbers. numbers.at + numbers.len ≤ length reader.entry.view.bytes.now) }
 {
     let _ = reader.number_bytes(vector)?;
-    let (from, count) = (start_in(reader.view, vector.at), count_in(reader.view, vector.at));
+    let (from, count) = (
+        start_in(reader.view, vector.at),
+        count_in(reader.view, vector.at),
+    );
     Ok(range_in(reader.view, from as usize, count as usize * NUMBER))
 }
 

@@ -4,10 +4,10 @@ ghost use Rattle.seg_spec.specs.Header.{allocator_word};
 ghost use Rattle.seg_spec.specs.Types.{Table};
 ghost use Rattle.seg_spec.specs.Images.{IsSound, upgraded};
 ghost use Rattle.seg_spec.specs.Window.{region_of, with_bytes};
-ghost use Rattle.seg_check.specs.Faults.{IsImageOf, IsFaultOf};
+ghost use Rattle.lezgauri.specs.Faults.{IsImageOf, IsFaultOf};
 ghost use Rattle.lezgauri.specs.ClientFiles.{OfTree};
 ghost use Rattle.client_vm.specs.ReadyClients.{client_in};
-ghost use Rattle.client_output.specs.declared.report.Ended.{Ended};
+ghost use Rattle.lezgauri.specs.Ended.{Ended};
 ghost use Rattle.client_vm.specs.Admitted.{IsWrong};
 ghost use Rattle.client_vm.specs.Outcomes.{HasOutcome};
 ghost use Rattle.client_vm.specs.Reports.{IsReportOf};
@@ -16,8 +16,7 @@ ghost use Rattle.lezgauri_c.specs.Prepared.{client_bytes_of, ReadyRan};
 
 use crate::accepting::ready;
 use client_vm::{MAX_LEN, Ready, Refused, Report as Told, Sink, Window, header, run};
-use lezgauri::{BestFit, Fit, Segment, SeqFit, TypeTable};
-use seg_check::read_types;
+use lezgauri::{BestFit, Fit, Segment, SeqFit, TypeTable, read_types};
 use seg_raw::{Fault as Reason, Region};
 use std::alloc::{Allocator, Global};
 

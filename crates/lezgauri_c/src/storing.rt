@@ -8,7 +8,7 @@ use crate::kept_types::KeptTypes;
 use crate::place::place_at;
 use crate::reading::on_reader;
 use crate::status::{OK, code_status};
-use seg_image::ImageRead;
+use lezgauri::ImageRead;
 use seg_raw::Code;
 use std::alloc::Global;
 

@@ -2,7 +2,7 @@ ghost use Rattle.std.specs.Prelude.{◌≡◌, ◌⊎◌, ◌<◌, ◌≤◌, �
 ghost use Rattle.seg_spec.specs.Bytes.{slice};
 ghost use Rattle.seg_spec.specs.Header.{types_start};
 ghost use Rattle.seg_spec.specs.Types.{Table, form_bytes};
-ghost use Rattle.seg_check.specs.Faults.{IsImageOf};
+ghost use Rattle.lezgauri.specs.Faults.{IsImageOf};
 
 use crate::buffer::put;
 use crate::status::{OK, TOO_SMALL};

@@ -1,6 +1,6 @@
 ghost use Rattle.std.specs.Prelude.{◌≡◌, ◌≢◌, ◌↔◌, ◌≤◌, ◌<◌, true, false, [], ◌∷◌, length, IfOk, IfErr, OnErr};
 ghost use Rattle.seg_spec.specs.Images.{IsSound};
-ghost use Rattle.client_output.specs.declared.report.Ended.{Ended};
+ghost use Rattle.lezgauri.specs.Ended.{Ended};
 ghost use Rattle.client_vm.specs.Admitted.{IsWrong};
 ghost use Rattle.client_vm.specs.Outcomes.{HasOutcome};
 ghost use Rattle.client_vm.specs.Reports.{IsReportOf};

@@ -3,8 +3,8 @@ use Rattle.seg_spec.specs.Bytes.{word}
 use Rattle.seg_spec.specs.Header.{allocator_word}
 use Rattle.seg_spec.specs.Window.{Placement}
 use Rattle.seg_spec.specs.Images.{IsSound}
-use Rattle.seg_check.specs.Faults.{IsImageOf}
-use Rattle.seg_image.specs.Images.{bytes_in, types_of}
+use Rattle.lezgauri.specs.Faults.{IsImageOf}
+use Rattle.lezgauri.specs.Images.{bytes_in, types_of}
 use Rattle.lezgauri_c.proofs.OneClient.{image_of}
 use Rattle.lezgauri_c.proofs.OpenLaws.{opened_on}
 use Rattle.lezgauri_c.proofs.changing.open_image.Goals as goal

@@ -1,7 +1,7 @@
 use Rattle.std.proofs.Common.{◌≡◌, sym, ◌∙◌, subst, ℤ, w64}
 use Rattle.std.proofs.lemmas.Int.{to_z-of_z}
-use Rattle.seg_cells.specs.declared.place.Place.{Place}
-use Rattle.seg_image.specs.Images.{bytes_in}
+use Rattle.lezgauri.specs.Place.{Place}
+use Rattle.lezgauri.specs.Images.{bytes_in}
 use Rattle.lezgauri_c.specs.Changes.{IsFound}
 use Rattle.lezgauri_c.specs.ImageChanges.{Removes}
 use Rattle.lezgauri_c.proofs.ChangeLaws.{calls}

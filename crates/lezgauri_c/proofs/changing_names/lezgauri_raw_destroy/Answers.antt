@@ -1,5 +1,5 @@
 use Rattle.std.proofs.Common.{◌≡◌, sym, ◌∙◌, subst, ℕ}
-use Rattle.seg_image.specs.Images.{bytes_in}
+use Rattle.lezgauri.specs.Images.{bytes_in}
 use Rattle.lezgauri_c.specs.Changes.{IsFound}
 use Rattle.lezgauri_c.specs.ImageChanges.{Destroys}
 use Rattle.lezgauri_c.proofs.ChangeLaws.{calls, still_sound}

@@ -1,6 +1,6 @@
 use Rattle.std.proofs.Common.{◌≡◌, sym, ◌∙◌, subst}
-use Rattle.seg_cells.specs.declared.place.Place.{Place}
-use Rattle.seg_image.specs.Images.{bytes_in}
+use Rattle.lezgauri.specs.Place.{Place}
+use Rattle.lezgauri.specs.Images.{bytes_in}
 use Rattle.lezgauri_c.specs.Changes.{IsDone}
 use Rattle.lezgauri_c.specs.ImageChanges.{Assigns}
 use Rattle.lezgauri_c.proofs.ChangeLaws.{calls}

@@ -8,7 +8,7 @@ use Rattle.seg_spec.specs.Types.{Table, Agree, AreOfVersion}
 use Rattle.seg_spec.specs.Window.{Placement}
 use Rattle.seg_spec.specs.Sound.{Picture}
 use Rattle.seg_manager.specs.Segments.{AddsTypes}
-use Rattle.seg_image.specs.Images.{segment_of, allocator_of, bytes_in, types_of, IsOpen}
+use Rattle.lezgauri.specs.Images.{segment_of, allocator_of, bytes_in, types_of, IsOpen}
 use Rattle.lezgauri_c.specs.Changes.{HasMoreTypes}
 use Rattle.lezgauri_c.proofs.TypeChangeLaws.{more_types}
 use Rattle.lezgauri_c.proofs.changing_types.with_types.Goals as goal

@@ -4,7 +4,7 @@ use Rattle.std.specs.Global.{Global}
 use Rattle.seg_spec.specs.Images.{IsSound}
 use Rattle.client_spec.specs.Grammar.{SpellsClient}
 use Rattle.client_vm.specs.declared.ready.Ready.{Ready}
-use Rattle.client_output.specs.declared.report.Ended.{Ended}
+use Rattle.lezgauri.specs.Ended.{Ended}
 use Rattle.client_vm.specs.Admitted.{IsWrong}
 use Rattle.client_vm.specs.Reports.{IsReportOf}
 use Rattle.client_vm.proofs.RefusalLaws.{why}

@@ -3,9 +3,9 @@ use Rattle.std.specs.Prelude.{Result, Ok, Err, IfOk}
 use Rattle.std.proofs.lemmas.Result.{IfErr-weaker}
 use Rattle.seg_spec.specs.Types.{Table}
 use Rattle.seg_spec.specs.Images.{IsSound}
-use Rattle.seg_check.specs.Faults.{IsImageOf}
-use Rattle.client_output.specs.declared.refused.Refused.{Refused}
-use Rattle.client_verify.specs.Texts.{AreWrong}
+use Rattle.lezgauri.specs.Faults.{IsImageOf}
+use Rattle.lezgauri.specs.Refused.{Refused}
+use Rattle.lezgauri.specs.Texts.{AreWrong}
 use Rattle.client_vm.specs.Admitted.{IsWrong}
 use Rattle.client_vm.proofs.RefusalLaws.{if_wrong}
 use Rattle.lezgauri_c.specs.Prepared.{IsReadyOn}

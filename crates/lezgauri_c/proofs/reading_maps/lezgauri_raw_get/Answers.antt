@@ -6,11 +6,11 @@ use Rattle.std.specs.Prelude.{IsOkUnless, IfOk}
 use Rattle.std.specs.Result.{result_ok}
 use Rattle.seg_spec.specs.Types.{form_at}
 use Rattle.seg_raw.specs.declared.code.Code.TheVariants as code
-use Rattle.seg_cells.specs.declared.place.Place.{Place}
-use Rattle.seg_cells.specs.Places.{place_of}
-use Rattle.seg_map.specs.EitherMap.{has_keys, IsMapOf}
-use Rattle.seg_map.specs.Maps.{FindsValue}
-use Rattle.seg_image.specs.Places.{found_position}
+use Rattle.lezgauri.specs.Place.{Place}
+use Rattle.lezgauri.specs.CellPlaces.{place_of}
+use Rattle.lezgauri.specs.EitherMap.{has_keys, IsMapOf}
+use Rattle.lezgauri.specs.Maps.{FindsValue}
+use Rattle.lezgauri.specs.Places.{found_position}
 use Rattle.lezgauri_c.specs.Values.{at_in, TellsOption, WhereMap}
 use Rattle.lezgauri_c.proofs.ReadLaws.{on_image, tells_place, map_keys}
 use Rattle.lezgauri_c.proofs.reading_maps.lezgauri_raw_get.Goals as goal

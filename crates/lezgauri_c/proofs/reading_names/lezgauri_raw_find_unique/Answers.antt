@@ -2,7 +2,7 @@ use Rattle.std.proofs.Common.{◌≡◌, ◌<◌, ℕ, None, Some, length, sym, 
 use Rattle.std.specs.Prelude.{MatchResult}
 use Rattle.seg_raw.specs.declared.code.Code.TheVariants as code
 use Rattle.seg_manager.specs.Segments.{unique_at}
-use Rattle.seg_image.specs.Places.{found_position}
+use Rattle.lezgauri.specs.Places.{found_position}
 use Rattle.lezgauri_c.specs.Values.{at_in, TellsOption}
 use Rattle.lezgauri_c.proofs.ReadLaws.{on_sound, tells_at}
 use Rattle.lezgauri_c.proofs.reading_names.lezgauri_raw_find_unique.Goals as goal

@@ -1,10 +1,10 @@
 use Rattle.std.proofs.Common.{Some, sym, ap, ◌∙◌, subst}
 use Rattle.std.specs.Prelude.{MatchResult}
 use Rattle.seg_spec.specs.Value.{count}
-use Rattle.seg_cells.specs.declared.place.Place.{Place}
-use Rattle.seg_cells.specs.Places.{place_of}
+use Rattle.lezgauri.specs.Place.{Place}
+use Rattle.lezgauri.specs.CellPlaces.{place_of}
 use Rattle.seg_seq.specs.Sequences.{IsPast, ShowsItem}
-use Rattle.seg_image.specs.Places.{found_position}
+use Rattle.lezgauri.specs.Places.{found_position}
 use Rattle.lezgauri_c.specs.Values.{stored_in, ReturnsPlace, WhereVector, WhereList}
 use Rattle.lezgauri_c.proofs.ReadLaws.{on_image}
 use Rattle.lezgauri_c.proofs.reading_sequences.lezgauri_raw_item.Goals as goal

@@ -1,5 +1,5 @@
 use Rattle.std.proofs.Common.{refl, arith}
-use Rattle.seg_cells.specs.Places.{place_of}
+use Rattle.lezgauri.specs.CellPlaces.{place_of}
 use Rattle.lezgauri_c.specs.Values.{allocator_in}
 use Rattle.lezgauri_c.proofs.NextItemLaws.{item_below, previous_before, previous_none}
 use Rattle.lezgauri_c.proofs.reading_sequences.previous_item.Goals as goal

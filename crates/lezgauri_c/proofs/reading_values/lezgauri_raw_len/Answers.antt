@@ -1,6 +1,6 @@
 use Rattle.std.proofs.Common.{◌≡◌, Ok, Some, length, sym, ap, ◌∙◌, subst}
 use Rattle.seg_spec.specs.Value.{count}
-use Rattle.seg_cells.specs.declared.place.Place.{Place}
+use Rattle.lezgauri.specs.Place.{Place}
 use Rattle.lezgauri_c.specs.Values.{WhereText, WhereVector, WhereList, WhereMap}
 use Rattle.lezgauri_c.proofs.ReadLaws.{on_image, tells_ok}
 use Rattle.lezgauri_c.proofs.reading_values.lezgauri_raw_len.Goals as goal

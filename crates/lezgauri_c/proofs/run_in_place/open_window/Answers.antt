@@ -1,5 +1,5 @@
 use Rattle.std.proofs.Common.{◌≡◌, Ok, Err, sym, subst}
-use Rattle.seg_check.specs.Faults.{IsImageOf}
+use Rattle.lezgauri.specs.Faults.{IsImageOf}
 use Rattle.lezgauri_c.proofs.run_in_place.open_window.Goals as goal
 
 pub returns-in-Ok-types_of-clause-types : goal.returns-in-Ok-types_of-clause-types

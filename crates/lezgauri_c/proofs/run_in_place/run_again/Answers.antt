@@ -2,11 +2,11 @@ use Rattle.std.proofs.Common.{◌∷◌, [], List, ℕ, Some, length, refl, sym,
 use Rattle.std.specs.Prelude.{IsOk}
 use Rattle.seg_spec.specs.Types.{Table, Agree, IsFirstDifference}
 use Rattle.seg_raw.specs.declared.fault.Fault.{Fault}
-use Rattle.seg_check.specs.Faults.{IsImageOf}
+use Rattle.lezgauri.specs.Faults.{IsImageOf}
 use Rattle.client_spec.specs.Grammar.{SpellsClient}
 use Rattle.lezgauri.specs.ClientFiles.{bytes_of}
-use Rattle.client_verify.specs.Accepted.{client_of}
-use Rattle.client_verify.specs.declared.verified.Verified.{Verified}
+use Rattle.lezgauri.specs.Accepted.{client_of}
+use Rattle.lezgauri.specs.Verified.{Verified}
 use Rattle.client_vm.specs.Admitted.{IsWrong}
 use Rattle.client_vm.proofs.TogetherLaws.{has_outcome}
 use Rattle.lezgauri_c.specs.Calls.{effect_of_one}

@@ -1,5 +1,5 @@
 use Rattle.std.proofs.Common.{◌%◌, ap, sym, subst, refl, arith}
-use Rattle.seg_check.specs.Faults.{IsImageOf}
+use Rattle.lezgauri.specs.Faults.{IsImageOf}
 use Rattle.lezgauri_c.proofs.Tables.{read_size, read_valid, read_of_version, read_spells}
 use Rattle.lezgauri_c.proofs.run_in_place.types_of.Goals as goal
 

@@ -2,7 +2,7 @@ use Rattle.std.proofs.Common.{◌≡◌, ◌*◌, List, ℕ, ◌++◌, length, d
 use Rattle.std.specs.Prelude.{flat_map}
 use Rattle.seg_spec.specs.Bytes.{slice}
 use Rattle.seg_spec.specs.Types.{Table, form_bytes}
-use Rattle.seg_check.specs.Faults.{IsImageOf}
+use Rattle.lezgauri.specs.Faults.{IsImageOf}
 use Rattle.lezgauri_c.proofs.Tables.{entries_size}
 use Rattle.lezgauri_c.proofs.types.lezgauri_raw_types.Goals as goal
 

@@ -2,7 +2,7 @@ use Rattle.std.proofs.Common.{◌≡◌, [], ◌∷◌, ◌++◌, Some, length, 
 use Rattle.std.proofs.Math.Seq.{take-append_seam}
 use Rattle.std.proofs.lemmas.Result.{IfErr-at_err}
 use Rattle.seg_spec.specs.Images.{IsSound}
-use Rattle.client_output.specs.declared.report.Ended.TheVariants as ended
+use Rattle.lezgauri.specs.Ended.TheVariants as ended
 use Rattle.client_vm.specs.Admitted.{IsWrong}
 use Rattle.lezgauri_c.specs.Calls.{whole_job, effect_of_one}
 use Rattle.lezgauri_c.proofs.OneClient.{done}
