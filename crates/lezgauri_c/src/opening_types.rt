@@ -14,11 +14,7 @@ use std::alloc::Global;
 /// Returns `OK`, or a fault's number, and then nothing changes. For a sound image only `Memory` is possible, and only if no types were
 /// kept.
 #[unsafe(no_mangle)]
-pub extern "C" fn lezgauri_raw_open_types(
-    alloc: Global,
-    image: &[u8],
-    types: &mut KeptTypes,
-) -> u32
+pub extern "C" fn lezgauri_raw_open_types(alloc: Global, image: &[u8], types: &mut KeptTypes) -> u32
     ensures types { (sound : IsSound image.now) → result ≡ 0 →
         table_in types.new ≡ Some sound.picture.table }
     ensures done { IsSound image.now → (result ≡ 0) ⊎ (result ≡ 1) }

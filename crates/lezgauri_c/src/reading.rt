@@ -76,7 +76,10 @@ impl<'a> Opened<'a> {
     pub(crate) fn give_back(self, alloc: Global, types: &mut KeptTypes)
         ensures { table_in types.new ≡ Some self.entry.types.value }
     {
-        let Opened { view: _, types: kept } = self;
+        let Opened {
+            view: _,
+            types: kept,
+        } = self;
         types.keep(alloc, kept);
     }
 }

@@ -31,12 +31,14 @@ pub extern "C" fn lezgauri_raw_item(
 ) -> u32
     ensures vector { OnSound image.now types.old (λ picture.
         WhereVector image.now picture.table (places.place_at at type_id)
-        (λ U vs blocks. ReturnsPlace result item.old item.new (λ found. MatchResult (found_position found)
+        (λ U vs blocks. ReturnsPlace result item.old item.new
+        (λ found. MatchResult (found_position found)
         (ShowsItem (stored_in image.now picture.table) (place_of (places.place_at at type_id)) U
         index) (IsPast index (count vs))))) }
     ensures list { OnSound image.now types.old (λ picture.
         WhereList image.now picture.table (places.place_at at type_id)
-        (λ U vs blocks. ReturnsPlace result item.old item.new (λ found. MatchResult (found_position found)
+        (λ U vs blocks. ReturnsPlace result item.old item.new
+        (λ found. MatchResult (found_position found)
         (ShowsItem (stored_in image.now picture.table) (place_of (places.place_at at type_id)) U
         index) (IsPast index (count vs))))) }
     ensures of_type { OnSound image.now types.old (λ picture. result ≡ 0 →
@@ -68,8 +70,8 @@ pub extern "C" fn lezgauri_raw_next_item(
         WhereList image.now picture.table (places.place_at at type_id) (λ U vs blocks. (i : ℕ) →
         ShowsItem (stored_in image.now picture.table) (place_of (places.place_at at type_id)) U i
         item → ReturnsPlace result next.old next.new (λ found.
-        ShowsNext (stored_in image.now picture.table) (place_of (places.place_at at type_id)) U (count vs) i
-        (found_position found)))) }
+        ShowsNext (stored_in image.now picture.table) (place_of (places.place_at at type_id)) U
+        (count vs) i (found_position found)))) }
     ensures of_type { OnSound image.now types.old (λ picture. result ≡ 0 →
         item_type (form_at picture.table (type_number type_id)) ≡ Some next.new.type_id) }
     ensures other { OnSound image.now types.old (λ picture.
@@ -99,8 +101,8 @@ pub extern "C" fn lezgauri_raw_previous_item(
         WhereList image.now picture.table (places.place_at at type_id) (λ U vs blocks. (i : ℕ) →
         ShowsItem (stored_in image.now picture.table) (place_of (places.place_at at type_id)) U i
         item → ReturnsPlace result previous.old previous.new (λ found.
-        ShowsPrevious (stored_in image.now picture.table) (place_of (places.place_at at type_id)) U i
-        (found_position found)))) }
+        ShowsPrevious (stored_in image.now picture.table) (place_of (places.place_at at type_id)) U
+        i (found_position found)))) }
     ensures of_type { OnSound image.now types.old (λ picture. result ≡ 0 →
         item_type (form_at picture.table (type_number type_id)) ≡ Some previous.new.type_id) }
     ensures other { OnSound image.now types.old (λ picture.
@@ -118,9 +120,10 @@ pub extern "C" fn lezgauri_raw_previous_item(
 fn next_item(reader: Reader<'_>, list: ValuePlace, item: ValueAt) -> Result<ValuePlace, Code>
     ensures next { (U i : ℕ) (vs : Values) (blocks : List ℕ) →
         HasList (allocator_in reader.entry.view.bytes.now)
-        (stored_in reader.entry.view.bytes.now reader.entry.layouts.now) (place_of list) U vs blocks →
-        ShowsItem (stored_in reader.entry.view.bytes.now reader.entry.layouts.now) (place_of list) U i
-        item → ShowsNext (stored_in reader.entry.view.bytes.now reader.entry.layouts.now)
+        (stored_in reader.entry.view.bytes.now reader.entry.layouts.now) (place_of list) U vs
+        blocks →
+        ShowsItem (stored_in reader.entry.view.bytes.now reader.entry.layouts.now) (place_of list)
+        U i item → ShowsNext (stored_in reader.entry.view.bytes.now reader.entry.layouts.now)
         (place_of list) U (count vs) i (found_position result) }
     ensures of_type { IfOk result (λ found.
         item_type (form_at reader.entry.layouts.now list.type_id) ≡ Some found.type_id) }
@@ -141,9 +144,10 @@ fn next_item(reader: Reader<'_>, list: ValuePlace, item: ValueAt) -> Result<Valu
 fn previous_item(reader: Reader<'_>, list: ValuePlace, item: ValueAt) -> Result<ValuePlace, Code>
     ensures previous { (U i : ℕ) (vs : Values) (blocks : List ℕ) →
         HasList (allocator_in reader.entry.view.bytes.now)
-        (stored_in reader.entry.view.bytes.now reader.entry.layouts.now) (place_of list) U vs blocks →
-        ShowsItem (stored_in reader.entry.view.bytes.now reader.entry.layouts.now) (place_of list) U i
-        item → ShowsPrevious (stored_in reader.entry.view.bytes.now reader.entry.layouts.now)
+        (stored_in reader.entry.view.bytes.now reader.entry.layouts.now) (place_of list) U vs
+        blocks →
+        ShowsItem (stored_in reader.entry.view.bytes.now reader.entry.layouts.now) (place_of list)
+        U i item → ShowsPrevious (stored_in reader.entry.view.bytes.now reader.entry.layouts.now)
         (place_of list) U i (found_position result) }
     ensures of_type { IfOk result (λ found.
         item_type (form_at reader.entry.layouts.now list.type_id) ≡ Some found.type_id) }
@@ -163,9 +167,11 @@ fn previous_item(reader: Reader<'_>, list: ValuePlace, item: ValueAt) -> Result<
 fn first_item(reader: Reader<'_>, list: ValuePlace) -> Result<ValuePlace, Code>
     ensures first { (U : ℕ) (vs : Values) (blocks : List ℕ) →
         HasList (allocator_in reader.entry.view.bytes.now)
-        (stored_in reader.entry.view.bytes.now reader.entry.layouts.now) (place_of list) U vs blocks →
+        (stored_in reader.entry.view.bytes.now reader.entry.layouts.now) (place_of list) U vs
+        blocks →
         MatchResult (found_position result)
-        (ShowsItem (stored_in reader.entry.view.bytes.now reader.entry.layouts.now) (place_of list) U 0)
+        (ShowsItem (stored_in reader.entry.view.bytes.now reader.entry.layouts.now)
+        (place_of list) U 0)
         (λ code. (code ≡ Code.Null) × (count vs ≡ 0)) }
     ensures of_type { IfOk result (λ first.
         item_type (form_at reader.entry.layouts.now list.type_id) ≡ Some first.type_id) }

@@ -200,7 +200,10 @@ fn text_range(reader: Reader<'_>, place: ValuePlace) -> Result<ByteRange, Code>
         (λ text. text.at + text.len ≤ length reader.entry.view.bytes.now) }
 {
     let _ = reader.text(place)?;
-    let (from, len) = (start_in(reader.view, place.at), count_in(reader.view, place.at));
+    let (from, len) = (
+        start_in(reader.view, place.at),
+        count_in(reader.view, place.at),
+    );
     Ok(range_in(reader.view, from as usize, len as usize))
 }
 
@@ -217,7 +220,10 @@ fn numbers_range(reader: Reader<'_>, vector: ValuePlace) -> Result<ByteRange, Co
         (λ numbers. numbers.at + numbers.len ≤ length reader.entry.view.bytes.now) }
 {
     let _ = reader.number_bytes(vector)?;
-    let (from, count) = (start_in(reader.view, vector.at), count_in(reader.view, vector.at));
+    let (from, count) = (
+        start_in(reader.view, vector.at),
+        count_in(reader.view, vector.at),
+    );
     Ok(range_in(reader.view, from as usize, count as usize * NUMBER))
 }
 

@@ -27,7 +27,8 @@ returns-clause-finds c sound same =
     let is = subst (λ (k : ℤ). WhereMap image table map (λ U keys vs blocks. FindsValue image table (place_of map) U keys k (result_ok (found_position found)))) (to_z-of_z w64 c.args.key c.ranges.key)
     (on_image image reader.view.bytes.now c.args.types.now reader.layouts.now bytes_is table_is
     (λ b t p. WhereMap b t map (λ U keys vs blocks. FindsValue b t (place_of map) U keys (to_z w64 (of_z w64 c.args.key)) (result_ok (found_position found)))) (λ p. c.get-returned.ensures.finds) sound same) in
-    let only = on_image image reader.view.bytes.now c.args.types.now reader.layouts.now bytes_is table_is (λ b t p. has_keys (form_at t map.type_id) ≡ true → IsOkUnless (found_position found) code.Absent) (λ p. c.get-returned.ensures.code) sound same in
+    let only = on_image image reader.view.bytes.now c.args.types.now reader.layouts.now bytes_is table_is
+    (λ b t p. has_keys (form_at t map.type_id) ≡ true → IsOkUnless (found_position found) code.Absent) (λ p. c.get-returned.ensures.code) sound same in
     subst (λ (place : Place). WhereMap image table place (λ U keys vs blocks. TellsOption c.give.result 113 c.give.new.place (λ value. FindsValue image table (place_of place) U keys c.args.key (at_in value)))) c.place_at-map.ensures
     (λ U keys vs blocks form stands. tells_place code.Absent c.give.result c.args.value.now c.give.new.place found (FindsValue image table (place_of map) U keys c.args.key) c.give.ensures.told
     (only (map_keys (form_at table map.type_id) U form)) (is U keys vs blocks form stands))

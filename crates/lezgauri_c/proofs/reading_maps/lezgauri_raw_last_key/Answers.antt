@@ -18,8 +18,10 @@ returns-clause-last c sound same =
     let map = c.place_at-map.result in
     let table = sound.picture.table in
     let found = c.last_key-returned.result in
-    let is = on_image c.args.image.now reader.view.bytes.now c.args.types.now reader.layouts.now bytes_is table_is (λ b t p. WhereMap b t map (λ U keys vs blocks. result_ok found ≡ last_of keys)) (λ p. c.last_key-returned.ensures.last) sound same in
-    let only = on_image c.args.image.now reader.view.bytes.now c.args.types.now reader.layouts.now bytes_is table_is (λ b t p. has_keys (form_at t map.type_id) ≡ true → IsOkUnless found code.Null) (λ p. c.last_key-returned.ensures.code) sound same in
+    let is = on_image c.args.image.now reader.view.bytes.now c.args.types.now reader.layouts.now bytes_is table_is
+    (λ b t p. WhereMap b t map (λ U keys vs blocks. result_ok found ≡ last_of keys)) (λ p. c.last_key-returned.ensures.last) sound same in
+    let only = on_image c.args.image.now reader.view.bytes.now c.args.types.now reader.layouts.now bytes_is table_is
+    (λ b t p. has_keys (form_at t map.type_id) ≡ true → IsOkUnless found code.Null) (λ p. c.last_key-returned.ensures.code) sound same in
     subst (λ (place : Place). WhereMap c.args.image.now table place (λ U keys vs blocks. TellsOption c.tell.result 116 c.tell.new.value (λ key. key ≡ last_of keys))) c.place_at-map.ensures
     (λ U keys vs blocks form stands.
     tells_option code.Null c.tell.result c.tell.new.value found (λ key. key ≡ last_of keys) c.tell.ensures.told (only (map_keys (form_at table map.type_id) U form)) (is U keys vs blocks form stands))

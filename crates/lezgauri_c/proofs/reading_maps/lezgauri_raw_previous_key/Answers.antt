@@ -24,7 +24,8 @@ returns-clause-previous c sound same =
     let is = subst (λ (k : ℤ). WhereMap c.args.image.now table map (λ U keys vs blocks. result_ok found ≡ last_of (lower_keys keys k))) (to_z-of_z w64 c.args.before c.ranges.before)
     (on_image c.args.image.now reader.view.bytes.now c.args.types.now reader.layouts.now bytes_is table_is
     (λ b t p. WhereMap b t map (λ U keys vs blocks. result_ok found ≡ last_of (lower_keys keys (to_z w64 (of_z w64 c.args.before))))) (λ p. c.previous_key-returned.ensures.previous) sound same) in
-    let only = on_image c.args.image.now reader.view.bytes.now c.args.types.now reader.layouts.now bytes_is table_is (λ b t p. has_keys (form_at t map.type_id) ≡ true → IsOkUnless found code.Null) (λ p. c.previous_key-returned.ensures.code) sound same in
+    let only = on_image c.args.image.now reader.view.bytes.now c.args.types.now reader.layouts.now bytes_is table_is
+    (λ b t p. has_keys (form_at t map.type_id) ≡ true → IsOkUnless found code.Null) (λ p. c.previous_key-returned.ensures.code) sound same in
     subst (λ (place : Place). WhereMap c.args.image.now table place (λ U keys vs blocks. TellsOption c.tell.result 116 c.tell.new.value (λ key. key ≡ last_of (lower_keys keys c.args.before)))) c.place_at-map.ensures
     (λ U keys vs blocks form stands.
     tells_option code.Null c.tell.result c.tell.new.value found (λ key. key ≡ last_of (lower_keys keys c.args.before)) c.tell.ensures.told (only (map_keys (form_at table map.type_id) U form)) (is U keys vs blocks form stands))

@@ -13,4 +13,5 @@ returns-clause-named c sound same =
     let found = c.named_object-returned.result in
     let reported = on_sound c.args.image.now reader.view.bytes.now c.args.types.now reader.layouts.now (c.reader-reader.ensures.image ∙ c.in-Ok.ensures.image) (c.in-Ok.ensures.types ∙ ap Some (sym c.reader-reader.ensures.types))
     (λ b t p. ReportsRoot b (root_named p.names c.args.name.now) found) c.named_object-returned.ensures.named sound same in
-    tells_found code.Absent c.tell.result c.tell.new.value found (ReportsRoot c.args.image.now (root_named sound.picture.names c.args.name.now)) (subst (Tells c.tell.result c.tell.new.value) c.ok_or.ensures.value c.tell.ensures.told) reported
+    tells_found code.Absent c.tell.result c.tell.new.value found (ReportsRoot c.args.image.now (root_named sound.picture.names c.args.name.now))
+    (subst (Tells c.tell.result c.tell.new.value) c.ok_or.ensures.value c.tell.ensures.told) reported

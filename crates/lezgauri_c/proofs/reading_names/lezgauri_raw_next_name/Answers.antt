@@ -13,4 +13,5 @@ returns-clause-next c sound same =
     let found = c.next_named-returned.result in
     let reported = on_sound c.args.image.now reader.view.bytes.now c.args.types.now reader.layouts.now (c.reader-reader.ensures.image ∙ c.in-Ok.ensures.image) (c.in-Ok.ensures.types ∙ ap Some (sym c.reader-reader.ensures.types))
     (λ b t p. ReportsRoot b (root_after p.names c.args.after.now) found) c.next_named-returned.ensures.next sound same in
-    tells_found code.Null c.tell.result c.tell.new.value found (ReportsRoot c.args.image.now (root_after sound.picture.names c.args.after.now)) (subst (Tells c.tell.result c.tell.new.value) c.ok_or.ensures.value c.tell.ensures.told) reported
+    tells_found code.Null c.tell.result c.tell.new.value found (ReportsRoot c.args.image.now (root_after sound.picture.names c.args.after.now))
+    (subst (Tells c.tell.result c.tell.new.value) c.ok_or.ensures.value c.tell.ensures.told) reported

@@ -26,7 +26,7 @@ returns-clause-named c root named small is =
     let object_is : c.in_ok-object.object ≡ root.at = same_some c.in_ok-object.object root.at (sym c.in_ok-object.was ∙ ap (λ (e : NameEntry). e.object) is) in
     let size_is : c.size.result ≡ size table root.type = c.size.ensures.value ∙ ap (λ (t : Table). size t c.in_ok-type_id.type_id) c.types.ensures ∙ ap (size table) type_is in
     let values_is : c.values_len-values.result ≡ count root.values * size table root.type =
-        c.values_len-values.ensures.len ∙ ap (λ n. n * c.size.result) count_is ∙ ap (λ n. count root.values * n) size_is in
+    c.values_len-values.ensures.len ∙ ap (λ n. n * c.size.result) count_is ∙ ap (λ n. count root.values * n) size_is in
     let len_is : c.from.result ≡ length root.name = c.from.ensures ∙ ap (λ (e : NameEntry). e.name_len) is in (
       c.range_in.ensures.bytes ∙ ap (λ n. slice bytes (n + c.values_len-values.result) c.from.result) object_is ∙ ap (λ n. slice bytes (root.at + n) c.from.result) values_is
           ∙ ap (slice bytes (root.at + count root.values * size table root.type)) len_is ∙ named.name_is,

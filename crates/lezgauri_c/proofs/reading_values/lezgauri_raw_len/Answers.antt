@@ -45,6 +45,7 @@ returns-clause-keys c sound same =
     let table_is = c.in-Ok.ensures.types ∙ ap Some (sym c.reader-reader.ensures.types) in
     let place = c.place_at-place.result in
     let counted = c.len-returned.result in
-    let is = on_image c.args.image.now reader.view.bytes.now c.args.types.now reader.layouts.now bytes_is table_is (λ b t p. WhereMap b t place (λ U keys vs blocks. counted ≡ Ok (length keys))) (λ p. c.len-returned.ensures.keys) sound same in
+    let is = on_image c.args.image.now reader.view.bytes.now c.args.types.now reader.layouts.now bytes_is table_is
+    (λ b t p. WhereMap b t place (λ U keys vs blocks. counted ≡ Ok (length keys))) (λ p. c.len-returned.ensures.keys) sound same in
     subst (λ (q : Place). WhereMap c.args.image.now sound.picture.table q (λ U keys vs blocks. (c.tell.result ≡ 0) × (c.tell.new.value ≡ length keys))) c.place_at-place.ensures
     (λ U keys vs blocks form stands. tells_ok c.tell.result c.tell.new.value (length keys) counted c.tell.ensures.told (is U keys vs blocks form stands))
