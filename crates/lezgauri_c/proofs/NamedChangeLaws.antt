@@ -37,7 +37,7 @@ refused_to_find old new names name T code.Absent other r = absurd r
 refused_to_find old new names name T code.Null other r = absurd r
 refused_to_find old new names name T code.NumbersUsedUp other r = absurd r
 
--- a status that isn't the one for too little memory is that of another code
+-- a status that isn't the one for too little memory is the status of another code
 other_code : (status : ℕ) (e : Code) → status ≢ 112 → status ≡ code_status e → e ≢ code.BadAlloc
 other_code status e other is same = other (is ∙ ap code_status same)
 
@@ -54,7 +54,7 @@ module _ {A : Type 0} (opened left : Image A) where
   destroy_kept name T status false told some it = image_same (it.unchanged refl)
 
   module _ (picture : Picture) (held : IsOpen opened picture) where
-    -- bytes that are those of a segment without loose objects
+    -- bytes that are the ones of a segment without loose objects
     pub sound_still : picture.loose ≡ [] → bytes_in left ≡ bytes_in opened → IsSound (bytes_in left)
     sound_still none same = subst (λ (b : List ℕ). IsSound b) (sym same) (record { picture = picture; held = held.held; counted = held.counted; none_loose = none })
 
@@ -87,7 +87,7 @@ module _ {A : Type 0} (opened left : Image A) where
         | inr past ↦ image_same (it.unknown past).1
       ]
 
-      -- the object was found, or there was none and it was made
+      -- the object was found, or it didn't exist and was made
       found_sound : (o : Option Root) → root_named picture.names name ≡ o → (place : Place) → FindsOrConstructs name T opened left (Ok place) → picture.loose ≡ [] → IsSound (bytes_in left)
       found_sound None is place it none = sound_then (it.makes picture held is).becomes none
       found_sound (Some root) is place it none = elim (cases_lt T (length (types_of opened))) [

@@ -92,7 +92,7 @@ pub record HasMoreTypes (old new entries : List ℕ) (before : IsSound old) : Ty
   pub changes : ChangesOnly (upgraded old) new types_start types_size
   pub live_is : live new ≡ live (upgraded old)
 
--- an entry is wrong, or differs from that of the image's table
+-- an entry is wrong, or differs from the same entry of the image's table
 abbrev pub RefusesTypes : Table → List ℕ → seg_raw_fault.Fault → Type 0
 RefusesTypes table entries (fault.BadType k) = IsFirstWrong sharing_version entries k
 RefusesTypes table entries (fault.TypeMismatch k) =

@@ -29,7 +29,7 @@ pub extern "C" fn lezgauri_raw_construct(
     give(made, place)
 }
 
-/// Gives the place of the first value of the object with this name. If there is none, it is made with one default value. Fails as
+/// Gives the place of the first value of the object with this name. A missing object is made with one default value. Fails as
 /// `Image::find_or_construct` does; then no object changes.
 #[unsafe(no_mangle)]
 pub extern "C" fn lezgauri_raw_find_or_construct(
@@ -50,8 +50,8 @@ pub extern "C" fn lezgauri_raw_find_or_construct(
     give(made, place)
 }
 
-/// Destroys the object with this name, and everything that its values own. Returns the status for `Absent` if there is none of this
-/// type.
+/// Destroys the object with this name, and everything that its values own. Returns the status for `Absent` if no object has
+/// this name and type.
 #[unsafe(no_mangle)]
 pub extern "C" fn lezgauri_raw_destroy(image: &mut Lent, name: &[u8], type_id: u32) -> u32
     ensures destroys { IsFound image.old.bytes image.new.bytes result

@@ -45,7 +45,7 @@ pub extern "C" fn lezgauri_raw_find_or_construct_unique(
     give(made, place)
 }
 
-/// Destroys the unique object of a type, and everything that it owns. Returns the status for `Absent` if there is none.
+/// Destroys the unique object of a type, and everything that it owns. Returns the status for `Absent` if it doesn't exist.
 #[unsafe(no_mangle)]
 pub extern "C" fn lezgauri_raw_destroy_unique(image: &mut Lent, type_id: u32) -> u32
     ensures destroys { IsFound image.old.bytes image.new.bytes result

@@ -16,7 +16,7 @@ pub struct Place {
     pub type_id: u32,
 }
 
-/// The type with this number. Segments have at most 32 types, so each number above 254 is that of a type that no segment has.
+/// The type with this number. Segments have at most 32 types, so no segment has a type with a number above 254.
 pub(crate) fn type_number(number: u32) -> TypeId
     ensures { result ≡ places.type_number number }
 {

@@ -35,7 +35,7 @@ pub(crate) struct Opened<'a> {
 }
 
 impl<'a> Opened<'a> {
-    /// Takes the types out of their box. `BAD_ARGUMENT` if there are none, and the number of `BadHeader` if the image is longer than
+    /// Takes the types out of their box. `BAD_ARGUMENT` if C keeps no types, and the number of `BadHeader` if the image is longer than
     /// any segment.
     pub(crate) fn take(
         alloc: Global,

@@ -81,7 +81,7 @@ pub extern "C" fn lezgauri_raw_find_unique(
 }
 
 /// The object with a name, of whatever type, in an image that an earlier call found sound, or changed. Returns the status for `Absent`
-/// if there is none.
+/// if no object has the name.
 #[unsafe(no_mangle)]
 pub extern "C" fn lezgauri_raw_named_object(
     alloc: Global,

@@ -3,9 +3,9 @@
 --     item_before xs n             the item before an index, if there is one
 --     HasNamed names iterator n    it has returned the first n of these names
 --     ShowsItemBefore segment sequence U n last
---                                  a position, if there is one, is that of the item before an index
+--                                  a position, if there is one, is where the item before an index is
 --     HasReturned segment U count iterator n
---                                  it has returned the first n of so many items of type U
+--                                  it has returned the first n of `count` items of type U
 --     HasKeyed keys iterator n     it has returned the first n of these keys
 --     NamesNext, ItemsNext, KeysNext, EntriesNext
 --                                  what `next` returns: the next one, or none after the last
@@ -56,7 +56,7 @@ pub record NamesNext {S : Type 0} (allocator : S → ℕ) (stored : S → Stored
 
 -- ---- items
 
--- the position, if there is one, is that of the item before an index
+-- the position, if there is one, is where the item before an index is
 abbrev pub ShowsItemBefore : Stored → places.Place → ℕ → ℕ → Option ℕ → Type 0
 ShowsItemBefore segment sequence U n last =
     IfSome last (λ at. (1 ≤ n) × ShowsItem segment sequence U (n - 1) at)

@@ -144,12 +144,12 @@ far_of bytes Right p shape (fork l a c r) at found count e t u f k = to_far byte
 -- ---- the steps of the code
 
 module _ (bytes : List ℕ) (side : Side) (p : ℕ → Bool) (shape : Tree) (place found : Option ℕ) (count : ℕ) (s : IsSearching bytes side p shape place found count) where
-  -- the node has the property: the search goes on before it
+  -- the node has the property: the search continues before it
   pub went_near : (at : ℕ) (next : Option ℕ) → place ≡ Some at → p at ≡ true → next ≡ target bytes (side_word at side) → IsSearching bytes side p shape next (Some at) (count + 1)
   went_near at next e t n =
       subst (λ o. IsSearching bytes side p shape o (Some at) (count + 1)) (sym n) (near_of bytes side p shape s.rest at found count t (subst (λ o. IsTree bytes o s.rest) e s.hangs) s.upward s.node_is s.reach)
 
-  -- the node doesn't have it: the search goes on after it
+  -- the node doesn't have it: the search continues after it
   pub went_far : (at : ℕ) (next : Option ℕ) → place ≡ Some at → p at ≡ false → next ≡ target bytes (side_word at (opposite side)) → IsSearching bytes side p shape next found (count + 1)
   went_far at next e t n =
       subst (λ o. IsSearching bytes side p shape o found (count + 1)) (sym n) (far_of bytes side p shape s.rest at found count t (subst (λ o. IsTree bytes o s.rest) e s.hangs) s.upward s.node_is s.reach)
