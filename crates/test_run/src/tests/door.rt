@@ -1,9 +1,9 @@
 //! The calls on an image, without contracts, so that the proof of a test with many calls is short.
 
 use lezgauri::{
-    AllocatorKind, Code, Entries, Fault, Image, ImageRead, IndexKind, Keys, Named, Names, Numbers, Place,
-    Ready, Report, Through, Type, TypeId, TypeTable, Verified, check, prepare, run, type_table,
-    verify,
+    AllocatorKind, Code, Entries, Fault, Image, ImageRead, IndexKind, Keys, Named, Names, Numbers,
+    Place, Ready, Report, Through, Type, TypeId, TypeTable, Verified, check, prepare, run,
+    type_table, verify,
 };
 use std::alloc::Global;
 use std::test::Fail;
