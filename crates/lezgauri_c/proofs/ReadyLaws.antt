@@ -1,5 +1,5 @@
 -- A client that is ready was accepted, so it is verified wherever its types agree with a table.
-use Rattle.std.proofs.Common.{◌≡◌, ◌≤◌, ℕ, ◌^◌, List, [], ◌∷◌, refl, arith}
+use Rattle.std.proofs.Common.{◌≡◌, ℕ, ◌^◌, List, [], ◌∷◌, refl, arith}
 use Rattle.std.specs.Prelude.{Err, Result, Some}
 use Rattle.std.specs.Global.{Global}
 use Rattle.std.proofs.Math.Logic.{∥∥₁_elim}
@@ -8,7 +8,6 @@ use Rattle.seg_raw.specs.declared.fault.Fault.TheVariants as fault
 use Rattle.lezgauri.specs.Faults.{IsImageOf}
 use Rattle.client_spec.specs.Syntax.{Client}
 use Rattle.client_spec.specs.Grammar.{SpellsClient}
-use Rattle.client_spec.specs.Run.{bound}
 use Rattle.client_spec.specs.Clients.{IsVerified}
 use Rattle.lezgauri.specs.VerifierConstants.{MOST_STEPS}
 use Rattle.client_vm.specs.declared.ready.Ready.{Ready}

@@ -11,7 +11,7 @@
 --                             code, whether something was there, and nothing
 --     HasMoreTypes old new entries before     a longer table took the place of the image's
 --     RefusesTypes, RefusesTypesAs            why it didn't, and as that is reported
-use Rattle.std.specs.Prelude.{◌≡◌, ◌+◌, ◌<◌, ◌≤◌, ℕ, List, Bool, true, false, None, Result, Ok, Err}
+use Rattle.std.specs.Prelude.{◌≡◌, ◌<◌, ◌≤◌, ℕ, List, Bool, true, false, None, Result, Ok, Err}
 use Rattle.seg_spec.specs.Bytes.{ChangesOnly}
 use Rattle.seg_spec.specs.Header.{types_start, types_size, sharing_version}
 use Rattle.seg_spec.specs.Heap.{live}

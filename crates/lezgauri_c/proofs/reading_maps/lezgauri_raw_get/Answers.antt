@@ -2,13 +2,13 @@ use Rattle.std.proofs.Common.{◌≡◌, ℤ, true, Some, sym, ap, ◌∙◌, su
 use Rattle.std.proofs.lemmas.Int.{to_z-of_z}
 use mir.Syntax.{w64}
 use mir.Val.{to_z, of_z}
-use Rattle.std.specs.Prelude.{IsOkUnless, IfOk}
+use Rattle.std.specs.Prelude.{IsOkUnless}
 use Rattle.std.specs.Result.{result_ok}
 use Rattle.seg_spec.specs.Types.{form_at}
 use Rattle.seg_raw.specs.declared.code.Code.TheVariants as code
 use Rattle.lezgauri.specs.Place.{Place}
 use Rattle.lezgauri.specs.CellPlaces.{place_of}
-use Rattle.lezgauri.specs.EitherMap.{has_keys, IsMapOf}
+use Rattle.lezgauri.specs.EitherMap.{has_keys}
 use Rattle.lezgauri.specs.Maps.{FindsValue}
 use Rattle.lezgauri.specs.Places.{found_position}
 use Rattle.lezgauri_c.specs.Values.{at_in, TellsOption, WhereMap}

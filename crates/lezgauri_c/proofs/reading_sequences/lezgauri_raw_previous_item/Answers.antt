@@ -1,5 +1,4 @@
 use Rattle.std.proofs.Common.{ℕ, Some, sym, ap, ◌∙◌, subst}
-use Rattle.seg_spec.specs.Value.{count}
 use Rattle.lezgauri.specs.Place.{Place}
 use Rattle.lezgauri.specs.CellPlaces.{place_of}
 use Rattle.seg_seq.specs.Sequences.{ShowsItem}

@@ -1,6 +1,5 @@
 -- A kept client can be sent to another thread, as its box can.
 use mir.Raw.{raw}
-use base.Fml.{Fml}
 use base.Shift.{Keyless}
 use denote.Memory.{lone}
 use denote.RawPtr.{Ptr}

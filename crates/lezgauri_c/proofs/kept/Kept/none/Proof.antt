@@ -12,14 +12,13 @@ use types.Logic.{Logic}
 use contract.Monad.{Fun}
 use contract.Running.{tables, tables_of}
 use sound.WpLaws.{WpFn-mono}
-use types.Kit.{Item, ‵, raw, ◌⊛◌, ◌$◌, ◌∵◌, !, qed, drop, join, split, fjoin, fpack, feq_i, suffices, done}
+use types.Kit.{‵, raw, ◌⊛◌, ◌$◌, ◌∵◌, !, qed, drop, join, fjoin, fpack, feq_i, suffices, done}
 use types.Part.{agg}
 use types.Run.{lit, no_more, and_then, returns, enter}
 use types.ByLocal.{alloc_all, pass_all, free_all, look_at, sets}
 use denote.RattleType.{Valss}
 use denote.Builtin.{RawPtr}
 use denote.RawPtr.{null_ptr, ptr_val}
-use denote.Signature.{type_at}
 use denote.Steps.{nothing}
 use denote.Struct.Struct.{within}
 use denote.Struct.Owning.{shape}
