@@ -13,7 +13,7 @@ use Rattle.seg_manager.specs.NamedObjects.{RefusesName, FindsOrMakesNamed, Refus
 use Rattle.seg_image.specs.declared.image.Image.{Image}
 use Rattle.seg_image.specs.Images.{segment_of, bytes_in, types_of, IsOpen}
 use Rattle.lezgauri_c.specs.declared.place.Place as told
-use Rattle.lezgauri_c.specs.Changes.{code_status, TellsPlace, TellsFound}
+use Rattle.lezgauri_c.specs.Changes.{code_status, TellsPlace, TellsFound, IsStillSound}
 use Rattle.lezgauri_c.specs.ImageChanges.{Constructs, FindsOrConstructs, Destroys}
 use Rattle.lezgauri_c.proofs.ChangeLaws.{sound_then}
 
@@ -55,8 +55,11 @@ module _ {A : Type 0} (opened left : Image A) where
 
   module _ (picture : Picture) (held : IsOpen opened picture) where
     -- bytes that are those of a segment without loose objects
-    pub sound_still : picture.loose ≡ [] → bytes_in left ≡ bytes_in opened → IsSound (bytes_in left)
-    sound_still none same = subst (λ (b : List ℕ). IsSound b) (sym same) (record { picture = picture; held = held.held; counted = held.counted; none_loose = none })
+    pub sound_still : picture.loose ≡ [] → bytes_in left ≡ bytes_in opened → IsStillSound (bytes_in opened) (bytes_in left)
+    sound_still none same = record {
+      sound = subst (λ (b : List ℕ). IsSound b) (sym same) (record { picture = picture; held = held.held; counted = held.counted; none_loose = none });
+      length_kept = ap length same;
+    }
 
     module _ (name : List ℕ) (T n : ℕ) where
       construct_same : (e : Code) → e ≢ code.BadAlloc → Constructs name T n opened left (Err e) → bytes_in left ≡ bytes_in opened
@@ -65,7 +68,7 @@ module _ {A : Type 0} (opened left : Image A) where
         | inr past ↦ image_same (it.unknown past).1
       ]
 
-      pub construct_sound : (r : Result Place Code) → Constructs name T n opened left r → picture.loose ≡ [] → IsSound (bytes_in left)
+      pub construct_sound : (r : Result Place Code) → Constructs name T n opened left r → picture.loose ≡ [] → IsStillSound (bytes_in opened) (bytes_in left)
       construct_sound (Ok place) it none = sound_then (it.makes picture held).becomes none
       construct_sound (Err code.BadAlloc) it none = sound_then (it.no_room picture held refl).becomes none
       construct_sound (Err code.AlreadyExists) it none = sound_still none (construct_same code.AlreadyExists (λ e. cc) it)
@@ -88,7 +91,7 @@ module _ {A : Type 0} (opened left : Image A) where
       ]
 
       -- the object was found, or there was none and it was made
-      found_sound : (o : Option Root) → root_named picture.names name ≡ o → (place : Place) → FindsOrConstructs name T opened left (Ok place) → picture.loose ≡ [] → IsSound (bytes_in left)
+      found_sound : (o : Option Root) → root_named picture.names name ≡ o → (place : Place) → FindsOrConstructs name T opened left (Ok place) → picture.loose ≡ [] → IsStillSound (bytes_in opened) (bytes_in left)
       found_sound None is place it none = sound_then (it.makes picture held is).becomes none
       found_sound (Some root) is place it none = elim (cases_lt T (length (types_of opened))) [
         | inl known ↦ elim (it.tells picture held known) [
@@ -98,7 +101,7 @@ module _ {A : Type 0} (opened left : Image A) where
         | inr past ↦ sound_still none (image_same (it.unknown past).1)
       ]
 
-      pub find_sound : (r : Result Place Code) → FindsOrConstructs name T opened left r → picture.loose ≡ [] → IsSound (bytes_in left)
+      pub find_sound : (r : Result Place Code) → FindsOrConstructs name T opened left r → picture.loose ≡ [] → IsStillSound (bytes_in opened) (bytes_in left)
       find_sound (Ok place) it none = found_sound (root_named picture.names name) refl place it none
       find_sound (Err code.BadAlloc) it none = sound_then (it.no_room picture held refl).becomes none
       find_sound (Err code.AlreadyExists) it none = sound_still none (find_same code.AlreadyExists (λ e. cc) it)
@@ -113,6 +116,6 @@ module _ {A : Type 0} (opened left : Image A) where
       find_kept status before after (Ok place) told some other it = let done = told.0 in absurd (omega arith)
       find_kept status before after (Err e) told some other it = find_same e (other_code status e other told.0) it
 
-      pub destroy_sound : (found : Bool) → Destroys name T opened left found → picture.loose ≡ [] → IsSound (bytes_in left)
+      pub destroy_sound : (found : Bool) → Destroys name T opened left found → picture.loose ≡ [] → IsStillSound (bytes_in opened) (bytes_in left)
       destroy_sound true it none = sound_then (it.loses picture held refl).becomes none
       destroy_sound false it none = sound_still none (image_same (it.unchanged refl))
