@@ -1,5 +1,5 @@
 -- An image is sound after its named objects were changed, and has the same bytes after most refusals.
-use Rattle.std.proofs.Common.{◌≡◌, ◌≢◌, ◌<◌, ◌≤◌, ℕ, List, [], length, true, false, Some, None, Ok, Err, inl, inr, refl, ap, sym, ◌∙◌, subst, arith}
+use Rattle.std.proofs.Common.{◌≡◌, ◌≢◌, ◌<◌, ℕ, List, [], length, true, false, Some, None, Ok, Err, inl, inr, refl, ap, sym, ◌∙◌, subst, arith}
 use Rattle.std.specs.Prelude.{Result, Bool, Option}
 use Rattle.std.proofs.lemmas.Bool.{cases_lt}
 use Rattle.seg_spec.specs.Sound.{Picture}
@@ -9,7 +9,7 @@ use Rattle.seg_raw.specs.declared.code.Code.{Code}
 use Rattle.seg_raw.specs.declared.code.Code.TheVariants as code
 use Rattle.seg_cells.specs.declared.place.Place.{Place}
 use Rattle.seg_value.specs.Stored.{Stored}
-use Rattle.seg_manager.specs.NamedObjects.{RefusesName, FindsOrMakesNamed, RefusesToFind}
+use Rattle.seg_manager.specs.NamedObjects.{RefusesName, RefusesToFind}
 use Rattle.seg_image.specs.declared.image.Image.{Image}
 use Rattle.seg_image.specs.Images.{segment_of, bytes_in, types_of, IsOpen}
 use Rattle.lezgauri_c.specs.declared.place.Place as told

@@ -1,5 +1,5 @@
 -- An image is sound after its unique objects were changed, and has the same bytes after refusals.
-use Rattle.std.proofs.Common.{◌≡◌, ◌<◌, ◌≤◌, ℕ, List, [], length, true, false, Ok, Err, inl, inr, refl, ap, subst, arith}
+use Rattle.std.proofs.Common.{◌≡◌, ◌<◌, ℕ, [], length, true, false, Ok, Err, inl, inr, refl, ap, arith}
 use Rattle.std.specs.Prelude.{Result, Bool}
 use Rattle.std.proofs.lemmas.Bool.{cases_lt}
 use Rattle.seg_spec.specs.Sound.{Picture}

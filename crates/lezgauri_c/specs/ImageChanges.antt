@@ -6,7 +6,7 @@
 --     Assigns, Appends, PushesItem, PushesItemFront, PopsItem, PopsItemFront
 --     Puts, Removes, PutsContent, Freezes, Shares
 --     ConstructsAnonymous, DestroysAnonymous, Clears, ShrinksBuffer
-use Rattle.std.specs.Prelude.{◌≡◌, ◌≢◌, ◌+◌, ◌-◌, ◌<◌, ◌≤◌, ◌^◌, ℕ, suc, ℤ, List, [], ◌∷◌, ◌++◌, length, take, Bool, true, false, Option, Some, None, Result, Ok, Err, IsOk, IsTrue, IfOk, IsOkUnless, MatchResult, is_ok}
+use Rattle.std.specs.Prelude.{◌≡◌, ◌≢◌, ◌+◌, ◌-◌, ◌<◌, ◌≤◌, ◌^◌, ℕ, suc, ℤ, List, [], ◌∷◌, ◌++◌, length, take, Bool, true, false, Some, None, Result, Err, IsOk, IsTrue, IfOk, IsOkUnless, MatchResult, is_ok}
 use Rattle.std.specs.List.{AllByRecursion}
 use Rattle.seg_spec.specs.Bytes.{word}
 use Rattle.seg_spec.specs.Header.{next_word}

@@ -1,5 +1,4 @@
-use Rattle.std.proofs.Common.{◌≡◌, List, ℕ, sym, ◌∙◌, subst}
-use Rattle.seg_spec.specs.Images.{IsSound}
+use Rattle.std.proofs.Common.{◌≡◌, List, ℕ, sym, subst}
 use Rattle.seg_spec.specs.Types.{Table, IsFirstDifference, IsFirstWrong, Spells}
 use Rattle.seg_raw.specs.declared.fault.Fault as faults
 use Rattle.seg_raw.specs.declared.fault.Fault.TheVariants.{BadType, TypeMismatch}
