@@ -27,8 +27,10 @@ module _ {old new : List ℕ} (opened left : Image Lodged) (opened_is : bytes_in
   }
 
   -- the image is sound again if that is true of the open image
-  pub still_sound : ((picture : Picture) → IsOpen opened picture → picture.loose ≡ [] → IsSound (bytes_in left)) → IsSound old → IsSound new
-  still_sound then sound = subst (λ (b : List ℕ). IsSound b) left_is (then sound.picture (is_open sound) sound.none_loose)
+  pub still_sound : ((picture : Picture) → IsOpen opened picture → picture.loose ≡ [] → IsStillSound (bytes_in opened) (bytes_in left)) → IsSound old → IsStillSound old new
+  still_sound then sound =
+      subst (λ (b : List ℕ). IsStillSound b new) opened_is
+      (subst (λ (b : List ℕ). IsStillSound (bytes_in opened) b) left_is (then sound.picture (is_open sound) sound.none_loose))
 
   -- the bytes are the same if that is true of the open image
   pub still_same : ((picture : Picture) → IsOpen opened picture → bytes_in left ≡ bytes_in opened) → IsSound old → new ≡ old
@@ -44,5 +46,8 @@ refused unsound same = record {
 }
 
 -- a segment without loose objects is a sound image
-pub sound_then : {allocator : ℕ} {old new : Stored} {other : Picture} {gone : List ℕ} → Becomes allocator old new other gone → other.loose ≡ [] → IsSound new.window.bytes
-sound_then {other = other} becomes none = record { picture = other; held = becomes.segment.held; counted = becomes.segment.counted; none_loose = none }
+pub sound_then : {allocator : ℕ} {old new : Stored} {other : Picture} {gone : List ℕ} → Becomes allocator old new other gone → other.loose ≡ [] → IsStillSound old.window.bytes new.window.bytes
+sound_then {other = other} becomes none = record {
+  sound = record { picture = other; held = becomes.segment.held; counted = becomes.segment.counted; none_loose = none };
+  length_kept = becomes.length_kept;
+}

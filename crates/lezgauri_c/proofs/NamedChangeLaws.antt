@@ -13,7 +13,7 @@ use Rattle.seg_manager.specs.NamedObjects.{RefusesName, RefusesToFind}
 use Rattle.lezgauri.specs.Image.{Image}
 use Rattle.lezgauri.specs.Images.{segment_of, bytes_in, types_of, IsOpen}
 use Rattle.lezgauri_c.specs.declared.place.Place as told
-use Rattle.lezgauri_c.specs.Changes.{code_status, TellsPlace, TellsFound}
+use Rattle.lezgauri_c.specs.Changes.{code_status, TellsPlace, TellsFound, IsStillSound}
 use Rattle.lezgauri_c.specs.ImageChanges.{Constructs, FindsOrConstructs, Destroys}
 use Rattle.lezgauri_c.proofs.ChangeLaws.{sound_then}
 
@@ -65,7 +65,7 @@ module _ {A : Type 0} (opened left : Image A) where
         | inr past ↦ image_same (it.unknown past).1
       ]
 
-      pub construct_sound : (r : Result Place Code) → Constructs name T n opened left r → picture.loose ≡ [] → IsSound (bytes_in left)
+      pub construct_sound : (r : Result Place Code) → Constructs name T n opened left r → picture.loose ≡ [] → IsStillSound (bytes_in opened) (bytes_in left)
       construct_sound (Ok place) it none = sound_then (it.makes picture held).becomes none
       construct_sound (Err code.BadAlloc) it none = sound_then (it.no_room picture held refl).becomes none
       construct_sound (Err code.AlreadyExists) it none = sound_still none (construct_same code.AlreadyExists (λ e. cc) it)
@@ -98,7 +98,7 @@ module _ {A : Type 0} (opened left : Image A) where
         | inr past ↦ sound_still none (image_same (it.unknown past).1)
       ]
 
-      pub find_sound : (r : Result Place Code) → FindsOrConstructs name T opened left r → picture.loose ≡ [] → IsSound (bytes_in left)
+      pub find_sound : (r : Result Place Code) → FindsOrConstructs name T opened left r → picture.loose ≡ [] → IsStillSound (bytes_in opened) (bytes_in left)
       find_sound (Ok place) it none = found_sound (root_named picture.names name) refl place it none
       find_sound (Err code.BadAlloc) it none = sound_then (it.no_room picture held refl).becomes none
       find_sound (Err code.AlreadyExists) it none = sound_still none (find_same code.AlreadyExists (λ e. cc) it)
@@ -113,6 +113,6 @@ module _ {A : Type 0} (opened left : Image A) where
       find_kept status before after (Ok place) told some other it = let done = told.0 in absurd (omega arith)
       find_kept status before after (Err e) told some other it = find_same e (other_code status e other told.0) it
 
-      pub destroy_sound : (found : Bool) → Destroys name T opened left found → picture.loose ≡ [] → IsSound (bytes_in left)
+      pub destroy_sound : (found : Bool) → Destroys name T opened left found → picture.loose ≡ [] → IsStillSound (bytes_in opened) (bytes_in left)
       destroy_sound true it none = sound_then (it.loses picture held refl).becomes none
       destroy_sound false it none = sound_still none (image_same (it.unchanged refl))

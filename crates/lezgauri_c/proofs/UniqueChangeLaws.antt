@@ -3,7 +3,6 @@ use Rattle.std.proofs.Common.{◌≡◌, ◌<◌, ℕ, [], length, true, false, 
 use Rattle.std.specs.Prelude.{Result, Bool}
 use Rattle.std.proofs.lemmas.Bool.{cases_lt}
 use Rattle.seg_spec.specs.Sound.{Picture}
-use Rattle.seg_spec.specs.Images.{IsSound}
 use Rattle.seg_raw.specs.declared.code.Code.{Code}
 use Rattle.seg_raw.specs.declared.code.Code.TheVariants as code
 use Rattle.lezgauri.specs.Place.{Place}
@@ -12,7 +11,7 @@ use Rattle.seg_manager.specs.Segments.{RefusesUnique}
 use Rattle.lezgauri.specs.Image.{Image}
 use Rattle.lezgauri.specs.Images.{segment_of, allocator_of, bytes_in, types_of, IsOpen}
 use Rattle.lezgauri_c.specs.declared.place.Place as told
-use Rattle.lezgauri_c.specs.Changes.{TellsPlace, TellsFound}
+use Rattle.lezgauri_c.specs.Changes.{TellsPlace, TellsFound, IsStillSound}
 use Rattle.lezgauri_c.specs.ImageChanges.{ConstructsUnique, FindsOrConstructsUnique, DestroysUnique}
 use Rattle.lezgauri_c.proofs.ChangeLaws.{sound_then}
 use Rattle.lezgauri_c.proofs.NamedChangeLaws.{sound_still}
@@ -40,7 +39,7 @@ module _ {A : Type 0} (opened left : Image A) (picture : Picture) (held : IsOpen
     | inr past ↦ same_image (it.unknown past).1
   ]
 
-  pub construct_unique_sound : (r : Result Place Code) → ConstructsUnique T opened left r → picture.loose ≡ [] → IsSound (bytes_in left)
+  pub construct_unique_sound : (r : Result Place Code) → ConstructsUnique T opened left r → picture.loose ≡ [] → IsStillSound (bytes_in opened) (bytes_in left)
   construct_unique_sound (Ok place) it none = elim (cases_lt T (length (types_of opened))) [
     | inl known ↦ sound_then (it.makes picture held known).becomes none
     | inr past ↦ absurd (no_place place (it.unknown past).0)
@@ -58,7 +57,7 @@ module _ {A : Type 0} (opened left : Image A) (picture : Picture) (held : IsOpen
     | inr past ↦ same_image (it.unknown past).1
   ]
 
-  pub find_unique_sound : (r : Result Place Code) → FindsOrConstructsUnique T opened left r → picture.loose ≡ [] → IsSound (bytes_in left)
+  pub find_unique_sound : (r : Result Place Code) → FindsOrConstructsUnique T opened left r → picture.loose ≡ [] → IsStillSound (bytes_in opened) (bytes_in left)
   find_unique_sound (Ok place) it none = elim (cases_lt T (length (types_of opened))) [
     | inl known ↦ elim (it.makes picture held known) [
       | inl found ↦ sound_still opened left picture held none (ap (λ (s : Stored). s.window.bytes) found.1)
@@ -73,7 +72,7 @@ module _ {A : Type 0} (opened left : Image A) (picture : Picture) (held : IsOpen
   find_unique_kept status before after (Ok place) told some it = let done = told.0 in absurd (omega arith)
   find_unique_kept status before after (Err e) told some it = find_same e it
 
-  pub destroy_unique_sound : (found : Bool) → DestroysUnique T opened left found → picture.loose ≡ [] → IsSound (bytes_in left)
+  pub destroy_unique_sound : (found : Bool) → DestroysUnique T opened left found → picture.loose ≡ [] → IsStillSound (bytes_in opened) (bytes_in left)
   destroy_unique_sound true it none = sound_then (it.loses picture held refl).loses.becomes none
   destroy_unique_sound false it none = sound_still opened left picture held none (same_image (it.unchanged refl))
 

@@ -9,6 +9,7 @@
 --     GivesPlace, IsDone, IsFound, IsOver
 --                             the same, for a call that returns a place or a code, nothing or a
 --                             code, whether something was there, and nothing
+--     IsStillSound old new    a sound image of the same size is left
 --     HasMoreTypes old new entries before     a longer table took the place of the image's
 --     RefusesTypes, RefusesTypesAs            why it didn't, and as that is reported
 use Rattle.std.specs.Prelude.{◌≡◌, ◌<◌, ◌≤◌, ℕ, List, Bool, true, false, None, Result, Ok, Err}
@@ -77,6 +78,11 @@ IsFound old new status claim = Calls old new status (TellsFound status) claim
 abbrev pub IsOver : List ℕ → List ℕ → ℕ → (Image Lodged → Image Lodged → Type 0) → Type 0
 IsOver old new status claim =
     Calls {R = Unit {0}} old new status (λ _. status ≡ 0) (λ opened left _. claim opened left)
+
+-- the bytes are those of a sound image again, and are as many
+pub record IsStillSound (old new : List ℕ) : Type 0 where
+  pub sound : IsSound new
+  pub length_kept : length new ≡ length old
 
 -- ---- types
 

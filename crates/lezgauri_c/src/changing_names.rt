@@ -1,6 +1,6 @@
 ghost use Rattle.std.specs.Prelude.{◌≡◌, ◌≢◌, ◌<◌};
 ghost use Rattle.seg_spec.specs.Images.{IsSound};
-ghost use Rattle.lezgauri_c.specs.Changes.{type_number, GivesPlace, IsFound};
+ghost use Rattle.lezgauri_c.specs.Changes.{type_number, GivesPlace, IsFound, IsStillSound};
 ghost use Rattle.lezgauri_c.specs.ImageChanges.{Constructs, FindsOrConstructs, Destroys};
 
 use crate::changing::{found, give, on_image, type_number};
@@ -19,7 +19,8 @@ pub extern "C" fn lezgauri_raw_construct(
 ) -> u32
     ensures constructs { GivesPlace image.old.bytes image.new.bytes result place.old place.new
         (Constructs name.now (type_number type_id) count) }
-    ensures sound { IsSound image.old.bytes → IsSound image.new.bytes }
+    ensures sound { IsSound image.old.bytes →
+        IsStillSound image.old.bytes image.new.bytes }
     ensures kept { 0 < result → result ≢ 112 → IsSound image.old.bytes →
         image.new.bytes ≡ image.old.bytes }
     ensures unwritten { 0 < result → place.new ≡ place.old }
@@ -40,7 +41,8 @@ pub extern "C" fn lezgauri_raw_find_or_construct(
 ) -> u32
     ensures finds { GivesPlace image.old.bytes image.new.bytes result place.old place.new
         (FindsOrConstructs name.now (type_number type_id)) }
-    ensures sound { IsSound image.old.bytes → IsSound image.new.bytes }
+    ensures sound { IsSound image.old.bytes →
+        IsStillSound image.old.bytes image.new.bytes }
     ensures kept { 0 < result → result ≢ 112 → IsSound image.old.bytes →
         image.new.bytes ≡ image.old.bytes }
     ensures unwritten { 0 < result → place.new ≡ place.old }
@@ -56,7 +58,8 @@ pub extern "C" fn lezgauri_raw_find_or_construct(
 pub extern "C" fn lezgauri_raw_destroy(image: &mut Lent, name: &[u8], type_id: u32) -> u32
     ensures destroys { IsFound image.old.bytes image.new.bytes result
         (Destroys name.now (type_number type_id)) }
-    ensures sound { IsSound image.old.bytes → IsSound image.new.bytes }
+    ensures sound { IsSound image.old.bytes →
+        IsStillSound image.old.bytes image.new.bytes }
     ensures kept { 0 < result → image.new.bytes ≡ image.old.bytes }
 {
     let t = type_number(type_id);

@@ -1,6 +1,6 @@
 ghost use Rattle.std.specs.Prelude.{◌≡◌, ◌<◌};
 ghost use Rattle.seg_spec.specs.Images.{IsSound};
-ghost use Rattle.lezgauri_c.specs.Changes.{type_number, GivesPlace, IsFound};
+ghost use Rattle.lezgauri_c.specs.Changes.{type_number, GivesPlace, IsFound, IsStillSound};
 ghost use Rattle.lezgauri_c.specs.ImageChanges.{ConstructsUnique, FindsOrConstructsUnique, DestroysUnique};
 
 use crate::changing::{found, give, on_image, type_number};
@@ -17,7 +17,8 @@ pub extern "C" fn lezgauri_raw_construct_unique(
 ) -> u32
     ensures constructs { GivesPlace image.old.bytes image.new.bytes result place.old place.new
         (ConstructsUnique (type_number type_id)) }
-    ensures sound { IsSound image.old.bytes → IsSound image.new.bytes }
+    ensures sound { IsSound image.old.bytes →
+        IsStillSound image.old.bytes image.new.bytes }
     ensures kept { 0 < result → IsSound image.old.bytes → image.new.bytes ≡ image.old.bytes }
     ensures unwritten { 0 < result → place.new ≡ place.old }
 {
@@ -36,7 +37,8 @@ pub extern "C" fn lezgauri_raw_find_or_construct_unique(
 ) -> u32
     ensures finds { GivesPlace image.old.bytes image.new.bytes result place.old place.new
         (FindsOrConstructsUnique (type_number type_id)) }
-    ensures sound { IsSound image.old.bytes → IsSound image.new.bytes }
+    ensures sound { IsSound image.old.bytes →
+        IsStillSound image.old.bytes image.new.bytes }
     ensures kept { 0 < result → IsSound image.old.bytes → image.new.bytes ≡ image.old.bytes }
     ensures unwritten { 0 < result → place.new ≡ place.old }
 {
@@ -50,7 +52,8 @@ pub extern "C" fn lezgauri_raw_find_or_construct_unique(
 pub extern "C" fn lezgauri_raw_destroy_unique(image: &mut Lent, type_id: u32) -> u32
     ensures destroys { IsFound image.old.bytes image.new.bytes result
         (DestroysUnique (type_number type_id)) }
-    ensures sound { IsSound image.old.bytes → IsSound image.new.bytes }
+    ensures sound { IsSound image.old.bytes →
+        IsStillSound image.old.bytes image.new.bytes }
     ensures kept { 0 < result → image.new.bytes ≡ image.old.bytes }
 {
     let t = type_number(type_id);
