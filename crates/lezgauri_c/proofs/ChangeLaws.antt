@@ -7,7 +7,7 @@ use Rattle.seg_manager.specs.Segments.{Becomes}
 use Rattle.std_alloc.specs.declared.vec.lodged.Lodged.{Lodged}
 use Rattle.lezgauri.specs.Image.{Image}
 use Rattle.lezgauri.specs.Images.{bytes_in, IsOpen}
-use Rattle.lezgauri_c.specs.Changes.{Calls}
+use Rattle.lezgauri_c.specs.Changes.{Calls, IsStillSound}
 
 module _ {old new : List ℕ} (opened left : Image Lodged) (opened_is : bytes_in opened ≡ old) (left_is : bytes_in left ≡ new)
     (is_open : (sound : IsSound old) → IsOpen opened sound.picture) where

@@ -55,8 +55,11 @@ module _ {A : Type 0} (opened left : Image A) where
 
   module _ (picture : Picture) (held : IsOpen opened picture) where
     -- bytes that are the ones of a segment without loose objects
-    pub sound_still : picture.loose ≡ [] → bytes_in left ≡ bytes_in opened → IsSound (bytes_in left)
-    sound_still none same = subst (λ (b : List ℕ). IsSound b) (sym same) (record { picture = picture; held = held.held; counted = held.counted; none_loose = none })
+    pub sound_still : picture.loose ≡ [] → bytes_in left ≡ bytes_in opened → IsStillSound (bytes_in opened) (bytes_in left)
+    sound_still none same = record {
+      sound = subst (λ (b : List ℕ). IsSound b) (sym same) (record { picture = picture; held = held.held; counted = held.counted; none_loose = none });
+      length_kept = ap length same;
+    }
 
     module _ (name : List ℕ) (T n : ℕ) where
       construct_same : (e : Code) → e ≢ code.BadAlloc → Constructs name T n opened left (Err e) → bytes_in left ≡ bytes_in opened
@@ -88,7 +91,7 @@ module _ {A : Type 0} (opened left : Image A) where
       ]
 
       -- the object was found, or it didn't exist and was made
-      found_sound : (o : Option Root) → root_named picture.names name ≡ o → (place : Place) → FindsOrConstructs name T opened left (Ok place) → picture.loose ≡ [] → IsSound (bytes_in left)
+      found_sound : (o : Option Root) → root_named picture.names name ≡ o → (place : Place) → FindsOrConstructs name T opened left (Ok place) → picture.loose ≡ [] → IsStillSound (bytes_in opened) (bytes_in left)
       found_sound None is place it none = sound_then (it.makes picture held is).becomes none
       found_sound (Some root) is place it none = elim (cases_lt T (length (types_of opened))) [
         | inl known ↦ elim (it.tells picture held known) [

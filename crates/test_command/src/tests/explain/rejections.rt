@@ -1,7 +1,6 @@
 use crate::tests::explain::sources::{clients_alone, is, parts, run_of};
 use cli_explain::explain;
-use client_verify::verify;
-use lezgauri::{Fault, TypeTable, assemble, parse};
+use lezgauri::{Fault, TypeTable, assemble, parse_typed, verify_typed};
 use std::alloc::Global;
 use std::test::Fail;
 use support_data::counter;
@@ -9,7 +8,7 @@ use support_data::counter;
 /// Explains why a client is refused on a segment without types.
 fn explained(alloc: Global, text: &str) -> Result<Vec<u8>, Fail> {
     let file = assemble(alloc, text.as_bytes())?;
-    match verify(parse(file.as_slice())?, &TypeTable::new()) {
+    match verify_typed(parse_typed(file.as_slice())?, &TypeTable::new()) {
         Ok(_client) => Ok(Vec::new(alloc)),
         Err(fault) => {
             let clients = [file.as_slice()];
