@@ -1,4 +1,4 @@
-use Rattle.std.proofs.Common.{◌≡◌, ℕ, ◌-◌, min, length, refl, ap, ◌∙◌}
+use Rattle.std.proofs.Common.{◌≡◌, ◌-◌, min, length, refl, ap, ◌∙◌}
 use Rattle.seg_spec.specs.Bytes.{slice}
 use Rattle.seg_spec.proofs.BytesLaws.{slice-clamped}
 use Rattle.lezgauri_c.proofs.byte_range.range_in.Goals as goal

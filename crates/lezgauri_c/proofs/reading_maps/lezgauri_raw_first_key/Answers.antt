@@ -5,7 +5,7 @@ use Rattle.seg_spec.specs.Types.{form_at}
 use Rattle.seg_raw.specs.declared.code.Code.TheVariants as code
 use Rattle.seg_cells.specs.declared.place.Place.{Place}
 use Rattle.seg_map.specs.EitherMap.{has_keys}
-use Rattle.seg_map.specs.Maps.{first_of, keys_above}
+use Rattle.seg_map.specs.Maps.{first_of}
 use Rattle.lezgauri_c.specs.Values.{TellsOption, WhereMap}
 use Rattle.lezgauri_c.proofs.ReadLaws.{on_image, tells_option, map_keys}
 use Rattle.lezgauri_c.proofs.reading_maps.lezgauri_raw_first_key.Goals as goal

@@ -2,13 +2,13 @@ use Rattle.std.proofs.Common.{◌≡◌, ℤ, true, Some, sym, ap, ◌∙◌, su
 use Rattle.std.proofs.lemmas.Int.{to_z-of_z}
 use mir.Syntax.{w64}
 use mir.Val.{to_z, of_z}
-use Rattle.std.specs.Prelude.{IsOkUnless, IfOk}
+use Rattle.std.specs.Prelude.{IsOkUnless}
 use Rattle.std.specs.Result.{result_ok}
 use Rattle.seg_spec.specs.Types.{form_at}
 use Rattle.seg_raw.specs.declared.code.Code.TheVariants as code
 use Rattle.seg_cells.specs.declared.place.Place.{Place}
 use Rattle.seg_cells.specs.Places.{place_of}
-use Rattle.seg_map.specs.EitherMap.{has_keys, IsMapOf}
+use Rattle.seg_map.specs.EitherMap.{has_keys}
 use Rattle.seg_map.specs.Maps.{FindsValue}
 use Rattle.seg_image.specs.Places.{found_position}
 use Rattle.lezgauri_c.specs.Values.{at_in, TellsOption, WhereMap}

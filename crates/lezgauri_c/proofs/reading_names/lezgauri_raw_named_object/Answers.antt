@@ -1,7 +1,6 @@
 use Rattle.std.proofs.Common.{Some, sym, ap, ◌∙◌, subst}
 use Rattle.seg_raw.specs.declared.code.Code.TheVariants as code
 use Rattle.seg_spec.specs.Index.{root_named}
-use Rattle.seg_index.specs.Lists.{root_after}
 use Rattle.lezgauri_c.specs.Names.{ReportsRoot}
 use Rattle.lezgauri_c.specs.Values.{Tells}
 use Rattle.lezgauri_c.proofs.ReadLaws.{on_sound, tells_found}

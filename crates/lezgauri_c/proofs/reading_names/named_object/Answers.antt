@@ -2,7 +2,6 @@ use Rattle.seg_spec.specs.Bytes.{slice}
 use Rattle.seg_manager.specs.NamedObjects.{DescribesRoot}
 use Rattle.seg_manager.proofs.NamedReads.{told, told_none, said, unsaid, names_found, listed_named}
 use Rattle.seg_spec.specs.Index.{root_named}
-use Rattle.seg_index.specs.Lists.{root_after}
 use Rattle.lezgauri_c.specs.declared.reading_names.Named.{Named}
 use Rattle.lezgauri_c.specs.Values.{allocator_in, stored_in}
 use Rattle.lezgauri_c.proofs.reading_names.named_object.Goals as goal

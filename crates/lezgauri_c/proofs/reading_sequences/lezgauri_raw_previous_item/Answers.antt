@@ -1,5 +1,4 @@
 use Rattle.std.proofs.Common.{ℕ, Some, sym, ap, ◌∙◌, subst}
-use Rattle.seg_spec.specs.Value.{count}
 use Rattle.seg_cells.specs.declared.place.Place.{Place}
 use Rattle.seg_cells.specs.Places.{place_of}
 use Rattle.seg_seq.specs.Sequences.{ShowsItem}
