@@ -86,27 +86,27 @@ module _ (allocator : ℕ) (bytes : List ℕ) (table : Table) (list : Place) (U 
 
   -- the item after the last one is the first
   pub next_after : (i item next first : ℕ) → Shows i item → Shows (index_after (count vs) i) next → Shows 0 first → next ≢ first → (i + 1 < count vs) × Shows (i + 1) next
-  next_after i item next first here there begins differs =
-      let less = item_below i item here in
+  next_after i item next first shows there begins differs =
+      let less = item_below i item shows in
       ⊎_elim
       (λ on. (on, subst (λ j. Shows j next) (after_on (count vs) i on) there))
       (λ over. absurd (differs (one_position 0 next first (subst (λ j. Shows j next) (after_over (count vs) i less over) there) begins)))
       (cases_lt (i + 1) (count vs))
 
   pub next_none : (i item next first : ℕ) → Shows i item → Shows (index_after (count vs) i) next → Shows 0 first → next ≡ first → i + 1 ≡ count vs
-  next_none i item next first here there begins same =
-      let less = item_below i item here in
+  next_none i item next first shows there begins same =
+      let less = item_below i item shows in
       ⊎_elim
       (λ on. absurd (let zeroth = one_item (i + 1) 0 first (subst (Shows (i + 1)) same (subst (λ j. Shows j next) (after_on (count vs) i on) there)) begins in omega (arith, zeroth)))
       (λ over. omega (arith, less, over))
       (cases_lt (i + 1) (count vs))
 
   pub previous_before : (i item previous first : ℕ) → Shows i item → Shows (index_before (count vs) i) previous → Shows 0 first → item ≢ first → (1 ≤ i) × Shows (i - 1) previous
-  previous_before i item previous first here there begins differs =
+  previous_before i item previous first shows there begins differs =
       ⊎_elim
-      (λ none. absurd (let zeroth : i ≡ 0 = omega (arith, none) in differs (one_position 0 item first (subst (λ j. Shows j item) zeroth here) begins)))
+      (λ none. absurd (let zeroth : i ≡ 0 = omega (arith, none) in differs (one_position 0 item first (subst (λ j. Shows j item) zeroth shows) begins)))
       (λ some. (some, subst (λ j. Shows j previous) (before_on (count vs) i some) there))
       (cases_lt i 1)
 
   pub previous_none : (i item first : ℕ) → Shows i item → Shows 0 first → item ≡ first → i ≡ 0
-  previous_none i item first here begins same = one_item i 0 first (subst (Shows i) same here) begins
+  previous_none i item first shows begins same = one_item i 0 first (subst (Shows i) same shows) begins
