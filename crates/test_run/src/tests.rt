@@ -12,6 +12,7 @@ mod objects;
 mod owners;
 mod places;
 mod plays;
+mod readers;
 mod refusals;
 mod sharing;
 mod sizes;

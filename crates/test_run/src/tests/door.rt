@@ -1,9 +1,9 @@
 //! The calls on an image, without contracts, so that the proof of a test with many calls is short.
 
 use lezgauri::{
-    AllocatorKind, Code, Entries, Fault, Image, ImageRead, IndexKind, Keys, Named, Names, Numbers,
-    Place, Ready, Report, Through, Type, TypeId, TypeTable, Verified, check, prepare, run,
-    type_table, verify,
+    AllocatorKind, CheckedImage, Code, Entries, Fault, Image, ImageRead, IndexKind, Keys, Named,
+    Names, Numbers, Place, Ready, Region, Report, Through, Type, TypeId, TypeTable, Verified,
+    Window, check, prepare, run, type_table, verify,
 };
 use std::alloc::Global;
 use std::test::Fail;
@@ -41,6 +41,21 @@ impl Host {
             Ok(host) => Ok(host),
             Err((fault, _bytes)) => Err(Fail::from(fault)),
         }
+    }
+
+    /// Opens an image again that was checked, without a check.
+    pub(crate) fn in_window(bytes: Vec<u8>, types: TypeTable) -> Result<Host, Fail> {
+        let len = u32::try_from(bytes.len())?;
+        match Window::place(Region::from_vec(bytes), 0, len) {
+            Ok(window) => Ok(Host {
+                image: Image::in_window(window, types),
+            }),
+            Err((fault, _region)) => Err(Fail::from(fault)),
+        }
+    }
+
+    pub(crate) fn image(&self) -> &Image<Global> {
+        &self.image
     }
 
     pub(crate) fn add_types(&mut self, types: &[Type]) -> Result<(), Fault> {
@@ -180,6 +195,14 @@ impl Host {
     pub(crate) fn num_unique(&self) -> usize {
         self.image.num_unique()
     }
+
+    pub(crate) fn construct_anonymous(&mut self, t: TypeId) -> Result<Place, Code> {
+        self.image.construct_anonymous(t)
+    }
+
+    pub(crate) fn destroy_anonymous(&mut self, object: Place) {
+        self.image.destroy_anonymous(object);
+    }
 }
 
 /// Values.
@@ -206,6 +229,18 @@ impl Host {
 
     pub(crate) fn put_content(&mut self, own: Place) -> Result<Place, Code> {
         self.image.put_content(own)
+    }
+
+    pub(crate) fn freeze(&mut self, own: Place, shared: Place) -> Result<(), Code> {
+        self.image.freeze(own, shared)
+    }
+
+    pub(crate) fn share(&mut self, to: Place, from: Place) -> Result<(), Code> {
+        self.image.share(to, from)
+    }
+
+    pub(crate) fn frozen(&self, shared: Place) -> Result<Place, Code> {
+        self.image.frozen(shared)
     }
 
     pub(crate) fn text(&self, place: Place) -> Result<&[u8], Code> {
@@ -255,6 +290,10 @@ impl Host {
         self.image.pop_front(place)
     }
 
+    pub(crate) fn shrink_to_fit(&mut self, place: Place) -> Result<(), Code> {
+        self.image.shrink_to_fit(place)
+    }
+
     pub(crate) fn get(&self, map: Place, key: i64) -> Result<Place, Code> {
         self.image.get(map, key)
     }
@@ -275,6 +314,14 @@ impl Host {
         self.image.next_key(map, after)
     }
 
+    pub(crate) fn last_key(&self, map: Place) -> Result<i64, Code> {
+        self.image.last_key(map)
+    }
+
+    pub(crate) fn previous_key(&self, map: Place, before: i64) -> Result<i64, Code> {
+        self.image.previous_key(map, before)
+    }
+
     pub(crate) fn keys(&self, map: Place) -> Result<Keys<'_, Image<Global>>, Code> {
         self.image.keys(map)
     }
@@ -284,7 +331,17 @@ impl Host {
     }
 }
 
+/// Opens an image only for reading.
+pub(crate) fn open_checked<'a>(alloc: Global, bytes: &'a [u8]) -> Result<CheckedImage<'a>, Fault> {
+    CheckedImage::open(alloc, bytes)
+}
+
+/// The types of a sound image, or the image's fault.
+pub(crate) fn checked_types(alloc: Global, bytes: &[u8]) -> Result<TypeTable, Fault> {
+    check(alloc, bytes)
+}
+
 /// The number of types in a sound image, or the image's fault.
 pub(crate) fn types_in(alloc: Global, bytes: &[u8]) -> Result<usize, Fault> {
-    Ok(check(alloc, bytes)?.len())
+    Ok(checked_types(alloc, bytes)?.len())
 }
