@@ -1,5 +1,4 @@
 use crate::tests::sizes::MAKE_EACH_KIND;
-use arrayvec::ArrayVec;
 use lezgauri::{BestFit, Fit, SeqFit};
 use seg_check::save;
 use seg_manager::{Segment, first_name, header, num_named};
@@ -14,16 +13,16 @@ use support_runs::{KINDS, SegmentKind, opened, run_anew, window};
 const CHANGES: [u8; 11] = [1, 2, 4, 8, 16, 32, 64, 128, 0xff, 0x55, 0xaa];
 
 /// Destroys each named object of a segment.
-fn destroy_named<F: Fit>(rt: &impl Abort, segment: &mut Segment<F, Global>) -> Result<(), Fail> {
+fn destroy_named<F: Fit>(
+    rt: &(impl Abort + AllocGlobal),
+    segment: &mut Segment<F, Global>,
+) -> Result<(), Fail> {
     for _ in 0..num_named(segment) {
         let Some(named) = first_name(segment) else {
             return Err(Fail::from("a name is missing"));
         };
         let (t, count) = (named.type_id, named.count);
-        let mut name: ArrayVec<u8, 63> = ArrayVec::new();
-        for byte in named.name {
-            let _ = name.try_push(*byte);
-        }
+        let name = Vec::from_slice(rt.alloc(), named.name)?;
         assert_eq!(rt; segment.find(name.as_slice(), t)?.count, count);
         assert!(rt; segment.destroy(name.as_slice(), t));
     }
