@@ -2,8 +2,8 @@
 
 use lezgauri::{
     AllocatorKind, CheckedImage, Code, Entries, Fault, Image, ImageRead, IndexKind, Keys, Named,
-    Names, Numbers, Place, Ready, Region, Report, Through, Type, TypeId, TypeTable, Verified,
-    Window, check, prepare, run, type_table, verify,
+    Names, Numbers, Place, Ready, Report, Through, Type, TypeId, TypeTable, Verified, check,
+    prepare, run, type_table, verify,
 };
 use std::alloc::Global;
 use std::test::Fail;
@@ -40,17 +40,6 @@ impl Host {
         match Host::open(alloc, bytes) {
             Ok(host) => Ok(host),
             Err((fault, _bytes)) => Err(Fail::from(fault)),
-        }
-    }
-
-    /// Opens an image again that was checked, without a check.
-    pub(crate) fn in_window(bytes: Vec<u8>, types: TypeTable) -> Result<Host, Fail> {
-        let len = u32::try_from(bytes.len())?;
-        match Window::place(Region::from_vec(bytes), 0, len) {
-            Ok(window) => Ok(Host {
-                image: Image::in_window(window, types),
-            }),
-            Err((fault, _region)) => Err(Fail::from(fault)),
         }
     }
 
@@ -336,12 +325,7 @@ pub(crate) fn open_checked<'a>(alloc: Global, bytes: &'a [u8]) -> Result<Checked
     CheckedImage::open(alloc, bytes)
 }
 
-/// The types of a sound image, or the image's fault.
-pub(crate) fn checked_types(alloc: Global, bytes: &[u8]) -> Result<TypeTable, Fault> {
-    check(alloc, bytes)
-}
-
 /// The number of types in a sound image, or the image's fault.
 pub(crate) fn types_in(alloc: Global, bytes: &[u8]) -> Result<usize, Fault> {
-    Ok(checked_types(alloc, bytes)?.len())
+    Ok(check(alloc, bytes)?.len())
 }

@@ -1,6 +1,6 @@
 //! Reading of open images and of checked images, and a host's calls on owns, shared cells and anonymous objects.
 
-use crate::tests::door::{Host, checked_types, open_checked, types_in};
+use crate::tests::door::{Host, open_checked, types_in};
 use lezgauri::{AllocatorKind, Code, Fault, ImageRead, IndexKind, Named, Type, TypeId};
 use std::alloc::Global;
 use std::process::Abort;
@@ -137,15 +137,6 @@ fn a_faulty_image_is_refused(rt: HostRuntime) -> Result<(), Fail> {
     let refused = open_checked(rt.alloc(), host.bytes());
     assert!(rt; matches!(refused.err(), Some(Fault::Unowned(_))));
     Ok(())
-}
-
-/// An image that was checked is opened again without a check.
-#[test]
-fn opens_in_a_window(rt: HostRuntime) -> Result<(), Fail> {
-    let host = filled(rt.alloc())?;
-    let types = checked_types(rt.alloc(), host.bytes())?;
-    let host = Host::in_window(host.into_bytes(), types)?;
-    has_values(&rt, host.image())
 }
 
 /// Keys are found downwards too.
