@@ -30,6 +30,7 @@ typedef struct table {
     void (*update)(const int64_t *keys, long count, int singly);  /* keys[i] gets i; singly: a transaction for each, if there are any */
     int64_t (*sum)(long count);                                   /* of the values of the least keys, in the order of keys */
     void (*check)(void);                                          /* null if the library has no check */
+    int64_t (*pass)(void);                                        /* reads what the check has to read, once: the sum of the values; or null */
     void (*close)(void);
 } table;
 
@@ -142,8 +143,8 @@ static usage used(void)
 }
 
 /* The works, beside the building of the file. */
-typedef enum work_kind { OPEN, READ, LOOK_UP, UPDATE, UPDATE_SINGLY, SUM, CHECK } work_kind;
-static const char *const WORK_NAMES[] = {"open", "read", "look-up", "update", "update-singly", "sum", "check"};
+typedef enum work_kind { OPEN, READ, LOOK_UP, UPDATE, UPDATE_SINGLY, SUM, CHECK, PASS } work_kind;
+static const char *const WORK_NAMES[] = {"open", "read", "look-up", "update", "update-singly", "sum", "check", "pass"};
 
 /* Does the work, on an open table unless it is to open it. Both ways to open also look up one key. */
 static int64_t do_work(const table *t, work_kind kind, const char *file, const int64_t *keys, long count)
@@ -164,6 +165,10 @@ static int64_t do_work(const table *t, work_kind kind, const char *file, const i
     case CHECK:
         need(t->check != NULL, "a check");
         t->check();
+        return 0;
+    case PASS:
+        need(t->pass != NULL, "a pass");
+        return t->pass();
     }
     return 0;
 }
@@ -220,7 +225,7 @@ static int table_main(const table *tables, size_t count, int words_count, char *
             measure_build(&tables[i], words[3]);
             return 0;
         }
-        for (int kind = OPEN; kind <= CHECK; kind++) {
+        for (int kind = OPEN; kind <= PASS; kind++) {
             if (strcmp(WORK_NAMES[kind], words[2]) == 0) {
                 measure_work(&tables[i], (work_kind)kind, words[3], atol(words[4]));
                 return 0;

@@ -5,7 +5,9 @@ use Rattle.seg_spec.specs.Window.{Placement, with_bytes}
 use Rattle.seg_image.proofs.sharing.freeze_own.Goals as goal
 
 -- the bytes after the pointer and the count in an own's cell were written
-emptied : (old pointed new : Placement) (own : ℕ) → pointed ≡ with_bytes old (set_pointer old.bytes own None) → new ≡ with_bytes pointed (set_word pointed.bytes (own + 4) 0) → new.bytes ≡ set_word (set_pointer old.bytes own None) (own + 4) 0
+emptied : (old pointed new : Placement) (own : ℕ) → pointed ≡ with_bytes old (set_pointer old.bytes own None)
+    → new ≡ with_bytes pointed (set_word pointed.bytes (own + 4) 0)
+    → new.bytes ≡ set_word (set_pointer old.bytes own None) (own + 4) 0
 emptied old pointed new own p n = ap (λ (w : Placement). w.bytes) n ∙ ap (λ (w : Placement). set_word w.bytes (own + 4) 0) p
 
 pub returns-in_err-freeze-clause-freezes : goal.returns-in_err-freeze-clause-freezes

@@ -52,6 +52,13 @@ returns-clause-steps g c =
           let before : n ≡ suc n - 1 = omega arith in (
             h.item_type,
             shows,
-            record { item_type = h.item_type; len = h.len; left = omega (arith, h.left, c.in_ok-left.ensures); is_list = h.is_list; vector = λ e. absurd (let both : true ≡ false = sym listed ∙ e in cc); last = rw some (omega arith, subst (λ k. ShowsItem stored list U k at) before shows) },
+            record {
+              item_type = h.item_type;
+              len = h.len;
+              left = omega (arith, h.left, c.in_ok-left.ensures);
+              is_list = h.is_list;
+              vector = λ e. absurd (let both : true ≡ false = sym listed ∙ e in cc);
+              last = rw some (omega arith, subst (λ k. ShowsItem stored list U k at) before shows);
+            },
           );
     }
