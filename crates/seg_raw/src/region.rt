@@ -2,6 +2,7 @@ ghost use Rattle.std.specs.Prelude.{◌≡◌, ℕ, ◌+◌, ◌-◌, ◌*◌, �
 ghost use Rattle.seg_spec.specs.Bytes.{slice, put, byte, word, long, set_byte, set_word, set_long};
 
 use crate::fault::Fault;
+use crate::in_place::shorten;
 use std::alloc::Allocator;
 use std::marker::Model;
 use std_alloc::vec::run_mut;
@@ -77,9 +78,7 @@ impl<A: Allocator> Region<A> {
         ensures bytes { self.new.bytes ≡ take n self.old.bytes }
         ensures home { self.new.home ≡ self.old.home }
     {
-        while self.data.len() > n {
-            self.data.take_last();
-        }
+        shorten(&mut self.data, n);
     }
 
     pub fn len(&self) -> u32
