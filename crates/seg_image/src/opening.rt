@@ -1,4 +1,4 @@
-ghost use Rattle.std.specs.Prelude.{◌≡◌, ◌≤◌, IfOk, IfErr, MatchResult};
+ghost use Rattle.std.specs.Prelude.{◌≡◌, ◌≤◌, IfOk, IfErr};
 ghost use Rattle.seg_spec.specs.Bytes.{word};
 ghost use Rattle.seg_spec.specs.Header.{allocator_word};
 ghost use Rattle.seg_spec.specs.Images.{upgraded};
@@ -62,8 +62,8 @@ impl<A: Allocator> Image<A> {
             (λ image. word bytes.items allocator_word ≡ allocator_of image) }
         ensures fault { IfErr result (λ unopened. IsFaultOf bytes.items unopened.fault) }
         ensures refused { IfErr result (λ unopened. unopened.bytes.items ≡ bytes.items) }
-        ensures home { MatchResult result
-            (λ image. (segment_of image).window.home ≡ home_of bytes)
+        ensures home { IfOk result (λ image. (segment_of image).window.home ≡ home_of bytes) }
+        ensures refused_home { IfErr result
             (λ unopened. home_of unopened.bytes ≡ home_of bytes) }
     {
         let mut window = window_of(bytes)?;
@@ -100,9 +100,8 @@ fn window_of<A: Allocator>(bytes: Vec<u8, A>) -> Result<Window<A>, Unopened<A>>
     ensures window { IfOk result (λ window. window.bytes ≡ bytes.items) }
     ensures fault { IfErr result (λ unopened. IsFaultOf bytes.items unopened.fault) }
     ensures refused { IfErr result (λ unopened. unopened.bytes.items ≡ bytes.items) }
-    ensures home { MatchResult result
-        (λ window. window.home ≡ home_of bytes)
-        (λ unopened. home_of unopened.bytes ≡ home_of bytes) }
+    ensures home { IfOk result (λ window. window.home ≡ home_of bytes) }
+    ensures refused_home { IfErr result (λ unopened. home_of unopened.bytes ≡ home_of bytes) }
 {
     let len = match u32::try_from(bytes.len()) {
         Ok(len) if len <= MAX_LEN => len,
