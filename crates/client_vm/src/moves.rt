@@ -85,6 +85,7 @@ impl<'a> Moves<'a> {
         w: &mut Window<A>,
     ) -> u64
         ensures some { 0 < result }
+        ensures home { w.new.home ≡ w.old.home }
         ensures made { (room len : ℕ) → AreMoves room len steps (moves_of self.old.rest.now) →
             MakesDue (moves_of self.old.rest.now) steps is_step w.old
             (moves_of self.new.rest.now) w.new }
@@ -99,7 +100,9 @@ impl<'a> Moves<'a> {
     }
 
     fn make<A: Allocator>(&mut self, w: &mut Window<A>)
-        ensures { MakesNext (moves_of self.old.rest.now) w.old (moves_of self.new.rest.now) w.new }
+        ensures next { MakesNext (moves_of self.old.rest.now) w.old
+            (moves_of self.new.rest.now) w.new }
+        ensures home { w.new.home ≡ w.old.home }
     {
         if let Some((next, rest)) = self.rest.split_first() {
             let _ = w.relocate(next.base);

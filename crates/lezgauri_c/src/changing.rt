@@ -3,8 +3,9 @@
 
 ghost use Rattle.std.specs.Prelude.{◌≡◌, ◌<◌, ◌≤◌, IfOk, IfErr, OnErr};
 ghost use Rattle.seg_spec.specs.Images.{IsSound};
-ghost use Rattle.lezgauri.specs.Images.{bytes_in, IsOpen};
+ghost use Rattle.lezgauri.specs.Images.{segment_of, bytes_in, IsOpen};
 ghost use Rattle.lezgauri_c.specs.Changes.{TellsDone, TellsFound};
+ghost use Rattle.lezgauri_c.specs.Memory.{memory_of};
 
 use crate::lent::Lent;
 use crate::run_in_place::open_window;
@@ -38,6 +39,9 @@ pub(crate) fn open_image(image: &mut Lent) -> Result<Image<Lodged>, u32>
     ensures status { IfErr result (λ status. (0 < status) × (status ≤ 100)) }
     ensures unsound { OnErr result (IsSound image.old.bytes → ⊥) }
     ensures kept { OnErr result (image.new.bytes ≡ image.old.bytes) }
+    ensures home { IfOk result
+        (λ opened. (segment_of opened).window.home ≡ memory_of image.old) }
+    ensures kept_home { OnErr result (memory_of image.new ≡ memory_of image.old) }
 {
     match open_window(image.take()) {
         Ok((window, types)) => Ok(Image::in_window(window, types)),

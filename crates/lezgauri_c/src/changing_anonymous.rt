@@ -1,6 +1,7 @@
 ghost use Rattle.std.specs.Prelude.{◌≡◌, ◌<◌};
 ghost use Rattle.lezgauri_c.specs.Changes.{type_number, GivesPlace, IsOver};
 ghost use Rattle.lezgauri_c.specs.ImageChanges.{ConstructsAnonymous, DestroysAnonymous};
+ghost use Rattle.lezgauri_c.specs.Memory.{memory_of};
 
 use crate::changing::{give, on_image, place_at, type_number};
 use crate::lent::Lent;
@@ -18,6 +19,7 @@ pub extern "C" fn lezgauri_raw_construct_anonymous(
     ensures constructs { GivesPlace image.old.bytes image.new.bytes result place.old place.new
         (ConstructsAnonymous (type_number type_id)) }
     ensures unwritten { 0 < result → place.new ≡ place.old }
+    ensures home { memory_of image.new ≡ memory_of image.old }
 {
     let t = type_number(type_id);
     let made = on_image!(image, opened => opened.construct_anonymous(t));
@@ -28,6 +30,7 @@ pub extern "C" fn lezgauri_raw_construct_anonymous(
 #[unsafe(no_mangle)]
 pub extern "C" fn lezgauri_raw_destroy_anonymous(image: &mut Lent, at: u32) -> u32
     ensures { IsOver image.old.bytes image.new.bytes result (DestroysAnonymous at) }
+    ensures home { memory_of image.new ≡ memory_of image.old }
 {
     // An object's type is in its block, and the call doesn't read the place's type.
     let object = place_at(at, 0);

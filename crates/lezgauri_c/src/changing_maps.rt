@@ -1,6 +1,7 @@
 ghost use Rattle.std.specs.Prelude.{◌≡◌, ◌<◌};
 ghost use Rattle.lezgauri_c.specs.Changes.{place_at, GivesPlace, IsFound};
 ghost use Rattle.lezgauri_c.specs.ImageChanges.{Puts, Removes};
+ghost use Rattle.lezgauri_c.specs.Memory.{memory_of};
 
 use crate::changing::{found, give, on_image, place_at};
 use crate::lent::Lent;
@@ -19,6 +20,7 @@ pub extern "C" fn lezgauri_raw_put(
     ensures puts { GivesPlace image.old.bytes image.new.bytes result value.old value.new
         (Puts (place_at at type_id) key) }
     ensures unwritten { 0 < result → value.new ≡ value.old }
+    ensures home { memory_of image.new ≡ memory_of image.old }
 {
     let map = place_at(at, type_id);
     let put = on_image!(image, opened => opened.put(map, key));
@@ -31,6 +33,7 @@ pub extern "C" fn lezgauri_raw_put(
 pub extern "C" fn lezgauri_raw_remove(image: &mut Lent, at: u32, type_id: u32, key: i64) -> u32
     ensures { IsFound image.old.bytes image.new.bytes result
         (Removes (place_at at type_id) key) }
+    ensures home { memory_of image.new ≡ memory_of image.old }
 {
     let map = place_at(at, type_id);
     found(on_image!(image, opened => opened.remove(map, key)))

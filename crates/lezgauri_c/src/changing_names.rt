@@ -2,6 +2,7 @@ ghost use Rattle.std.specs.Prelude.{◌≡◌, ◌≢◌, ◌<◌};
 ghost use Rattle.seg_spec.specs.Images.{IsSound};
 ghost use Rattle.lezgauri_c.specs.Changes.{type_number, GivesPlace, IsFound, IsStillSound};
 ghost use Rattle.lezgauri_c.specs.ImageChanges.{Constructs, FindsOrConstructs, Destroys};
+ghost use Rattle.lezgauri_c.specs.Memory.{memory_of};
 
 use crate::changing::{found, give, on_image, type_number};
 use crate::lent::Lent;
@@ -24,6 +25,7 @@ pub extern "C" fn lezgauri_raw_construct(
     ensures kept { 0 < result → result ≢ 112 → IsSound image.old.bytes →
         image.new.bytes ≡ image.old.bytes }
     ensures unwritten { 0 < result → place.new ≡ place.old }
+    ensures home { memory_of image.new ≡ memory_of image.old }
 {
     let t = type_number(type_id);
     let made = on_image!(image, opened => opened.construct(name, t, count));
@@ -46,6 +48,7 @@ pub extern "C" fn lezgauri_raw_find_or_construct(
     ensures kept { 0 < result → result ≢ 112 → IsSound image.old.bytes →
         image.new.bytes ≡ image.old.bytes }
     ensures unwritten { 0 < result → place.new ≡ place.old }
+    ensures home { memory_of image.new ≡ memory_of image.old }
 {
     let t = type_number(type_id);
     let made = on_image!(image, opened => opened.find_or_construct(name, t));
@@ -61,6 +64,7 @@ pub extern "C" fn lezgauri_raw_destroy(image: &mut Lent, name: &[u8], type_id: u
     ensures sound { IsSound image.old.bytes →
         IsStillSound image.old.bytes image.new.bytes }
     ensures kept { 0 < result → image.new.bytes ≡ image.old.bytes }
+    ensures home { memory_of image.new ≡ memory_of image.old }
 {
     let t = type_number(type_id);
     found(on_image!(image, opened => opened.destroy(name, t)))

@@ -1,6 +1,7 @@
 ghost use Rattle.std.specs.Prelude.{◌≡◌, ◌<◌};
 ghost use Rattle.lezgauri_c.specs.Changes.{place_at, GivesPlace, IsDone};
 ghost use Rattle.lezgauri_c.specs.ImageChanges.{PutsContent, Freezes, Shares};
+ghost use Rattle.lezgauri_c.specs.Memory.{memory_of};
 
 use crate::changing::{done, give, on_image, place_at};
 use crate::lent::Lent;
@@ -18,6 +19,7 @@ pub extern "C" fn lezgauri_raw_put_content(
     ensures puts { GivesPlace image.old.bytes image.new.bytes result content.old content.new
         (PutsContent (place_at at type_id)) }
     ensures unwritten { 0 < result → content.new ≡ content.old }
+    ensures home { memory_of image.new ≡ memory_of image.old }
 {
     let own = place_at(at, type_id);
     let put = on_image!(image, opened => opened.put_content(own));
@@ -36,6 +38,7 @@ pub extern "C" fn lezgauri_raw_freeze(
 ) -> u32
     ensures { IsDone image.old.bytes image.new.bytes result
         (Freezes (place_at at type_id) (place_at to_at to_type_id)) }
+    ensures home { memory_of image.new ≡ memory_of image.old }
 {
     let owner = place_at(at, type_id);
     let shared = place_at(to_at, to_type_id);
@@ -54,6 +57,7 @@ pub extern "C" fn lezgauri_raw_share(
 ) -> u32
     ensures { IsDone image.old.bytes image.new.bytes result
         (Shares (place_at to_at to_type_id) (place_at at type_id)) }
+    ensures home { memory_of image.new ≡ memory_of image.old }
 {
     let from = place_at(at, type_id);
     let to = place_at(to_at, to_type_id);

@@ -1,6 +1,7 @@
 ghost use Rattle.std.specs.Prelude.{◌≡◌, ◌<◌};
 ghost use Rattle.lezgauri_c.specs.Changes.{place_at, GivesPlace, IsDone};
 ghost use Rattle.lezgauri_c.specs.ImageChanges.{Assigns, Appends, PushesItem, PushesItemFront, PopsItem, PopsItemFront};
+ghost use Rattle.lezgauri_c.specs.Memory.{memory_of};
 
 use crate::changing::{done, give, on_image, place_at};
 use crate::lent::Lent;
@@ -12,6 +13,7 @@ use crate::place::Place;
 pub extern "C" fn lezgauri_raw_assign(image: &mut Lent, at: u32, type_id: u32, bytes: &[u8]) -> u32
     ensures { IsDone image.old.bytes image.new.bytes result
         (Assigns (place_at at type_id) bytes.now) }
+    ensures home { memory_of image.new ≡ memory_of image.old }
 {
     let string = place_at(at, type_id);
     done(on_image!(image, opened => opened.assign(string, bytes)))
@@ -22,6 +24,7 @@ pub extern "C" fn lezgauri_raw_assign(image: &mut Lent, at: u32, type_id: u32, b
 pub extern "C" fn lezgauri_raw_append(image: &mut Lent, at: u32, type_id: u32, bytes: &[u8]) -> u32
     ensures { IsDone image.old.bytes image.new.bytes result
         (Appends (place_at at type_id) bytes.now) }
+    ensures home { memory_of image.new ≡ memory_of image.old }
 {
     let string = place_at(at, type_id);
     done(on_image!(image, opened => opened.append(string, bytes)))
@@ -39,6 +42,7 @@ pub extern "C" fn lezgauri_raw_push_back(
     ensures pushes { GivesPlace image.old.bytes image.new.bytes result item.old item.new
         (PushesItem (place_at at type_id)) }
     ensures unwritten { 0 < result → item.new ≡ item.old }
+    ensures home { memory_of image.new ≡ memory_of image.old }
 {
     let sequence = place_at(at, type_id);
     let pushed = on_image!(image, opened => opened.push_back(sequence));
@@ -57,6 +61,7 @@ pub extern "C" fn lezgauri_raw_push_front(
     ensures pushes { GivesPlace image.old.bytes image.new.bytes result item.old item.new
         (PushesItemFront (place_at at type_id)) }
     ensures unwritten { 0 < result → item.new ≡ item.old }
+    ensures home { memory_of image.new ≡ memory_of image.old }
 {
     let list = place_at(at, type_id);
     let pushed = on_image!(image, opened => opened.push_front(list));
@@ -68,6 +73,7 @@ pub extern "C" fn lezgauri_raw_push_front(
 #[unsafe(no_mangle)]
 pub extern "C" fn lezgauri_raw_pop_back(image: &mut Lent, at: u32, type_id: u32) -> u32
     ensures { IsDone image.old.bytes image.new.bytes result (PopsItem (place_at at type_id)) }
+    ensures home { memory_of image.new ≡ memory_of image.old }
 {
     let sequence = place_at(at, type_id);
     done(on_image!(image, opened => opened.pop_back(sequence)))
@@ -78,6 +84,7 @@ pub extern "C" fn lezgauri_raw_pop_back(image: &mut Lent, at: u32, type_id: u32)
 pub extern "C" fn lezgauri_raw_pop_front(image: &mut Lent, at: u32, type_id: u32) -> u32
     ensures { IsDone image.old.bytes image.new.bytes result
         (PopsItemFront (place_at at type_id)) }
+    ensures home { memory_of image.new ≡ memory_of image.old }
 {
     let list = place_at(at, type_id);
     done(on_image!(image, opened => opened.pop_front(list)))

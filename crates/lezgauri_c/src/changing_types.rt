@@ -3,6 +3,8 @@ ghost use Rattle.seg_spec.specs.Images.{IsSound, upgraded};
 ghost use Rattle.seg_spec.specs.Types.{Agree, AreOfVersion, Spells};
 ghost use Rattle.lezgauri_c.specs.Changes.{HasMoreTypes, RefusesTypes, RefusesTypesAs};
 ghost use Rattle.lezgauri_c.specs.Told.{no_fault};
+ghost use Rattle.lezgauri_c.specs.Memory.{memory_of};
+ghost use Rattle.seg_raw.specs.Homes.{home_of};
 
 use crate::fault::Fault;
 use crate::lent::Lent;
@@ -26,6 +28,7 @@ pub extern "C" fn lezgauri_raw_add_types(image: &mut Lent, entries: &[u8], fault
     ensures number { fault.new.number ≡ result }
     ensures no_fault { result ≡ 0 → fault.new ≡ no_fault }
     ensures kept { 0 < result → image.new.bytes ≡ image.old.bytes }
+    ensures home { memory_of image.new ≡ memory_of image.old }
 {
     let (added, bytes) = add_types(image.take(), entries);
     image.give_back(bytes);
@@ -48,6 +51,7 @@ fn add_types<A: Allocator>(image: Vec<u8, A>, entries: &[u8]) -> (Result<(), Rea
     ensures refused { IfErr result.0 (λ reason. (sound : IsSound image.items) →
         RefusesTypes sound.picture.table entries.now reason) }
     ensures kept { OnErr result.0 (result.1.items ≡ image.items) }
+    ensures home { home_of result.1 ≡ home_of image }
 {
     let more = match TypeTable::read_shared(entries) {
         Ok(more) => more,
@@ -66,9 +70,10 @@ fn add_types<A: Allocator>(image: Vec<u8, A>, entries: &[u8]) -> (Result<(), Rea
 /// The image in a window, of version 2 and with the types of a longer table.
 fn with_types<A: Allocator>(window: Window<A>, types: TypeTable, more: &TypeTable) -> Vec<u8, A>
     requires { Agree types more.now }
-    ensures { (sound : IsSound window.bytes) → types ≡ sound.picture.table →
+    ensures added { (sound : IsSound window.bytes) → types ≡ sound.picture.table →
         AreOfVersion 2 more.now → (entries : List ℕ) → Spells entries more.now →
         HasMoreTypes window.bytes result.items entries sound }
+    ensures home { home_of result ≡ window.home }
 {
     let mut window = window;
     upgrade(&mut window);
@@ -85,6 +90,7 @@ pub extern "C" fn lezgauri_raw_upgrade(image: &mut Lent) -> u32
     ensures sound { IsSound image.old.bytes → IsSound image.new.bytes }
     ensures done { IsSound image.old.bytes → result ≡ 0 }
     ensures kept { 0 < result → image.new.bytes ≡ image.old.bytes }
+    ensures home { memory_of image.new ≡ memory_of image.old }
 {
     let (result, bytes) = match open_window(image.take()) {
         Ok((window, _)) => (OK, upgraded(window)),
@@ -96,7 +102,8 @@ pub extern "C" fn lezgauri_raw_upgrade(image: &mut Lent) -> u32
 
 /// The image in a window, of version 2.
 fn upgraded<A: Allocator>(window: Window<A>) -> Vec<u8, A>
-    ensures { result.items ≡ upgraded window.bytes }
+    ensures upgraded { result.items ≡ upgraded window.bytes }
+    ensures home { home_of result ≡ window.home }
 {
     let mut window = window;
     upgrade(&mut window);

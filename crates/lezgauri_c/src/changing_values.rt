@@ -1,6 +1,7 @@
 ghost use Rattle.std.specs.Prelude.{◌≡◌};
 ghost use Rattle.lezgauri_c.specs.Changes.{place_at, IsDone, IsOver};
 ghost use Rattle.lezgauri_c.specs.ImageChanges.{Clears, ShrinksBuffer};
+ghost use Rattle.lezgauri_c.specs.Memory.{memory_of};
 
 use crate::changing::{done, on_image, place_at};
 use crate::lent::Lent;
@@ -11,6 +12,7 @@ use crate::status::OK;
 #[unsafe(no_mangle)]
 pub extern "C" fn lezgauri_raw_clear(image: &mut Lent, at: u32, type_id: u32) -> u32
     ensures { IsOver image.old.bytes image.new.bytes result (Clears (place_at at type_id)) }
+    ensures home { memory_of image.new ≡ memory_of image.old }
 {
     let value = place_at(at, type_id);
     on_image!(image, opened => opened.clear(value));
@@ -23,6 +25,7 @@ pub extern "C" fn lezgauri_raw_clear(image: &mut Lent, at: u32, type_id: u32) ->
 pub extern "C" fn lezgauri_raw_shrink_to_fit(image: &mut Lent, at: u32, type_id: u32) -> u32
     ensures { IsDone image.old.bytes image.new.bytes result
         (ShrinksBuffer (place_at at type_id)) }
+    ensures home { memory_of image.new ≡ memory_of image.old }
 {
     let container = place_at(at, type_id);
     done(on_image!(image, opened => opened.shrink_to_fit(container)))

@@ -2,11 +2,13 @@ ghost use Rattle.std.specs.Prelude.{◌≡◌, ◌↔◌, ◌⊎◌, ◌<◌, �
 ghost use Rattle.seg_spec.specs.Faulty.{IsImageLength};
 ghost use Rattle.seg_space.specs.NewSegments.{word_of_kind};
 ghost use Rattle.lezgauri_c.specs.Segments.{IsNewImage};
+ghost use Rattle.seg_raw.specs.Homes.{home_of};
+ghost use Rattle.lezgauri_c.specs.Memory.{memory_of};
 
 use crate::lent::Lent;
 use crate::status::{BAD_ARGUMENT, OK};
 use lezgauri::{BestFit, Fit, IndexKind, Region, SeqFit, is_size};
-use seg_raw::Fault as Reason;
+use seg_raw::{Fault as Reason, shorten};
 use seg_space::create;
 use std::alloc::Allocator;
 use std_alloc::vec::Lodged;
@@ -31,6 +33,7 @@ pub extern "C" fn lezgauri_raw_create(
     ensures room { result ≡ 6 → length memory.old.bytes < size }
     ensures kept { 0 < result → memory.new.bytes ≡ memory.old.bytes }
     ensures status { (result ≡ 0) ⊎ (result ≡ 5) ⊎ (result ≡ 6) ⊎ (result ≡ 100) }
+    ensures home { memory_of memory.new ≡ memory_of memory.old }
 {
     let index = match index {
         0 => IndexKind::Flat,
@@ -61,6 +64,7 @@ fn new_image<F: Fit, A: Allocator>(
     ensures fault { IfErr result.0 (λ fault. ((fault ≡ Reason.BadSize) × ¬ IsImageLength size)
         ⊎ ((fault ≡ Reason.NoHostRoom) × (length bytes.items < size))) }
     ensures kept { OnErr result.0 (result.1.items ≡ bytes.items) }
+    ensures home { home_of result.1 ≡ home_of bytes }
 {
     if !is_size(size) {
         return (Err(Reason::BadSize), bytes);
@@ -69,7 +73,7 @@ fn new_image<F: Fit, A: Allocator>(
         return (Err(Reason::NoHostRoom), bytes);
     }
     let mut bytes = bytes;
-    bytes.truncate(size as usize);
+    shorten(&mut bytes, size as usize);
     let segment = create::<F, A>(Region::from_vec(bytes), 0, size, index).unwrap();
     (Ok(()), segment.into_window().into_bytes())
 }

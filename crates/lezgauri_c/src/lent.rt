@@ -12,7 +12,7 @@ use std_alloc::vec::{Lodged, lodge};
 /// It isn't `Drop`, so the compiler refuses code that loses the memory.
 #[repr(C)]
 pub struct Lent {
-    at: *mut u8,
+    pub at: *mut u8,
     len: usize,
     pub room: usize,
     pub ghost bytes: { List ℕ },
@@ -25,6 +25,9 @@ impl Model for Lent {
 }
 
 impl Lent {
+    ghost use Rattle.seg_raw.specs.Homes.{home_of};
+    ghost use Rattle.lezgauri_c.specs.Memory.{memory_of};
+
     /// No memory.
     pub fn none() -> Lent
         ensures { result.bytes ≡ [] }
@@ -36,6 +39,7 @@ impl Lent {
     pub fn take(&mut self) -> Vec<u8, Lodged>
         ensures bytes { result.items ≡ self.old.bytes }
         ensures room { vec_capacity result ≡ self.old.room }
+        ensures home { home_of result ≡ memory_of self.old }
     {
         replace(self, Lent::none()).into_vec()
     }
@@ -44,6 +48,7 @@ impl Lent {
     pub fn give_back(&mut self, bytes: Vec<u8, Lodged>)
         ensures bytes { self.new.bytes ≡ bytes.items }
         ensures room { self.new.room ≡ vec_capacity bytes }
+        ensures home { memory_of self.new ≡ home_of bytes }
     {
         let none = replace(self, Lent::from_vec(bytes));
         let _ = none.into_vec();

@@ -3,6 +3,7 @@ ghost use Rattle.seg_spec.specs.Images.{IsSound};
 ghost use Rattle.lezgauri.specs.Ended.{Ended};
 ghost use Rattle.lezgauri_c.specs.Calls.{HasRunOn, IsRefusedAs};
 ghost use Rattle.lezgauri_c.specs.Told.{no_fault, status_number};
+ghost use Rattle.lezgauri_c.specs.Memory.{memory_of};
 
 use crate::buffer::Buffer;
 use crate::fault::Fault;
@@ -39,6 +40,7 @@ pub extern "C" fn lezgauri_raw_run_on(
     ensures unwritten { (0 < result) × (result ≤ 100) →
         (output.new.bytes ≡ output.old.bytes) × (report.new ≡ report.old) }
     ensures status { result ≤ 101 }
+    ensures home { memory_of image.new ≡ memory_of image.old }
 {
     let mut sink = Buffer::new(output.take());
     let (ran, bytes) = verify_and_run(alloc, image.take(), client, input, &mut sink);

@@ -9,6 +9,8 @@ ghost use Rattle.client_vm.specs.Admitted.{IsWrong};
 ghost use Rattle.lezgauri_c.specs.Calls.{HasRunOn, IsWrongAs, IsRefusedAs};
 ghost use Rattle.lezgauri_c.specs.Prepared.{in_hand, client_bytes_of, IsReadyOn, HoldsClient, OfClient};
 ghost use Rattle.lezgauri_c.specs.Told.{no_fault, status_number};
+ghost use Rattle.lezgauri_c.specs.Memory.{memory_of};
+ghost use Rattle.seg_raw.specs.Homes.{home_of};
 
 use crate::accepting::ready;
 use crate::buffer::Buffer;
@@ -44,6 +46,7 @@ pub extern "C" fn lezgauri_raw_prepare(
     ensures number { fault.new.number ≡ result }
     ensures no_fault { result ≡ 0 → fault.new ≡ no_fault }
     ensures kept { image.new.bytes ≡ image.old.bytes }
+    ensures home { memory_of image.new ≡ memory_of image.old }
 {
     let (made, bytes) = made_ready(alloc, image.take(), client);
     image.give_back(bytes);
@@ -90,6 +93,7 @@ pub extern "C" fn lezgauri_raw_run_client(
     ensures none { (result ≡ 100) ↔ (in_hand prepared.old ≡ None) }
     ensures same { in_hand prepared.new ≡ in_hand prepared.old }
     ensures status { result ≤ 101 }
+    ensures home { memory_of image.new ≡ memory_of image.old }
 {
     if !prepared.is_there() {
         *fault = Fault::ARGUMENT;
@@ -132,6 +136,7 @@ fn made_ready<A: Allocator>(
     ensures wrong { IfErr result.0 (λ refused. IsSound image.items →
         IsWrong image.items (client.now ∷ []) refused) }
     ensures kept { result.1.items ≡ image.items }
+    ensures home { home_of result.1 ≡ home_of image }
 {
     let (window, types) = match open_window(image) {
         Ok(it) => it,

@@ -13,6 +13,7 @@ ghost use Rattle.client_vm.specs.Outcomes.{HasOutcome};
 ghost use Rattle.client_vm.specs.Reports.{IsReportOf};
 ghost use Rattle.lezgauri_c.specs.Calls.{whole_job, effect_of_one};
 ghost use Rattle.lezgauri_c.specs.Prepared.{client_bytes_of, ReadyRan};
+ghost use Rattle.seg_raw.specs.Homes.{home_of};
 
 use crate::accepting::ready;
 use client_vm::{MAX_LEN, Ready, Refused, Report as Told, Sink, Window, header, run};
@@ -39,6 +40,7 @@ pub(crate) fn verify_and_run<A: Allocator, W: Sink>(
         IsWrong image.items (client.now ∷ []) refused) }
     ensures kept { OnErr result.0 (result.1.items ≡ image.items) }
     ensures unwritten { OnErr result.0 (sink.new ≡ sink.old) }
+    ensures home { home_of result.1 ≡ home_of image }
 {
     let (window, types) = match open_window(image) {
         Ok(it) => it,
@@ -73,6 +75,7 @@ pub(crate) fn run_again<A: Allocator, W: Sink>(
         (k : ℕ) × (refused.fault ≡ Reason.TypeMismatch k)) }
     ensures kept { OnErr result.0 (result.1.items ≡ image.items) }
     ensures unwritten { OnErr result.0 (sink.new ≡ sink.old) }
+    ensures home { home_of result.1 ≡ home_of image }
 {
     let (window, types) = match open_window(image) {
         Ok(it) => it,
@@ -104,6 +107,8 @@ pub(crate) fn open_window<A: Allocator>(
         it.1 ≡ table) }
     ensures fault { OnErr result ((table : Table) → IsImageOf image.items table → ⊥) }
     ensures kept { IfErr result (λ it. it.1.items ≡ image.items) }
+    ensures home { IfOk result (λ it. it.0.home ≡ home_of image) }
+    ensures kept_home { IfErr result (λ it. home_of it.1 ≡ home_of image) }
 {
     let window = match window_of(image) {
         Ok(window) => window,
@@ -122,6 +127,8 @@ fn window_of<A: Allocator>(image: Vec<u8, A>) -> Result<Window<A>, Vec<u8, A>>
     ensures base { IfOk result (λ window. length window.before ≡ 0) }
     ensures fault { OnErr result (IsFaultOf image.items Reason.BadHeader) }
     ensures kept { IfErr result (λ bytes. bytes.items ≡ image.items) }
+    ensures home { IfOk result (λ window. window.home ≡ home_of image) }
+    ensures kept_home { IfErr result (λ bytes. home_of bytes ≡ home_of image) }
 {
     let len = match u32::try_from(image.len()) {
         Ok(len) if len <= MAX_LEN => len,
@@ -150,6 +157,7 @@ pub(crate) fn run_ready<A: Allocator, W: Sink>(
     ensures runs { IsImageOf window.bytes types → ReadyRan client.now types input.now window
         (effect_of_one (W.taken sink.old) (W.taken sink.new) result.1.items result.0) }
     ensures ended { (result.0.ended ≡ Ended.OutputFailed) ↔ (W.has_failed sink.new ≡ true) }
+    ensures home { home_of result.1 ≡ window.home }
 {
     if window.get32(header::ALLOCATOR) == BestFit::word() {
         run_on::<BestFit, A, W>(window, types, client, input, sink)
@@ -172,6 +180,7 @@ fn run_on<F: Fit, A: Allocator, W: Sink>(
         ReadyRan client.now types input.now window
         (effect_of_one (W.taken sink.old) (W.taken sink.new) result.1.items result.0) }
     ensures ended { (result.0.ended ≡ Ended.OutputFailed) ↔ (W.has_failed sink.new ≡ true) }
+    ensures home { home_of result.1 ≡ window.home }
 {
     upgrade(&mut window);
     let mut segment: Segment<F, A> = Segment::new(window, types);

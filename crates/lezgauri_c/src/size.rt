@@ -8,13 +8,15 @@ ghost use Rattle.lezgauri.specs.Faults.{IsImageOf};
 ghost use Rattle.seg_space.specs.Gaps.{bytes_in_gaps, largest_of};
 ghost use Rattle.seg_space.specs.Sizes.{MayGrowTo};
 ghost use Rattle.lezgauri_c.specs.Segments.{HasGrown, HasShrunk};
+ghost use Rattle.lezgauri_c.specs.Memory.{memory_of};
+ghost use Rattle.seg_raw.specs.Homes.{home_of};
 
 use crate::lent::Lent;
 use crate::run_in_place::{open_window, types_of};
 use crate::status::OK;
 use client_vm::{MAX_LEN, Window, header};
 use lezgauri::{BestFit, Fit, Region, Segment, SeqFit, TypeTable, is_size};
-use seg_raw::Fault as Reason;
+use seg_raw::{Fault as Reason, lengthen};
 use std::alloc::Allocator;
 
 /// Adds `extra` bytes at the end of an image that an earlier call found sound, or changed. Returns `OK`; `BadSize` if a segment
@@ -30,6 +32,7 @@ pub extern "C" fn lezgauri_raw_grow(image: &mut Lent, extra: u32) -> u32
     ensures size { result ≡ 5 → ¬ MayGrowTo extra (length image.old.bytes + extra) }
     ensures room { result ≡ 6 → image.old.room < length image.old.bytes + extra }
     ensures kept { 0 < result → image.new.bytes ≡ image.old.bytes }
+    ensures home { memory_of image.new ≡ memory_of image.old }
 {
     let (grown, bytes) = grow(image.take(), extra);
     image.give_back(bytes);
@@ -51,6 +54,7 @@ fn grow<A: Allocator>(image: Vec<u8, A>, extra: u32) -> (Result<(), Reason>, Vec
     ensures room { result.0 ≡ Err Reason.NoHostRoom →
         vec_capacity image < length image.items + extra }
     ensures kept { OnErr result.0 (result.1.items ≡ image.items) }
+    ensures home { home_of result.1 ≡ home_of image }
 {
     let len = match u32::try_from(image.len()) {
         Ok(len) if len <= MAX_LEN => len,
@@ -64,7 +68,7 @@ fn grow<A: Allocator>(image: Vec<u8, A>, extra: u32) -> (Result<(), Reason>, Vec
         return (Err(Reason::NoHostRoom), image);
     }
     let mut bytes = image;
-    bytes.resize(size as usize, 0).unwrap();
+    lengthen(&mut bytes, size as usize);
     let window = Window::place(Region::from_vec(bytes), 0, len).unwrap();
     match types_of(&window) {
         Ok(types) => (Ok(()), grown(window, types, extra)),
@@ -77,8 +81,9 @@ fn grown<A: Allocator>(window: Window<A>, types: TypeTable, extra: u32) -> Vec<u
     requires size { MayGrowTo extra (length window.bytes + extra) }
     requires room { length window.before + (length window.bytes + extra)
         ≤ length (region_of window) }
-    ensures { (sound : IsSound window.bytes) → types ≡ sound.picture.table →
+    ensures grown { (sound : IsSound window.bytes) → types ≡ sound.picture.table →
         HasGrown window.bytes result.items extra sound }
+    ensures home { home_of result ≡ window.home }
 {
     if window.get32(header::ALLOCATOR) == BestFit::word() {
         grown_on::<BestFit, A>(window, types, extra)
@@ -91,9 +96,10 @@ fn grown_on<F: Fit, A: Allocator>(window: Window<A>, types: TypeTable, extra: u3
     requires size { MayGrowTo extra (length window.bytes + extra) }
     requires room { length window.before + (length window.bytes + extra)
         ≤ length (region_of window) }
-    ensures { (sound : IsSound window.bytes) → types ≡ sound.picture.table →
+    ensures grown { (sound : IsSound window.bytes) → types ≡ sound.picture.table →
         word window.bytes allocator_word ≡ F.allocator →
         HasGrown window.bytes result.items extra sound }
+    ensures home { home_of result ≡ window.home }
 {
     let mut segment: Segment<F, A> = Segment::new(window, types);
     seg_space::grow(&mut segment, extra).unwrap();
@@ -109,6 +115,7 @@ pub extern "C" fn lezgauri_raw_shrink(image: &mut Lent) -> u32
         HasShrunk image.old.bytes image.new.bytes sound }
     ensures done { IsSound image.old.bytes → result ≡ 0 }
     ensures kept { 0 < result → image.new.bytes ≡ image.old.bytes }
+    ensures home { memory_of image.new ≡ memory_of image.old }
 {
     let (result, bytes) = match open_window(image.take()) {
         Ok((window, types)) => (OK, shrunk(window, types)),
@@ -120,8 +127,9 @@ pub extern "C" fn lezgauri_raw_shrink(image: &mut Lent) -> u32
 
 /// The image in a window without the free block at its end, with the image's allocator.
 fn shrunk<A: Allocator>(window: Window<A>, types: TypeTable) -> Vec<u8, A>
-    ensures { (sound : IsSound window.bytes) → types ≡ sound.picture.table →
+    ensures shrunk { (sound : IsSound window.bytes) → types ≡ sound.picture.table →
         HasShrunk window.bytes result.items sound }
+    ensures home { home_of result ≡ window.home }
 {
     if window.get32(header::ALLOCATOR) == BestFit::word() {
         shrunk_on::<BestFit, A>(window, types)
@@ -131,9 +139,10 @@ fn shrunk<A: Allocator>(window: Window<A>, types: TypeTable) -> Vec<u8, A>
 }
 
 fn shrunk_on<F: Fit, A: Allocator>(window: Window<A>, types: TypeTable) -> Vec<u8, A>
-    ensures { (sound : IsSound window.bytes) → types ≡ sound.picture.table →
+    ensures shrunk { (sound : IsSound window.bytes) → types ≡ sound.picture.table →
         word window.bytes allocator_word ≡ F.allocator →
         HasShrunk window.bytes result.items sound }
+    ensures home { home_of result ≡ window.home }
 {
     let mut segment: Segment<F, A> = Segment::new(window, types);
     let _ = seg_space::shrink_to_fit(&mut segment);
@@ -156,6 +165,7 @@ pub extern "C" fn lezgauri_raw_free_memory(
     ensures done { IsSound image.old.bytes → result ≡ 0 }
     ensures kept { image.new.bytes ≡ image.old.bytes }
     ensures unwritten { 0 < result → (all.new ≡ all.old) × (largest.new ≡ largest.old) }
+    ensures home { memory_of image.new ≡ memory_of image.old }
 {
     let (result, bytes) = match open_window(image.take()) {
         Ok((window, types)) => {
@@ -174,6 +184,7 @@ fn free_memory<A: Allocator>(window: Window<A>, types: TypeTable) -> ((u32, u32)
     ensures free { IsSound window.bytes → (result.0.0 ≡ bytes_in_gaps (gaps window.bytes))
         × (result.0.1 ≡ largest_of (gaps window.bytes)) }
     ensures kept { result.1.items ≡ window.bytes }
+    ensures home { home_of result.1 ≡ window.home }
 {
     if window.get32(header::ALLOCATOR) == BestFit::word() {
         free_memory_on::<BestFit, A>(window, types)
@@ -190,6 +201,7 @@ fn free_memory_on<F: Fit, A: Allocator>(
         (result.0.0 ≡ bytes_in_gaps (gaps window.bytes))
         × (result.0.1 ≡ largest_of (gaps window.bytes)) }
     ensures kept { result.1.items ≡ window.bytes }
+    ensures home { home_of result.1 ≡ window.home }
 {
     let segment: Segment<F, A> = Segment::new(window, types);
     let free = (

@@ -6,6 +6,7 @@ ghost use Rattle.client_vm.specs.Outcomes.{HasOutcome};
 ghost use Rattle.client_vm.specs.Reports.{IsReportOf};
 ghost use Rattle.lezgauri_c.specs.Calls.{whole_job, effect_of_one, HasRunOn, WantsRoom, IsRefusedAs};
 ghost use Rattle.lezgauri_c.specs.Told.{no_fault, status_number};
+ghost use Rattle.lezgauri_c.specs.Memory.{memory_of};
 
 use crate::buffer::{Counter, replace};
 use crate::fault::Fault;
@@ -49,6 +50,7 @@ pub extern "C" fn lezgauri_raw_run_whole(
         (output.new.bytes ≡ output.old.bytes) × (needed.new ≡ 0) }
     ensures small { IsSound image.old.bytes → result ≢ 102 }
     ensures status { result ≤ 102 }
+    ensures home { memory_of image.new ≡ memory_of image.old }
 {
     let mut bytes = image.take();
     let mut sink = Counter::new(output.take());

@@ -5,6 +5,7 @@ ghost use Rattle.seg_spec.specs.Images.{IsSound};
 ghost use Rattle.seg_spec.specs.Sound.{Picture};
 ghost use Rattle.seg_spec.specs.Types.{AreOfVersion, Agree, IsFirstDifference, longer};
 ghost use Rattle.seg_spec.specs.Window.{KeepsHost};
+ghost use Rattle.seg_raw.specs.Homes.{home_of};
 ghost use Rattle.seg_manager.specs.Segments.{AddsTypes};
 ghost use Rattle.seg_image.specs.Images.{segment_of, allocator_of, bytes_in, IsOpen};
 
@@ -99,7 +100,8 @@ impl<A: Allocator> Image<A> {
 
     /// The image's bytes, in their own memory without a copy.
     pub fn into_bytes(self) -> Vec<u8, A>
-        ensures { result.items ≡ (segment_of self).window.bytes }
+        ensures bytes { result.items ≡ (segment_of self).window.bytes }
+        ensures home { home_of result ≡ (segment_of self).window.home }
     {
         on!(self, segment => segment.into_window().into_bytes())
     }

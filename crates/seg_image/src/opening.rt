@@ -2,6 +2,7 @@ ghost use Rattle.std.specs.Prelude.{◌≡◌, ◌≤◌, IfOk, IfErr};
 ghost use Rattle.seg_spec.specs.Bytes.{word};
 ghost use Rattle.seg_spec.specs.Header.{allocator_word};
 ghost use Rattle.seg_spec.specs.Images.{upgraded};
+ghost use Rattle.seg_raw.specs.Homes.{home_of};
 ghost use Rattle.seg_check.specs.Faults.{IsImageOf, IsFaultOf};
 ghost use Rattle.seg_image.specs.Images.{segment_of, allocator_of};
 
@@ -61,6 +62,9 @@ impl<A: Allocator> Image<A> {
             (λ image. word bytes.items allocator_word ≡ allocator_of image) }
         ensures fault { IfErr result (λ unopened. IsFaultOf bytes.items unopened.fault) }
         ensures refused { IfErr result (λ unopened. unopened.bytes.items ≡ bytes.items) }
+        ensures home { IfOk result (λ image. (segment_of image).window.home ≡ home_of bytes) }
+        ensures refused_home { IfErr result
+            (λ unopened. home_of unopened.bytes ≡ home_of bytes) }
     {
         let mut window = window_of(bytes)?;
         match seg_check::check(alloc, window.view()) {
@@ -96,6 +100,8 @@ fn window_of<A: Allocator>(bytes: Vec<u8, A>) -> Result<Window<A>, Unopened<A>>
     ensures window { IfOk result (λ window. window.bytes ≡ bytes.items) }
     ensures fault { IfErr result (λ unopened. IsFaultOf bytes.items unopened.fault) }
     ensures refused { IfErr result (λ unopened. unopened.bytes.items ≡ bytes.items) }
+    ensures home { IfOk result (λ window. window.home ≡ home_of bytes) }
+    ensures refused_home { IfErr result (λ unopened. home_of unopened.bytes ≡ home_of bytes) }
 {
     let len = match u32::try_from(bytes.len()) {
         Ok(len) if len <= MAX_LEN => len,

@@ -76,6 +76,7 @@ impl<A: Allocator> Image<A> {
     pub fn shrink(&mut self) -> u32
         ensures allocator { allocator_of self.new ≡ allocator_of self.old }
         ensures types { types_of self.new ≡ types_of self.old }
+        ensures home { (segment_of self.new).window.home ≡ (segment_of self.old).window.home }
         ensures shrinks { (picture : Picture) → IsOpen self.old picture →
             ShrinksSegment (allocator_of self.old) (segment_of self.old) (segment_of self.new)
             picture result }

@@ -113,7 +113,8 @@ impl<F: Fit, A: Allocator> Segment<F, A> {
     }
 
     pub fn into_region(self) -> Region<A>
-        ensures { result ≡ region_of self.window }
+        ensures bytes { result.bytes ≡ region_of self.window }
+        ensures home { result.home ≡ self.window.home }
     {
         self.into_window().into_region()
     }

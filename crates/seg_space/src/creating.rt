@@ -26,8 +26,10 @@ pub fn create<F: Fit, A: Allocator>(
     index: IndexKind,
 ) -> Result<Segment<F, A>, (Fault, Region<A>)>
     ensures empty { IfOk result
-        (λ segment. IsNewSegment F.allocator segment region base size index) }
-    ensures placed { IsOk result ↔ (IsImageLength size × IsPlace (length region) base size) }
+        (λ segment. IsNewSegment F.allocator segment region.bytes base size index) }
+    ensures home { IfOk result (λ segment. segment.window.home ≡ region.home) }
+    ensures placed { IsOk result
+        ↔ (IsImageLength size × IsPlace (length region.bytes) base size) }
     ensures size { IfErr result (λ refused. (refused.0 ≡ Fault.BadSize × ¬ IsImageLength size)
         ⊎ (refused.0 ≡ Fault.Misplaced × IsImageLength size)) }
     ensures region { IfErr result (λ refused. refused.1 ≡ region) }

@@ -34,6 +34,7 @@ pub fn grow<F: Fit, A: Allocator>(segment: &mut Segment<F, A>, extra: u32) -> Re
         ((fault ≡ Fault.BadSize) × ¬ MayGrowTo extra (length segment.old.window.bytes + extra))
         ⊎ ((fault ≡ Fault.NoHostRoom)
         × MayGrowTo extra (length segment.old.window.bytes + extra))) }
+    ensures home { segment.new.window.home ≡ segment.old.window.home }
     ensures unchanged { OnErr result (segment.new ≡ segment.old) }
     ensures grows { OnOk result ((picture : Picture) →
         IsSegment F.allocator segment.old picture →
@@ -64,6 +65,7 @@ pub fn grow<F: Fit, A: Allocator>(segment: &mut Segment<F, A>, extra: u32) -> Re
 /// it stay.
 pub fn shrink_to_fit<F: Fit, A: Allocator>(segment: &mut Segment<F, A>) -> u32
     ensures types { segment.new.types ≡ segment.old.types }
+    ensures home { segment.new.window.home ≡ segment.old.window.home }
     ensures shrinks { (picture : Picture) → IsSegment F.allocator segment.old picture →
         ShrinksSegment F.allocator segment.old segment.new picture result }
 {

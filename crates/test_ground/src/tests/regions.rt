@@ -66,7 +66,7 @@ fn prints_codes(rt: HostRuntime) {
 
 /// A region of 24 zeros.
 fn region(alloc: Global) -> Result<Region<Global>, Fault>
-    ensures { IfOk result (λ r. length r ≡ 24) }
+    ensures { IfOk result (λ r. length r.bytes ≡ 24) }
 {
     Region::new(alloc, 24)
 }

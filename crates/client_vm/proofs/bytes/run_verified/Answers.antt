@@ -30,7 +30,7 @@ pub returns-clause-runs : goal.returns-clause-runs
 returns-clause-runs g c trees accepted ready =
     let room = subst (λ n. n ≤ vec_capacity c.args.reports) (sym (ap length c.as_slice-ready.ensures.value)) c.requires.room in
     let ran = c.run_all.ensures.runs c.requires.empty room c.requires.works trees (subst (λ ps. AreAccepted c.args.segment.types (texts_in ps) trees) (sym c.as_slice-ready.ensures.value) accepted) ready in
-    let bytes : c.run_all.new.segment.window.bytes ≡ c.into_bytes.result.items = sym (c.into_bytes.ensures ∙ ap (λ (w : Placement). w.bytes) c.into_window.ensures) in
+    let bytes : c.run_all.new.segment.window.bytes ≡ c.into_bytes.result.items = sym (c.into_bytes.ensures.bytes ∙ ap (λ (w : Placement). w.bytes) c.into_window.ensures) in
     let is : c.failed.result ≡ g.W.Sink.has_failed c.run_all.new.out = c.failed.ensures in
     let ending : ending_if (g.W.Sink.has_failed c.run_all.new.out) ≡ ending_of c.if-failed.ended = ending_failed (g.W.Sink.has_failed c.run_all.new.out) c.if-failed.ended
     (λ f. elim c.if-failed.branch [

@@ -9,7 +9,7 @@ pub returns-clause-constructs : goal.returns-clause-constructs
 returns-clause-constructs c =
     let opened = c.in-Ok.image in
     let left = c.construct_anonymous-returned.new.self in
-    let left_is : bytes_in left ≡ c.give_back.new.self.bytes = sym (c.give_back.ensures.bytes ∙ c.into_bytes.ensures) in
+    let left_is : bytes_in left ≡ c.give_back.new.self.bytes = sym (c.give_back.ensures.bytes ∙ c.into_bytes.ensures.bytes) in
     subst (λ (T : ℕ). GivesPlace c.args.image.now.bytes c.give_back.new.self.bytes c.give.result c.args.place.now c.give.new.place (ConstructsAnonymous T)) c.type_number-t.ensures
     (calls opened left c.in-Ok.ensures.bytes left_is c.in-Ok.ensures.opened c.construct_anonymous-returned.result c.give.ensures.number c.give.ensures.told (record {
       bytes = c.construct_anonymous-returned.ensures.bytes;

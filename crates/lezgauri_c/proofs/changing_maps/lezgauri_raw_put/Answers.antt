@@ -11,7 +11,7 @@ pub returns-clause-puts : goal.returns-clause-puts
 returns-clause-puts c =
     let opened = c.in-Ok.image in
     let left = c.put-returned.new.self in
-    let left_is : bytes_in left ≡ c.give_back.new.self.bytes = sym (c.give_back.ensures.bytes ∙ c.into_bytes.ensures) in
+    let left_is : bytes_in left ≡ c.give_back.new.self.bytes = sym (c.give_back.ensures.bytes ∙ c.into_bytes.ensures.bytes) in
     subst (λ (p : Place). GivesPlace c.args.image.now.bytes c.give_back.new.self.bytes c.give.result c.args.value.now c.give.new.place (Puts p c.args.key)) c.place_at-map.ensures
     (subst (λ (z : ℤ). GivesPlace c.args.image.now.bytes c.give_back.new.self.bytes c.give.result c.args.value.now c.give.new.place (Puts c.place_at-map.result z)) (to_z-of_z w64 c.args.key c.ranges.key)
     (calls opened left c.in-Ok.ensures.bytes left_is c.in-Ok.ensures.opened c.put-returned.result c.give.ensures.number c.give.ensures.told (record {

@@ -11,7 +11,7 @@ pub returns : goal.returns
 returns c =
     let opened = c.in-Ok.image in
     let left = c.remove-returned.new.self in
-    let left_is : bytes_in left ≡ c.give_back.new.self.bytes = sym (c.give_back.ensures.bytes ∙ c.into_bytes.ensures) in
+    let left_is : bytes_in left ≡ c.give_back.new.self.bytes = sym (c.give_back.ensures.bytes ∙ c.into_bytes.ensures.bytes) in
     subst (λ (p : Place). IsFound c.args.image.now.bytes c.give_back.new.self.bytes c.found.result (Removes p c.args.key)) c.place_at-map.ensures
     (subst (λ (z : ℤ). IsFound c.args.image.now.bytes c.give_back.new.self.bytes c.found.result (Removes c.place_at-map.result z)) (to_z-of_z w64 c.args.key c.ranges.key)
     (calls opened left c.in-Ok.ensures.bytes left_is c.in-Ok.ensures.opened c.remove-returned.result c.found.ensures.number c.found.ensures.told (record {

@@ -10,7 +10,7 @@ pub returns-clause-puts : goal.returns-clause-puts
 returns-clause-puts c =
     let opened = c.in-Ok.image in
     let left = c.put_content-returned.new.self in
-    let left_is : bytes_in left ≡ c.give_back.new.self.bytes = sym (c.give_back.ensures.bytes ∙ c.into_bytes.ensures) in
+    let left_is : bytes_in left ≡ c.give_back.new.self.bytes = sym (c.give_back.ensures.bytes ∙ c.into_bytes.ensures.bytes) in
     subst (λ (p : Place). GivesPlace c.args.image.now.bytes c.give_back.new.self.bytes c.give.result c.args.content.now c.give.new.place (PutsContent p)) c.place_at-own.ensures
     (calls opened left c.in-Ok.ensures.bytes left_is c.in-Ok.ensures.opened c.put_content-returned.result c.give.ensures.number c.give.ensures.told (record {
       bytes = c.put_content-returned.ensures.bytes;

@@ -10,7 +10,7 @@ pub returns : goal.returns
 returns c =
     let opened = c.in-Ok.image in
     let left = c.append-returned.new.self in
-    let left_is : bytes_in left ≡ c.give_back.new.self.bytes = sym (c.give_back.ensures.bytes ∙ c.into_bytes.ensures) in
+    let left_is : bytes_in left ≡ c.give_back.new.self.bytes = sym (c.give_back.ensures.bytes ∙ c.into_bytes.ensures.bytes) in
     subst (λ (p : Place). IsDone c.args.image.now.bytes c.give_back.new.self.bytes c.done.result (Appends p c.args.bytes.now)) c.place_at-string.ensures
     (calls opened left c.in-Ok.ensures.bytes left_is c.in-Ok.ensures.opened c.append-returned.result c.done.ensures.number c.done.ensures.told (record {
       bytes = c.append-returned.ensures.bytes;

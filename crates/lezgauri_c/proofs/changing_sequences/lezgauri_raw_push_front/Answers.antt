@@ -10,7 +10,7 @@ pub returns-clause-pushes : goal.returns-clause-pushes
 returns-clause-pushes c =
     let opened = c.in-Ok.image in
     let left = c.push_front-returned.new.self in
-    let left_is : bytes_in left ≡ c.give_back.new.self.bytes = sym (c.give_back.ensures.bytes ∙ c.into_bytes.ensures) in
+    let left_is : bytes_in left ≡ c.give_back.new.self.bytes = sym (c.give_back.ensures.bytes ∙ c.into_bytes.ensures.bytes) in
     subst (λ (p : Place). GivesPlace c.args.image.now.bytes c.give_back.new.self.bytes c.give.result c.args.item.now c.give.new.place (PushesItemFront p)) c.place_at-list.ensures
     (calls opened left c.in-Ok.ensures.bytes left_is c.in-Ok.ensures.opened c.push_front-returned.result c.give.ensures.number c.give.ensures.told (record {
       bytes = c.push_front-returned.ensures.bytes;

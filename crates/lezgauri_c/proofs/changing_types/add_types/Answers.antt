@@ -27,7 +27,7 @@ pub returns-in-Ok-agrees-clause-added : goal.returns-in-Ok-agrees-clause-added
 returns-in-Ok-agrees-clause-added g c =
     let window = c.in-Ok-open_window.it.0 in
     of_image window.bytes c.args.image.items c.in-Ok-open_window.ensures.bytes c.in-Ok-open_window.it.1 (λ b s. HasMoreTypes b c.with_types.result.items c.args.entries.now s)
-    (λ sound same. c.with_types.ensures sound same c.in-Ok.ensures.table.1 c.args.entries.now c.in-Ok.ensures.table.2) c.in-Ok-open_window.ensures.types
+    (λ sound same. c.with_types.ensures.added sound same c.in-Ok.ensures.table.1 c.args.entries.now c.in-Ok.ensures.table.2) c.in-Ok-open_window.ensures.types
 
 pub returns-in-Err-agrees-clause-refused : goal.returns-in-Err-agrees-clause-refused
 returns-in-Err-agrees-clause-refused g c sound =

@@ -11,7 +11,7 @@ returns-clause-sound c sound =
     elim c.match-open_window.branch [
       | in-Ok w ↦
           let items : upgraded c.args.image.now.bytes ≡ c.give_back.new.self.bytes =
-          sym (c.give_back.ensures.bytes ∙ (rw w.result-is) ∙ w.upgraded.ensures ∙ ap upgraded (w.in-Ok.ensures.bytes ∙ c.take.ensures.bytes)) in
+          sym (c.give_back.ensures.bytes ∙ (rw w.result-is) ∙ w.upgraded.ensures.upgraded ∙ ap upgraded (w.in-Ok.ensures.bytes ∙ c.take.ensures.bytes)) in
           subst (λ (b : List ℕ). IsSound b) items (upgraded_sound c.args.image.now.bytes sound)
       | in-Err w ↦ absurd (w.in-Err.ensures.fault image.picture.table (image_of c.take.result.items image))
     ]

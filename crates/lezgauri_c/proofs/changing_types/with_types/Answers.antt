@@ -13,8 +13,8 @@ use Rattle.lezgauri_c.specs.Changes.{HasMoreTypes}
 use Rattle.lezgauri_c.proofs.TypeChangeLaws.{more_types}
 use Rattle.lezgauri_c.proofs.changing_types.with_types.Goals as goal
 
-pub returns : goal.returns
-returns g c sound same of_version entries spells =
+pub returns-clause-added : goal.returns-clause-added
+returns-clause-added g c sound same of_version entries spells =
     let old = c.args.window.bytes in
     let opened = c.in_window-image.result in
     let left = c.add_types.new.self in
@@ -22,7 +22,7 @@ returns g c sound same of_version entries spells =
     let opened_is : bytes_in opened ≡ upgraded old = window ∙ ap (λ (w : Placement). w.bytes) c.upgrade.ensures in
     let types : types_of opened ≡ sound.picture.table = c.in_window-image.ensures.types ∙ same in
     let agree : Agree (types_of opened) c.args.more.now = subst (λ (t : Table). Agree t c.args.more.now) (sym c.in_window-image.ensures.types) c.requires in
-    subst (λ (b : List ℕ). HasMoreTypes old b entries sound) (sym c.into_bytes.ensures)
+    subst (λ (b : List ℕ). HasMoreTypes old b entries sound) (sym c.into_bytes.ensures.bytes)
     (more_types opened left old entries c.args.more.now sound opened_is types
     (λ few. let word_is : word (bytes_in opened) allocator_word ≡ word c.upgrade.new.window.bytes allocator_word = ap (λ (b : List ℕ). word b allocator_word) window in
     c.in_window-image.ensures.allocator (subst (λ n. n ≤ 1) word_is few) ∙ sym word_is)

@@ -10,7 +10,7 @@ pub returns-clause-constructs : goal.returns-clause-constructs
 returns-clause-constructs c =
     let opened = c.in-Ok.image in
     let left = c.construct_unique-returned.new.self in
-    let left_is : bytes_in left ≡ c.give_back.new.self.bytes = sym (c.give_back.ensures.bytes ∙ c.into_bytes.ensures) in
+    let left_is : bytes_in left ≡ c.give_back.new.self.bytes = sym (c.give_back.ensures.bytes ∙ c.into_bytes.ensures.bytes) in
     subst (λ (T : ℕ). GivesPlace c.args.image.now.bytes c.give_back.new.self.bytes c.give.result c.args.place.now c.give.new.place (ConstructsUnique T)) c.type_number-t.ensures
     (calls opened left c.in-Ok.ensures.bytes left_is c.in-Ok.ensures.opened c.construct_unique-returned.result c.give.ensures.number c.give.ensures.told (record {
       bytes = c.construct_unique-returned.ensures.bytes;
@@ -23,7 +23,7 @@ pub returns-clause-sound : goal.returns-clause-sound
 returns-clause-sound c =
     let opened = c.in-Ok.image in
     let left = c.construct_unique-returned.new.self in
-    let left_is : bytes_in left ≡ c.give_back.new.self.bytes = sym (c.give_back.ensures.bytes ∙ c.into_bytes.ensures) in
+    let left_is : bytes_in left ≡ c.give_back.new.self.bytes = sym (c.give_back.ensures.bytes ∙ c.into_bytes.ensures.bytes) in
     let it : ConstructsUnique c.type_number-t.result opened left c.construct_unique-returned.result = record {
       bytes = c.construct_unique-returned.ensures.bytes;
       of_type = c.construct_unique-returned.ensures.of_type;
@@ -37,7 +37,7 @@ pub returns-clause-kept : goal.returns-clause-kept
 returns-clause-kept c some sound =
     let opened = c.in-Ok.image in
     let left = c.construct_unique-returned.new.self in
-    let left_is : bytes_in left ≡ c.give_back.new.self.bytes = sym (c.give_back.ensures.bytes ∙ c.into_bytes.ensures) in
+    let left_is : bytes_in left ≡ c.give_back.new.self.bytes = sym (c.give_back.ensures.bytes ∙ c.into_bytes.ensures.bytes) in
     let it : ConstructsUnique c.type_number-t.result opened left c.construct_unique-returned.result = record {
       bytes = c.construct_unique-returned.ensures.bytes;
       of_type = c.construct_unique-returned.ensures.of_type;

@@ -10,7 +10,7 @@ pub returns-clause-destroys : goal.returns-clause-destroys
 returns-clause-destroys c =
     let opened = c.in-Ok.image in
     let left = c.destroy_unique-returned.new.self in
-    let left_is : bytes_in left ≡ c.give_back.new.self.bytes = sym (c.give_back.ensures.bytes ∙ c.into_bytes.ensures) in
+    let left_is : bytes_in left ≡ c.give_back.new.self.bytes = sym (c.give_back.ensures.bytes ∙ c.into_bytes.ensures.bytes) in
     subst (λ (T : ℕ). IsFound c.args.image.now.bytes c.give_back.new.self.bytes c.found.result (DestroysUnique T)) c.type_number-t.ensures
     (calls opened left c.in-Ok.ensures.bytes left_is c.in-Ok.ensures.opened c.destroy_unique-returned.result c.found.ensures.number c.found.ensures.told (record {
       bytes = c.destroy_unique-returned.ensures.bytes;
@@ -24,7 +24,7 @@ pub returns-clause-sound : goal.returns-clause-sound
 returns-clause-sound c =
     let opened = c.in-Ok.image in
     let left = c.destroy_unique-returned.new.self in
-    let left_is : bytes_in left ≡ c.give_back.new.self.bytes = sym (c.give_back.ensures.bytes ∙ c.into_bytes.ensures) in
+    let left_is : bytes_in left ≡ c.give_back.new.self.bytes = sym (c.give_back.ensures.bytes ∙ c.into_bytes.ensures.bytes) in
     let it : DestroysUnique c.type_number-t.result opened left c.destroy_unique-returned.result = record {
       bytes = c.destroy_unique-returned.ensures.bytes;
       unknown = c.destroy_unique-returned.ensures.unknown;
@@ -39,7 +39,7 @@ pub returns-clause-kept : goal.returns-clause-kept
 returns-clause-kept c some =
     let opened = c.in-Ok.image in
     let left = c.destroy_unique-returned.new.self in
-    let left_is : bytes_in left ≡ c.give_back.new.self.bytes = sym (c.give_back.ensures.bytes ∙ c.into_bytes.ensures) in
+    let left_is : bytes_in left ≡ c.give_back.new.self.bytes = sym (c.give_back.ensures.bytes ∙ c.into_bytes.ensures.bytes) in
     let it : DestroysUnique c.type_number-t.result opened left c.destroy_unique-returned.result = record {
       bytes = c.destroy_unique-returned.ensures.bytes;
       unknown = c.destroy_unique-returned.ensures.unknown;

@@ -10,7 +10,7 @@ pub returns : goal.returns
 returns c =
     let opened = c.in-Ok.image in
     let left = c.clear-returned.new.self in
-    let left_is : bytes_in left ≡ c.give_back.new.self.bytes = sym (c.give_back.ensures.bytes ∙ c.into_bytes.ensures) in
+    let left_is : bytes_in left ≡ c.give_back.new.self.bytes = sym (c.give_back.ensures.bytes ∙ c.into_bytes.ensures.bytes) in
     subst (λ (p : Place). IsOver c.args.image.now.bytes c.give_back.new.self.bytes 0 (Clears p)) c.place_at-value.ensures
     (calls opened left c.in-Ok.ensures.bytes left_is c.in-Ok.ensures.opened tt (λ some. absurd (omega (arith, some))) refl (record {
       bytes = c.clear-returned.ensures.bytes;

@@ -16,7 +16,7 @@ returns-in-Ok-types_of-clause-grown g c =
     let got : c.types_of.result ≡ Ok table = c.types_of.ensures table (image_of window.bytes sound) in
     let was : c.types_of.result ≡ Ok c.in-Ok-types_of.types = c.in-Ok-types_of.is in
     let same : c.in-Ok-types_of.types ≡ table = cc in
-    c.grown.ensures sound same in
+    c.grown.ensures.grown sound same in
     subst (λ (b : List ℕ). (sound : IsSound b) → HasGrown b c.grown.result.items c.args.extra sound) here there
 
 -- a result isn't both

@@ -12,7 +12,7 @@ returns-clause-shrunk c done sound =
     elim c.match-open_window.branch [
       | in-Ok w ↦
           let items : w.shrunk.result.items ≡ c.give_back.new.self.bytes = sym (c.give_back.ensures.bytes ∙ (rw w.result-is)) in
-          let cut = of_image w.in-Ok.window.bytes c.take.result.items w.in-Ok.ensures.bytes w.in-Ok.types (λ b s. HasShrunk b w.shrunk.result.items s) w.shrunk.ensures w.in-Ok.ensures.types in
+          let cut = of_image w.in-Ok.window.bytes c.take.result.items w.in-Ok.ensures.bytes w.in-Ok.types (λ b s. HasShrunk b w.shrunk.result.items s) w.shrunk.ensures.shrunk w.in-Ok.ensures.types in
           subst (λ (b : List ℕ). HasShrunk c.args.image.now.bytes b sound) items (subst (λ (b : List ℕ). (s : IsSound b) → HasShrunk b w.shrunk.result.items s) c.take.ensures.bytes cut sound)
       | in-Err w ↦ absurd (w.in-Err.ensures.fault image.picture.table (image_of c.take.result.items image))
     ]

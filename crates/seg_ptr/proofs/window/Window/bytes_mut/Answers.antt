@@ -7,7 +7,7 @@ use Rattle.seg_ptr.proofs.window.Window.bytes_mut.Goals as goal
 pub invariant_of-self-lent : goal.invariant_of-self-lent
 invariant_of-self-lent g c = λ w.
     let s = c.self.inside in
-    let long = length-lent s.region w s.base in
+    let long = length-lent s.region.bytes w s.base in
     ((c.self.invariant.0.0, omega (arith, c.self.invariant), c.self.invariant.0.2), omega (arith, c.self.invariant))
 
 pub returns : goal.returns

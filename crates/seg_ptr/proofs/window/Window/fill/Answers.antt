@@ -8,7 +8,7 @@ returns-then-holds g c =
     let s = c.self.inside in
     let inside : c.args.at + c.args.n ≤ length c.args.self.now.bytes = search rules in
     let size = length-replicate c.args.n c.args.byte in
-    write_inside s.region c.fill.new.self s.base s.len c.args.at (replicate c.args.n c.args.byte) c.args.self.now c.fill.ensures.bytes c.self.view_is (omega arith) (omega arith)
+    write_inside s.region c.fill.new.self s.base s.len c.args.at (replicate c.args.n c.args.byte) c.args.self.now c.fill.ensures.bytes c.fill.ensures.home c.self.view_is (omega arith) (omega arith)
 
 pub returns-else-holds : goal.returns-else-holds
 returns-else-holds g c =

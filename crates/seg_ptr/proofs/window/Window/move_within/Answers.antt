@@ -6,7 +6,7 @@ use Rattle.seg_ptr.proofs.window.Window.move_within.Goals.{else-holds-via-then-h
 pub returns-then-holds-2-clause-moved : goal.returns-then-holds-2-clause-moved
 returns-then-holds-2-clause-moved g c = λ source.
     let s = c.self.inside in
-    moved_inside s.region c.move_within.new.self s.base s.len c.args.from c.args.to c.args.n c.args.self.now c.move_within.ensures.bytes c.self.view_is (omega arith) source (search rules)
+    moved_inside s.region c.move_within.new.self s.base s.len c.args.from c.args.to c.args.n c.args.self.now c.move_within.ensures.bytes c.move_within.ensures.home c.self.view_is (omega arith) source (search rules)
 
 pub returns-else-holds-clause-moved : goal.returns-else-holds-clause-moved
 returns-else-holds-clause-moved g c = λ source.

@@ -8,4 +8,4 @@ returns g c =
     let s = c.self.inside in
     let from : c.min-from.result ≡ min c.args.at s.len = search rules in
     let size : c.min.result ≡ min c.args.n (s.len - min c.args.at s.len) = omega arith in
-    c.slice.ensures ∙ (λ i. slice s.region (s.base + from i) (size i)) ∙ read_clamped s.region s.base s.len c.args.at c.args.n c.args.self.now c.self.view_is (omega arith)
+    c.slice.ensures ∙ (λ i. slice s.region.bytes (s.base + from i) (size i)) ∙ read_clamped s.region s.base s.len c.args.at c.args.n c.args.self.now c.self.view_is (omega arith)
