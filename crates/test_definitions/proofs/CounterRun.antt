@@ -21,6 +21,7 @@ use Rattle.test_definitions.proofs.ImageEvaluationLaws.{live_evaluated, unshared
 use Rattle.test_definitions.proofs.SoundImages.{counter_tiles, counter_fill, counter_headers, counter_held, counter_counted}
 use Rattle.seg_spec.proofs.Images.UpgradeLaws.{upgraded_held, upgraded_counted, upgraded_live}
 use Rattle.seg_spec.proofs.Images.RootWriteLaws.{stored}
+use Rattle.seg_spec.proofs.Values.PlaceFrameLaws.{word-same}
 use Rattle.client_spec.specs.declared.table.Operation.{Operation}
 use Rattle.client_spec.specs.Syntax.{Instruction}
 use Rattle.client_spec.specs.Grammar.{client_bytes}
@@ -180,9 +181,9 @@ header_kept : IsSame start image 0 24
 unfolding counter slice put set_number
 header_kept = refl
 
-next_kept : word image next_word ≡ word start next_word
-unfolding counter put set_number
-next_kept = refl
+next_same : IsSame start image next_word 4
+unfolding counter slice put set_number
+next_same = refl
 
 same_length : length image ≡ length start
 unfolding counter put set_number
@@ -230,7 +231,7 @@ module _ (h : List ℕ) where
     before = pictured added.registers tt;
     after = pictured_then [];
     blocks = record { asks = []; asked = refl; gives = []; returned = refl; blocks = live start; granted = refl; left = same_live };
-    ties = record { next_is = next_kept };
+    ties = record { next_is = word-same start image next_word next_same };
     length_kept = same_length;
     header_kept = header_kept;
     moved = record { steps = refl; base = refl; host = refl };
