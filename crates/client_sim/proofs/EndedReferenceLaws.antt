@@ -30,6 +30,7 @@ pub record LeavesPicture (old new : List ℕ) (other : Picture) (gone : List ℕ
   pub counted : AreCounted (word new next_word) other
   pub length_kept : length new ≡ length old
   pub front_kept : KeepsFront old new
+  pub next_kept : word new next_word ≡ word old next_word
   pub kept : (h : ℕ) → 1 ≤ times h (positions (live old)) → times h gone ≡ 0 → KeepsBlock old new h
 
 -- the type with the instruction's number is in the table

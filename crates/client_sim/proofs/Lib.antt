@@ -1,5 +1,6 @@
 pub mod FrameLaws
 pub mod UnchangedImageLaws
+pub mod ImageChangeLaws
 pub mod EffectLaws
 pub mod GrantLaws
 pub mod EndedReferenceLaws

@@ -61,6 +61,7 @@ module _ (constants : List Constant) (others : List Root) (moves other : List Mo
     before = w.before;
     after = w.after;
     blocks = w.blocks;
+    ties = w.ties;
     length_kept = w.length_kept;
     header_kept = w.header_kept;
     moved = moved_there x y w.moved host base;
@@ -168,6 +169,7 @@ client_anywhere client given left r moves host base =
           returned = l.returned;
           length_kept = l.length_kept;
           header_kept = l.header_kept;
+          next_kept = l.next_kept;
           picture = l.picture;
           held = l.held;
           counted = l.counted;

@@ -21,6 +21,7 @@ use Rattle.test_definitions.proofs.ImageEvaluationLaws.{live_evaluated, unshared
 use Rattle.test_definitions.proofs.SoundImages.{counter_tiles, counter_fill, counter_headers, counter_held, counter_counted}
 use Rattle.seg_spec.proofs.Images.UpgradeLaws.{upgraded_held, upgraded_counted, upgraded_live}
 use Rattle.seg_spec.proofs.Images.RootWriteLaws.{stored}
+use Rattle.seg_spec.proofs.Values.PlaceFrameLaws.{word-same}
 use Rattle.client_spec.specs.declared.table.Operation.{Operation}
 use Rattle.client_spec.specs.Syntax.{Instruction}
 use Rattle.client_spec.specs.Grammar.{client_bytes}
@@ -34,11 +35,12 @@ use Rattle.client_spec.specs.Pictures.{Pictures, AreOwned, names_in as names_of_
 use Rattle.client_spec.proofs.TypedStates.ValueLaws.{Some_inj}
 use Rattle.client_spec.proofs.TypedStates.PictureLaws.{owned_one}
 use Rattle.client_spec.proofs.Unfolded.PictureTreeLaws.{own_trees}
-use Rattle.client_spec.specs.Asks.{ChangesBlocks}
 use Rattle.client_spec.specs.OnImages.{Situation, image_machine, RowOn, Given, Left, IsFirst, IsLeftAfter, RunsClient}
 use Rattle.client_spec.specs.Clients.{AreAccepted}
 use Rattle.client_spec.specs.Outcome.{given_first, IsOutcome}
 use Rattle.client_spec.specs.Fixtures.{at, increment, counted, x}
+use Rattle.client_sim.specs.Shows.{ChangesImage}
+use Rattle.client_sim.proofs.ImageChangeLaws.{unchanged}
 use Rattle.test_definitions.proofs.IncrementLaws.{increment_spelled, same_x}
 
 -- ---- the states and the image
@@ -162,13 +164,14 @@ abbrev Row : Instruction → Situation → Situation → Type 0
 Row i a b = RowOn increment.constants [] [] i a success b
 
 kept_row : (i : Instruction) (s t : State) (host : List ℕ) (n : ℕ) → outcome increment.constants i true s ≡ Some (success, t) → (before : PicturesTrees [] s start) → PicturesTrees [] t start
-    → ChangesBlocks increment.constants i before.pictured success start
+    → ChangesImage increment.constants i before.pictured success start
     → Row i (situation s start host n) (situation t start (again host start) (n + 1))
-kept_row i s t host n row before after blocks = record {
+kept_row i s t host n row before after changes = record {
   row = inl (true, row);
   before = before;
   after = after;
-  blocks = blocks;
+  blocks = changes.blocks;
+  ties = changes.ties;
   length_kept = refl;
   header_kept = refl;
   moved = record { steps = refl; base = refl; host = refl };
@@ -177,6 +180,10 @@ kept_row i s t host n row before after blocks = record {
 header_kept : IsSame start image 0 24
 unfolding counter slice put set_number
 header_kept = refl
+
+next_same : IsSame start image next_word 4
+unfolding counter slice put set_number
+next_same = refl
 
 same_length : length image ≡ length start
 unfolding counter put set_number
@@ -203,19 +210,19 @@ module _ (h : List ℕ) where
 
   finds : Row (at Operation.Find 0 16 16 (pos 0)) (situation counted start h 0) (situation found start h1 1)
   unfolding effect
-  finds = kept_row _ counted found h 0 refl (pictured counted.registers tt) (pictured found.registers tt) (record { asks = []; asked = refl; gives = []; returned = refl; blocks = live start; granted = refl; left = refl })
+  finds = kept_row _ counted found h 0 refl (pictured counted.registers tt) (pictured found.registers tt) (unchanged refl (record { asks = []; asked = refl; gives = []; returned = refl; blocks = live start; granted = refl; left = refl }))
 
   loads : Row (at Operation.Load 1 0 0 (pos 0)) (situation found start h1 1) (situation loaded start h2 2)
   unfolding effect
-  loads = kept_row _ found loaded h1 1 refl (pictured found.registers tt) (pictured loaded.registers tt) (record { asks = []; asked = refl; gives = []; returned = refl; blocks = live start; granted = refl; left = refl })
+  loads = kept_row _ found loaded h1 1 refl (pictured found.registers tt) (pictured loaded.registers tt) (unchanged refl (record { asks = []; asked = refl; gives = []; returned = refl; blocks = live start; granted = refl; left = refl }))
 
   sets_one : Row (at Operation.Const 2 0 0 (pos 1)) (situation loaded start h2 2) (situation with_one start h3 3)
   unfolding effect
-  sets_one = kept_row _ loaded with_one h2 2 refl (pictured loaded.registers tt) (pictured with_one.registers tt) (record { asks = []; asked = refl; gives = []; returned = refl; blocks = live start; granted = refl; left = refl })
+  sets_one = kept_row _ loaded with_one h2 2 refl (pictured loaded.registers tt) (pictured with_one.registers tt) (unchanged refl (record { asks = []; asked = refl; gives = []; returned = refl; blocks = live start; granted = refl; left = refl }))
 
   adds : Row (at Operation.Add 1 1 2 (pos 0)) (situation with_one start h3 3) (situation added start h4 4)
   unfolding effect
-  adds = kept_row _ with_one added h3 3 refl (pictured with_one.registers tt) (pictured added.registers tt) (record { asks = []; asked = refl; gives = []; returned = refl; blocks = live start; granted = refl; left = refl })
+  adds = kept_row _ with_one added h3 3 refl (pictured with_one.registers tt) (pictured added.registers tt) (unchanged refl (record { asks = []; asked = refl; gives = []; returned = refl; blocks = live start; granted = refl; left = refl }))
 
   stores : Row (at Operation.Store 0 0 1 (pos 0)) (situation added start h4 4) (situation (more []) image h5 5)
   unfolding effect
@@ -224,6 +231,7 @@ module _ (h : List ℕ) where
     before = pictured added.registers tt;
     after = pictured_then [];
     blocks = record { asks = []; asked = refl; gives = []; returned = refl; blocks = live start; granted = refl; left = same_live };
+    ties = record { next_is = word-same start image next_word next_same };
     length_kept = same_length;
     header_kept = header_kept;
     moved = record { steps = refl; base = refl; host = refl };
@@ -236,6 +244,7 @@ module _ (h : List ℕ) where
     before = pictured_then [];
     after = pictured_then (codes "42\n");
     blocks = record { asks = []; asked = refl; gives = []; returned = refl; blocks = live image; granted = refl; left = refl };
+    ties = record { next_is = refl };
     length_kept = refl;
     header_kept = refl;
     moved = record { steps = refl; base = refl; host = refl };
@@ -319,6 +328,7 @@ is_left = record {
   returned = refl;
   length_kept = refl;
   header_kept = refl;
+  next_kept = refl;
   picture = picture;
   held = held;
   counted = image_counted;

@@ -32,7 +32,7 @@ use Rattle.seg_spec.proofs.Heap.LiveBlockLaws.{times-append}
 use Rattle.seg_spec.proofs.Frozen.OneMoreObjectLaws.{not_there}
 use Rattle.client_spec.specs.Machine.{◌>>=◌, Origin, Path, Register, State, register, set_register, owned_by, path_value, put_at}
 use Rattle.client_spec.specs.Grammar.{IsInstruction}
-use Rattle.client_spec.specs.Asks.{LedTo, Asks, Refreezes, ChangesBlocks}
+use Rattle.client_spec.specs.Asks.{LedTo, Asks, Refreezes}
 use Rattle.client_spec.specs.Bare.{bare, bare_one}
 use Rattle.client_spec.specs.Pictures.{Pictures, meaning_in, trees_of}
 use Rattle.client_spec.specs.Shape.{HasShape}
@@ -62,10 +62,11 @@ use Rattle.client_spec.specs.Effect.{outcome, effect}
 use Rattle.client_spec.specs.Plain.{UsesUp}
 use Rattle.client_spec.specs.OnImages.{RowWith}
 use Rattle.client_spec.specs.Trees.{unfolded_register}
-use Rattle.client_sim.specs.Shows.{World, place_in, owns_in, KeepsRegister, Shows}
+use Rattle.client_sim.specs.Shows.{World, place_in, owns_in, KeepsRegister, Shows, ChangesImage}
 use Rattle.client_sim.specs.Seeing.{Anchored, Sees, SeenActs}
 use Rattle.client_sim.specs.Sharing.{CellClaim, OnCell, FreezesObject, RefusesToFreeze}
 use Rattle.client_sim.specs.Acting.{AreDeclarationsRight, ActsAs, IsRefusedAs}
+use Rattle.client_sim.proofs.ImageChangeLaws.{changed, unchanged}
 use Rattle.client_sim.proofs.Places.LeafPutLaws.{with_image}
 use Rattle.client_sim.proofs.Places.ReferencePlaceLaws.{Led}
 use Rattle.client_sim.proofs.Frozen.UnfoldedOperationLaws.{changeable_bare}
@@ -279,9 +280,9 @@ module _ (allocator : ℕ) (constants : List Constant) (role : Role) (a b c : �
       denied_row : outcome constants freeze false t ≡ Some (bad_alloc, code_in bad_alloc)
       denied_row = row_is false ∙ answer_is types constants between t seen.as_known bad_alloc a (Register.Int (pos (answer_number bad_alloc))) freed.2
 
-      failed : (code : Answer) → RowWith constants freeze w.image t code (code_in code) → ChangesBlocks constants freeze pictured code w.image
+      failed : (code : Answer) → RowWith constants freeze w.image t code (code_in code) → ChangesImage constants freeze pictured code w.image
           → SeenActs others types constants first allocator freeze code bad t w (with_number w a (pos (answer_number code)))
-      failed code row blocks =
+      failed code row changes =
           let n = pos (answer_number code) in
           let g = sees_number seen a valid.a freed.2 n in
           subst (λ zs. SeenActs others types constants first allocator freeze code zs t w (with_number w a n)) (sym freed.3) (record {
@@ -289,7 +290,7 @@ module _ (allocator : ℕ) (constants : List Constant) (role : Role) (a b c : �
             row = row;
             before = record { plain = h.plain; pictured = pictured; trees = h.trees };
             after = record { plain = g.plain; pictured = g.shows.pictured; trees = g.trees };
-            blocks = blocks;
+            changes = changes;
             length_kept = refl;
             header_kept = refl;
             sees = g;
@@ -475,8 +476,8 @@ module _ (allocator : ℕ) (constants : List Constant) (role : Role) (a b c : �
             by (Some (heap.same ys)) = refl
             by (Some (heap.fresh at ys)) = refl
 
-        blocks : ChangesBlocks constants freeze pictured success new
-        blocks = record {
+        changes : ChangesImage constants freeze pictured success new
+        changes = changed z.next_is (record {
           asks = block_for (frozen_words + size table f.held) ∷ [];
           asked = asked some;
           gives = gives;
@@ -496,7 +497,7 @@ module _ (allocator : ℕ) (constants : List Constant) (role : Role) (a b c : �
                 ap (λ (y : ℕ). times n (block_of y ∷ [])) o.at_is,
                 ap (λ (ys : List ℕ). times n (ys ++ gives)) (none_replaced (word w.image allocator_word) (live w.image) (length w.image)),
               ));
-        }
+        })
 
         acts : SeenActs others types constants first allocator freeze success good t w world_frozen
         acts =
@@ -506,7 +507,7 @@ module _ (allocator : ℕ) (constants : List Constant) (role : Role) (a b c : �
               row = inl (true, row);
               before = record { plain = h.plain; pictured = pictured; trees = h.trees };
               after = record { plain = g.plain; pictured = g.shows.pictured; trees = g.trees };
-              blocks = blocks;
+              changes = changes;
               length_kept = z.length_kept;
               header_kept = z.front_kept;
               sees = g;
@@ -525,7 +526,7 @@ module _ (allocator : ℕ) (constants : List Constant) (role : Role) (a b c : �
         bad_alloc,
         (λ q. cc),
         subst (λ bs. SeenActs others types constants first allocator freeze bad_alloc bad t w (with_number (with_image w bs) a (pos (answer_number bad_alloc)))) (sym r.same)
-            (failed right h valid e f bad_alloc (inl (false, denied_row right h valid e f)) blocks),
+            (failed right h valid e f bad_alloc (inl (false, denied_row right h valid e f)) (unchanged refl blocks)),
       )
 
   pub freeze_used : suc (word w.image next_word) ≡ 2 ^ 32 → new ≡ w.image → IsRefusedAs allocator constants role freeze w (with_number (with_image w new) a (pos (answer_number numbers_used_up)))
@@ -536,7 +537,7 @@ module _ (allocator : ℕ) (constants : List Constant) (role : Role) (a b c : �
         numbers_used_up,
         (λ q. cc),
         subst (λ bs. SeenActs others types constants first allocator freeze numbers_used_up bad t w (with_number (with_image w bs) a (pos (answer_number numbers_used_up)))) (sym same)
-            (failed right h valid e f numbers_used_up (inr (row, none)) refl),
+            (failed right h valid e f numbers_used_up (inr (row, none)) (unchanged refl refl)),
       )
 
   pub freeze_acts : suc (word w.image next_word) < 2 ^ 32 → FreezesObject allocator w.image new w.table (place_in w b) (place_in w c).at → ActsAs allocator constants role freeze w world_frozen

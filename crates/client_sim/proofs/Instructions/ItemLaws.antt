@@ -7,7 +7,7 @@ use Rattle.seg_spec.specs.Types.{Form, Table, form_at, size}
 use Rattle.seg_spec.specs.Value.{Label, Value, node, Values, nil, cons, count, nth, append, Text, Seq, default_of, Selector, selected}
 use Rattle.seg_spec.specs.Items.{without_last}
 use Rattle.seg_spec.specs.Index.{Root}
-use Rattle.seg_spec.specs.Header.{KeepsFront}
+use Rattle.seg_spec.specs.Header.{KeepsFront, KeepsBack}
 use Rattle.seg_spec.specs.Heap.{live}
 use Rattle.seg_spec.specs.Frozen.{blocks_by}
 use Rattle.seg_spec.specs.Shared.{names_in, names_each, named_in, freed}
@@ -26,7 +26,7 @@ use Rattle.client_spec.specs.Machine.{◌>>=◌, Path, extend, Register, State, 
 use Rattle.client_spec.specs.Answer.{Answer, success, bad_alloc, null_or_none, answer_number, path_in, path_of, path_form, give, give_count, fail, refer, text_in, items_in, vec_or_list_item, list_item, with_room}
 use Rattle.client_spec.specs.Effect.{outcome, effect, pop_bytes, pop_last, pop_first}
 use Rattle.client_spec.specs.Shape.{HasShape, AllHaveShape}
-use Rattle.client_spec.specs.Asks.{ChangesBlocks, LedTo, PartGoes, PopGoes, cell_asks}
+use Rattle.client_spec.specs.Asks.{LedTo, PartGoes, PopGoes, cell_asks}
 use Rattle.client_spec.specs.Meaning.{LeadsToType}
 use Rattle.client_spec.specs.Pictures.{LeadsInImage}
 use Rattle.client_spec.specs.Typed.{Class, RegisterType, RegisterTypes, Rule, known, is_owner, sharing, reference_needed, form_needed, is_str, can_pop, without_class, others_ended, opens, rule}
@@ -39,8 +39,9 @@ use Rattle.client_spec.proofs.TypedStates.ClassLaws.{OneEach, known_others, agre
 use Rattle.client_spec.proofs.Rows.RuleRowLaws.{bind_ok, answer_is, form_found, opens_ok, nth_below}
 use Rattle.client_spec.proofs.TypedStates.ValueFormLaws.{reference_is, text_value, items_value, text_fits, popped, list_is_item, item_part, last_item}
 use Rattle.client_spec.proofs.Spelling.ConstantNameLaws.{one_each}
-use Rattle.client_sim.specs.Shows.{World, place_in, Shown, Shows, Acts}
+use Rattle.client_sim.specs.Shows.{World, place_in, Shown, Shows, Acts, ChangesImage}
 use Rattle.client_sim.specs.Acting.{ActsAs, IsRefusedAs, ActsPlainly}
+use Rattle.client_sim.proofs.ImageChangeLaws.{changed_at_place, unchanged}
 use Rattle.client_sim.proofs.Frozen.UnfoldedOperationLaws.{lifted_acts, lifted_refused}
 use Rattle.seg_spec.proofs.Frozen.CountDecreaseLaws.{named_positions}
 use Rattle.seg_spec.proofs.Frozen.PartCountLaws.{SameNames, names_same, names_then, names_cons, default_names}
@@ -135,31 +136,31 @@ module _ {others : List Root} {types : Table} {constants : List Constant} (one :
 
     -- register a gets an error code, and nothing else changes
     pub code_acts : (code : Answer) (room : Bool) (new : List ℕ) (n : ℕ) → new ≡ w.image → n ≡ answer_number code → i.a < 16 → is_owner (known known_then i.a) ≡ false
-        → outcome constants i room s ≡ fail i.a code s → ChangesBlocks constants i h.pictured code w.image
+        → outcome constants i room s ≡ fail i.a code s → ChangesImage constants i h.pictured code w.image
         → Acts others types constants first allocator i code (slice_set known_then i.a RegisterType.Int) s w (with_number (with_image w new) i.a (pos n))
     unfolding shows_ended
-    code_acts code room new n same n_is within free row blocks =
+    code_acts code room new n same n_is within free row changes =
         subst (λ m. Acts others types constants first allocator i code (slice_set known_then i.a RegisterType.Int) s w (with_number (with_image w m) i.a (pos n))) (sym same)
         (subst (λ m. Acts others types constants first allocator i code (slice_set known_then i.a RegisterType.Int) s w (with_number w i.a (pos m))) (sym n_is)
-        (refuses_with others types constants first allocator known_then s w (shows_ended r.class i.b) i code room i.a within free row blocks))
+        (refuses_with others types constants first allocator known_then s w (shows_ended r.class i.b) i code room i.a within free row changes))
 
     -- register a gets a number, and nothing else changes
-    pub kept_number : (n : ℤ) (new : List ℕ) → new ≡ w.image → i.a < 16 → is_owner (known known_then i.a) ≡ false → outcome constants i true s ≡ give i.a (Register.Int n) s → ChangesBlocks constants i h.pictured success w.image
+    pub kept_number : (n : ℤ) (new : List ℕ) → new ≡ w.image → i.a < 16 → is_owner (known known_then i.a) ≡ false → outcome constants i true s ≡ give i.a (Register.Int n) s → ChangesImage constants i h.pictured success w.image
         → Acts others types constants first allocator i success (slice_set known_then i.a RegisterType.Int) s w (with_number (with_image w new) i.a n)
     unfolding shows_ended
-    kept_number n new same within free row blocks =
+    kept_number n new same within free row changes =
         let after = shows_ended r.class i.b in
         subst (λ m. Acts others types constants first allocator i success (slice_set known_then i.a RegisterType.Int) s w (with_number (with_image w m) i.a n)) (sym same)
         (acts_so others types constants first allocator ks s w h i success true (slice_set known_then i.a RegisterType.Int) (set_register s i.a (Register.Int n)) (with_number w i.a n)
-        (row ∙ answer_is types constants known_then s after.as_known success i.a (Register.Int n) free) blocks refl refl refl (shows_number others types constants first allocator known_then s w after i.a n within free)
+        (row ∙ answer_is types constants known_then s after.as_known success i.a (Register.Int n) free) changes refl refl refl (shows_number others types constants first allocator known_then s w after i.a n within free)
         (frame_number others types constants first allocator known_then s w after i.a _ _ _ (frame_same _ _ _)))
 
     pub kept_reference : (x : Selector) (T : ℕ) (part : Value) (target : Place) (new : List ℕ) → new ≡ w.image → i.a < 16 → is_owner (known known_then i.a) ≡ false
         → part_type x r.form ≡ Some T → selected r.its.value x ≡ Some part → target.type ≡ T → Leads w.image w.table (place_in w i.b) (x ∷ []) target
-        → outcome constants i true s ≡ refer i.a (extend r.its.path x) s → ChangesBlocks constants i h.pictured success w.image
+        → outcome constants i true s ≡ refer i.a (extend r.its.path x) s → ChangesImage constants i h.pictured success w.image
         → Acts others types constants first allocator i success (slice_set known_then i.a (RegisterType.Reference r.class T)) s w (with_place (with_image w new) i.a target)
     unfolding shows_ended
-    kept_reference x T part target new same within free of_part is typed leads row blocks =
+    kept_reference x T part target new same within free of_part is typed leads row changes =
         let after = shows_ended r.class i.b in
         let x_path = extend r.its.path x in
         let to : LeadsToType s x_path T = leads_extend s r.its.path r.type T x r.form part (record { value = r.its.value; there = r.its.there; typed = r.its.typed }) r.machine_form of_part is in
@@ -167,7 +168,7 @@ module _ {others : List Root} {types : Table} {constants : List Constant} (one :
         leads_part h.pictured r.its.path x (place_in w i.b) target r.its.in_image (subst (λ (t : Table). Leads w.image t (place_in w i.b) (x ∷ []) target) (h.table_is ∙ sym h.pictured.types) leads) in
         subst (λ m. Acts others types constants first allocator i success (slice_set known_then i.a (RegisterType.Reference r.class T)) s w (with_place (with_image w m) i.a target)) (sym same)
         (acts_so others types constants first allocator ks s w h i success true (slice_set known_then i.a (RegisterType.Reference r.class T)) (set_register s i.a (Register.Reference x_path)) (with_place w i.a target)
-        (row ∙ answer_is types constants known_then s after.as_known success i.a (Register.Reference x_path) free) blocks refl refl refl
+        (row ∙ answer_is types constants known_then s after.as_known success i.a (Register.Reference x_path) free) changes refl refl refl
         (shows_reference others types constants first allocator known_then s w after i.a r.class T x_path target within free r.its.within to typed in_image)
         (frame_reference others types constants first allocator known_then s w after i.a _ _ _ _ _ _ _ _ _ _ (frame_same _ _ _)))
 
@@ -187,7 +188,7 @@ module _ {others : List Root} {types : Table} {constants : List Constant} (one :
       frame_after = frame_changed one h i.b r.class r.type r.known_as r.its v shape new put front
 
       -- in addition, register a gets a number
-      pub number_acts : (n : ℤ) → i.a < 16 → is_owner (known known_then i.a) ≡ false → outcome constants i true s ≡ give i.a (Register.Int n) state_then → ChangesBlocks constants i h.pictured success new
+      pub number_acts : (n : ℤ) → i.a < 16 → is_owner (known known_then i.a) ≡ false → outcome constants i true s ≡ give i.a (Register.Int n) state_then → ChangesImage constants i h.pictured success new
           → Acts others types constants first allocator i success (slice_set known_then i.a RegisterType.Int) s w (with_number (with_image w new) i.a n)
       number_acts n within free row changes =
           acts_so others types constants first allocator ks s w h i success true (slice_set known_then i.a RegisterType.Int) (set_register state_then i.a (Register.Int n)) (with_number (with_image w new) i.a n)
@@ -198,7 +199,7 @@ module _ {others : List Root} {types : Table} {constants : List Constant} (one :
       -- in addition, register a gets a reference to a part of the new value
       pub reference_acts : (x : Selector) (T : ℕ) (part : Value) (target : Place) → i.a < 16 → is_owner (known known_then i.a) ≡ false → part_type x r.form ≡ Some T → selected v x ≡ Some part → target.type ≡ T
           → Leads new w.table (place_in w i.b) (x ∷ []) target
-          → outcome constants i true s ≡ refer i.a (extend r.its.path x) state_then → ChangesBlocks constants i h.pictured success new
+          → outcome constants i true s ≡ refer i.a (extend r.its.path x) state_then → ChangesImage constants i h.pictured success new
           → Acts others types constants first allocator i success (slice_set known_then i.a (RegisterType.Reference r.class T)) s w (with_place (with_image w new) i.a target)
       unfolding after
       reference_acts x T part target within free of_part is typed leads row changes =
@@ -221,6 +222,7 @@ module _ {others : List Root} {types : Table} {constants : List Constant} (one :
       pub put : PlacePut h.pictured r.its.in_image r.its.value (put_at s r.its.path v) new
       pub long : length new ≡ length w.image
       pub front : KeepsFront w.image new
+      pub back : KeepsBack w.image new
       pub its : List ℕ
       pub holds_then : Holds new w.table (place_in w i.b) v its
       pub gives : List ℕ
@@ -244,6 +246,7 @@ module _ {others : List Root} {types : Table} {constants : List Constant} (one :
           put = led_cleared h i.b r.class r.type r.its new v gone whole shared.theirs shared.holds l.others c;
           long = c.changes.length_kept;
           front = c.changes.front_kept;
+          back = c.changes.back_kept;
           its = l.others;
           holds_then = c.changes.holds_it;
           gives = l.lost ++ given;
@@ -399,8 +402,8 @@ module _ (allocator : ℕ) (constants : List Constant) (role : Role) (a b c : �
             number_acts one h i r (Text new_text) (text_fits s.types r.form tt new_text is) new
             (led_put h b r.class r.type r.its new (Text new_text) p.others (names_same (ap names_in v.1 ∙ names_text v.0 ∙ sym (names_text new_text))) p.succeeds.changes) p.succeeds.changes.length_kept p.succeeds.changes.front_kept
             (pos n) valid.a o.0 is_row
-            (grants_asks constants i h.pictured allocator h.allocator_is [] refl new w.table place (Text new_text) [] r.its.found.blocks p.others
-            (place, r.form, led_to one h i r, subst (λ k. PopGoes constants i h.pictured place k (count_at w.image place.at - 1) []) (sym same) refl) p.succeeds)
+            (changed_at_place p.succeeds.changes.back_kept refl (grants_asks constants i h.pictured allocator h.allocator_is [] refl new w.table place (Text new_text) [] r.its.found.blocks p.others
+            (place, r.form, led_to one h i r, subst (λ k. PopGoes constants i h.pictured place k (count_at w.image place.at - 1) []) (sym same) refl) p.succeeds))
         | inr is ↦
             let v = items_value s.types r.form r.its.value is.0 is.1 r.fits in
             let stands = subst (λ u. Stands allocator w.image w.table place u r.its.found.blocks) v.1 r.its.stands in
@@ -413,8 +416,8 @@ module _ (allocator : ℕ) (constants : List Constant) (role : Role) (a b c : �
             let at : count v.0 - 1 ≡ count_at w.image place.at - 1 = ap (λ k. k - 1) (items_held w.image w.table place r.form is.0 v.0 r.its.found.blocks r.form_is is.1 stands.holds_it) in
             let is_row = row ∙ ap f v.1 ∙ last_popped a r.its.path v.0 s p.some ∙ ap (λ m. give_count a m (put_at s r.its.path (Seq left))) n_is in
             number_acts one h i r (Seq left) (v.3 left (all_without_last s.types is.0 v.0 v.2)) new t.put t.long t.front (pos n) valid.a o.0 is_row
-            (gives_back constants i h.pictured new refl t.gives
-            (place, r.form, led_to one h i r, part_goes one h i r.form is.0 place (count_at w.image place.at - 1) t.gives is.1 (subst (λ k. PartGoes constants i h.pictured place k t.gives) at t.goes)) t.left_is)
+            (changed_at_place t.back refl (gives_back constants i h.pictured new refl t.gives
+            (place, r.form, led_to one h i r, part_goes one h i r.form is.0 place (count_at w.image place.at - 1) t.gives is.1 (subst (λ k. PartGoes constants i h.pictured place k t.gives) at t.goes)) t.left_is))
       ])
 
   pub pop_back_acts : (new : List ℕ) (n : ℕ) → EachText (λ xs blocks. PopsByte allocator w.image new w.table place xs blocks n)
@@ -449,7 +452,7 @@ module _ (allocator : ℕ) (constants : List Constant) (role : Role) (a b c : �
         null_or_none,
         (λ q. cc),
         subst (λ k. Acts others types constants first allocator i null_or_none k s w (with_number (with_image w new) a (pos n))) (sym o.2)
-            (code_acts one h i r null_or_none true new n fails.1 fails.2 valid.a o.0 (row ∙ fails.0) refl),
+            (code_acts one h i r null_or_none true new n fails.1 fails.2 valid.a o.0 (row ∙ fails.0) (unchanged refl refl)),
       ))
 
   -- POPF removes the first item
@@ -479,7 +482,7 @@ module _ (allocator : ℕ) (constants : List Constant) (role : Role) (a b c : �
       ∙ ap (λ vs. pop_first a r.its.path vs s) q.2 ∙ ap (λ m. give_count a m (put_at s r.its.path (Seq left))) n_is in
       subst (λ k. Acts others types constants first allocator i success k s w (with_number (with_image w new) a (pos n))) (sym o.1)
       (number_acts one h i r (Seq left) fits new t.put t.long t.front (pos n) valid.a o.0 row
-      (gives_back constants i h.pictured new refl t.gives (place, r.form, led_to one h i r, part_goes one h i r.form r.what place 0 t.gives is t.goes) t.left_is)))
+      (changed_at_place t.back refl (gives_back constants i h.pictured new refl t.gives (place, r.form, led_to one h i r, part_goes one h i r.form r.what place 0 t.gives is t.goes) t.left_is))))
 
   pub pop_front_refused : (new : List ℕ) (n : ℕ) → EachList (λ U vs blocks. (count vs ≡ 0) × (new ≡ w.image) × (n ≡ 6)) → IsRefusedAs allocator constants role (of Operation.PopFront) w (with_number (with_image w new) a (pos n))
   unfolding rule effect
@@ -496,7 +499,7 @@ module _ (allocator : ℕ) (constants : List Constant) (role : Role) (a b c : �
         null_or_none,
         (λ q. cc),
         subst (λ k. Acts others types constants first allocator i null_or_none k s w (with_number (with_image w new) a (pos n))) (sym o.2)
-            (code_acts one h i r null_or_none true new n none.1 none.2 valid.a o.0 row refl),
+            (code_acts one h i r null_or_none true new n none.1 none.2 valid.a o.0 row (unchanged refl refl)),
       ))
 
   -- the requests for one more item
@@ -548,8 +551,8 @@ module _ (allocator : ℕ) (constants : List Constant) (role : Role) (a b c : �
       (led_put h b r.class r.type r.its new (Seq more) pushed.others
       (names_same (ap names_in v.1 ∙ names_seq v.0 ∙ sym (back_named v.0 d (default_names s.types r.what)) ∙ sym (names_seq more))) pushed.succeeds.changes)
       pushed.succeeds.changes.length_kept pushed.succeeds.changes.front_kept x r.what d target valid.a o.0 (item_part r.form r.what (count v.0) r.is) (last_item v.0 d) refl pushed.leads row
-      (grants_asks constants i h.pictured allocator h.allocator_is (item_asks r.form r.what) (place, r.form, led_to one h i r, back_asks h r.form r.what r.is) new w.table place (Seq more) [] r.its.found.blocks pushed.others
-      refl pushed.succeeds))))
+      (changed_at_place pushed.succeeds.changes.back_kept refl (grants_asks constants i h.pictured allocator h.allocator_is (item_asks r.form r.what) (place, r.form, led_to one h i r, back_asks h r.form r.what r.is) new w.table place (Seq more) [] r.its.found.blocks pushed.others
+      refl pushed.succeeds)))))
 
   -- PUSHB fails if there is no room
   pub push_back_refused : (new : List ℕ) (n : ℕ) → EachForm (λ form U vs blocks. (n ≡ 2) × Refuses allocator w.image new (item_asks form U))
@@ -569,7 +572,7 @@ module _ (allocator : ℕ) (constants : List Constant) (role : Role) (a b c : �
         (λ q. cc),
         subst (λ k. Acts others types constants first allocator i bad_alloc k s w (with_number (with_image w new) a (pos n))) (sym o.2)
             (code_acts one h i r bad_alloc false new n q.1.same q.0 valid.a o.0 row
-            (denies constants i h.pictured allocator h.allocator_is (item_asks r.form r.what) (place, r.form, led_to one h i r, back_asks h r.form r.what r.is) w.image here)),
+            (unchanged refl (denies constants i h.pictured allocator h.allocator_is (item_asks r.form r.what) (place, r.form, led_to one h i r, back_asks h r.form r.what r.is) w.image here))),
       ))
 
   -- PUSHF adds a default item at the front
@@ -598,8 +601,8 @@ module _ (allocator : ℕ) (constants : List Constant) (role : Role) (a b c : �
       (led_put h b r.class r.type r.its new (Seq more) pushed.others
       (names_same (ap names_in v.1 ∙ names_seq v.0 ∙ sym (front_named d v.0 (default_names s.types r.what)) ∙ sym (names_seq more))) pushed.succeeds.changes)
       pushed.succeeds.changes.length_kept pushed.succeeds.changes.front_kept (Selector.item 0) r.what d target valid.a o.0 part refl refl pushed.leads row
-      (grants_asks constants i h.pictured allocator h.allocator_is asks (place, r.form, led_to one h i r, front_asks h r.form r.what r.is) new w.table place (Seq more) [] r.its.found.blocks pushed.others
-      refl pushed.succeeds))))
+      (changed_at_place pushed.succeeds.changes.back_kept refl (grants_asks constants i h.pictured allocator h.allocator_is asks (place, r.form, led_to one h i r, front_asks h r.form r.what r.is) new w.table place (Seq more) [] r.its.found.blocks pushed.others
+      refl pushed.succeeds)))))
 
   pub push_front_refused : (new : List ℕ) (n : ℕ) → EachList (λ U vs blocks. (n ≡ 2) × Refuses allocator w.image new (block_for (8 + size w.table U) ∷ []))
       → IsRefusedAs allocator constants role (of Operation.PushFront) w (with_number (with_image w new) a (pos n))
@@ -619,5 +622,5 @@ module _ (allocator : ℕ) (constants : List Constant) (role : Role) (a b c : �
         (λ q. cc),
         subst (λ k. Acts others types constants first allocator i bad_alloc k s w (with_number (with_image w new) a (pos n))) (sym o.2)
             (code_acts one h i r bad_alloc false new n q.1.same q.0 valid.a o.0 row
-            (denies constants i h.pictured allocator h.allocator_is asks (place, r.form, led_to one h i r, front_asks h r.form r.what r.is) w.image here)),
+            (unchanged refl (denies constants i h.pictured allocator h.allocator_is asks (place, r.form, led_to one h i r, front_asks h r.form r.what r.is) w.image here))),
       ))

@@ -34,6 +34,7 @@ use Rattle.client_spec.proofs.TypedStates.ValueFormLaws.{entries_value, place_be
 use Rattle.client_spec.proofs.Spelling.ConstantNameLaws.{one_each}
 use Rattle.client_sim.specs.Shows.{World, number_in, place_in, Shows, Acts}
 use Rattle.client_sim.specs.Acting.{ActsAs, IsRefusedAs}
+use Rattle.client_sim.proofs.ImageChangeLaws.{changed_at_place, unchanged}
 use Rattle.client_sim.proofs.Frozen.UnfoldedOperationLaws.{lifted_acts, lifted_refused}
 use Rattle.client_sim.proofs.Places.LeafPutLaws.{with_image}
 use Rattle.client_sim.proofs.Instructions.NumberLaws.{with_number, quiet, gives_both, number_shown}
@@ -118,7 +119,7 @@ module _ (allocator : ℕ) (constants : List Constant) (role : Role) (a b c : �
     deleted new gone None e stands d =
         let i = of Operation.DeleteKey in
         subst (λ t. Acts others types constants first allocator i success (slice_set (others_ended r.class b ks) a RegisterType.Int) s w (with_number (with_image w new) a (truth t))) (sym d.0)
-        (kept_number one h i r (pos 0) new d.1 within free (row None e) (quiet constants i h.pictured refl (place, r.form, led_to one h i r, goes_by None e [] refl)))
+        (kept_number one h i r (pos 0) new d.1 within free (row None e) (unchanged refl (quiet constants i h.pictured refl (place, r.form, led_to one h i r, goes_by None e [] refl))))
     deleted new gone (Some j) e stands d =
         let i = of Operation.DeleteKey in
         let later = without_entry (keys, vs) j in
@@ -127,7 +128,7 @@ module _ (allocator : ℕ) (constants : List Constant) (role : Role) (a b c : �
         (names_then (names_same (names_map keys vs)) (names_then (remove_named vs j item.0 item.1) (names_same (ap (λ xs. names_in item.0 ++ xs) (sym (names_map (remove keys j) (remove_nth vs j))))))) stands (d.1 item.0 item.1) in
         subst (λ t. Acts others types constants first allocator i success (slice_set (others_ended r.class b ks) a RegisterType.Int) s w (with_number (with_image w new) a (truth t))) (sym d.0)
         (number_acts one h i r later (fits (remove keys j) (remove_nth vs j) (all_remove s.types U vs j all) (remove_length keys vs j long)) new t.put t.long t.front (pos 1) within free (row (Some j) e)
-        (gives_back constants i h.pictured new refl t.gives (place, r.form, led_to one h i r, goes_by (Some j) e t.gives t.goes) t.left_is))
+        (changed_at_place t.back refl (gives_back constants i h.pictured new refl t.gives (place, r.form, led_to one h i r, goes_by (Some j) e t.gives t.goes) t.left_is)))
 
   pub delete_key_acts : (new : List ℕ) (gone : Bool) → ((form : Form) (U : ℕ) (keys : List ℤ) (vs : Values) (blocks : List ℕ) → form_at w.table place.type ≡ Some form → map_value form ≡ Some U
       → (stands : Stands allocator w.image w.table place (Map keys vs) blocks) → length keys ≡ count vs → Deletes new gone keys vs stands.home blocks (key_place keys key))
@@ -200,7 +201,7 @@ module _ (allocator : ℕ) (constants : List Constant) (role : Role) (a b c : �
         let i = of Operation.PutKey in
         let part = value_at_key keys vs key j long e in
         kept_reference one h i r (Selector.key key) r.what part.0 (record { at = p; type = r.what }) new d.0 within free (key_part r.form r.what key r.is) (ap (λ u. selected u (Selector.key key)) value_is ∙ part.1) refl d.1
-        (put_is true (Some j) e) (quiet constants i h.pictured (place, r.form, led_to one h i r, asks_by (Some j) e) refl)
+        (put_is true (Some j) e) (unchanged refl (quiet constants i h.pictured (place, r.form, led_to one h i r, asks_by (Some j) e) refl))
     put_by new p None e d =
         let i = of Operation.PutKey in
         let m = keys_below keys key in
@@ -219,15 +220,15 @@ module _ (allocator : ℕ) (constants : List Constant) (role : Role) (a b c : �
         (led_put h b r.class r.type r.its new later d.others
         (names_same (ap names_in value_is ∙ names_map keys vs ∙ sym (insert_named vs m v (default_names s.types r.what)) ∙ sym (names_map new_keys new_items))) succeeds.changes) succeeds.changes.length_kept succeeds.changes.front_kept
         (Selector.key key) r.what part.0 (record { at = p; type = r.what }) within free (key_part r.form r.what key r.is) part.1 refl d.leads (put_is true None e)
-        (grants_asks constants i h.pictured allocator h.allocator_is (entry_asks r.form r.what) (place, r.form, led_to one h i r, asks_by None e) new w.table place later [] r.its.found.blocks d.others refl succeeds)
+        (changed_at_place succeeds.changes.back_kept refl (grants_asks constants i h.pictured allocator h.allocator_is (entry_asks r.form r.what) (place, r.form, led_to one h i r, asks_by None e) new w.table place later [] r.its.found.blocks d.others refl succeeds))
 
     put_denied : (new : List ℕ) (n : ℕ) → n ≡ 2 → key_place keys key ≡ None → Refuses allocator w.image new (entry_asks r.form r.what)
         → Acts others types constants first allocator (of Operation.PutKey) bad_alloc (slice_set (others_ended r.class b ks) a RegisterType.Int) s w (with_number (with_image w new) a (pos n))
     put_denied new n n_is e d =
         let i = of Operation.PutKey in
         code_acts one h i r bad_alloc false new n d.same n_is within free (put_is false None e)
-        (denies constants i h.pictured allocator h.allocator_is (entry_asks r.form r.what) (place, r.form, led_to one h i r, asks_by None e) w.image
-        (subst (λ m. Refuses allocator w.image m (entry_asks r.form r.what)) d.same d))
+        (unchanged refl (denies constants i h.pictured allocator h.allocator_is (entry_asks r.form r.what) (place, r.form, led_to one h i r, asks_by None e) w.image
+        (subst (λ m. Refuses allocator w.image m (entry_asks r.form r.what)) d.same d)))
 
   pub put_key_acts : (new : List ℕ) (p T : ℕ) → EachMap (λ form U keys vs blocks. (U ≡ T) × Puts new form U keys vs blocks p (key_place keys key))
       → ActsAs allocator constants role (of Operation.PutKey) w (with_place (with_image w new) a (record { at = p; type = T }))

@@ -33,7 +33,7 @@ use Rattle.client_spec.specs.Typed.{Class, RegisterType, RegisterTypes, known, i
 use Rattle.client_spec.specs.Typed as typed
 use Rattle.client_spec.specs.Meaning.{IsNamedBy, InClass, LeadsToType, IsAsKnown}
 use Rattle.client_spec.specs.Pictures.{Pictures, LeadsInImage, object_of}
-use Rattle.client_spec.specs.Asks.{NamedGoes, GrantsAsks, Denies, ChangesBlocks, named_asks, name_operand, new_count, if_absent}
+use Rattle.client_spec.specs.Asks.{NamedGoes, GrantsAsks, Denies, named_asks, name_operand, new_count, if_absent}
 use Rattle.client_spec.proofs.TypedStates.ValueFormLaws.{first_of_many}
 use Rattle.client_spec.proofs.TypedStates.KnowledgeChangeLaws.{agrees_make, agrees_kill}
 use Rattle.client_spec.proofs.TypedStates.ClassLaws.{OneEach, origins_apart, known_ended, agrees_ended}
@@ -42,8 +42,9 @@ use Rattle.client_spec.proofs.Rows.RuleRowLaws.{bind_ok, opens_ok, answer_is, it
 use Rattle.client_spec.proofs.TypedStates.ShapeLaws.{all_copies}
 use Rattle.client_spec.proofs.Spelling.ConstantNameLaws.{one_each}
 use Rattle.client_spec.proofs.TypedStates.StateLaws.{name_there}
-use Rattle.client_sim.specs.Shows.{World, number_in, HasRegisters, Shown, Shows, Acts}
+use Rattle.client_sim.specs.Shows.{World, number_in, HasRegisters, Shown, Shows, Acts, ChangesImage}
 use Rattle.client_sim.specs.Acting.{AreDeclarationsRight, ActsAs, IsRefusedAs}
+use Rattle.client_sim.proofs.ImageChangeLaws.{changed, unchanged}
 use Rattle.client_sim.proofs.Frozen.UnfoldedOperationLaws.{lifted_acts, lifted_refused}
 use Rattle.client_sim.proofs.EffectLaws.{with_place, acts_so, shows_reference, shows_number, refuses_with, frame_number, frame_reference}
 use Rattle.client_sim.proofs.FrameLaws.{Frame, frame_same, unknown_same}
@@ -77,6 +78,7 @@ module _ (allocator : ℕ) (old : List ℕ) (table : Table) (name : List ℕ) (T
     pub counted : AreCounted (word new next_word) (with_roots picture Listed.by_name (before ++ object_root table name T n at ∷ after))
     pub long : length new ≡ length old
     pub front : KeepsFront old new
+    pub next : word new next_word ≡ word old next_word
     pub kept : (h : ℕ) → 1 ≤ times h (positions (live old)) → times h index_blocks ≡ 0 → KeepsBlock old new h
     pub left : spent allocator (live old) (length old) (object_asks old table T n name) [] ≡ Some (live new)
 
@@ -87,6 +89,7 @@ module _ (allocator : ℕ) (old : List ℕ) (table : Table) (name : List ℕ) (T
     pub counted : AreCounted (word new next_word) picture
     pub long : length new ≡ length old
     pub front : KeepsFront old new
+    pub next : word new next_word ≡ word old next_word
     pub kept : (h : ℕ) → 1 ≤ times h (positions (live old)) → KeepsBlock old new h
     pub left : live new ≡ live old
 
@@ -108,6 +111,7 @@ module _ (allocator : ℕ) (old : List ℕ) (table : Table) (name : List ℕ) (T
     pub counted : AreCounted (word new next_word) (without_cells (names_each root.values) (with_roots picture Listed.by_name (before ++ after)))
     pub long : length new ≡ length old
     pub front : KeepsFront old new
+    pub next : word new next_word ≡ word old next_word
     pub kept : (h : ℕ) → 1 ≤ times h (positions (live old)) → times h ((objects ++ index_blocks) ++ blocks_by theirs picture.frozen) ≡ 0 → KeepsBlock old new h
     pub left : live new ≡ after_gives (live old) ((objects ++ entries) ++ blocks_by theirs (freed (names_each root.values) picture.frozen))
 
@@ -253,9 +257,9 @@ module _ {others : List Root} {types : Table} {constants : List Constant} {first
       positive (suc m) d some = omega arith
 
   pub made : (n at : ℕ) → 1 ≤ n → root_named h.pictured.picture.names bytes ≡ None → IsMade allocator w.image s.types bytes T h.pictured.picture h.pictured.held.index_blocks new n at
-      → outcome constants i true s ≡ refer a path (state_then n) → ChangesBlocks constants i h.pictured success new
+      → outcome constants i true s ≡ refer a path (state_then n) → ChangesImage constants i h.pictured success new
       → Acts others types constants first allocator i success (slice_set ks a (RegisterType.Reference (Class.Name k) T)) s w (with_place (with_image w new) a (record { at = at; type = T }))
-  made n at some missing m row blocks =
+  made n at some missing m row changes =
       let root = object_root s.types bytes T n at in
       let place : Place = record { at = at; type = T } in
       let paths = all_paths w.image new h.pictured.picture h.pictured.held h.pictured.held.index_blocks m.kept (λ x. omega arith) in
@@ -274,16 +278,16 @@ module _ {others : List Root} {types : Table} {constants : List Constant} {first
       let table = comes.later.picture.table in
       let led : LeadsInImage comes.later path place = record { root = root; item = 0; begins = comes.begins; leads = subst (λ p. Leads new table (item_of table root 0) [] p) (first_place table root at T refl refl) here } in
       acts_so others types constants first allocator ks s w h i success true (slice_set ks a (RegisterType.Reference (Class.Name k) T)) (set_register (state_then n) a (Register.Reference path))
-      (with_place (with_image w new) a place) (row ∙ answer_is types constants ks (state_then n) known_now success a (Register.Reference path) free) blocks m.long m.front refl
+      (with_place (with_image w new) a place) (row ∙ answer_is types constants ks (state_then n) known_now success a (Register.Reference path) free) changes m.long m.front refl
       (shows_reference others types constants first allocator ks (state_then n) (with_image w new) shows.0 a (Class.Name k) T path place within free by typed_so refl
       (subst (λ p. LeadsInImage p path place) (sym shows.1) led))
       (frame_reference others types constants first allocator ks (state_then n) (with_image w new) shows.0 a _ _ _ _ _ _ _ _ _ _
       (subst (λ p. Frame ks w (with_image w new) h.pictured p) (sym shows.1) (record { frozen = comes.stays; unknown = unknown_same ks s (state_then n) w new refl })))
 
   pub not_made : (n code : ℕ) → code ≡ answer_number bad_alloc → IsDenied allocator w.image s.types bytes T h.pictured.picture h.pictured.held.index_blocks new n
-      → outcome constants i false s ≡ fail a bad_alloc s → ChangesBlocks constants i h.pictured bad_alloc new
+      → outcome constants i false s ≡ fail a bad_alloc s → ChangesImage constants i h.pictured bad_alloc new
       → Acts others types constants first allocator i bad_alloc (slice_set ks a RegisterType.Int) s w (with_number (with_image w new) a (pos code))
-  not_made n code code_is d row blocks =
+  not_made n code code_is d row changes =
       let paths = all_paths w.image new h.pictured.picture h.pictured.held [] (λ x some gone. d.kept x some) (λ x. omega arith) in
       let stays : Stays h.pictured new = picture_stays h.pictured new d.held d.counted paths
       (all_frozen w.image new h.pictured.picture h.pictured.held [] (λ x some gone. d.kept x some) (λ x. omega arith)) in
@@ -291,18 +295,18 @@ module _ {others : List Root} {types : Table} {constants : List Constant} {first
       let x : Register = Register.Int (pos 2) in
       subst (λ m. Acts others types constants first allocator i bad_alloc (slice_set ks a RegisterType.Int) s w (with_number (with_image w new) a (pos m))) (sym code_is)
       (acts_so others types constants first allocator ks s w h i bad_alloc false (slice_set ks a RegisterType.Int) (set_register s a x) (with_number (with_image w new) a (pos 2))
-      (row ∙ answer_is types constants ks s h.as_known bad_alloc a x free) blocks d.long d.front refl
+      (row ∙ answer_is types constants ks s h.as_known bad_alloc a x free) changes d.long d.front refl
       (shows_number others types constants first allocator ks s (with_image w new) shows.0 a (pos 2) within free)
       (frame_number others types constants first allocator ks s (with_image w new) shows.0 a _ _ _
       (subst (λ p. Frame ks w (with_image w new) h.pictured p) (sym shows.1) (record { frozen = stays.stays; unknown = unknown_same ks s s w new refl }))))
 
   -- register a gets an error code, and nothing else changes
-  pub refused : (answer : Answer) (code : ℕ) → code ≡ answer_number answer → new ≡ w.image → outcome constants i true s ≡ fail a answer s → ChangesBlocks constants i h.pictured answer w.image
+  pub refused : (answer : Answer) (code : ℕ) → code ≡ answer_number answer → new ≡ w.image → outcome constants i true s ≡ fail a answer s → ChangesImage constants i h.pictured answer w.image
       → Acts others types constants first allocator i answer (slice_set ks a RegisterType.Int) s w (with_number (with_image w new) a (pos code))
-  refused answer code code_is same row blocks =
+  refused answer code code_is same row changes =
       subst (λ m. Acts others types constants first allocator i answer (slice_set ks a RegisterType.Int) s w (with_number (with_image w new) a (pos m))) (sym code_is)
       (subst (λ z. Acts others types constants first allocator i answer (slice_set ks a RegisterType.Int) s w (with_number (with_image w z) a (pos (answer_number answer)))) (sym same)
-      (refuses_with others types constants first allocator ks s w h i answer true a within free row blocks))
+      (refuses_with others types constants first allocator ks s w h i answer true a within free row changes))
 
 -- ---- an object is destroyed
 
@@ -322,9 +326,9 @@ module _ {others : List Root} {types : Table} {constants : List Constant} {first
   its_class o e = subst (InClass constants class) (sym e.1) by
 
   pub lost : (new : List ℕ) → IsLost allocator w.image s.types bytes T h.pictured.picture h.pictured.held.index_blocks new
-      → outcome constants i true s ≡ give_count a 1 state_after → ChangesBlocks constants i h.pictured success new
+      → outcome constants i true s ≡ give_count a 1 state_after → ChangesImage constants i h.pictured success new
       → Acts others types constants first allocator i success (slice_set (ended (sharing class) ks) a RegisterType.Int) s w (with_number (with_image w new) a (pos 1))
-  lost new m row blocks =
+  lost new m row changes =
       let one = one_each constants right.each right.different in
       let picture = h.pictured.picture in
       let held = h.pictured.held in
@@ -339,21 +343,21 @@ module _ {others : List Root} {types : Table} {constants : List Constant} {first
       let shows = all_but_class h one class paths_end its_class (λ r z. z) state_after new goes.later goes.keeps m.front known_now refl
       (record { table = refl; input = refl; read = refl; taken = refl; types = refl; state_input = refl; state_output = refl }) in
       acts_so others types constants first allocator ks s w h i success true (slice_set (ended (sharing class) ks) a RegisterType.Int) (set_register state_after a (Register.Int (pos 1))) (with_number (with_image w new) a (pos 1))
-      (row ∙ answer_is types constants (ended (sharing class) ks) state_after known_now success a (Register.Int (pos 1)) free) blocks m.long m.front refl
+      (row ∙ answer_is types constants (ended (sharing class) ks) state_after known_now success a (Register.Int (pos 1)) free) changes m.long m.front refl
       (shows_number others types constants first allocator (ended (sharing class) ks) state_after (with_image w new) shows a (pos 1) within free)
       (frame_number others types constants first allocator _ state_after (with_image w new) shows a _ _ _ (frame_but_class h one class paths_end _ _ state_after new goes.later goes.keeps m.front known_now _ _ goes.stays))
 
   -- if there is no such object, KILL gives 0, and the references end nevertheless
-  pub not_lost : outcome constants i true s ≡ give_count a 0 s → ChangesBlocks constants i h.pictured success w.image
+  pub not_lost : outcome constants i true s ≡ give_count a 0 s → ChangesImage constants i h.pictured success w.image
       → Acts others types constants first allocator i success (slice_set (ended (sharing class) ks) a RegisterType.Int) s w (with_number w a (pos 0))
-  not_lost row blocks =
+  not_lost row changes =
       let one = one_each constants right.each right.different in
       let known_now = agrees_ended types constants one (sharing class) ks s h.as_known in
       let keeps : KeepsRoots {old = w.image} {new = w.image} h.pictured h.pictured paths_end = record { table = refl; begins = λ o root item e. inr (e, λ j path target lt led. led) } in
       let shows = all_but_class h one class paths_end its_class (λ r z. z) s w.image h.pictured keeps refl known_now refl
       (record { table = refl; input = refl; read = refl; taken = refl; types = refl; state_input = refl; state_output = refl }) in
       acts_so others types constants first allocator ks s w h i success true (slice_set (ended (sharing class) ks) a RegisterType.Int) (set_register s a (Register.Int (pos 0))) (with_number w a (pos 0))
-      (row ∙ answer_is types constants (ended (sharing class) ks) s known_now success a (Register.Int (pos 0)) free) blocks refl refl refl
+      (row ∙ answer_is types constants (ended (sharing class) ks) s known_now success a (Register.Int (pos 0)) free) changes refl refl refl
       (shows_number others types constants first allocator (ended (sharing class) ks) s w shows a (pos 0) within free)
       (frame_number others types constants first allocator _ s w shows a _ _ _
       (frame_but_class h one class paths_end _ _ s w.image h.pictured keeps refl known_now _ _ (frozen_same_image w.image h.pictured.picture.table h.pictured.picture.frozen)))
@@ -437,7 +441,7 @@ module _ (allocator : ℕ) (constants : List Constant) (role : Role) (a b c : �
       let asked = asks_are Operation.Make s m.values n.name_is (ap (λ (o : Option ℤ). o >>= object_count) index ∙ count_is) none n.type_is in
       let blocks = grants_spent constants i h.pictured allocator h.allocator_is (object_asks w.image s.types T m.values bytes) asked new [] refl (live new) its.left refl in
       subst (λ z. Acts others types constants first allocator i success z s w (with_place (with_image w new) a (record { at = at; type = T }))) (sym (g.1 ∙ ap (λ n. slice_set ks a (RegisterType.Reference (Class.Name k) n)) n.type_is))
-      (made right h a k T bytes n.by n.below valid.a g.0 i new m.values at m.some m.missing its row blocks))
+      (made right h a k T bytes n.by n.below valid.a g.0 i new m.values at m.some m.missing its row (changed its.next blocks)))
 
   -- the count was wrong, there was such an object, or there was no room
   abbrev pub RefusesToMake : (code : ℕ) (picture : Picture) (index_blocks new : List ℕ) → Type 0
@@ -468,13 +472,13 @@ module _ (allocator : ℕ) (constants : List Constant) (role : Role) (a b c : �
               out_of_range,
               (λ q. cc),
               bad_is out_of_range (refused right h a k T bytes n.by n.below valid.a g.0 i new out_of_range code f.0 f.1
-                  (row true ∙ ap (λ o. after o true) (uncounted wanted none)) refl),
+                  (row true ∙ ap (λ o. after o true) (uncounted wanted none)) (unchanged refl refl)),
             )
         | inr (inl f) ↦ (
           already_exists,
           λ q. cc,
           bad_is already_exists (refused right h a k T bytes n.by n.below valid.a g.0 i new already_exists code f.4 f.5
-              (row true ∙ ap (λ o. after o true) (ap object_count f.1 ∙ counted f.0 f.2 f.3) ∙ ap (λ (o : Option Object). add_object a bytes T o f.0 true s) (n.object ∙ ap (option_map object_of) f.6.1)) refl),
+              (row true ∙ ap (λ o. after o true) (ap object_count f.1 ∙ counted f.0 f.2 f.3) ∙ ap (λ (o : Option Object). add_object a bytes T o f.0 true s) (n.object ∙ ap (option_map object_of) f.6.1)) (unchanged refl refl)),
         )
         | inr (inr f) ↦
             let none : s.names bytes ≡ None = n.object ∙ ap (option_map object_of) f.5 in
@@ -490,7 +494,7 @@ module _ (allocator : ℕ) (constants : List Constant) (role : Role) (a b c : �
               bad_alloc,
               (λ q. cc),
               bad_is bad_alloc (not_made right h a k T bytes n.by n.below valid.a g.0 i new f.0 code f.4 its
-                  (row false ∙ ap (λ o. after o false) count_is ∙ ap (λ (o : Option Object). add_object a bytes T o f.0 false s) none) blocks),
+                  (row false ∙ ap (λ o. after o false) count_is ∙ ap (λ (o : Option Object). add_object a bytes T o f.0 false s) none) (changed its.next blocks)),
             )
       ])
 
@@ -546,7 +550,7 @@ module _ (allocator : ℕ) (constants : List Constant) (role : Role) (a b c : �
             subst (λ z. Acts others types constants first allocator i success z s w (with_place (with_image w new) a place)) (sym good_is)
             (subst (λ z. Acts others types constants first allocator i success (slice_set ks a (RegisterType.Reference (Class.Name k) T)) s w (with_place (with_image w z) a place)) (sym f.4)
             (acts_so others types constants first allocator ks s w h i success true (slice_set ks a (RegisterType.Reference (Class.Name k) T)) (set_register s a (Register.Reference path)) (with_place w a place) here_row
-            (quiet constants i h.pictured (asks_none Operation.FindOrMake s 1 (object_of root) n.name_is refl object) refl) refl refl refl
+            (unchanged refl (quiet constants i h.pictured (asks_none Operation.FindOrMake s 1 (object_of root) n.name_is refl object) refl)) refl refl refl
             (shows_reference others types constants first allocator ks s w h a (Class.Name k) T path place valid.a g.0 n.by typed_so refl led)
             (frame_reference others types constants first allocator ks s w h a _ _ _ _ _ _ _ _ _ _ (frame_same _ _ _))))
         | inr f ↦
@@ -555,7 +559,7 @@ module _ (allocator : ℕ) (constants : List Constant) (role : Role) (a b c : �
             let asked = asks_are Operation.FindOrMake s 1 n.name_is refl none n.type_is in
             let blocks = grants_spent constants i h.pictured allocator h.allocator_is (object_asks w.image s.types T 1 bytes) asked new [] refl (live new) its.left refl in
             subst (λ z. Acts others types constants first allocator i success z s w (with_place (with_image w new) a place)) (sym good_is)
-            (made right h a k T bytes n.by n.below valid.a g.0 i new 1 at (omega arith) f.0 its (row ∙ ap (λ (o : Option Object). find_or_add a bytes T o true s) none) blocks)
+            (made right h a k T bytes n.by n.below valid.a g.0 i new 1 at (omega arith) f.0 its (row ∙ ap (λ (o : Option Object). find_or_add a bytes T o true s) none) (changed its.next blocks))
       ])
 
   -- it has another type, there was no room, or the bytes are no name
@@ -584,7 +588,7 @@ module _ (allocator : ℕ) (constants : List Constant) (role : Role) (a b c : �
           λ q. cc,
           bad_is other_type (refused right h a k T bytes n.by n.below valid.a g.0 i new other_type code f.0 f.1
               (row true ∙ ap (λ (o : Option Object). find_or_add a bytes T o true s) (n.object ∙ ap (option_map object_of) f.2.1)
-              ∙ ap (λ z. if z then refer a (path_from (Origin.Name bytes 0)) s else fail a other_type s) f.2.2) refl),
+              ∙ ap (λ z. if z then refer a (path_from (Origin.Name bytes 0)) s else fail a other_type s) f.2.2) (unchanged refl refl)),
         )
         | inr (inr f) ↦
             let none : s.names bytes ≡ None = n.object ∙ ap (option_map object_of) f.1 in
@@ -597,7 +601,7 @@ module _ (allocator : ℕ) (constants : List Constant) (role : Role) (a b c : �
             } in (
               bad_alloc,
               (λ q. cc),
-              bad_is bad_alloc (not_made right h a k T bytes n.by n.below valid.a g.0 i new 1 code f.0 its (row false ∙ ap (λ (o : Option Object). find_or_add a bytes T o false s) none) blocks),
+              bad_is bad_alloc (not_made right h a k T bytes n.by n.below valid.a g.0 i new 1 code f.0 its (row false ∙ ap (λ (o : Option Object). find_or_add a bytes T o false s) none) (changed its.next blocks)),
             )
       ])
 
@@ -643,7 +647,7 @@ module _ (allocator : ℕ) (constants : List Constant) (role : Role) (a b c : �
         granted = refl;
         left = m.left;
       } in
-      subst (λ z. Acts others types constants first allocator i success z s w (with_number (with_image w new) a (pos 1))) (sym g.1) (lost right h a k T bytes n.by valid.a g.0 i new m row blocks))
+      subst (λ z. Acts others types constants first allocator i success z s w (with_number (with_image w new) a (pos 1))) (sym g.1) (lost right h a k T bytes n.by valid.a g.0 i new m row (changed m.next blocks)))
 
   -- if no object of the name has the type, KILL gives 0
   pub kill_none_acts : OfHeld allocator w (λ p held. killed (root_named p.names bytes) T ≡ None) → ActsAs allocator constants role (on Operation.Kill) w (with_number w a (pos 0))
@@ -670,4 +674,4 @@ module _ (allocator : ℕ) (constants : List Constant) (role : Role) (a b c : �
         granted = refl;
         left = refl;
       } in
-      subst (λ z. Acts others types constants first allocator i success z s w (with_number w a (pos 0))) (sym g.1) (not_lost right h a k T bytes n.by valid.a g.0 i (row ∙ killed_row) blocks))
+      subst (λ z. Acts others types constants first allocator i success z s w (with_number w a (pos 0))) (sym g.1) (not_lost right h a k T bytes n.by valid.a g.0 i (row ∙ killed_row) (unchanged refl blocks)))

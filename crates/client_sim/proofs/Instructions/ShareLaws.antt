@@ -23,7 +23,7 @@ use Rattle.client_spec.specs.Machine.{◌>>=◌, Path, Register, State, register
 use Rattle.client_spec.specs.Answer.{success, path_in, path_of, path_form, shared_type, provided, proceed}
 use Rattle.client_spec.specs.Effect.{outcome, effect}
 use Rattle.client_spec.specs.Grammar.{IsInstruction}
-use Rattle.client_spec.specs.Asks.{LedTo, Renames, ChangesBlocks}
+use Rattle.client_spec.specs.Asks.{LedTo, Renames}
 use Rattle.client_spec.specs.Bare.{bare, bare_one}
 use Rattle.client_spec.specs.Meaning.{IsAsKnown}
 use Rattle.client_spec.specs.Pictures.{Pictures, meaning_in, value_through, PicturesTrees, trees_of}
@@ -43,10 +43,11 @@ use Rattle.client_spec.proofs.Unfolded.PictureTreeLaws.{all_named, trees_one, pi
 use Rattle.client_spec.proofs.Spelling.ConstantNameLaws.{one_each}
 use Rattle.client_spec.proofs.Unfolded.UnfoldedStateLaws.{register_same, value_same, type_same, put_same}
 use Rattle.client_spec.proofs.TypedStates.ValueLaws.{bind_some}
-use Rattle.client_sim.specs.Shows.{World, place_in, Shows}
+use Rattle.client_sim.specs.Shows.{World, place_in, Shows, ChangesImage}
 use Rattle.client_sim.specs.Seeing.{Anchored, Sees, SeenActs}
 use Rattle.client_sim.specs.Sharing.{SharesCell}
 use Rattle.client_sim.specs.Acting.{AreDeclarationsRight, ActsAs}
+use Rattle.client_sim.proofs.ImageChangeLaws.{changed_at_place}
 use Rattle.client_sim.proofs.Places.ValueChangeLaws.{shows_changed, frame_changed}
 use Rattle.client_sim.proofs.FrameLaws.{Frame}
 use Rattle.client_sim.proofs.Frozen.FrozenFrameLaws.{stay_named}
@@ -363,9 +364,9 @@ module _ (allocator : ℕ) (constants : List Constant) (role : Role) (a b c : �
         gives_are = refl;
       }
 
-      blocks : ChangesBlocks constants share pictured success new
-      blocks = gives_back constants share pictured new refl gives (place_in w b, Form.shared f.held, led_to, renames)
-          (given_back_shared (names_in l.value) (names_in value) (frozen h) s.clears)
+      changes : ChangesImage constants share pictured success new
+      changes = changed_at_place s.clears.changes.back_kept refl (gives_back constants share pictured new refl gives (place_in w b, Form.shared f.held, led_to, renames)
+          (given_back_shared (names_in l.value) (names_in value) (frozen h) s.clears))
 
       acts : SeenActs others types constants first allocator share success after t w world
       acts = record {
@@ -373,7 +374,7 @@ module _ (allocator : ℕ) (constants : List Constant) (role : Role) (a b c : �
         row = inl (true, row);
         before = record { plain = h.plain; pictured = pictured; trees = h.trees };
         after = record { plain = state; pictured = shows.pictured; trees = trees };
-        blocks = blocks;
+        changes = changes;
         length_kept = s.clears.changes.length_kept;
         header_kept = s.clears.changes.front_kept;
         sees = sees;

@@ -34,6 +34,7 @@ use Rattle.client_spec.proofs.TypedStates.StateLaws.{not_owner}
 use Rattle.client_spec.proofs.TypedStates.ValueLaws.{length_set}
 use Rattle.client_sim.specs.Shows.{World, place_in, owns_in, Acts}
 use Rattle.client_sim.specs.Acting.{ActsAs, IsRefusedAs, ActsPlainly}
+use Rattle.client_sim.proofs.ImageChangeLaws.{changed_at_place, unchanged}
 use Rattle.client_sim.proofs.Frozen.UnfoldedOperationLaws.{lifted_acts, lifted_refused}
 use Rattle.client_sim.proofs.UnchangedImageLaws.{set_there, set_beside, not_given}
 use Rattle.client_sim.proofs.Instructions.NumberLaws.{unowned}
@@ -161,7 +162,7 @@ module _ (allocator : ℕ) (constants : List Constant) (role : Role) (a b c : �
             take_row s l.path r.form U l.value (Some v) r.path_is r.path_form_is r.is l.there (ap content_in some.1) ∙ answer_is types constants after after_put known_then success a owner o.0 in
             let blocks : GrantsAsks constants take h.pictured new = record { asks = []; asked = refl; gives = []; returned = refl; blocks = live w.image; granted = refl; left = changes.live_is } in
             subst (λ n. Acts others types constants first allocator take success (slice_set after a (RegisterType.Owner U)) s w (owner_then at n)) (sym t.0)
-            (acts_so others types constants first allocator ks s w h take success true (slice_set after a (RegisterType.Owner U)) state w' row blocks changes.length_kept changes.front_kept refl shows
+            (acts_so others types constants first allocator ks s w h take success true (slice_set after a (RegisterType.Owner U)) state w' row (changed_at_place changes.back_kept refl blocks) changes.length_kept changes.front_kept refl shows
             (frame_moved one h b r.class r.type r.known_as l Empty fits new a owner (λ o. ⊥) moved.0.to _ _ _ _ _ _ _ _ _ _ _ _ _ _
             (λ n e free. not_given after a n (RegisterType.Owner U) (let m = valid.a in omega (arith, sixteen, m)) (λ f. cc) e) moved.0.stays))
       ])
@@ -188,7 +189,7 @@ module _ (allocator : ℕ) (constants : List Constant) (role : Role) (a b c : �
               subst (λ k. Acts others types constants first allocator take null_or_none k s w (with_code w new a code)) (sym o.2)
                   (subst (λ (owns : List Bool). Acts others types constants first allocator take null_or_none (slice_set after a RegisterType.Int) s w
                   (record w { image = new; owns = owns; numbers = slice_set w.numbers a (pos code) })) (sym (none_set w.owns a none))
-                  (code_acts one h take r null_or_none true new code t.0 t.1 valid.a o.0 row refl)),
+                  (code_acts one h take r null_or_none true new code t.0 t.1 valid.a o.0 row (unchanged refl refl))),
             )
         | inr some ↦ absurd (told.1 some.0 (subst (λ x. Stands allocator w.image w.table (place_in w b) x r.its.found.blocks) some.1 r.its.stands))
       ])

@@ -2,7 +2,8 @@
 use Rattle.std.proofs.Common.{◌≡◌, ℕ, ◌<◌, ◌⊎◌, inl, inr, ℤ, pos, List, [], ◌∷◌, ◌++◌, length, Bool, true, false, Option, Some, None, refl, sym, ◌∙◌, ap, subst, arith}
 use Rattle.std.specs.Prelude.{Ok, ◌%◌, nat_abs, is_some, if◌then◌else◌, slice_set, option_map}
 use Rattle.std.proofs.lemmas.List.{length-map}
-use Rattle.seg_spec.specs.Header.{KeepsFront}
+use Rattle.seg_spec.specs.Bytes.{word}
+use Rattle.seg_spec.specs.Header.{next_word, KeepsFront}
 use Rattle.seg_spec.specs.Types.{Form, Table, form_at, size}
 use Rattle.seg_spec.specs.Value.{Value, nil, cons, copies, default_of}
 use Rattle.seg_spec.specs.Heap.{live}
@@ -22,7 +23,7 @@ use Rattle.client_spec.specs.Syntax.{Constant, Instruction}
 use Rattle.client_spec.specs.Machine.{Origin, Path, Register, State, with_unique, set_register}
 use Rattle.client_spec.specs.Answer.{Answer, Outcome, success, bad_alloc, already_exists, answer_number, path_from, refer, fail, give_count}
 use Rattle.client_spec.specs.Effect.{outcome, effect, add_unique, truth}
-use Rattle.client_spec.specs.Asks.{GrantsAsks, Denies, ChangesBlocks, Asks, Returns, RootGoes, if_absent}
+use Rattle.client_spec.specs.Asks.{GrantsAsks, Denies, Asks, Returns, RootGoes, if_absent}
 use Rattle.client_spec.specs.Grammar.{IsNumber, IsInstruction}
 use Rattle.client_spec.specs.Shape.{HasShape}
 use Rattle.client_spec.specs.Typed.{Class, RegisterType, RegisterTypes, known, is_owner, sharing, ended, without_class, opens, rule}
@@ -33,8 +34,9 @@ use Rattle.client_spec.proofs.TypedStates.KnowledgeChangeLaws.{agrees_umake, agr
 use Rattle.client_spec.proofs.TypedStates.DefaultLaws.{default_has}
 use Rattle.client_spec.proofs.Rows.RuleRowLaws.{opens_ok, answer_is}
 use Rattle.client_spec.proofs.Spelling.ConstantNameLaws.{one_each}
-use Rattle.client_sim.specs.Shows.{World, Shows, Acts}
+use Rattle.client_sim.specs.Shows.{World, Shows, Acts, ChangesImage}
 use Rattle.client_sim.specs.Acting.{AreDeclarationsRight, ActsAs, IsRefusedAs}
+use Rattle.client_sim.proofs.ImageChangeLaws.{changed, unchanged}
 use Rattle.client_sim.proofs.Frozen.UnfoldedOperationLaws.{lifted_acts, lifted_refused}
 use Rattle.client_sim.proofs.Places.LeafPutLaws.{with_image}
 use Rattle.client_sim.proofs.Instructions.NumberLaws.{with_number, quiet, gives_both}
@@ -178,7 +180,7 @@ module _ (allocator : ℕ) (constants : List Constant) (role : Role) (a b c : �
 
     -- the machine does a row that makes a unique object
     made : (operation : Operation) (at : ℕ) → JoinsUniques allocator w.image new w.table h.pictured.picture T at → (asked : Asks constants (of operation) h.pictured (asks_one w.table)) → Returns constants (of operation) h.pictured []
-        → (GrantsAsks constants (of operation) h.pictured new → ChangesBlocks constants (of operation) h.pictured success new)
+        → (GrantsAsks constants (of operation) h.pictured new → word new next_word ≡ word w.image next_word → ChangesImage constants (of operation) h.pictured success new)
         → outcome constants (of operation) true s ≡ add_unique a T true s
         → Acts others types constants first allocator (of operation) success good s w (with_place (with_image w new) a (record { at = at; type = T }))
     made operation at call asked returned changes row =
@@ -199,12 +201,12 @@ module _ (allocator : ℕ) (constants : List Constant) (role : Role) (a b c : �
         let blocks : GrantsAsks constants i h.pictured new = grants_spent constants i h.pictured allocator h.allocator_is (asks_one w.table) asked new [] returned (live new) call.spends refl in
         subst (λ k. Acts others types constants first allocator i success k s w (with_place (with_image w new) a place)) (sym good_is)
         (acts_so others types constants first allocator ks s w h i success true (ks_then ks) (set_register s' a (Register.Reference path_is)) (with_place (with_image w new) a place)
-        (row ∙ answer_is types constants ks s' more.as_known success a (Register.Reference path_is) its.0) (changes blocks) call.becomes.length_kept call.becomes.front_kept refl shows
+        (row ∙ answer_is types constants ks s' more.as_known success a (Register.Reference path_is) its.0) (changes blocks call.becomes.next_kept) call.becomes.length_kept call.becomes.front_kept refl shows
         (frame_reference others types constants first allocator ks s' (with_image w new) more a _ _ _ _ _ _ _ _ _ _ (frame_more one h T d fits none root new come call.becomes.front_kept)))
 
     -- the machine does a row that finds the unique object
     found : (operation : Operation) (at : ℕ) → begins_unique h.pictured.picture T ≡ Some at → new ≡ w.image → ((v : Value) → s.uniques T ≡ Some v → GrantsAsks constants (of operation) h.pictured w.image)
-        → (GrantsAsks constants (of operation) h.pictured w.image → ChangesBlocks constants (of operation) h.pictured success w.image)
+        → (GrantsAsks constants (of operation) h.pictured w.image → ChangesImage constants (of operation) h.pictured success w.image)
         → ((v : Value) → s.uniques T ≡ Some v → outcome constants (of operation) true s ≡ refer a path_is s)
         → Acts others types constants first allocator (of operation) success good s w (with_place (with_image w new) a (record { at = at; type = T }))
     found operation at begins same granted changes row =
@@ -219,15 +221,15 @@ module _ (allocator : ℕ) (constants : List Constant) (role : Role) (a b c : �
         (frame_reference others types constants first allocator ks s w h a _ _ _ _ _ _ _ _ _ _ (frame_same _ _ _))))
 
     -- the machine does a row that fails
-    refused : (operation : Operation) (answer : Answer) (room : Bool) (code : ℕ) → code ≡ answer_number answer → new ≡ w.image → ChangesBlocks constants (of operation) h.pictured answer w.image
+    refused : (operation : Operation) (answer : Answer) (room : Bool) (code : ℕ) → code ≡ answer_number answer → new ≡ w.image → ChangesImage constants (of operation) h.pictured answer w.image
         → outcome constants (of operation) room s ≡ fail a answer s
         → Acts others types constants first allocator (of operation) answer bad s w (with_number (with_image w new) a (pos code))
-    refused operation answer room code code_is same blocks row =
+    refused operation answer room code code_is same changes row =
         let i = of operation in
         subst (λ k. Acts others types constants first allocator i answer k s w (with_number (with_image w new) a (pos code))) (sym its.2)
         (subst (λ (image : List ℕ). Acts others types constants first allocator i answer (slice_set ks a RegisterType.Int) s w (with_number (with_image w image) a (pos code))) (sym same)
         (subst (λ (n : ℕ). Acts others types constants first allocator i answer (slice_set ks a RegisterType.Int) s w (with_number w a (pos n))) (sym code_is)
-        (refuses_with others types constants first allocator ks s w h i answer room a within its.0 row blocks)))
+        (refuses_with others types constants first allocator ks s w h i answer room a within its.0 row changes)))
 
     -- if there is a unique object, none is requested
     asks_none : (v : Value) → s.uniques T ≡ Some v → [] ≡ if_absent (s.uniques (nat_abs number)) (block_for (size s.types (nat_abs number)) ∷ [])
@@ -260,7 +262,7 @@ module _ (allocator : ℕ) (constants : List Constant) (role : Role) (a b c : �
   make_unique_acts at says = lifted_acts refl (λ types others first ks good bad s right valid e h.
       let call = said right valid.number valid.a e h {P = λ p. JoinsUniques allocator w.image new w.table p T at} says in
       let none = none_at right valid.number valid.a e h call.none in
-      made right valid.number valid.a e h Operation.MakeUnique at call (asks_some right valid.number valid.a e h none) refl (λ g. g)
+      made right valid.number valid.a e h Operation.MakeUnique at call (asks_some right valid.number valid.a e h none) refl (λ g next. changed next g)
       (row_none right valid.number valid.a e h (λ n. fail a already_exists s) (λ n. add_unique a n true s) none))
 
   -- UMAKE fails if there is one, or no room
@@ -273,14 +275,14 @@ module _ (allocator : ℕ) (constants : List Constant) (role : Role) (a b c : �
             let u = unique_found h T r.1.0 r.1.1 in (
               already_exists,
               λ f. cc,
-              refused right valid.number valid.a e h Operation.MakeUnique already_exists true code r.0 r.2 refl
+              refused right valid.number valid.a e h Operation.MakeUnique already_exists true code r.0 r.2 (unchanged refl refl)
                   (row_there right valid.number valid.a e h (λ n. fail a already_exists s) (λ n. add_unique a n true s) u.plain.value u.there),
             )
         | inr r ↦ (
           bad_alloc,
           λ f. cc,
           refused right valid.number valid.a e h Operation.MakeUnique bad_alloc false code r.0 r.2.same
-              (no_room right valid.number valid.a e h Operation.MakeUnique (asks_some right valid.number valid.a e h r.1) r.2)
+              (unchanged refl (no_room right valid.number valid.a e h Operation.MakeUnique (asks_some right valid.number valid.a e h r.1) r.2))
               (row_none right valid.number valid.a e h (λ n. fail a already_exists s) (λ n. add_unique a n false s) r.1),
         )
       ])
@@ -292,11 +294,11 @@ module _ (allocator : ℕ) (constants : List Constant) (role : Role) (a b c : �
   find_or_make_unique_acts at says = lifted_acts refl (λ types others first ks good bad s right valid e h.
       let i = of Operation.FindOrMakeUnique in
       elim (said right valid.number valid.a e h {P = IsFoundOrJoins allocator w.image new w.table T at} says) [
-        | inl r ↦ found right valid.number valid.a e h Operation.FindOrMakeUnique at r.0 r.1 (λ v there. quiet constants i h.pictured (asks_none right valid.number valid.a e h v there) refl) (λ g. g)
+        | inl r ↦ found right valid.number valid.a e h Operation.FindOrMakeUnique at r.0 r.1 (λ v there. quiet constants i h.pictured (asks_none right valid.number valid.a e h v there) refl) (unchanged refl)
             (λ v there. row_there right valid.number valid.a e h (λ n. refer a (path_from (Origin.Unique n)) s) (λ n. add_unique a n true s) v there)
         | inr call ↦
             let none = none_at right valid.number valid.a e h call.none in
-            made right valid.number valid.a e h Operation.FindOrMakeUnique at call (asks_some right valid.number valid.a e h none) refl (λ g. g)
+            made right valid.number valid.a e h Operation.FindOrMakeUnique at call (asks_some right valid.number valid.a e h none) refl (λ g next. changed next g)
             (row_none right valid.number valid.a e h (λ n. refer a (path_from (Origin.Unique n)) s) (λ n. add_unique a n true s) none)
       ])
 
@@ -308,7 +310,7 @@ module _ (allocator : ℕ) (constants : List Constant) (role : Role) (a b c : �
         bad_alloc,
         λ f. cc,
         refused right valid.number valid.a e h Operation.FindOrMakeUnique bad_alloc false code r.0 r.2.same
-            (no_room right valid.number valid.a e h Operation.FindOrMakeUnique (asks_some right valid.number valid.a e h r.1) r.2)
+            (unchanged refl (no_room right valid.number valid.a e h Operation.FindOrMakeUnique (asks_some right valid.number valid.a e h r.1) r.2))
             (row_none right valid.number valid.a e h (λ n. refer a (path_from (Origin.Unique n)) s) (λ n. add_unique a n false s) r.1),
       ))
 
@@ -359,7 +361,7 @@ module _ (allocator : ℕ) (constants : List Constant) (role : Role) (a b c : �
           (c.blocks, subst (λ (t : Table). HoldsRoot w.image t call.root c.blocks) h.table_is c.holds_it, (shared, gone_with h new call.root refl c, refl)) in
           let blocks : GrantsAsks constants i h.pictured new = record { asks = []; asked = refl; gives = c.blocks ++ shared; returned = returned; blocks = live w.image; granted = refl; left = c.live_is } in
           acts_so others types constants first allocator ks s w h i success true (slice_set (ended (Class.Unique T) ks) a RegisterType.Int) (set_register s' a (Register.Int (pos 1))) (with_number (with_image w new) a (pos 1))
-          (row (Some u.plain.value) u.there ∙ answer_is types constants (ended (Class.Unique T) ks) s' less.as_known success a (Register.Int (pos 1)) free) blocks c.becomes.length_kept c.becomes.front_kept refl
+          (row (Some u.plain.value) u.there ∙ answer_is types constants (ended (Class.Unique T) ks) s' less.as_known success a (Register.Int (pos 1)) free) (changed c.becomes.next_kept blocks) c.becomes.length_kept c.becomes.front_kept refl
           (shows_number others types constants first allocator (ended (Class.Unique T) ks) s' (with_image w new) less a (pos 1) within free)
           (frame_number others types constants first allocator _ s' (with_image w new) less a _ _ _ (frame_less one h T new goes c.becomes.front_kept))
       by types others first ks s right within h one operand free row false call =
@@ -370,6 +372,6 @@ module _ (allocator : ℕ) (constants : List Constant) (role : Role) (a b c : �
           subst (λ (o : Option Root). RootGoes constants i h.pictured o []) (sym (ap (root_of_type picture.uniques) operand ∙ none_begins (root_of_type picture.uniques T) call.0)) refl in
           subst (λ (image : List ℕ). Acts others types constants first allocator i success (slice_set (ended (Class.Unique T) ks) a RegisterType.Int) s w (with_number (with_image w image) a (pos 0))) (sym call.1)
           (acts_so others types constants first allocator ks s w h i success true (slice_set (ended (Class.Unique T) ks) a RegisterType.Int) (set_register s a (Register.Int (pos 0))) (with_number w a (pos 0))
-          (row None (none_unique h T call.0) ∙ answer_is types constants (ended (Class.Unique T) ks) s still.as_known success a (Register.Int (pos 0)) free) (quiet constants i h.pictured refl returned) refl refl refl
+          (row None (none_unique h T call.0) ∙ answer_is types constants (ended (Class.Unique T) ks) s still.as_known success a (Register.Int (pos 0)) free) (unchanged refl (quiet constants i h.pictured refl returned)) refl refl refl
           (shows_number others types constants first allocator (ended (Class.Unique T) ks) s w still a (pos 0) within free)
           (frame_number others types constants first allocator _ s w still a _ _ _ (frame_ended one h (Class.Unique T))))
