@@ -1,4 +1,4 @@
-ghost use Rattle.std.specs.Prelude.{◌≡◌, ℕ, ◌+◌, ◌-◌, ◌*◌, ◌/◌, ◌%◌, ◌^◌, ◌<◌, ◌≤◌, [], ◌∷◌, length, List, Some, true, option_map, IfOk, IsOkUnless, MatchResult};
+ghost use Rattle.std.specs.Prelude.{◌≡◌, ℕ, ◌+◌, ◌-◌, ◌*◌, ◌/◌, ◌%◌, ◌^◌, ◌<◌, ◌≤◌, [], ◌∷◌, length, List, Some, true, false, option_map, IfOk, IsOkUnless, MatchResult};
 ghost use Rattle.seg_spec.specs.Bytes.{set_word};
 ghost use Rattle.seg_spec.specs.Block.{has_buffer};
 ghost use Rattle.seg_block.specs.Blocks.{HasRoom, payload_at};
@@ -213,7 +213,8 @@ impl<F: Fit, A: Allocator> Heap<F, A> {
         self.free_block(old);
     }
 
-    /// Cuts the buffer of a string, a vector or a flat map to what it uses. If it is empty, the buffer is freed.
+    /// Cuts the buffer of a string, a vector or a flat map to what it uses. If it is empty, the buffer is freed. Nothing
+    /// changes if the place has another type.
     pub fn shrink_to_fit(&mut self, place: Place)
         ensures window { KeepsHost self.old.window self.new.window }
         ensures types { self.new.types ≡ self.old.types }
@@ -222,6 +223,8 @@ impl<F: Fit, A: Allocator> Heap<F, A> {
             Stands F.allocator self.old.window.bytes self.old.types (place_of place) v blocks →
             (others : List ℕ) × ShrinksPlace self.old.window.bytes self.new.window.bytes
             self.old.types (place_of place) form v blocks others }
+        ensures no_buffer { has_buffer (form_at self.old.types place.type_id) ≡ false →
+            self.new.window ≡ self.old.window }
     {
         let Some(content) = self.content(place.type_id) else {
             return;
