@@ -2,8 +2,6 @@
 pub mod RootPutLaws
 pub mod RootChangeLaws
 pub mod PathPlaceLaws
-pub mod SharedCellLaws
-pub mod AlignmentLaws
 pub mod ReferencePlaceLaws
 pub mod LeafPutLaws
 pub mod NumberPlaceLaws

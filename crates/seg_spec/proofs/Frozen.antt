@@ -17,3 +17,4 @@ pub mod OneMoreObjectLaws
 pub mod SharedCountLaws
 pub mod CellBoundLaws
 pub mod FreezeLaws
+pub mod ValueCellLaws

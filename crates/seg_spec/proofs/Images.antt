@@ -15,3 +15,5 @@ pub mod UnsoundImageLaws
 pub mod RootCallLaws
 pub mod RootPathLaws
 pub mod RootChangeLaws
+pub mod AlignmentLaws
+pub mod ReachedPlaceLaws

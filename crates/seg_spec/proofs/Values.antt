@@ -20,3 +20,4 @@ pub mod BufferMoveLaws
 pub mod BufferGrowthLaws
 pub mod PartClearLaws
 pub mod PathContinuationLaws
+pub mod FormValueLaws

@@ -30,7 +30,7 @@ use Rattle.seg_spec.proofs.Images.RootWriteLaws.{Held-apart}
 use Rattle.client_spec.specs.Machine.{State}
 use Rattle.client_spec.specs.Pictures.{Pictures, meaning_in}
 use Rattle.client_spec.proofs.TypedStates.ValueLaws.{Some_inj}
-use Rattle.client_sim.proofs.Places.AlignmentLaws.{Aligned, AreAligned, leads_aligned}
+use Rattle.seg_spec.proofs.Images.AlignmentLaws.{Aligned, AreAligned, leads_aligned}
 
 -- ---- the object that a cell shares
 

@@ -46,7 +46,7 @@ use Rattle.client_sim.proofs.Frozen.UnfoldedOperationLaws.{lifted_acts, lifted_r
 use Rattle.seg_spec.proofs.Frozen.CountDecreaseLaws.{named_positions}
 use Rattle.seg_spec.proofs.Frozen.PartCountLaws.{SameNames, names_same, names_then, names_cons, default_names}
 use Rattle.client_sim.proofs.Places.PathPlaceLaws.{PlacePut}
-use Rattle.client_sim.proofs.Places.SharedCellLaws.{names_text, names_seq, front_named, back_named, last_named, count_without_last, part_value}
+use Rattle.seg_spec.proofs.Frozen.ValueCellLaws.{names_text, names_seq, front_named, back_named, last_named, count_without_last, part_value}
 use Rattle.client_sim.proofs.Instructions.LengthLaws.{items_held}
 use Rattle.client_sim.proofs.Places.ReferencePlaceLaws.{Led, led, led_put, led_shared, led_cleared}
 use Rattle.client_sim.proofs.Places.LeafPutLaws.{with_image}

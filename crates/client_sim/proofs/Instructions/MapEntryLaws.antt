@@ -41,7 +41,7 @@ use Rattle.client_sim.proofs.Instructions.NumberLaws.{with_number, quiet, gives_
 use Rattle.client_sim.proofs.EffectLaws.{with_place}
 use Rattle.client_sim.proofs.GrantLaws.{grants_asks, gives_back, denies}
 use Rattle.client_sim.proofs.Places.ReferencePlaceLaws.{led_put}
-use Rattle.client_sim.proofs.Places.SharedCellLaws.{names_map, insert_named, remove_named}
+use Rattle.seg_spec.proofs.Frozen.ValueCellLaws.{names_map, insert_named, remove_named}
 use Rattle.client_sim.proofs.Instructions.ItemLaws.{Reaches, reaches, led_to, code_acts, kept_number, kept_reference, part_lost, number_acts, reference_acts, opens_then}
 
 -- DELK and PUTK have these rows

@@ -39,7 +39,7 @@ use Rattle.client_sim.proofs.Frozen.UnfoldedOperationLaws.{lifted_acts}
 use Rattle.client_sim.proofs.FrameLaws.{owner_apart}
 use Rattle.client_sim.proofs.UnchangedImageLaws.{set_there}
 use Rattle.client_sim.proofs.Places.PathPlaceLaws.{shared_here}
-use Rattle.client_sim.proofs.Places.SharedCellLaws.{names_full, names_one}
+use Rattle.seg_spec.proofs.Frozen.ValueCellLaws.{names_full, names_one}
 use Rattle.client_sim.proofs.GrantLaws.{given_back, gives_back}
 use Rattle.client_sim.proofs.EffectLaws.{acts_so}
 use Rattle.client_sim.proofs.Instructions.ItemLaws.{reaches, led_to}

@@ -42,7 +42,7 @@ use Rattle.client_sim.proofs.EffectLaws.{acts_so}
 use Rattle.client_sim.proofs.Instructions.ItemLaws.{reaches, opens_then, shows_ended, code_acts}
 use Rattle.seg_spec.specs.Shared.{names_in, names_each}
 use Rattle.seg_spec.proofs.Frozen.PartCountLaws.{names_same}
-use Rattle.client_sim.proofs.Places.SharedCellLaws.{names_empty, names_full, names_one}
+use Rattle.seg_spec.proofs.Frozen.ValueCellLaws.{names_empty, names_full, names_one}
 use Rattle.client_sim.proofs.Objects.OwnedMoveLaws.{take_moves}
 use Rattle.client_sim.proofs.Objects.MoveWorldLaws.{with_owning, shows_moved, stays_put, frame_moved}
 use Rattle.client_sim.proofs.Objects.OwnedObjectLaws.{root_of, root_of_loose}

@@ -22,7 +22,7 @@ use Rattle.seg_spec.specs.Roots.{roots_before, item_of, with_item, KeepsPaths, K
 use Rattle.seg_spec.proofs.Values.PlaceFrameLaws.{each_left, each_right}
 use Rattle.seg_spec.proofs.Frozen.ReleaseOrderLaws.{none_gone}
 use Rattle.seg_spec.proofs.Frozen.PictureCountLaws.{roots_held}
-use Rattle.seg_spec.proofs.Frozen.PartCountLaws.{owners_after, owners_are, owners_with, SameNames, names_same, names_then}
+use Rattle.seg_spec.proofs.Frozen.PartCountLaws.{frozen_same, owners_after, owners_are, owners_with, SameNames, names_same, names_then}
 use Rattle.seg_spec.proofs.Deallocation.OwnerDestructionLaws.{laid_out_without}
 use Rattle.seg_spec.proofs.Images.RootChangeLaws.{moves}
 use Rattle.seg_spec.proofs.Images.RootLaws.{HoldsRoots-one, IsLaidOut-kept, IsLaidOut-faced}
@@ -35,7 +35,7 @@ use Rattle.client_spec.proofs.TypedStates.StateLaws.{register_set}
 use Rattle.client_sim.proofs.Objects.FirstRootLaws.{each_among}
 use Rattle.client_sim.proofs.Frozen.FrozenPathLaws.{KeepsFrozen, frozen_stay, frozen_go, frozen_of_roots, frozen_left}
 use Rattle.client_sim.proofs.Objects.PictureLaws.{Looks, root_in, looks_of, looks_left, held_by, begins_in, begins_at, begins_left}
-use Rattle.client_sim.proofs.Places.RootPutLaws.{RootFound, root_for, all_others, frozen_same}
+use Rattle.client_sim.proofs.Places.RootPutLaws.{RootFound, root_for, all_others}
 use Rattle.client_sim.proofs.Places.PathPlaceLaws.{PlaceFound, owners_split, item_within}
 use Rattle.client_sim.proofs.Objects.OwnedPictureLaws.{Without, goes, comes}
 use Rattle.client_sim.proofs.Places.RootChangeLaws.{Reorders, order_same, order_then, order_under, order_first, order_back, order_exchanged, frozen_first, frozen_last, from_frozen_first, from_frozen_last}

@@ -35,11 +35,6 @@ first_changed (cons v vs) u f e = ap (λ x. Some (f x)) (let g : v ≡ u = cc in
 abbrev pub all_others : Picture → Listed → List Root → List Root → List Root
 all_others picture which before after = roots_before picture which before ++ owners_after picture which after
 
-pub frozen_same : (picture : Picture) (which : Listed) (roots : List Root) → (with_roots picture which roots).frozen ≡ picture.frozen
-frozen_same picture Listed.by_name roots = refl
-frozen_same picture Listed.by_type roots = refl
-frozen_same picture Listed.loose roots = refl
-
 pub after_split : (picture : Picture) (which : Listed) (after : List Root) → roots_after picture which after ≡ owners_after picture which after ++ frozen_roots picture
 after_split picture Listed.by_name after = simp append_assoc
 after_split picture Listed.by_type after = simp append_assoc

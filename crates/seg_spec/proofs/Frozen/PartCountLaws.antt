@@ -5,15 +5,16 @@ use Rattle.std.specs.List.{AllByRecursion}
 use Rattle.std.proofs.lemmas.List.{append-nil}
 use Rattle.seg_spec.specs.Types.{Form, Table, built}
 use Rattle.seg_spec.specs.Value.{Label, Value, Int, node, Values, nil, cons, nth, count, copies, Selector, index_of, change_nth, value_at, with_value_at, field_defaults, default_by, default_of}
+use Rattle.seg_spec.specs.Heap.{Span}
 use Rattle.seg_spec.specs.Block.{KeepsBlock}
 use Rattle.seg_spec.specs.Reads.{Place, Holds, Leads}
 use Rattle.seg_spec.specs.Index.{Root}
 use Rattle.seg_spec.specs.Frozen.{Frozen, root_of_frozen, blocks_by}
 use Rattle.seg_spec.specs.Sound.{Picture, frozen_roots, roots_of, HoldsRoots, IsLaidOut, IsHeld, times}
-use Rattle.seg_spec.specs.Roots.{Listed, by_name, by_type, loose, roots_in, roots_before, with_roots, item_of, with_item, KeepsPaths, KeepsPathsBeside, StretchesComeApart}
+use Rattle.seg_spec.specs.Roots.{Listed, by_name, by_type, loose, roots_in, roots_before, with_roots, item_of, with_item, KeepsPaths, KeepsPathsBeside, StretchesComeApart, ChangesPlace}
 use Rattle.seg_spec.specs.Shared.{names_in, names_each, times_named, IsBelow, IsCounted, IsFalling, left, raised_by}
 use Rattle.seg_spec.specs.Destroying.{HoldFrozen}
-use Rattle.seg_spec.specs.Clearing.{SharedBeside, ClearsPlace}
+use Rattle.seg_spec.specs.Clearing.{SharedBeside}
 use Rattle.seg_spec.specs.Counting.{cells_in, owners_in, AreCounted}
 use Rattle.seg_spec.proofs.Values.PlaceFrameLaws.{each_left, each_right}
 use Rattle.seg_spec.proofs.Heap.LiveBlockLaws.{times-append, each_there}
@@ -46,6 +47,12 @@ pub owners_are : (picture : Picture) (which : Listed) (before these after : List
 owners_are picture by_name before these after e = ap (λ rs. rs ++ (picture.uniques ++ picture.loose)) e ∙ owners_with picture by_name before these after
 owners_are picture by_type before these after e = ap (λ rs. picture.names ++ (rs ++ picture.loose)) e ∙ owners_with picture by_type before these after
 owners_are picture loose before these after e = ap (λ rs. picture.names ++ (picture.uniques ++ rs)) e ∙ owners_with picture loose before these after
+
+-- other owners leave the frozen objects
+pub frozen_same : (picture : Picture) (which : Listed) (roots : List Root) → (with_roots picture which roots).frozen ≡ picture.frozen
+frozen_same picture Listed.by_name roots = refl
+frozen_same picture Listed.by_type roots = refl
+frozen_same picture Listed.loose roots = refl
 
 -- ---- the same targets, in any order
 
@@ -303,7 +310,7 @@ module _ (root : Root) (j : ℕ) (item : Value) (item_is : nth root.values j ≡
 module _ (bytes new : List ℕ) (picture : Picture) (held : IsHeld bytes picture) (which : Listed) (before : List Root) (root : Root) (after : List Root) (among : roots_in picture which ≡ before ++ root ∷ after)
     (j : ℕ) (within : j < count root.values) (path : List Selector) (q : Place) (leads : Leads bytes picture.table (item_of picture.table root j) path q)
     (v w : Value) (olds news : List ℕ) (was : Holds bytes picture.table q v olds) (theirs : ℕ → List ℕ) (final : List Frozen) (holds : HoldFrozen bytes picture.table theirs picture.frozen)
-    (c : ClearsPlace bytes new picture.table q w olds news theirs picture.frozen final) where
+    {spans : List Span} (changes : ChangesPlace bytes new picture.table q w news spans (olds ++ blocks_by theirs picture.frozen) (news ++ blocks_by theirs final)) (holds_then : HoldFrozen new picture.table theirs final) where
   abbrev item_then : Root
   item_then = with_item root j (with_value_at path w)
 
@@ -329,23 +336,23 @@ module _ (bytes new : List ℕ) (picture : Picture) (held : IsHeld bytes picture
   goes = roots_held bytes picture.table theirs picture.frozen holds
 
   abbrev apart : StretchesComeApart bytes picture held front (root ∷ []) back (frozen_roots picture) []
-  apart = stretches bytes new picture held front back (frozen_roots picture) [] root j path q v w olds news (blocks_by theirs picture.frozen) (blocks_by theirs final) within leads was goes (moves c.changes) roots_now
+  apart = stretches bytes new picture held front back (frozen_roots picture) [] root j path q v w olds news (blocks_by theirs picture.frozen) (blocks_by theirs final) within leads was goes (moves changes) roots_now
 
   kept : (h : ℕ) → 1 ≤ times h held.index_blocks + times h apart.around → KeepsBlock bytes new h
-  kept = beside_kept bytes new picture held front back (frozen_roots picture) [] root j path q v w olds news (blocks_by theirs picture.frozen) (blocks_by theirs final) within leads was goes (moves c.changes) roots_now
+  kept = beside_kept bytes new picture held front back (frozen_roots picture) [] root j path q v w olds news (blocks_by theirs picture.frozen) (blocks_by theirs final) within leads was goes (moves changes) roots_now
 
   laid_out_then : IsLaidOut new picture_then held.index_blocks
   laid_out_then =
       laid_out_with new (with_roots picture which (before ++ item_then ∷ after)) held.index_blocks final
       (IsLaidOut-faced new picture held.index_blocks which before root item_then after among (faced root j (with_value_at path w))
-      (IsLaidOut-kept bytes new picture held.index_blocks held.laid_out c.changes.length_kept c.changes.front_kept c.changes.back_kept c.changes.heap c.changes.ownable
+      (IsLaidOut-kept bytes new picture held.index_blocks held.laid_out changes.length_kept changes.front_kept changes.back_kept changes.heap changes.ownable
       (each_there (KeepsBlock bytes new) held.index_blocks (λ h some. kept h (omega arith)))))
 
   pub part_cleared : IsHeld new picture_then
   part_cleared =
       moved_after bytes new picture picture_then held front back (frozen_roots picture) (map root_of_frozen final) [] root j path q v w olds news
       (blocks_by theirs picture.frozen) (blocks_by theirs final) within
-      leads was goes (moves c.changes) (roots_held new picture.table theirs final c.holds) (table_kept picture which (before ++ item_then ∷ after)) laid_out_then roots_now roots_then
+      leads was goes (moves changes) (roots_held new picture.table theirs final holds_then) (table_kept picture which (before ++ item_then ∷ after)) laid_out_then roots_now roots_then
 
   -- the blocks of the other owners are kept
   record OthersKept : Type 0 where
@@ -380,7 +387,7 @@ module _ (bytes new : List ℕ) (picture : Picture) (held : IsHeld bytes picture
   cleared_paths =
       let o = others_kept in
       let valid = held.laid_out.is_table in (
-        paths_beside bytes new picture held front back (frozen_roots picture) [] root j path q v w olds news (blocks_by theirs picture.frozen) (blocks_by theirs final) within leads was goes (moves c.changes) roots_now,
+        paths_beside bytes new picture held front back (frozen_roots picture) [] root j path q v w olds news (blocks_by theirs picture.frozen) (blocks_by theirs final) within leads was goes (moves changes) roots_now,
         each_root front back
             (roots_paths bytes new picture.table valid o.holds_front (each_there (KeepsBlock bytes new) o.fronts (λ h some. kept h (omega (arith, o.are_around h)))))
             (roots_paths bytes new picture.table valid o.holds_back (each_there (KeepsBlock bytes new) o.backs (λ h some. kept h (omega (arith, o.are_around h))))),
