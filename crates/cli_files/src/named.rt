@@ -1,3 +1,6 @@
+ghost use Rattle.std.specs.Prelude.{◌≡◌, [], ◌∷◌, length, map, IfOk, OnOk, OnErr};
+ghost use Rattle.cli_files.specs.Accesses.{Adds, access, accesses_of};
+
 use crate::files::{FileFault, Files};
 use crate::problem::FileProblem;
 use std::alloc::Global;
@@ -31,7 +34,12 @@ pub fn read_image<'a, F: Files>(
     alloc: Global,
     files: &mut F,
     name: &'a str,
-) -> Result<Vec<u8>, FileFailure<'a>> {
+) -> Result<Vec<u8>, FileFailure<'a>>
+    ensures read { IfOk result (λ bytes. Adds (F.was_read files.old) (F.was_read files.new)
+        (access name.now bytes.items ∷ [])) }
+    ensures nothing_read { OnErr result (F.was_read files.new ≡ F.was_read files.old) }
+    ensures nothing_written { F.was_written files.new ≡ F.was_written files.old }
+{
     read(alloc, files, name, MAX_IMAGE)
 }
 
@@ -40,7 +48,12 @@ pub fn read_file<'a, F: Files>(
     alloc: Global,
     files: &mut F,
     name: &'a str,
-) -> Result<Vec<u8>, FileFailure<'a>> {
+) -> Result<Vec<u8>, FileFailure<'a>>
+    ensures read { IfOk result (λ bytes. Adds (F.was_read files.old) (F.was_read files.new)
+        (access name.now bytes.items ∷ [])) }
+    ensures nothing_read { OnErr result (F.was_read files.new ≡ F.was_read files.old) }
+    ensures nothing_written { F.was_written files.new ≡ F.was_written files.old }
+{
     read(alloc, files, name, MAX_FILE)
 }
 
@@ -49,7 +62,12 @@ pub fn read_files<'a, F: Files>(
     alloc: Global,
     files: &mut F,
     names: &[&'a str],
-) -> Result<Vec<Vec<u8>>, FileFailure<'a>> {
+) -> Result<Vec<Vec<u8>>, FileFailure<'a>>
+    ensures all { IfOk result (λ all. length all.items ≡ length names.now) }
+    ensures read { IfOk result (λ all. Adds (F.was_read files.old) (F.was_read files.new)
+        (accesses_of (map (λ name. name.now) names.now) (map (λ bytes. bytes.items) all.items))) }
+    ensures nothing_written { F.was_written files.new ≡ F.was_written files.old }
+{
     let mut all = Vec::new(alloc);
     for name in names {
         let bytes = read_file(alloc, files, name)?;
@@ -65,7 +83,12 @@ pub fn write_file<'a, F: Files>(
     files: &mut F,
     name: &'a str,
     bytes: &[u8],
-) -> Result<(), FileFailure<'a>> {
+) -> Result<(), FileFailure<'a>>
+    ensures written { OnOk result (Adds (F.was_written files.old) (F.was_written files.new)
+        (access name.now bytes.now ∷ [])) }
+    ensures nothing_written { OnErr result (F.was_written files.new ≡ F.was_written files.old) }
+    ensures nothing_read { F.was_read files.new ≡ F.was_read files.old }
+{
     match files.write(name, bytes) {
         Ok(()) => Ok(()),
         Err(fault) => Err(FileFailure::of(name, fault)),
@@ -77,7 +100,12 @@ fn read<'a, F: Files>(
     files: &mut F,
     name: &'a str,
     limit: u64,
-) -> Result<Vec<u8>, FileFailure<'a>> {
+) -> Result<Vec<u8>, FileFailure<'a>>
+    ensures read { IfOk result (λ bytes. Adds (F.was_read files.old) (F.was_read files.new)
+        (access name.now bytes.items ∷ [])) }
+    ensures nothing_read { OnErr result (F.was_read files.new ≡ F.was_read files.old) }
+    ensures nothing_written { F.was_written files.new ≡ F.was_written files.old }
+{
     match files.read(alloc, name, limit) {
         Ok(bytes) => Ok(bytes),
         Err(fault) => Err(FileFailure::of(name, fault)),

@@ -1,5 +1,7 @@
 //! Refusals to overwrite files.
 
+ghost use Rattle.std.specs.Prelude.{◌≡◌};
+
 use crate::files::Files;
 use crate::named::FileFailure;
 use crate::problem::{FileProblem, Format};
@@ -10,7 +12,10 @@ pub fn refuse_input<'a, F: Files>(
     files: &mut F,
     name: &'a str,
     input: &str,
-) -> Result<(), FileFailure<'a>> {
+) -> Result<(), FileFailure<'a>>
+    ensures nothing_read { F.was_read files.new ≡ F.was_read files.old }
+    ensures nothing_written { F.was_written files.new ≡ F.was_written files.old }
+{
     if is_same_file(files, name, input)? {
         return Err(FileFailure::File(name, FileProblem::Input));
     }
@@ -22,7 +27,10 @@ pub fn is_same_file<'a, F: Files>(
     files: &mut F,
     name: &'a str,
     other: &str,
-) -> Result<bool, FileFailure<'a>> {
+) -> Result<bool, FileFailure<'a>>
+    ensures nothing_read { F.was_read files.new ≡ F.was_read files.old }
+    ensures nothing_written { F.was_written files.new ≡ F.was_written files.old }
+{
     match files.is_same(name, other) {
         Ok(same) => Ok(same),
         Err(fault) => Err(FileFailure::of(name, fault)),
@@ -35,7 +43,10 @@ pub fn refuse_other_format<'a, F: Files>(
     files: &mut F,
     name: &'a str,
     format: Format,
-) -> Result<(), FileFailure<'a>> {
+) -> Result<(), FileFailure<'a>>
+    ensures nothing_read { F.was_read files.new ≡ F.was_read files.old }
+    ensures nothing_written { F.was_written files.new ≡ F.was_written files.old }
+{
     let magic = format.magic().as_bytes();
     match files.front(alloc, name, magic.len() as u64) {
         Ok(front) if front.is_empty() || front.as_slice() == magic => Ok(()),
