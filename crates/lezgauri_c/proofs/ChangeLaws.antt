@@ -1,12 +1,13 @@
 -- What an export that changes an image promises, from what is known of the call of `Image`.
-use Rattle.std.proofs.Common.{◌≡◌, ◌<◌, ℕ, List, [], sym, ◌∙◌, subst, arith}
+use Rattle.std.proofs.Common.{◌≡◌, ◌<◌, ℕ, List, [], sym, ap, ◌∙◌, subst, arith}
 use Rattle.seg_spec.specs.Sound.{Picture}
 use Rattle.seg_spec.specs.Images.{IsSound}
+use Rattle.seg_spec.specs.Window.{Placement, Home}
 use Rattle.seg_value.specs.Stored.{Stored}
 use Rattle.seg_manager.specs.Segments.{Becomes}
 use Rattle.std_alloc.specs.declared.vec.lodged.Lodged.{Lodged}
 use Rattle.lezgauri.specs.Image.{Image}
-use Rattle.lezgauri.specs.Images.{bytes_in, IsOpen}
+use Rattle.lezgauri.specs.Images.{segment_of, bytes_in, IsOpen, ChangesBytes}
 use Rattle.lezgauri_c.specs.Changes.{Calls, IsStillSound}
 
 module _ {old new : List ℕ} (opened left : Image Lodged) (opened_is : bytes_in opened ≡ old) (left_is : bytes_in left ≡ new)
@@ -51,3 +52,7 @@ sound_then {other = other} becomes none = record {
   sound = record { picture = other; held = becomes.segment.held; counted = becomes.segment.counted; none_loose = none };
   length_kept = becomes.length_kept;
 }
+
+-- a change of the open image leaves its memory
+pub same_memory : {old bytes new : Home} (opened left : Image Lodged) → (segment_of opened).window.home ≡ old → ChangesBytes opened left → bytes ≡ (segment_of left).window.home → new ≡ bytes → new ≡ old
+same_memory opened left taken changes given back = back ∙ given ∙ ap (λ (p : Placement). p.home) changes.host ∙ taken

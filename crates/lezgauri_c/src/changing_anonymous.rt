@@ -29,7 +29,7 @@ pub extern "C" fn lezgauri_raw_construct_anonymous(
 /// Destroys the object without a name at a position, and everything that it owns.
 #[unsafe(no_mangle)]
 pub extern "C" fn lezgauri_raw_destroy_anonymous(image: &mut Lent, at: u32) -> u32
-    ensures { IsOver image.old.bytes image.new.bytes result (DestroysAnonymous at) }
+    ensures destroys { IsOver image.old.bytes image.new.bytes result (DestroysAnonymous at) }
     ensures home { memory_of image.new ≡ memory_of image.old }
 {
     // An object's type is in its block, and the call doesn't read the place's type.

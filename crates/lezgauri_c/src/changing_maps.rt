@@ -31,7 +31,7 @@ pub extern "C" fn lezgauri_raw_put(
 /// if the place isn't a map.
 #[unsafe(no_mangle)]
 pub extern "C" fn lezgauri_raw_remove(image: &mut Lent, at: u32, type_id: u32, key: i64) -> u32
-    ensures { IsFound image.old.bytes image.new.bytes result
+    ensures removes { IsFound image.old.bytes image.new.bytes result
         (Removes (place_at at type_id) key) }
     ensures home { memory_of image.new ≡ memory_of image.old }
 {

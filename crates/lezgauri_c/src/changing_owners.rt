@@ -36,7 +36,7 @@ pub extern "C" fn lezgauri_raw_freeze(
     to_at: u32,
     to_type_id: u32,
 ) -> u32
-    ensures { IsDone image.old.bytes image.new.bytes result
+    ensures freezes { IsDone image.old.bytes image.new.bytes result
         (Freezes (place_at at type_id) (place_at to_at to_type_id)) }
     ensures home { memory_of image.new ≡ memory_of image.old }
 {
@@ -55,7 +55,7 @@ pub extern "C" fn lezgauri_raw_share(
     to_at: u32,
     to_type_id: u32,
 ) -> u32
-    ensures { IsDone image.old.bytes image.new.bytes result
+    ensures shares { IsDone image.old.bytes image.new.bytes result
         (Shares (place_at to_at to_type_id) (place_at at type_id)) }
     ensures home { memory_of image.new ≡ memory_of image.old }
 {

@@ -11,7 +11,7 @@ use crate::place::Place;
 /// then nothing changes.
 #[unsafe(no_mangle)]
 pub extern "C" fn lezgauri_raw_assign(image: &mut Lent, at: u32, type_id: u32, bytes: &[u8]) -> u32
-    ensures { IsDone image.old.bytes image.new.bytes result
+    ensures assigns { IsDone image.old.bytes image.new.bytes result
         (Assigns (place_at at type_id) bytes.now) }
     ensures home { memory_of image.new ≡ memory_of image.old }
 {
@@ -22,7 +22,7 @@ pub extern "C" fn lezgauri_raw_assign(image: &mut Lent, at: u32, type_id: u32, b
 /// Appends bytes to the string at a place. Fails as `lezgauri_raw_assign` does.
 #[unsafe(no_mangle)]
 pub extern "C" fn lezgauri_raw_append(image: &mut Lent, at: u32, type_id: u32, bytes: &[u8]) -> u32
-    ensures { IsDone image.old.bytes image.new.bytes result
+    ensures appends { IsDone image.old.bytes image.new.bytes result
         (Appends (place_at at type_id) bytes.now) }
     ensures home { memory_of image.new ≡ memory_of image.old }
 {
@@ -72,7 +72,7 @@ pub extern "C" fn lezgauri_raw_push_front(
 /// nothing changes.
 #[unsafe(no_mangle)]
 pub extern "C" fn lezgauri_raw_pop_back(image: &mut Lent, at: u32, type_id: u32) -> u32
-    ensures { IsDone image.old.bytes image.new.bytes result (PopsItem (place_at at type_id)) }
+    ensures pops { IsDone image.old.bytes image.new.bytes result (PopsItem (place_at at type_id)) }
     ensures home { memory_of image.new ≡ memory_of image.old }
 {
     let sequence = place_at(at, type_id);
@@ -82,7 +82,7 @@ pub extern "C" fn lezgauri_raw_pop_back(image: &mut Lent, at: u32, type_id: u32)
 /// Destroys the first item of the list at a place. Fails as `Image::pop_front` does; then nothing changes.
 #[unsafe(no_mangle)]
 pub extern "C" fn lezgauri_raw_pop_front(image: &mut Lent, at: u32, type_id: u32) -> u32
-    ensures { IsDone image.old.bytes image.new.bytes result
+    ensures pops { IsDone image.old.bytes image.new.bytes result
         (PopsItemFront (place_at at type_id)) }
     ensures home { memory_of image.new ≡ memory_of image.old }
 {

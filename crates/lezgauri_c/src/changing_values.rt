@@ -11,7 +11,7 @@ use crate::status::OK;
 /// it owns, and each frozen object that no other cell points to.
 #[unsafe(no_mangle)]
 pub extern "C" fn lezgauri_raw_clear(image: &mut Lent, at: u32, type_id: u32) -> u32
-    ensures { IsOver image.old.bytes image.new.bytes result (Clears (place_at at type_id)) }
+    ensures clears { IsOver image.old.bytes image.new.bytes result (Clears (place_at at type_id)) }
     ensures home { memory_of image.new ≡ memory_of image.old }
 {
     let value = place_at(at, type_id);
@@ -23,7 +23,7 @@ pub extern "C" fn lezgauri_raw_clear(image: &mut Lent, at: u32, type_id: u32) ->
 /// changes.
 #[unsafe(no_mangle)]
 pub extern "C" fn lezgauri_raw_shrink_to_fit(image: &mut Lent, at: u32, type_id: u32) -> u32
-    ensures { IsDone image.old.bytes image.new.bytes result
+    ensures shrinks { IsDone image.old.bytes image.new.bytes result
         (ShrinksBuffer (place_at at type_id)) }
     ensures home { memory_of image.new ≡ memory_of image.old }
 {

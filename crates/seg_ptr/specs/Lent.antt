@@ -21,4 +21,4 @@ area_of p = record { bytes = region_of p; home = p.home }
 abbrev pub lent_to : Placement → List ℕ → Placement
 lent_to old xs =
     view_of (with_area_bytes (area_of old) (lent (region_of old) (length old.before) xs))
-        (length old.before) (length old.bytes)
+    (length old.before) (length old.bytes)

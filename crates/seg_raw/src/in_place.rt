@@ -1,4 +1,4 @@
-ghost use Rattle.std.specs.Prelude.{◌≡◌, ◌-◌, ◌≤◌, ◌++◌, take, replicate, vec_len, vec_capacity};
+ghost use Rattle.std.specs.Prelude.{◌≡◌, ◌+◌, ◌-◌, ◌≤◌, ◌++◌, take, replicate, vec_len, vec_capacity};
 ghost use Rattle.seg_raw.specs.Homes.{home_of};
 
 use std::alloc::Allocator;
@@ -6,6 +6,7 @@ use std::alloc::Allocator;
 /// Keeps the first `len` bytes, in the same memory.
 pub fn shorten<A: Allocator>(bytes: &mut Vec<u8, A>, len: usize)
     ensures bytes { bytes.new.items ≡ take len bytes.old.items }
+    ensures len { vec_len bytes.new + (vec_len bytes.old - len) ≡ vec_len bytes.old }
     ensures home { home_of bytes.new ≡ home_of bytes.old }
 {
     while bytes.len() > len {
@@ -18,6 +19,7 @@ pub fn lengthen<A: Allocator>(bytes: &mut Vec<u8, A>, len: usize)
     requires { len ≤ vec_capacity bytes.old }
     ensures bytes { bytes.new.items
         ≡ bytes.old.items ++ replicate (len - vec_len bytes.old) 0 }
+    ensures len { vec_len bytes.new ≡ vec_len bytes.old + (len - vec_len bytes.old) }
     ensures home { home_of bytes.new ≡ home_of bytes.old }
 {
     for _ in bytes.len()..len {

@@ -194,29 +194,46 @@ impl<A: Allocator> Region<A> {
     /// Copies the `n` bytes from `from` on to a place `distance` bytes further up.
     fn move_up(&mut self, from: usize, distance: usize, n: usize)
         requires { from + distance + n ≤ length self.old.bytes }
-        ensures bytes { self.new.bytes ≡ put self.old.bytes (from + distance) (slice self.old.bytes from n) }
+        ensures bytes { self.new.bytes
+            ≡ put self.old.bytes (from + distance) (slice self.old.bytes from n) }
         ensures length { length self.new.bytes ≡ length self.old.bytes }
         ensures home { self.new.home ≡ self.old.home }
     {
         // the compiler calls the C library's memmove for a copy by a constant distance
         match distance {
-            8 => self.data.as_mut_slice().copy_within(from..from + n, from + 8),
-            16 => self.data.as_mut_slice().copy_within(from..from + n, from + 16),
-            _ => self.data.as_mut_slice().copy_within(from..from + n, from + distance),
+            8 => self
+                .data
+                .as_mut_slice()
+                .copy_within(from..from + n, from + 8),
+            16 => self
+                .data
+                .as_mut_slice()
+                .copy_within(from..from + n, from + 16),
+            _ => self
+                .data
+                .as_mut_slice()
+                .copy_within(from..from + n, from + distance),
         }
     }
 
     /// Copies the `n` bytes from `distance` bytes above `to` on to `to`.
     fn move_down(&mut self, to: usize, distance: usize, n: usize)
         requires { to + distance + n ≤ length self.old.bytes }
-        ensures bytes { self.new.bytes ≡ put self.old.bytes to (slice self.old.bytes (to + distance) n) }
+        ensures bytes { self.new.bytes
+            ≡ put self.old.bytes to (slice self.old.bytes (to + distance) n) }
         ensures length { length self.new.bytes ≡ length self.old.bytes }
         ensures home { self.new.home ≡ self.old.home }
     {
         match distance {
             8 => self.data.as_mut_slice().copy_within(to + 8..to + 8 + n, to),
-            16 => self.data.as_mut_slice().copy_within(to + 16..to + 16 + n, to),
-            _ => self.data.as_mut_slice().copy_within(to + distance..to + distance + n, to),
+            16 => self
+                .data
+                .as_mut_slice()
+                .copy_within(to + 16..to + 16 + n, to),
+            _ => self
+                .data
+                .as_mut_slice()
+                .copy_within(to + distance..to + distance + n, to),
         }
     }
 

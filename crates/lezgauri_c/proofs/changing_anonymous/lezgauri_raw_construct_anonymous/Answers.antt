@@ -2,7 +2,7 @@ use Rattle.std.proofs.Common.{◌≡◌, sym, ◌∙◌, subst, ℕ}
 use Rattle.lezgauri.specs.Images.{bytes_in}
 use Rattle.lezgauri_c.specs.Changes.{GivesPlace}
 use Rattle.lezgauri_c.specs.ImageChanges.{ConstructsAnonymous}
-use Rattle.lezgauri_c.proofs.ChangeLaws.{calls}
+use Rattle.lezgauri_c.proofs.ChangeLaws.{calls, same_memory}
 use Rattle.lezgauri_c.proofs.changing_anonymous.lezgauri_raw_construct_anonymous.Goals as goal
 
 pub returns-clause-constructs : goal.returns-clause-constructs
@@ -18,3 +18,6 @@ returns-clause-constructs c =
       only_room = c.construct_anonymous-returned.ensures.code;
       makes = c.construct_anonymous-returned.ensures.makes;
     }))
+
+pub returns-clause-home : goal.returns-clause-home
+returns-clause-home c = same_memory c.in-Ok.image c.construct_anonymous-returned.new.self c.in-Ok.ensures.home c.construct_anonymous-returned.ensures.bytes c.into_bytes.ensures.home c.give_back.ensures.home

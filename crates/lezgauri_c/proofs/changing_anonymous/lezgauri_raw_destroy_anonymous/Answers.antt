@@ -3,11 +3,11 @@ use Rattle.lezgauri.specs.Place.{Place}
 use Rattle.lezgauri.specs.Images.{bytes_in}
 use Rattle.lezgauri_c.specs.Changes.{IsOver}
 use Rattle.lezgauri_c.specs.ImageChanges.{DestroysAnonymous}
-use Rattle.lezgauri_c.proofs.ChangeLaws.{calls}
+use Rattle.lezgauri_c.proofs.ChangeLaws.{calls, same_memory}
 use Rattle.lezgauri_c.proofs.changing_anonymous.lezgauri_raw_destroy_anonymous.Goals as goal
 
-pub returns : goal.returns
-returns c =
+pub returns-clause-destroys : goal.returns-clause-destroys
+returns-clause-destroys c =
     let opened = c.in-Ok.image in
     let left = c.destroy_anonymous-returned.new.self in
     let left_is : bytes_in left ≡ c.give_back.new.self.bytes = sym (c.give_back.ensures.bytes ∙ c.into_bytes.ensures.bytes) in
@@ -17,3 +17,6 @@ returns c =
       bytes = c.destroy_anonymous-returned.ensures.bytes;
       loses = c.destroy_anonymous-returned.ensures.loses;
     }))
+
+pub returns-clause-home : goal.returns-clause-home
+returns-clause-home c = same_memory c.in-Ok.image c.destroy_anonymous-returned.new.self c.in-Ok.ensures.home c.destroy_anonymous-returned.ensures.bytes c.into_bytes.ensures.home c.give_back.ensures.home

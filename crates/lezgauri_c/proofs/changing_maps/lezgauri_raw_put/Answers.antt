@@ -4,7 +4,7 @@ use Rattle.lezgauri.specs.Place.{Place}
 use Rattle.lezgauri.specs.Images.{bytes_in}
 use Rattle.lezgauri_c.specs.Changes.{GivesPlace}
 use Rattle.lezgauri_c.specs.ImageChanges.{Puts}
-use Rattle.lezgauri_c.proofs.ChangeLaws.{calls}
+use Rattle.lezgauri_c.proofs.ChangeLaws.{calls, same_memory}
 use Rattle.lezgauri_c.proofs.changing_maps.lezgauri_raw_put.Goals as goal
 
 pub returns-clause-puts : goal.returns-clause-puts
@@ -22,3 +22,6 @@ returns-clause-puts c =
       puts = c.put-returned.ensures.puts;
       keeps = c.put-returned.ensures.keeps;
     })))
+
+pub returns-clause-home : goal.returns-clause-home
+returns-clause-home c = same_memory c.in-Ok.image c.put-returned.new.self c.in-Ok.ensures.home c.put-returned.ensures.bytes c.into_bytes.ensures.home c.give_back.ensures.home

@@ -4,11 +4,11 @@ use Rattle.lezgauri.specs.Place.{Place}
 use Rattle.lezgauri.specs.Images.{bytes_in}
 use Rattle.lezgauri_c.specs.Changes.{IsFound}
 use Rattle.lezgauri_c.specs.ImageChanges.{Removes}
-use Rattle.lezgauri_c.proofs.ChangeLaws.{calls}
+use Rattle.lezgauri_c.proofs.ChangeLaws.{calls, same_memory}
 use Rattle.lezgauri_c.proofs.changing_maps.lezgauri_raw_remove.Goals as goal
 
-pub returns : goal.returns
-returns c =
+pub returns-clause-removes : goal.returns-clause-removes
+returns-clause-removes c =
     let opened = c.in-Ok.image in
     let left = c.remove-returned.new.self in
     let left_is : bytes_in left ≡ c.give_back.new.self.bytes = sym (c.give_back.ensures.bytes ∙ c.into_bytes.ensures.bytes) in
@@ -19,3 +19,6 @@ returns c =
       other = c.remove-returned.ensures.other;
       removes = c.remove-returned.ensures.removes;
     })))
+
+pub returns-clause-home : goal.returns-clause-home
+returns-clause-home c = same_memory c.in-Ok.image c.remove-returned.new.self c.in-Ok.ensures.home c.remove-returned.ensures.bytes c.into_bytes.ensures.home c.give_back.ensures.home

@@ -2,7 +2,7 @@ use Rattle.std.proofs.Common.{◌≡◌, sym, ◌∙◌, subst, ℕ}
 use Rattle.lezgauri.specs.Images.{bytes_in}
 use Rattle.lezgauri_c.specs.Changes.{IsFound}
 use Rattle.lezgauri_c.specs.ImageChanges.{Destroys}
-use Rattle.lezgauri_c.proofs.ChangeLaws.{calls, still_sound}
+use Rattle.lezgauri_c.proofs.ChangeLaws.{calls, still_sound, same_memory}
 use Rattle.lezgauri_c.proofs.NamedChangeLaws.{destroy_sound, destroy_kept}
 use Rattle.lezgauri_c.proofs.changing_names.lezgauri_raw_destroy.Goals as goal
 
@@ -45,3 +45,6 @@ returns-clause-kept c some =
       unchanged = c.destroy-returned.ensures.unchanged;
     } in
     sym left_is ∙ destroy_kept opened left c.args.name.now c.type_number-t.result c.found.result c.destroy-returned.result c.found.ensures.told some it ∙ c.in-Ok.ensures.bytes
+
+pub returns-clause-home : goal.returns-clause-home
+returns-clause-home c = same_memory c.in-Ok.image c.destroy-returned.new.self c.in-Ok.ensures.home c.destroy-returned.ensures.bytes c.into_bytes.ensures.home c.give_back.ensures.home

@@ -2,7 +2,7 @@ use Rattle.std.proofs.Common.{◌≡◌, sym, ◌∙◌, subst, ℕ}
 use Rattle.lezgauri.specs.Images.{bytes_in}
 use Rattle.lezgauri_c.specs.Changes.{GivesPlace}
 use Rattle.lezgauri_c.specs.ImageChanges.{FindsOrConstructs}
-use Rattle.lezgauri_c.proofs.ChangeLaws.{calls, still_sound, still_same}
+use Rattle.lezgauri_c.proofs.ChangeLaws.{calls, still_sound, still_same, same_memory}
 use Rattle.lezgauri_c.proofs.NamedChangeLaws.{find_sound, find_kept}
 use Rattle.lezgauri_c.proofs.changing_names.lezgauri_raw_find_or_construct.Goals as goal
 
@@ -52,3 +52,6 @@ returns-clause-kept c some other sound =
     } in
     still_same opened left c.in-Ok.ensures.bytes left_is c.in-Ok.ensures.opened
     (λ picture held. find_kept opened left picture held c.args.name.now c.type_number-t.result c.give.result c.args.place.now c.give.new.place c.find_or_construct-returned.result c.give.ensures.told some other it) sound
+
+pub returns-clause-home : goal.returns-clause-home
+returns-clause-home c = same_memory c.in-Ok.image c.find_or_construct-returned.new.self c.in-Ok.ensures.home c.find_or_construct-returned.ensures.bytes c.into_bytes.ensures.home c.give_back.ensures.home

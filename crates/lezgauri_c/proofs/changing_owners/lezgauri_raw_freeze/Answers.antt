@@ -3,11 +3,11 @@ use Rattle.lezgauri.specs.Place.{Place}
 use Rattle.lezgauri.specs.Images.{bytes_in}
 use Rattle.lezgauri_c.specs.Changes.{IsDone, place_at}
 use Rattle.lezgauri_c.specs.ImageChanges.{Freezes}
-use Rattle.lezgauri_c.proofs.ChangeLaws.{calls}
+use Rattle.lezgauri_c.proofs.ChangeLaws.{calls, same_memory}
 use Rattle.lezgauri_c.proofs.changing_owners.lezgauri_raw_freeze.Goals as goal
 
-pub returns : goal.returns
-returns c =
+pub returns-clause-freezes : goal.returns-clause-freezes
+returns-clause-freezes c =
     let opened = c.in-Ok.image in
     let left = c.freeze-returned.new.self in
     let left_is : bytes_in left ≡ c.give_back.new.self.bytes = sym (c.give_back.ensures.bytes ∙ c.into_bytes.ensures.bytes) in
@@ -21,3 +21,6 @@ returns c =
       only_room = c.freeze-returned.ensures.code;
       freezes = c.freeze-returned.ensures.freezes;
     })))
+
+pub returns-clause-home : goal.returns-clause-home
+returns-clause-home c = same_memory c.in-Ok.image c.freeze-returned.new.self c.in-Ok.ensures.home c.freeze-returned.ensures.bytes c.into_bytes.ensures.home c.give_back.ensures.home

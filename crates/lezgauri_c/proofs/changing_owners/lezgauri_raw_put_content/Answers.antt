@@ -3,7 +3,7 @@ use Rattle.lezgauri.specs.Place.{Place}
 use Rattle.lezgauri.specs.Images.{bytes_in}
 use Rattle.lezgauri_c.specs.Changes.{GivesPlace}
 use Rattle.lezgauri_c.specs.ImageChanges.{PutsContent}
-use Rattle.lezgauri_c.proofs.ChangeLaws.{calls}
+use Rattle.lezgauri_c.proofs.ChangeLaws.{calls, same_memory}
 use Rattle.lezgauri_c.proofs.changing_owners.lezgauri_raw_put_content.Goals as goal
 
 pub returns-clause-puts : goal.returns-clause-puts
@@ -18,3 +18,6 @@ returns-clause-puts c =
       puts = c.put_content-returned.ensures.puts;
       other = c.put_content-returned.ensures.other;
     }))
+
+pub returns-clause-home : goal.returns-clause-home
+returns-clause-home c = same_memory c.in-Ok.image c.put_content-returned.new.self c.in-Ok.ensures.home c.put_content-returned.ensures.bytes c.into_bytes.ensures.home c.give_back.ensures.home

@@ -3,11 +3,11 @@ use Rattle.lezgauri.specs.Place.{Place}
 use Rattle.lezgauri.specs.Images.{bytes_in}
 use Rattle.lezgauri_c.specs.Changes.{IsDone, place_at}
 use Rattle.lezgauri_c.specs.ImageChanges.{Shares}
-use Rattle.lezgauri_c.proofs.ChangeLaws.{calls}
+use Rattle.lezgauri_c.proofs.ChangeLaws.{calls, same_memory}
 use Rattle.lezgauri_c.proofs.changing_owners.lezgauri_raw_share.Goals as goal
 
-pub returns : goal.returns
-returns c =
+pub returns-clause-shares : goal.returns-clause-shares
+returns-clause-shares c =
     let opened = c.in-Ok.image in
     let left = c.share-returned.new.self in
     let left_is : bytes_in left ≡ c.give_back.new.self.bytes = sym (c.give_back.ensures.bytes ∙ c.into_bytes.ensures.bytes) in
@@ -19,3 +19,6 @@ returns c =
       done = c.share-returned.ensures.done;
       shares = c.share-returned.ensures.shares;
     })))
+
+pub returns-clause-home : goal.returns-clause-home
+returns-clause-home c = same_memory c.in-Ok.image c.share-returned.new.self c.in-Ok.ensures.home c.share-returned.ensures.bytes c.into_bytes.ensures.home c.give_back.ensures.home

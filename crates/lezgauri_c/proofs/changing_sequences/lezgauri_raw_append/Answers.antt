@@ -3,11 +3,11 @@ use Rattle.lezgauri.specs.Place.{Place}
 use Rattle.lezgauri.specs.Images.{bytes_in}
 use Rattle.lezgauri_c.specs.Changes.{IsDone}
 use Rattle.lezgauri_c.specs.ImageChanges.{Appends}
-use Rattle.lezgauri_c.proofs.ChangeLaws.{calls}
+use Rattle.lezgauri_c.proofs.ChangeLaws.{calls, same_memory}
 use Rattle.lezgauri_c.proofs.changing_sequences.lezgauri_raw_append.Goals as goal
 
-pub returns : goal.returns
-returns c =
+pub returns-clause-appends : goal.returns-clause-appends
+returns-clause-appends c =
     let opened = c.in-Ok.image in
     let left = c.append-returned.new.self in
     let left_is : bytes_in left ≡ c.give_back.new.self.bytes = sym (c.give_back.ensures.bytes ∙ c.into_bytes.ensures.bytes) in
@@ -17,3 +17,6 @@ returns c =
       text = c.append-returned.ensures.text;
       other = c.append-returned.ensures.other;
     }))
+
+pub returns-clause-home : goal.returns-clause-home
+returns-clause-home c = same_memory c.in-Ok.image c.append-returned.new.self c.in-Ok.ensures.home c.append-returned.ensures.bytes c.into_bytes.ensures.home c.give_back.ensures.home

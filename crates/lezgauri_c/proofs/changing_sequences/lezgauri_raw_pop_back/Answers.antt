@@ -3,11 +3,11 @@ use Rattle.lezgauri.specs.Place.{Place}
 use Rattle.lezgauri.specs.Images.{bytes_in}
 use Rattle.lezgauri_c.specs.Changes.{IsDone}
 use Rattle.lezgauri_c.specs.ImageChanges.{PopsItem}
-use Rattle.lezgauri_c.proofs.ChangeLaws.{calls}
+use Rattle.lezgauri_c.proofs.ChangeLaws.{calls, same_memory}
 use Rattle.lezgauri_c.proofs.changing_sequences.lezgauri_raw_pop_back.Goals as goal
 
-pub returns : goal.returns
-returns c =
+pub returns-clause-pops : goal.returns-clause-pops
+returns-clause-pops c =
     let opened = c.in-Ok.image in
     let left = c.pop_back-returned.new.self in
     let left_is : bytes_in left ≡ c.give_back.new.self.bytes = sym (c.give_back.ensures.bytes ∙ c.into_bytes.ensures.bytes) in
@@ -20,3 +20,6 @@ returns c =
       other = c.pop_back-returned.ensures.other;
       counted = c.pop_back-returned.ensures.counted;
     }))
+
+pub returns-clause-home : goal.returns-clause-home
+returns-clause-home c = same_memory c.in-Ok.image c.pop_back-returned.new.self c.in-Ok.ensures.home c.pop_back-returned.ensures.bytes c.into_bytes.ensures.home c.give_back.ensures.home

@@ -3,7 +3,7 @@ use Rattle.lezgauri.specs.Place.{Place}
 use Rattle.lezgauri.specs.Images.{bytes_in}
 use Rattle.lezgauri_c.specs.Changes.{GivesPlace}
 use Rattle.lezgauri_c.specs.ImageChanges.{PushesItem}
-use Rattle.lezgauri_c.proofs.ChangeLaws.{calls}
+use Rattle.lezgauri_c.proofs.ChangeLaws.{calls, same_memory}
 use Rattle.lezgauri_c.proofs.changing_sequences.lezgauri_raw_push_back.Goals as goal
 
 pub returns-clause-pushes : goal.returns-clause-pushes
@@ -19,3 +19,6 @@ returns-clause-pushes c =
       list = c.push_back-returned.ensures.list;
       other = c.push_back-returned.ensures.other;
     }))
+
+pub returns-clause-home : goal.returns-clause-home
+returns-clause-home c = same_memory c.in-Ok.image c.push_back-returned.new.self c.in-Ok.ensures.home c.push_back-returned.ensures.bytes c.into_bytes.ensures.home c.give_back.ensures.home

@@ -3,7 +3,7 @@ use Rattle.lezgauri.specs.Place.{Place}
 use Rattle.lezgauri.specs.Images.{bytes_in}
 use Rattle.lezgauri_c.specs.Changes.{GivesPlace}
 use Rattle.lezgauri_c.specs.ImageChanges.{PushesItemFront}
-use Rattle.lezgauri_c.proofs.ChangeLaws.{calls}
+use Rattle.lezgauri_c.proofs.ChangeLaws.{calls, same_memory}
 use Rattle.lezgauri_c.proofs.changing_sequences.lezgauri_raw_push_front.Goals as goal
 
 pub returns-clause-pushes : goal.returns-clause-pushes
@@ -19,3 +19,6 @@ returns-clause-pushes c =
       pushed = c.push_front-returned.ensures.pushed;
       other = c.push_front-returned.ensures.other;
     }))
+
+pub returns-clause-home : goal.returns-clause-home
+returns-clause-home c = same_memory c.in-Ok.image c.push_front-returned.new.self c.in-Ok.ensures.home c.push_front-returned.ensures.bytes c.into_bytes.ensures.home c.give_back.ensures.home

@@ -32,3 +32,7 @@ returns-clause-added g c sound same of_version entries spells =
 
 pub unwrap-requires : goal.unwrap-requires
 unwrap-requires g c = c.add_types.ensures.agree.1 (subst (λ (t : Table). Agree t c.args.more.now) (sym c.in_window-image.ensures.types) c.requires)
+
+pub returns-clause-home : goal.returns-clause-home
+returns-clause-home g c =
+    c.into_bytes.ensures.home ∙ ap (λ (w : Placement). w.home) c.add_types.ensures.window ∙ ap (λ (w : Placement). w.home) c.in_window-image.ensures.window ∙ ap (λ (w : Placement). w.home) c.upgrade.ensures

@@ -2,7 +2,7 @@ use Rattle.std.proofs.Common.{◌≡◌, sym, ◌∙◌, subst, ℕ}
 use Rattle.lezgauri.specs.Images.{bytes_in}
 use Rattle.lezgauri_c.specs.Changes.{GivesPlace}
 use Rattle.lezgauri_c.specs.ImageChanges.{ConstructsUnique}
-use Rattle.lezgauri_c.proofs.ChangeLaws.{calls, still_sound, still_same}
+use Rattle.lezgauri_c.proofs.ChangeLaws.{calls, still_sound, still_same, same_memory}
 use Rattle.lezgauri_c.proofs.UniqueChangeLaws.{construct_unique_sound, construct_unique_kept}
 use Rattle.lezgauri_c.proofs.changing_uniques.lezgauri_raw_construct_unique.Goals as goal
 
@@ -46,3 +46,6 @@ returns-clause-kept c some sound =
     } in
     still_same opened left c.in-Ok.ensures.bytes left_is c.in-Ok.ensures.opened
     (λ picture held. construct_unique_kept opened left picture held c.type_number-t.result c.give.result c.args.place.now c.give.new.place c.construct_unique-returned.result c.give.ensures.told some it) sound
+
+pub returns-clause-home : goal.returns-clause-home
+returns-clause-home c = same_memory c.in-Ok.image c.construct_unique-returned.new.self c.in-Ok.ensures.home c.construct_unique-returned.ensures.bytes c.into_bytes.ensures.home c.give_back.ensures.home

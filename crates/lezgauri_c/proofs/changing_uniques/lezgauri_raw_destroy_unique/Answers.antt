@@ -2,7 +2,7 @@ use Rattle.std.proofs.Common.{◌≡◌, sym, ◌∙◌, subst, ℕ}
 use Rattle.lezgauri.specs.Images.{bytes_in}
 use Rattle.lezgauri_c.specs.Changes.{IsFound}
 use Rattle.lezgauri_c.specs.ImageChanges.{DestroysUnique}
-use Rattle.lezgauri_c.proofs.ChangeLaws.{calls, still_sound}
+use Rattle.lezgauri_c.proofs.ChangeLaws.{calls, still_sound, same_memory}
 use Rattle.lezgauri_c.proofs.UniqueChangeLaws.{destroy_unique_sound, destroy_unique_kept}
 use Rattle.lezgauri_c.proofs.changing_uniques.lezgauri_raw_destroy_unique.Goals as goal
 
@@ -48,3 +48,6 @@ returns-clause-kept c some =
       unchanged = c.destroy_unique-returned.ensures.unchanged;
     } in
     sym left_is ∙ destroy_unique_kept opened left c.type_number-t.result c.found.result c.destroy_unique-returned.result c.found.ensures.told some it ∙ c.in-Ok.ensures.bytes
+
+pub returns-clause-home : goal.returns-clause-home
+returns-clause-home c = same_memory c.in-Ok.image c.destroy_unique-returned.new.self c.in-Ok.ensures.home c.destroy_unique-returned.ensures.bytes c.into_bytes.ensures.home c.give_back.ensures.home

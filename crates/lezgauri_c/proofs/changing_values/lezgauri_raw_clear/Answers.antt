@@ -3,11 +3,11 @@ use Rattle.lezgauri.specs.Place.{Place}
 use Rattle.lezgauri.specs.Images.{bytes_in}
 use Rattle.lezgauri_c.specs.Changes.{IsOver}
 use Rattle.lezgauri_c.specs.ImageChanges.{Clears}
-use Rattle.lezgauri_c.proofs.ChangeLaws.{calls}
+use Rattle.lezgauri_c.proofs.ChangeLaws.{calls, same_memory}
 use Rattle.lezgauri_c.proofs.changing_values.lezgauri_raw_clear.Goals as goal
 
-pub returns : goal.returns
-returns c =
+pub returns-clause-clears : goal.returns-clause-clears
+returns-clause-clears c =
     let opened = c.in-Ok.image in
     let left = c.clear-returned.new.self in
     let left_is : bytes_in left ≡ c.give_back.new.self.bytes = sym (c.give_back.ensures.bytes ∙ c.into_bytes.ensures.bytes) in
@@ -16,3 +16,6 @@ returns c =
       bytes = c.clear-returned.ensures.bytes;
       cleared = c.clear-returned.ensures.cleared;
     }))
+
+pub returns-clause-home : goal.returns-clause-home
+returns-clause-home c = same_memory c.in-Ok.image c.clear-returned.new.self c.in-Ok.ensures.home c.clear-returned.ensures.bytes c.into_bytes.ensures.home c.give_back.ensures.home

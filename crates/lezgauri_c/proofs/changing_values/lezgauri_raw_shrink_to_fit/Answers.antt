@@ -3,11 +3,11 @@ use Rattle.lezgauri.specs.Place.{Place}
 use Rattle.lezgauri.specs.Images.{bytes_in}
 use Rattle.lezgauri_c.specs.Changes.{IsDone}
 use Rattle.lezgauri_c.specs.ImageChanges.{ShrinksBuffer}
-use Rattle.lezgauri_c.proofs.ChangeLaws.{calls}
+use Rattle.lezgauri_c.proofs.ChangeLaws.{calls, same_memory}
 use Rattle.lezgauri_c.proofs.changing_values.lezgauri_raw_shrink_to_fit.Goals as goal
 
-pub returns : goal.returns
-returns c =
+pub returns-clause-shrinks : goal.returns-clause-shrinks
+returns-clause-shrinks c =
     let opened = c.in-Ok.image in
     let left = c.shrink_to_fit-returned.new.self in
     let left_is : bytes_in left ≡ c.give_back.new.self.bytes = sym (c.give_back.ensures.bytes ∙ c.into_bytes.ensures.bytes) in
@@ -18,3 +18,6 @@ returns c =
       done = c.shrink_to_fit-returned.ensures.done;
       other = c.shrink_to_fit-returned.ensures.other;
     }))
+
+pub returns-clause-home : goal.returns-clause-home
+returns-clause-home c = same_memory c.in-Ok.image c.shrink_to_fit-returned.new.self c.in-Ok.ensures.home c.shrink_to_fit-returned.ensures.bytes c.into_bytes.ensures.home c.give_back.ensures.home

@@ -16,3 +16,8 @@ returns-clause-created g c =
     let left : s.window.bytes ≡ c.into_bytes.result.items = sym (c.into_bytes.ensures.bytes ∙ ap (λ (w : Placement). w.bytes) c.into_window.ensures) in
     subst (λ (b : List ℕ). IsNewImage allocator kind c.args.size b) left
     (new_image allocator kind c.args.size s.window.bytes new.segment.held new.segment.counted new.no_block new.length_is new.segment.allocator_is new.kind_is new.version_is)
+
+pub returns-clause-home : goal.returns-clause-home
+returns-clause-home g c =
+    let created = IfOk-at_ok (λ (s : Stored). s.window.home ≡ c.from_vec.result.home) c.unwrap-segment.ensures c.create.ensures.home in
+    c.into_bytes.ensures.home ∙ ap (λ (w : Placement). w.home) c.into_window.ensures ∙ created ∙ c.from_vec.ensures.home ∙ c.shorten.ensures.home

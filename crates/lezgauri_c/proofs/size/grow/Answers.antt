@@ -1,7 +1,9 @@
-use Rattle.std.proofs.Common.{◌≡◌, Result, Ok, Err, List, ℕ, sym, subst, arith}
+use Rattle.std.proofs.Common.{◌≡◌, ◌∙◌, Result, Ok, Err, List, ℕ, sym, subst, arith}
+use Rattle.std.proofs.lemmas.Result.{IfOk-at_ok}
 use Rattle.std.proofs.lemmas.Grind.{common_steps}
 use Rattle.seg_spec.specs.Types.{Table}
 use Rattle.seg_spec.specs.Images.{IsSound}
+use Rattle.seg_spec.specs.Window.{Placement}
 use Rattle.seg_raw.specs.declared.fault.Fault.{Fault}
 use Rattle.lezgauri_c.specs.Segments.{HasGrown}
 use Rattle.lezgauri_c.proofs.OneClient.{image_of}
@@ -29,3 +31,13 @@ returns-in-Err-clause-done g c sound =
     let here : window.bytes ≡ c.args.image.items = grind (arith, common_steps) in
     let image : IsSound window.bytes = subst (λ (b : List ℕ). IsSound b) (sym here) sound in
     absurd (apart c.types_of.result image.picture.table c.in-Err.field-0 (c.types_of.ensures image.picture.table (image_of window.bytes image)) c.in-Err.is)
+
+pub returns-in-Ok-types_of-clause-home : goal.returns-in-Ok-types_of-clause-home
+returns-in-Ok-types_of-clause-home g c =
+    let placed = IfOk-at_ok (λ (w : Placement). w.home ≡ c.from_vec.result.home) c.unwrap-window.ensures c.place.ensures.home in
+    c.grown.ensures.home ∙ placed ∙ c.from_vec.ensures.home ∙ c.lengthen.ensures.home
+
+pub returns-in-Err-clause-home : goal.returns-in-Err-clause-home
+returns-in-Err-clause-home g c =
+    let placed = IfOk-at_ok (λ (w : Placement). w.home ≡ c.from_vec.result.home) c.unwrap-window.ensures c.place.ensures.home in
+    c.into_bytes.ensures.home ∙ placed ∙ c.from_vec.ensures.home ∙ c.lengthen.ensures.home

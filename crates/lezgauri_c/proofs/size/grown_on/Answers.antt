@@ -18,3 +18,6 @@ returns-clause-grown g c =
     let grows = IfOk-at_ok (λ _. (picture : Picture) → IsSegment allocator s picture → Grows allocator s t picture c.args.extra) c.unwrap.ensures c.grow.ensures.grows in
     let there = will_grow allocator types s t c.new-segment.ensures.types c.args.extra grows in
     subst (λ (b : List ℕ). WillGrow allocator types c.args.extra b c.into_bytes.result.items) here (subst (λ (b : List ℕ). WillGrow allocator types c.args.extra s.window.bytes b) left there)
+
+pub returns-clause-home : goal.returns-clause-home
+returns-clause-home g c = c.into_bytes.ensures.home ∙ ap (λ (w : Placement). w.home) c.into_window.ensures ∙ c.grow.ensures.home ∙ ap (λ (w : Placement). w.home) c.new-segment.ensures.window

@@ -74,3 +74,17 @@ returns-then-extra-gt0-clause-grows g c = λ picture is.
     grown a old picture is q extra region base long sized whole c.fill.new.self new first filled host c.heap_mut.result.now.types (ap (λ s. s.types) c.heap_mut.ensures.value)
     (zeros_extend a c.fill.new.self.bytes mid.bytes extra (length old.window.bytes) heap extends wide low c.if-extra-gt0.true whole few new.bytes zeros)
     (zeros_there a c.fill.new.self.bytes mid.bytes extra (length old.window.bytes) heap extends wide low c.if-extra-gt0.true whole few new.bytes zeros)
+
+pub returns-else-extra-gt0-clause-home : goal.returns-else-extra-gt0-clause-home
+returns-else-extra-gt0-clause-home g c =
+    let window = c.window_mut-w.ensures.value ∙ ap (λ s. s.window) c.heap_mut.ensures.value in
+    c.resize.ensures.home ∙ ap (λ (p : Placement). p.home) window
+
+pub returns-then-extra-gt0-clause-home : goal.returns-then-extra-gt0-clause-home
+returns-then-extra-gt0-clause-home g c =
+    let window = c.window_mut-w.ensures.value ∙ ap (λ s. s.window) c.heap_mut.ensures.value in
+    ap (λ (p : Placement). p.home) c.fill-then-extra-gt0.ensures
+    ∙ ap (λ (p : Placement). p.home) c.extend_end.ensures.host
+    ∙ ap (λ (p : Placement). p.home) c.fill.ensures
+    ∙ c.resize.ensures.home
+    ∙ ap (λ (p : Placement). p.home) window

@@ -2,6 +2,7 @@ use Rattle.std.proofs.Common.{◌≡◌, ◌≤◌, ◌+◌, ◌*◌, Result, Ok
 use Rattle.std.specs.Result.{IsOk, OnOk}
 use Rattle.std.proofs.lemmas.Bool.{false≢true}
 use Rattle.seg_spec.specs.Heap.{IsHeap, Cuts}
+use Rattle.seg_spec.specs.Window.{Placement}
 use Rattle.seg_space.proofs.ResizeLaws.{cut_fits, region_long, shrunk_to}
 use Rattle.seg_space.proofs.size.shrink_to_fit.Goals as goal
 
@@ -30,3 +31,8 @@ returns-clause-shrinks g c = λ picture is.
     let room : (length mid.before + size ≤ length (Rattle.seg_spec.specs.Window.region_of mid)) × (size ≤ 1073741824) = (omega arith, omega arith) in
     let long = on_ok c.resize.result (c.resize.ensures.fits.1 room) c.resize.ensures.len in
     shrunk_to a old (record { window = c.resize.new.self; types = c.heap_mut.result.now.types }) picture is mid n host cuts c.resize.ensures.region c.resize.ensures.base size len long (ap (λ s. s.types) c.heap_mut.ensures.value) size refl
+
+pub returns-clause-home : goal.returns-clause-home
+returns-clause-home g c =
+    let window = c.window_mut-w.ensures.value ∙ ap (λ s. s.window) c.heap_mut.ensures.value in
+    c.resize.ensures.home ∙ ap (λ (p : Placement). p.home) c.cut_end-cut.ensures.host ∙ ap (λ (p : Placement). p.home) window

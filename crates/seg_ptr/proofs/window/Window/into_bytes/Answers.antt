@@ -11,6 +11,6 @@ returns-clause-bytes g c =
     c.into_vec.ensures.bytes
     ∙ c.truncate.ensures.bytes
     ∙ elim c.if-from-gt0.branch [
-        | then-from-gt0 w ↦ ap (λ (r : Area). take s.len r.bytes) w.region-is ∙ moved_to_front s.region w.move_within.new.self s.base s.len now c.self.view_is (omega arith) w.move_within.ensures.bytes
-        | else-from-gt0 w ↦ ap (λ (r : Area). take s.len r.bytes) w.region-is ∙ at_front s.region s.base s.len now c.self.view_is (omega arith)
-      ]
+      | then-from-gt0 w ↦ ap (λ (r : Area). take s.len r.bytes) w.region-is ∙ moved_to_front s.region w.move_within.new.self s.base s.len now c.self.view_is (omega arith) w.move_within.ensures.bytes
+      | else-from-gt0 w ↦ ap (λ (r : Area). take s.len r.bytes) w.region-is ∙ at_front s.region s.base s.len now c.self.view_is (omega arith)
+    ]
