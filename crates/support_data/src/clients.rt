@@ -57,3 +57,114 @@ KILL r7 - t1 k0
 "
     )
 }
+
+/// Makes an object of each kind, requests memory by each instruction, and prints each code.
+pub const MAKE_EACH_KIND: &str = "type i64
+    type str
+    type vec t1
+    type list t0
+    type flat_map t0
+    type map t1
+    type own t7
+    type struct t0 t1
+    name a
+    name b
+    name c
+    name d
+    name e
+    family f
+text a text of forty bytes, which is 3 units.
+    CONST r1 7
+    CONST r2 65
+    MAKE r0 - r1 t0 k0
+    ELSE
+      OUTI r0
+    END
+    FINDOR r0 - t1 k1
+      SETS r3 r0 k6
+      ELSE
+        OUTI r3
+      END
+      ADDS r3 r0 k6
+      ELSE
+        OUTI r3
+      END
+      ADDB r3 r0 r2
+      ELSE
+        OUTI r3
+      END
+    ELSE
+      OUTI r0
+    END
+    MAKE r0 - - t2 k2
+      PUSH r3 r0
+        SETS r4 r3 k6
+        ELSE
+          OUTI r4
+        END
+      ELSE
+        OUTI r3
+      END
+      PUSH r3 r0
+      ELSE
+        OUTI r3
+      END
+    ELSE
+      OUTI r0
+    END
+    MAKE r0 - - t3 k3
+      PUSH r3 r0
+      ELSE
+        OUTI r3
+      END
+      PUSHF r3 r0
+      ELSE
+        OUTI r3
+      END
+    ELSE
+      OUTI r0
+    END
+    MAKE r0 - - t4 k4
+      PUTK r3 r0 r1
+      ELSE
+        OUTI r3
+      END
+      PUTK r3 r0 r2
+      ELSE
+        OUTI r3
+      END
+    ELSE
+      OUTI r0
+    END
+    MAKE r0 r1 - t5 k5
+      PUTK r3 r0 r1
+        ADDS r4 r3 k6
+        ELSE
+          OUTI r4
+        END
+      ELSE
+        OUTI r3
+      END
+    ELSE
+      OUTI r0
+    END
+    UMAKE r0 t6
+      NEW r3 t7
+        REF r4 r3
+        FIELD r4 r4 1
+        SETS r5 r4 k6
+        ELSE
+          OUTI r5
+        END
+        PUT r0 r3
+      ELSE
+        OUTI r3
+      END
+    ELSE
+      OUTI r0
+    END
+    UFINDOR r0 t7
+    ELSE
+      OUTI r0
+    END
+";

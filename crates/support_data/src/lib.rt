@@ -11,7 +11,7 @@ mod random;
 mod transcript;
 
 pub use changes::{change, counter_where, number};
-pub use clients::{INCREMENT, INCREMENT_FILE, chain};
+pub use clients::{INCREMENT, INCREMENT_FILE, MAKE_EACH_KIND, chain};
 pub use examples::{CACHE, CONFIGURE, COUNT, NOTICE, PUBLISH, SETTINGS};
 pub use images::{counter, counter_saved, front, sharing, write, write_words};
 pub use output::Limited;

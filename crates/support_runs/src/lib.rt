@@ -7,7 +7,7 @@ mod windows;
 
 pub use runs::{
     BEST_FLAT, BEST_TREE, KINDS, PLAIN, Ran, SEQ_FLAT, SEQ_TREE, SegmentKind, Setting, Statistics,
-    client, created, empty, outcome_in, outcome_of, ready, run_anew, run_files, run_in, run_on,
-    statistics_of, verified,
+    checked, client, created, empty, outcome_in, outcome_of, ready, run_anew, run_files, run_in,
+    run_on, statistics_of, verified,
 };
 pub use windows::{opened, placed, window};

@@ -211,6 +211,12 @@ pub struct Statistics {
     pub unique: usize,
 }
 
+/// The first fault of an image, if the checker finds one.
+pub fn checked(alloc: Global, image: &[u8]) -> Result<(), Fault> {
+    check(alloc, window(alloc, image)?.view())?;
+    Ok(())
+}
+
 /// The statistics of an image, which must be accepted.
 pub fn statistics_of(alloc: Global, image: &[u8]) -> Result<Statistics, Fail> {
     let placed = window(alloc, image)?;

@@ -1,5 +1,4 @@
-//! Tests of everything that runs clients: the interpreter, over both allocators and both indexes, with its traces, and the
-//! library's public calls.
+//! Tests of everything that runs clients: the interpreter, over both allocators and both indexes, with its traces.
 #![tactic(auto)]
 
 #[cfg(test)]

@@ -1,4 +1,4 @@
-use lezgauri::TypeTable;
+use seg_manager::TypeTable;
 use std::process::Abort;
 use std::test::Fail;
 use support_data::{INCREMENT_FILE, counter};

@@ -3,8 +3,8 @@
 use crate::tests::containers::{FIVE_TEXTS, PRINT_TEXTS};
 use crate::tests::left::leaves;
 use client_vm::{Ended, Move, Through, moves_fit, run};
-use lezgauri::{Fault, Region, SeqFit};
-use seg_manager::Segment;
+use seg_manager::{Fault, Region, Segment};
+use seg_seqfit::SeqFit;
 use std::alloc::Global;
 use std::process::Abort;
 use std::test::Fail;

@@ -1,7 +1,7 @@
 //! Refused runs on a caller's bytes, which are returned unchanged.
 
 use client_vm::{Move, Refused};
-use lezgauri::Fault;
+use seg_manager::Fault;
 use std::process::Abort;
 use std::test::Fail;
 use support_data::{INCREMENT_FILE, counter, counter_saved, counter_where};

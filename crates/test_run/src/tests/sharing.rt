@@ -4,15 +4,14 @@
 use crate::tests::left::leaves;
 use crate::tests::plays::plays;
 use client_vm::Ended;
-use lezgauri::{Fault, TypeTable};
-use seg_check::check;
+use seg_manager::{Fault, TypeTable};
 use std::alloc::Global;
 use std::process::Abort;
 use std::test::Fail;
-use support_data::{NOTICE, PUBLISH, write_words};
+use support_data::{COUNT, NOTICE, PUBLISH, sharing, write_words};
 use support_runs::{
-    KINDS, PLAIN, Ran, SEQ_FLAT, SegmentKind, Setting, client, empty, outcome_of, run_anew, run_in,
-    run_on, verified, window,
+    KINDS, PLAIN, Ran, SEQ_FLAT, SegmentKind, Setting, checked, client, empty, outcome_of,
+    run_anew, run_in, run_on, verified,
 };
 
 /// Freezes a number into a cell, shares it with another cell, destroys the first cell, and reads the number through the second.
@@ -121,12 +120,6 @@ fn changed(alloc: Global, at: usize, word: u32) -> Result<Vec<u8>, Fail> {
     let mut image = shared_image(alloc)?;
     write_words(image.as_mut_slice(), at, &[word]);
     Ok(image)
-}
-
-fn checked(alloc: Global, image: &[u8]) -> Result<(), Fault> {
-    let placed = window(alloc, image)?;
-    check(alloc, placed.view())?;
-    Ok(())
 }
 
 /// A count that isn't the number of cells, and a number that isn't below the next one, are faults.
@@ -628,5 +621,18 @@ fn frozen_objects_stay_where_the_output_fails(rt: HostRuntime) -> Result<(), Fai
         assert!(rt; ran.ended == Ended::OutputFailed);
         assert_eq!(rt; ran.image.as_slice(), image.as_slice());
     }
+    Ok(())
+}
+
+/// A client makes its number in the lowest free block, beside a frozen number. The block of the cell that shares this and the
+/// frozen number's own block are unchanged.
+#[test]
+fn clients_run_beside_a_frozen_object(rt: HostRuntime) -> Result<(), Fail> {
+    let image = sharing(rt.alloc())?;
+    let ran = run_on(rt.alloc(), image.as_slice(), &[COUNT, COUNT])?;
+    leaves(&rt, &ran, "1\n2\n", 208 - 32, 2)?;
+    let (old, new) = (image.as_slice(), ran.image.as_slice());
+    assert_eq!(rt; new.get(784..816), old.get(784..816));
+    assert_eq!(rt; new.get(848..880), old.get(848..880));
     Ok(())
 }

@@ -2,8 +2,8 @@
 
 use client_trace::{Untraced, trace};
 use client_vm::Through;
-use lezgauri::SeqFit;
 use seg_manager::IndexKind;
+use seg_seqfit::SeqFit;
 use std::alloc::Global;
 use std::process::Abort;
 use std::test::Fail;

@@ -49,7 +49,8 @@ pub(crate) fn pair(first: TypeId, second: TypeId) -> Spelled {
     [8, 2, first, second, 0, 0, 0, 0, 0, 0]
 }
 
-fn spelled(alloc: Global, types: &[Spelled]) -> Result<Vec<u8>, AllocError> {
+/// The entries of these types in an image.
+pub(crate) fn spelled(alloc: Global, types: &[Spelled]) -> Result<Vec<u8>, AllocError> {
     let mut bytes = Vec::new(alloc);
     for entry in types {
         bytes.extend_from_slice(entry)?;

@@ -1,10 +1,8 @@
 use crate::tests::door::{Host, types_in};
-use crate::tests::left::leaves;
 use lezgauri::{Ended, Fault, Report, Type};
 use lezgauri_uses::new_counter;
 use std::test::Fail;
-use support_data::{COUNT, INCREMENT_FILE, counter, sharing};
-use support_runs::run_on;
+use support_data::{INCREMENT_FILE, counter};
 
 /// Two runs of one client on an image that stays open: 41 + 1 + 1. Each run takes six steps, since `ELSE` and `END` aren't steps.
 #[test]
@@ -25,19 +23,6 @@ fn clients_run_in_turn(rt: HostRuntime) -> Result<(), Fail> {
     let x = image.find(b"x", 0)?;
     assert_eq!(rt; image.load(x)?, 43);
     assert!(rt; types_in(rt.alloc(), image.save(rt.alloc())?.as_slice()).is_ok());
-    Ok(())
-}
-
-/// A client makes its number in the lowest free block, beside a frozen number. The block of the cell that shares this and the
-/// frozen number's own block are unchanged.
-#[test]
-fn clients_run_beside_a_frozen_object(rt: HostRuntime) -> Result<(), Fail> {
-    let image = sharing(rt.alloc())?;
-    let ran = run_on(rt.alloc(), image.as_slice(), &[COUNT, COUNT])?;
-    leaves(&rt, &ran, "1\n2\n", 208 - 32, 2)?;
-    let (old, new) = (image.as_slice(), ran.image.as_slice());
-    assert_eq!(rt; new.get(784..816), old.get(784..816));
-    assert_eq!(rt; new.get(848..880), old.get(848..880));
     Ok(())
 }
 

@@ -1,12 +1,11 @@
 //! Calls while the host is out of memory. Each reports that, and has written nothing.
 
-use client_vm::{Refused, Schedule, Through, run_bytes};
 use lezgauri::{
-    AllocatorKind, Fault, Image, IndexKind, Region, SeqFit, Unopened, assemble, parse, print,
+    AllocatorKind, Fault, Image, IndexKind, Refused, Region, Schedule, SeqFit, Through, Unopened,
+    Window, assemble, parse, print, run_bytes,
 };
 use linked_list_allocator::LocalHeap;
 use seg_check::{check, open, save};
-use seg_manager::Window;
 use std::alloc::Global;
 use std::process::Abort;
 use std::test::Fail;

@@ -1,6 +1,6 @@
 ghost use Rattle.std.specs.Prelude.{◌≡◌, length, IfOk};
 
-use seg_ptr::{Code, Fault, Region};
+use seg_manager::{Code, Fault, Region};
 use std::alloc::Global;
 use std::fmt::InlineText;
 use std::process::Abort;

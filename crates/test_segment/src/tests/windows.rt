@@ -1,4 +1,4 @@
-use seg_ptr::{Region, Window};
+use seg_manager::{Region, Window};
 use std::alloc::Global;
 use std::test::Fail;
 

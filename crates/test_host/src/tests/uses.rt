@@ -1,76 +1,12 @@
-//! Clients that share their objects, and hosts that embed the library.
+//! Hosts that embed the library.
 
-use crate::tests::plays::plays;
 use lezgauri::{Code, Error, Fault, Through};
 use lezgauri_uses::{Cache, Settings, count, new_counter, read_settings, write_settings};
 use std::fmt::InlineText;
 use std::process::Abort;
 use std::test::Fail;
-use support_data::{CACHE, CONFIGURE, COUNT, Limited, SETTINGS};
-use support_runs::{KINDS, client};
-
-/// Clients share a counter over several runs of the program.
-#[test]
-fn clients_share_a_counter(rt: HostRuntime) -> Result<(), Fail> {
-    let text = format!(in rt.alloc();
-        "$ client count
-        {COUNT}
-        $ on 1024 count count
-        1
-        2
-        $ then count
-        3
-        $ on 736 count
-        no room"
-    )?;
-    plays(rt.alloc(), &KINDS, text.as_str())
-}
-
-#[test]
-fn clients_share_settings(rt: HostRuntime) -> Result<(), Fail> {
-    let text = format!(in rt.alloc();
-        "$ client configure
-        {CONFIGURE}
-        $ client settings
-        {SETTINGS}
-        $ on 1024 settings
-        no settings
-        $ on 1024 configure settings configure
-        1
-        640
-        2
-        8080
-        hello, world
-        $ then settings
-        1
-        640
-        2
-        8080
-        hello, world"
-    )?;
-    plays(rt.alloc(), &KINDS, text.as_str())
-}
-
-/// When a fourth entry is added, the oldest one is removed.
-#[test]
-fn a_cache_forgets_the_oldest(rt: HostRuntime) -> Result<(), Fail> {
-    let text = format!(in rt.alloc();
-        "$ client cache
-        {CACHE}
-        $ on 2048 cache reads ABCADAC
-        miss 4225
-        miss 4356
-        miss 4489
-        hit 4225
-        miss 4624
-        miss 4225
-        hit 4489
-        $ then cache reads DB
-        hit 4624
-        miss 4356"
-    )?;
-    plays(rt.alloc(), &KINDS, text.as_str())
-}
+use support_data::{COUNT, Limited, SETTINGS};
+use support_runs::client;
 
 /// The output of a client in this many runs on an image, and the image afterwards.
 fn counted(

@@ -8,7 +8,7 @@ ghost use Rattle.seg_rbtree.proofs.Keys.{equal_to_one};
 ghost use Rattle.seg_spec.proofs.BytesLaws.{number-slice};
 ghost use Rattle.seg_spec.proofs.OrderLaws.{steps_up};
 
-use seg_ptr::{Region, View, Window};
+use seg_manager::{Region, View, Window};
 use seg_rbtree::{Colour, NodeOrder, Path, Side, TREE_WORDS, Tree, UniqueKeys, child, node_colour};
 use std::alloc::{AllocError, Allocator, Global};
 use std::cmp::Ordering;

@@ -1,26 +1,10 @@
-use seg_layout::{Cell, TypeTable};
-use seg_ptr::Fault;
+use crate::tests::support::{I64, STR, Spelled, own_of, shared_of, spelled, vec_of};
+use seg_manager::{Fault, TypeTable};
 use std::alloc::{AllocError, Global};
 use std::process::Abort;
 use std::test::Fail;
 
-/// A type: a kind, the number of parts, the parts, and zeros.
-type Spelled = [u8; 10];
-
 const UNUSED: Spelled = [0; 10];
-
-const I64: Spelled = [1, 0, 0, 0, 0, 0, 0, 0, 0, 0];
-
-const STR: Spelled = [2, 0, 0, 0, 0, 0, 0, 0, 0, 0];
-
-fn file(alloc: Global, entries: &[Spelled]) -> Result<Vec<u8>, AllocError> {
-    let mut bytes = Vec::new(alloc);
-    for entry in entries {
-        bytes.extend_from_slice(entry)?;
-        bytes.extend_from_slice(&[0; 6])?;
-    }
-    Ok(bytes)
-}
 
 fn check_read(rt: &impl Abort, bytes: &[u8], types: Result<usize, Fault>) {
     assert_eq!(rt; TypeTable::read(bytes).map(|table| table.len()), types);
@@ -32,24 +16,21 @@ fn check_file<R: Abort + AllocGlobal>(
     entries: &[Spelled],
     types: Result<usize, Fault>,
 ) -> Result<(), AllocError> {
-    let bytes = file(rt.alloc(), entries)?;
+    let bytes = spelled(rt.alloc(), entries)?;
     check_read(rt, &bytes, types);
     Ok(())
 }
 
 #[test]
 fn finds_the_first_wrong_entry(rt: HostRuntime) -> Result<(), Fail> {
-    let vec_2 = [3, 1, 2, 0, 0, 0, 0, 0, 0, 0];
-    let vec_1 = [3, 1, 1, 0, 0, 0, 0, 0, 0, 0];
-    let own_0 = [7, 1, 0, 0, 0, 0, 0, 0, 0, 0];
     let unknown = [77, 0, 0, 0, 0, 0, 0, 0, 0, 0];
     let struct_0 = [8, 1, 0, 0, 0, 0, 0, 0, 0, 0];
     let no_fields = [8, 0, 0, 0, 0, 0, 0, 0, 0, 0];
     let i64_with_part = [1, 1, 0, 0, 0, 0, 0, 0, 0, 0];
-    check_file(&rt, &[vec_2, UNUSED, I64], Err(Fault::BadType(2)))?;
-    check_file(&rt, &[vec_1, unknown], Err(Fault::BadType(1)))?;
-    check_file(&rt, &[vec_1, UNUSED], Err(Fault::BadType(0)))?;
-    check_file(&rt, &[own_0], Ok(1))?;
+    check_file(&rt, &[vec_of(2), UNUSED, I64], Err(Fault::BadType(2)))?;
+    check_file(&rt, &[vec_of(1), unknown], Err(Fault::BadType(1)))?;
+    check_file(&rt, &[vec_of(1), UNUSED], Err(Fault::BadType(0)))?;
+    check_file(&rt, &[own_of(0)], Ok(1))?;
     check_file(&rt, &[struct_0], Err(Fault::BadType(0)))?;
     check_file(&rt, &[I64, struct_0, UNUSED], Ok(2))?;
     check_file(&rt, &[I64, no_fields], Err(Fault::BadType(1)))?;
@@ -60,8 +41,7 @@ fn finds_the_first_wrong_entry(rt: HostRuntime) -> Result<(), Fail> {
 
 #[test]
 fn shared_types_are_of_version_2(rt: HostRuntime) -> Result<(), Fail> {
-    let shared_1 = [9, 1, 1, 0, 0, 0, 0, 0, 0, 0];
-    let shared_2 = [9, 1, 2, 0, 0, 0, 0, 0, 0, 0];
+    let (shared_1, shared_2) = (shared_of(1), shared_of(2));
     let no_part = [9, 0, 0, 0, 0, 0, 0, 0, 0, 0];
     check_file(&rt, &[shared_1, I64], Err(Fault::BadType(0)))?;
     for (entries, types) in [
@@ -69,7 +49,7 @@ fn shared_types_are_of_version_2(rt: HostRuntime) -> Result<(), Fail> {
         ([I64, shared_2], Err(Fault::BadType(1))),
         ([no_part, I64], Err(Fault::BadType(0))),
     ] {
-        let bytes = file(rt.alloc(), &entries)?;
+        let bytes = spelled(rt.alloc(), &entries)?;
         let read = TypeTable::read_shared(&bytes);
         assert_eq!(&rt;
             read.map(|table| (table.len(), table.size(0))),
@@ -90,7 +70,7 @@ const NESTED: [Spelled; 5] = [
 ];
 
 fn table(alloc: Global, entries: &[Spelled]) -> Result<TypeTable, Fail> {
-    let bytes = file(alloc, entries)?;
+    let bytes = spelled(alloc, entries)?;
     Ok(TypeTable::read(&bytes)?)
 }
 
@@ -99,11 +79,8 @@ fn lays_out_structs(rt: HostRuntime) -> Result<(), Fail> {
     let table = table(rt.alloc(), &NESTED)?;
     assert_eq!(rt; (table.size(2), table.size(4)), (24, 64));
     assert_eq!(rt; table.field_count(4), 4);
-    let field = Cell {
-        from: 32,
-        type_id: 2,
-    };
-    assert_eq!(rt; table.field(4, 2), Some(field));
+    let field = table.field(4, 2).ok_or("no field")?;
+    assert_eq!(rt; (field.from, field.type_id), (32, 2));
     assert!(rt; table.has_pointers(4) && !table.has_pointers(0));
     assert_eq!(rt;
         table.entry(3),

@@ -1,4 +1,0 @@
-mod regions;
-mod trees;
-mod types;
-mod windows;
