@@ -25,8 +25,7 @@ numbers_taken client given left runs =
     let none = runs.is_first.steps in
     let end = keeps.each runs.first runs.last left.steps left.ending runs.run (record { none_returned = omega (arith, begins); one_each = omega (arith, begins) }) in
     let steps = end.1 in
-    let same = runs.is_left.next_kept in
-    (
+    let same = runs.is_left.next_kept in (
       (let low = end.0.none_returned in omega (arith, low, same)),
       (let high = end.0.one_each in omega (arith, high, same, steps, none)),
     )
