@@ -9,8 +9,8 @@ use Rattle.client_spec.proofs.Runs.RunInvariantLaws.{run_keeps}
 pub one_size : (client : Client) (given : Given) (left : Left) → RunsClient client given left → length left.image ≡ length given.image
 one_size client given left runs =
     let its = λ (x : Situation). length x.image ≡ length given.image in
-    let keeps = run_keeps client.constants given.others given.moves its (λ x y moved same front before. same ∙ before) client.code in
-    runs.is_left.length_kept ∙ keeps.each runs.first runs.last left.steps left.ending runs.run runs.is_first.types_alone.length_kept
+    let keeps = run_keeps client.constants given.others given.moves its (λ x y step before. step.length_kept ∙ before) client.code in
+    runs.is_left.length_kept ∙ (keeps.each runs.first runs.last left.steps left.ending runs.run runs.is_first.types_alone.length_kept).0
 
 pub same_size : (clients : List Client) (given : Given) (lefts : List Left) → RunClients clients given lefts → length (image_after given.image lefts) ≡ length given.image
 same_size [] given [] r = refl

@@ -231,7 +231,7 @@ module _ (h : List ℕ) where
     before = pictured added.registers tt;
     after = pictured_then [];
     blocks = record { asks = []; asked = refl; gives = []; returned = refl; blocks = live start; granted = refl; left = same_live };
-    ties = record { next_is = word-same start image next_word next_same };
+    ties = record { next_is = word-same start image next_word next_same; image_kept = λ e. cc; idle_kept = tt };
     length_kept = same_length;
     header_kept = header_kept;
     moved = record { steps = refl; base = refl; host = refl };
@@ -244,7 +244,7 @@ module _ (h : List ℕ) where
     before = pictured_then [];
     after = pictured_then (codes "42\n");
     blocks = record { asks = []; asked = refl; gives = []; returned = refl; blocks = live image; granted = refl; left = refl };
-    ties = record { next_is = refl };
+    ties = record { next_is = refl; image_kept = λ e. refl; idle_kept = tt };
     length_kept = refl;
     header_kept = refl;
     moved = record { steps = refl; base = refl; host = refl };

@@ -12,6 +12,8 @@ pub mod WorkedCalls
 pub mod SimulationLaws
 pub mod IncrementLaws
 pub mod StoppedRunLaws
+pub mod RunNumberLaws
+pub mod KeptImageLaws
 pub mod Several
 pub mod Whole
 pub mod CounterRun

@@ -477,7 +477,7 @@ module _ (allocator : ℕ) (constants : List Constant) (role : Role) (a b c : �
             by (Some (heap.fresh at ys)) = refl
 
         changes : ChangesImage constants freeze pictured success new
-        changes = changed z.next_is (record {
+        changes = changed z.next_is refl tt (record {
           asks = block_for (frozen_words + size table f.held) ∷ [];
           asked = asked some;
           gives = gives;

@@ -401,6 +401,11 @@ module _ (allocator : ℕ) (constants : List Constant) (role : Role) (a b c : �
       ∙ ap (λ o. unwrap_or (o >>= λ n. Some (if_absent (s.names bytes) (object_asks w.image s.types (type_operand number) n bytes))) []) count_is
       ∙ ap (λ o. if_absent o (object_asks w.image s.types (type_operand number) n bytes)) there)
 
+  -- the object of the name
+  named_here : (operation : Operation) {others : List Root} {s : State} (pictured : Pictures others s w.image) → name_operand constants (on operation) s ≡ Some bytes
+      → (name_operand constants (on operation) s >>= λ name. root_named pictured.picture.names name) ≡ root_named pictured.picture.names bytes
+  named_here operation pictured name_is = ap (λ (o : Option (List ℕ)). o >>= λ name. root_named pictured.picture.names name) name_is
+
   -- ---- MAKE
 
   make_row : (s : State) (room : Bool) → name_operand constants (on Operation.Make) s ≡ Some bytes → type_operand number ≡ T → integer_or (pos 1) c s ≡ Some wanted
@@ -441,7 +446,7 @@ module _ (allocator : ℕ) (constants : List Constant) (role : Role) (a b c : �
       let asked = asks_are Operation.Make s m.values n.name_is (ap (λ (o : Option ℤ). o >>= object_count) index ∙ count_is) none n.type_is in
       let blocks = grants_spent constants i h.pictured allocator h.allocator_is (object_asks w.image s.types T m.values bytes) asked new [] refl (live new) its.left refl in
       subst (λ z. Acts others types constants first allocator i success z s w (with_place (with_image w new) a (record { at = at; type = T }))) (sym (g.1 ∙ ap (λ n. slice_set ks a (RegisterType.Reference (Class.Name k) n)) n.type_is))
-      (made right h a k T bytes n.by n.below valid.a g.0 i new m.values at m.some m.missing its row (changed its.next blocks)))
+      (made right h a k T bytes n.by n.below valid.a g.0 i new m.values at m.some m.missing its row (changed its.next refl tt blocks)))
 
   -- the count was wrong, there was such an object, or there was no room
   abbrev pub RefusesToMake : (code : ℕ) (picture : Picture) (index_blocks new : List ℕ) → Type 0
@@ -494,7 +499,7 @@ module _ (allocator : ℕ) (constants : List Constant) (role : Role) (a b c : �
               bad_alloc,
               (λ q. cc),
               bad_is bad_alloc (not_made right h a k T bytes n.by n.below valid.a g.0 i new f.0 code f.4 its
-                  (row false ∙ ap (λ o. after o false) count_is ∙ ap (λ (o : Option Object). add_object a bytes T o f.0 false s) none) (changed its.next blocks)),
+                  (row false ∙ ap (λ o. after o false) count_is ∙ ap (λ (o : Option Object). add_object a bytes T o f.0 false s) none) (changed its.next refl tt blocks)),
             )
       ])
 
@@ -559,7 +564,8 @@ module _ (allocator : ℕ) (constants : List Constant) (role : Role) (a b c : �
             let asked = asks_are Operation.FindOrMake s 1 n.name_is refl none n.type_is in
             let blocks = grants_spent constants i h.pictured allocator h.allocator_is (object_asks w.image s.types T 1 bytes) asked new [] refl (live new) its.left refl in
             subst (λ z. Acts others types constants first allocator i success z s w (with_place (with_image w new) a place)) (sym good_is)
-            (made right h a k T bytes n.by n.below valid.a g.0 i new 1 at (omega arith) f.0 its (row ∙ ap (λ (o : Option Object). find_or_add a bytes T o true s) none) (changed its.next blocks))
+            (made right h a k T bytes n.by n.below valid.a g.0 i new 1 at (omega arith) f.0 its (row ∙ ap (λ (o : Option Object). find_or_add a bytes T o true s) none)
+            (changed its.next refl (λ root some. absurd (let g : Some root ≡ None = sym some ∙ named_here Operation.FindOrMake h.pictured n.name_is ∙ f.0 in cc)) blocks))
       ])
 
   -- it has another type, there was no room, or the bytes are no name
@@ -601,7 +607,8 @@ module _ (allocator : ℕ) (constants : List Constant) (role : Role) (a b c : �
             } in (
               bad_alloc,
               (λ q. cc),
-              bad_is bad_alloc (not_made right h a k T bytes n.by n.below valid.a g.0 i new 1 code f.0 its (row false ∙ ap (λ (o : Option Object). find_or_add a bytes T o false s) none) (changed its.next blocks)),
+              bad_is bad_alloc (not_made right h a k T bytes n.by n.below valid.a g.0 i new 1 code f.0 its (row false ∙ ap (λ (o : Option Object). find_or_add a bytes T o false s) none)
+                  (changed its.next refl (λ root some. absurd (let g : Some root ≡ None = sym some ∙ named_here Operation.FindOrMake h.pictured n.name_is ∙ f.1 in cc)) blocks)),
             )
       ])
 
@@ -612,13 +619,18 @@ module _ (allocator : ℕ) (constants : List Constant) (role : Role) (a b c : �
   kill_row s name_is type_is =
       ap (λ (o : Option (List ℕ)). o >>= λ name. destroy_object a name (type_operand number) (s.names name) s) name_is ∙ ap (λ t. destroy_object a bytes t (s.names bytes) s) type_is
 
+  -- the object that KILL destroys
+  killed_here : (operation : Operation) {others : List Root} {s : State} (pictured : Pictures others s w.image) → name_operand constants (on operation) s ≡ Some bytes → type_operand number ≡ T
+      → (name_operand constants (on operation) s >>= λ name. killed (root_named pictured.picture.names name) (type_operand number)) ≡ killed (root_named pictured.picture.names bytes) T
+  killed_here operation pictured name_is type_is =
+      ap (λ (o : Option (List ℕ)). o >>= λ name. killed (root_named pictured.picture.names name) (type_operand number)) name_is ∙ ap (killed (root_named pictured.picture.names bytes)) type_is
+
   -- the blocks that KILL frees
   given_back : (operation : Operation) {others : List Root} {s : State} (pictured : Pictures others s w.image) → name_operand constants (on operation) s ≡ Some bytes → type_operand number ≡ T → (o : Option Root)
       → killed (root_named pictured.picture.names bytes) T ≡ o → (gives : List ℕ) → NamedGoes constants (on operation) pictured o gives
       → NamedGoes constants (on operation) pictured (name_operand constants (on operation) s >>= λ name. killed (root_named pictured.picture.names name) (type_operand number)) gives
   given_back operation {s = s} pictured name_is type_is o is gives blocks =
-      subst (λ x. NamedGoes constants (on operation) pictured x gives)
-      (sym (ap (λ (o : Option (List ℕ)). o >>= λ name. killed (root_named pictured.picture.names name) (type_operand number)) name_is ∙ ap (killed (root_named pictured.picture.names bytes)) type_is ∙ is)) blocks
+      subst (λ x. NamedGoes constants (on operation) pictured x gives) (sym (killed_here operation pictured name_is type_is ∙ is)) blocks
 
   pub kill_acts : (new : List ℕ) → OfHeld allocator w (λ p held. IsLost allocator w.image w.table bytes T p held.index_blocks new) → ActsAs allocator constants role (on Operation.Kill) w (with_number (with_image w new) a (pos 1))
   unfolding rule
@@ -647,7 +659,8 @@ module _ (allocator : ℕ) (constants : List Constant) (role : Role) (a b c : �
         granted = refl;
         left = m.left;
       } in
-      subst (λ z. Acts others types constants first allocator i success z s w (with_number (with_image w new) a (pos 1))) (sym g.1) (lost right h a k T bytes n.by valid.a g.0 i new m row (changed m.next blocks)))
+      subst (λ z. Acts others types constants first allocator i success z s w (with_number (with_image w new) a (pos 1))) (sym g.1) (lost right h a k T bytes n.by valid.a g.0 i new m row
+      (changed m.next refl (λ none. absurd (let f : None ≡ Some m.root = sym none ∙ killed_here Operation.Kill h.pictured n.name_is n.type_is ∙ m.root_is in cc)) blocks)))
 
   -- if no object of the name has the type, KILL gives 0
   pub kill_none_acts : OfHeld allocator w (λ p held. killed (root_named p.names bytes) T ≡ None) → ActsAs allocator constants role (on Operation.Kill) w (with_number w a (pos 0))

@@ -276,7 +276,7 @@ module _ (allocator : ℕ) (constants : List Constant) (role : Role) (a b c : �
       let asked : (block_for (size w.table T) ∷ []) ≡ (block_for (size s.types (nat_abs number)) ∷ []) = ap (λ (z : Table). block_for (size z T) ∷ []) h.table_is ∙ ap (λ u. block_for (size s.types u) ∷ []) (sym t.0) in
       let blocks : GrantsAsks constants i h.pictured new = grants_spent constants i h.pictured allocator h.allocator_is (block_for (size w.table T) ∷ []) asked new [] refl (live new) call.spends refl in
       subst (λ k. Acts others types constants first allocator i success k s w (with_owner w new a place)) (sym good_is)
-      (acts_so others types constants first allocator ks s w h i success true (slice_set ks a (RegisterType.Owner T)) (set_register s a (Register.Owner d T)) (with_owner w new a place) row (changed alone.next_kept blocks)
+      (acts_so others types constants first allocator ks s w h i success true (slice_set ks a (RegisterType.Owner T)) (set_register s a (Register.Owner d T)) (with_owner w new a place) row (changed alone.next_kept refl tt blocks)
       alone.length_kept alone.front_kept refl shows (frame_owning one h a within g.0 d place fits root refl refl new come alone.front_kept)))
 
   -- NEW fails if there is no room
@@ -326,5 +326,5 @@ module _ (allocator : ℕ) (constants : List Constant) (role : Role) (a b c : �
       (call.blocks, subst (λ (t : Table). HoldsRoot w.image t r.0 call.blocks) h.table_is call.holds_it, (shared, gone_with h new r.0 refl call, refl)) in
       let blocks : GrantsAsks constants i h.pictured new = record { asks = []; asked = refl; gives = call.blocks ++ shared; returned = returned; blocks = live w.image; granted = refl; left = call.live_is } in
       subst (λ k. Acts others types constants first allocator i success k s w (without_owner w new b)) (ap (λ (r : RegisterTypes × RegisterTypes). r.0) pair)
-      (acts_so others types constants first allocator ks s w h i success true after (set_register s b Register.Undefined) (without_owner w new b) row (changed call.becomes.next_kept blocks) call.becomes.length_kept call.becomes.front_kept refl shows
+      (acts_so others types constants first allocator ks s w h i success true after (set_register s b Register.Undefined) (without_owner w new b) row (changed call.becomes.next_kept refl tt blocks) call.becomes.length_kept call.becomes.front_kept refl shows
       (frame_released one h b valid.b new goes call.becomes.front_kept p.0 owner.0)))

@@ -365,7 +365,7 @@ module _ (allocator : â„•) (constants : List Constant) (role : Role) (a b c : â„
       }
 
       changes : ChangesImage constants share pictured success new
-      changes = changed_at_place s.clears.changes.back_kept refl (gives_back constants share pictured new refl gives (place_in w b, Form.shared f.held, led_to, renames)
+      changes = changed_at_place s.clears.changes.back_kept refl refl tt (gives_back constants share pictured new refl gives (place_in w b, Form.shared f.held, led_to, renames)
           (given_back_shared (names_in l.value) (names_in value) (frozen h) s.clears))
 
       acts : SeenActs others types constants first allocator share success after t w world

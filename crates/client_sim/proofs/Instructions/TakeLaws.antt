@@ -162,7 +162,7 @@ module _ (allocator : ℕ) (constants : List Constant) (role : Role) (a b c : �
             take_row s l.path r.form U l.value (Some v) r.path_is r.path_form_is r.is l.there (ap content_in some.1) ∙ answer_is types constants after after_put known_then success a owner o.0 in
             let blocks : GrantsAsks constants take h.pictured new = record { asks = []; asked = refl; gives = []; returned = refl; blocks = live w.image; granted = refl; left = changes.live_is } in
             subst (λ n. Acts others types constants first allocator take success (slice_set after a (RegisterType.Owner U)) s w (owner_then at n)) (sym t.0)
-            (acts_so others types constants first allocator ks s w h take success true (slice_set after a (RegisterType.Owner U)) state w' row (changed_at_place changes.back_kept refl blocks) changes.length_kept changes.front_kept refl shows
+            (acts_so others types constants first allocator ks s w h take success true (slice_set after a (RegisterType.Owner U)) state w' row (changed_at_place changes.back_kept refl refl tt blocks) changes.length_kept changes.front_kept refl shows
             (frame_moved one h b r.class r.type r.known_as l Empty fits new a owner (λ o. ⊥) moved.0.to _ _ _ _ _ _ _ _ _ _ _ _ _ _
             (λ n e free. not_given after a n (RegisterType.Owner U) (let m = valid.a in omega (arith, sixteen, m)) (λ f. cc) e) moved.0.stays))
       ])

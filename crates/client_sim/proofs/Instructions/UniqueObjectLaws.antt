@@ -262,7 +262,7 @@ module _ (allocator : ℕ) (constants : List Constant) (role : Role) (a b c : �
   make_unique_acts at says = lifted_acts refl (λ types others first ks good bad s right valid e h.
       let call = said right valid.number valid.a e h {P = λ p. JoinsUniques allocator w.image new w.table p T at} says in
       let none = none_at right valid.number valid.a e h call.none in
-      made right valid.number valid.a e h Operation.MakeUnique at call (asks_some right valid.number valid.a e h none) refl (λ g next. changed next g)
+      made right valid.number valid.a e h Operation.MakeUnique at call (asks_some right valid.number valid.a e h none) refl (λ g next. changed next refl tt g)
       (row_none right valid.number valid.a e h (λ n. fail a already_exists s) (λ n. add_unique a n true s) none))
 
   -- UMAKE fails if there is one, or no room
@@ -298,7 +298,8 @@ module _ (allocator : ℕ) (constants : List Constant) (role : Role) (a b c : �
             (λ v there. row_there right valid.number valid.a e h (λ n. refer a (path_from (Origin.Unique n)) s) (λ n. add_unique a n true s) v there)
         | inr call ↦
             let none = none_at right valid.number valid.a e h call.none in
-            made right valid.number valid.a e h Operation.FindOrMakeUnique at call (asks_some right valid.number valid.a e h none) refl (λ g next. changed next g)
+            made right valid.number valid.a e h Operation.FindOrMakeUnique at call (asks_some right valid.number valid.a e h none) refl
+            (λ g next. changed next refl (λ root some. absurd (let f : Some root ≡ None = sym some ∙ ap (root_of_type h.pictured.picture.uniques) (known_type right valid.number valid.a e h).0 ∙ call.none in cc)) g)
             (row_none right valid.number valid.a e h (λ n. refer a (path_from (Origin.Unique n)) s) (λ n. add_unique a n true s) none)
       ])
 
@@ -361,7 +362,7 @@ module _ (allocator : ℕ) (constants : List Constant) (role : Role) (a b c : �
           (c.blocks, subst (λ (t : Table). HoldsRoot w.image t call.root c.blocks) h.table_is c.holds_it, (shared, gone_with h new call.root refl c, refl)) in
           let blocks : GrantsAsks constants i h.pictured new = record { asks = []; asked = refl; gives = c.blocks ++ shared; returned = returned; blocks = live w.image; granted = refl; left = c.live_is } in
           acts_so others types constants first allocator ks s w h i success true (slice_set (ended (Class.Unique T) ks) a RegisterType.Int) (set_register s' a (Register.Int (pos 1))) (with_number (with_image w new) a (pos 1))
-          (row (Some u.plain.value) u.there ∙ answer_is types constants (ended (Class.Unique T) ks) s' less.as_known success a (Register.Int (pos 1)) free) (changed c.becomes.next_kept blocks) c.becomes.length_kept c.becomes.front_kept refl
+          (row (Some u.plain.value) u.there ∙ answer_is types constants (ended (Class.Unique T) ks) s' less.as_known success a (Register.Int (pos 1)) free) (changed c.becomes.next_kept refl (λ none. absurd (let f : None ≡ Some call.root = sym none ∙ ap (root_of_type picture.uniques) operand ∙ call.root_is in cc)) blocks) c.becomes.length_kept c.becomes.front_kept refl
           (shows_number others types constants first allocator (ended (Class.Unique T) ks) s' (with_image w new) less a (pos 1) within free)
           (frame_number others types constants first allocator _ s' (with_image w new) less a _ _ _ (frame_less one h T new goes c.becomes.front_kept))
       by types others first ks s right within h one operand free row false call =

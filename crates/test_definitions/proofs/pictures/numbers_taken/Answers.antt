@@ -1,0 +1,5 @@
+use Rattle.test_definitions.proofs.RunNumberLaws.{numbers_taken as law}
+use Rattle.test_definitions.proofs.pictures.numbers_taken.Goals as goal
+
+pub returns : goal.returns
+returns c = law
