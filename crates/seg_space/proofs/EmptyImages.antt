@@ -74,9 +74,9 @@ one_more_null first old new t changes less new_is nulls =
 
 -- ---- the header
 
--- The header is written in steps: zeros, the magic bytes, the version, the length, the allocator,
+-- The header is written in steps: zeros for the shortest segment, the magic bytes, the version, the length, the allocator,
 -- the kind of index, and the index's cell.
-module _ (len allocator kind : ℕ) (old zeros magic version units with_allocator with_kind empty : List ℕ) (sized : IsImageLength len) (old_long : length old ≡ len) (zeros_is : zeros ≡ put old 0 (replicate len 0))
+module _ (len allocator kind : ℕ) (old zeros magic version units with_allocator with_kind empty : List ℕ) (sized : IsImageLength len) (old_long : length old ≡ len) (zeros_is : zeros ≡ put old 0 (replicate min_length 0))
     (magic_is : magic ≡ put zeros 0 (codes "SEGIMAGE")) (version_is : version ≡ set_word magic version_word sharing_version) (units_is : units ≡ set_word version units_word (len / 16))
     (allocator_is : with_allocator ≡ set_word units allocator_word allocator) (kind_is : with_kind ≡ set_word with_allocator index_kind_word kind) (empty_is : empty ≡ set_pointer with_kind index_cell None)
     (few_allocators : allocator ≤ 1) (few_kinds : kind ≤ 1) where
@@ -102,17 +102,19 @@ module _ (len allocator kind : ℕ) (old zeros magic version units with_allocato
   c6 = rw empty_is (set_number-changes 4 with_kind index_cell (distance index_cell None))
 
   zeros_long : length zeros ≡ len
-  zeros_long = ap length zeros_is ∙ length-put old 0 (replicate len 0) ∙ old_long
+  zeros_long = ap length zeros_is ∙ length-put old 0 (replicate min_length 0) ∙ old_long
 
   pub empty_long : length empty ≡ len
   empty_long = c6.length_kept ∙ c5.length_kept ∙ c4.length_kept ∙ c3.length_kept ∙ c2.length_kept ∙ c1.length_kept ∙ zeros_long
 
-  all_zeros : (p n : ℕ) → p + n ≤ len → slice zeros p n ≡ replicate n 0
+  all_zeros : (p n : ℕ) → p + n ≤ min_length → slice zeros p n ≡ replicate n 0
   all_zeros p n fits =
-      let whole : slice zeros 0 len ≡ replicate len 0 = ap (λ b. slice b 0 len) zeros_is ∙ slice-put_same old 0 (replicate len 0) len (sym (length-replicate len 0)) (omega (arith, old_long)) in
+      let low = sized.not_small in
+      let front : slice zeros 0 min_length ≡ replicate min_length 0 = ap (λ b. slice b 0 min_length) zeros_is
+      ∙ slice-put_same old 0 (replicate min_length 0) min_length (sym (length-replicate {A = ℕ} min_length 0)) (omega (arith, old_long)) in
       let from : 0 + p ≡ p = omega arith in
-      let part : slice (slice zeros 0 len) p n ≡ slice zeros p n = slice-slice zeros 0 len p n fits ∙ ap (λ q. slice zeros q n) from in
-      sym part ∙ ap (λ b. slice b p n) whole ∙ zeros_sliced len p n fits
+      let part : slice (slice zeros 0 min_length) p n ≡ slice zeros p n = slice-slice zeros 0 min_length p n fits ∙ ap (λ q. slice zeros q n) from in
+      sym part ∙ ap (λ b. slice b p n) front ∙ zeros_sliced min_length p n fits
 
   -- no later step changes these bytes
   from_kind : (p n : ℕ) → p + n ≤ 32 → IsSame with_kind empty p n
@@ -133,7 +135,7 @@ module _ (len allocator kind : ℕ) (old zeros magic version units with_allocato
   after_kind : (p n : ℕ) → 24 ≤ p → IsSame zeros with_kind p n
   after_kind p n l = c5.others p n (inr (omega arith)) ∙ c4.others p n (inr (omega arith)) ∙ c3.others p n (inr (omega arith)) ∙ c2.others p n (inr (omega arith)) ∙ c1.others p n (inr (omega arith))
 
-  zeros_then : (p n : ℕ) → 24 ≤ p → (p + n ≤ 32) ⊎ (36 ≤ p) → p + n ≤ len → slice empty p n ≡ replicate n 0
+  zeros_then : (p n : ℕ) → 24 ≤ p → (p + n ≤ 32) ⊎ (36 ≤ p) → p + n ≤ min_length → slice empty p n ≡ replicate n 0
   zeros_then p n l beside fits = c6.others p n beside ∙ after_kind p n l ∙ all_zeros p n fits
 
   long_enough : min_length ≤ len
@@ -199,6 +201,9 @@ module _ (len allocator kind : ℕ) (old zeros magic version units with_allocato
 
     pub version_then : word new version_word ≡ sharing_version
     version_then = number-slice 4 empty new 8 8 (low 8 4 (omega arith)) ∙ front_written.version_there
+
+    pub next_then : word new next_word ≡ 0
+    next_then = number-slice 4 empty new 28 28 (middle 28 4 (omega arith) (omega arith)) ∙ front_written.next_there
 
     pub allocator_then : word new allocator_word ≡ allocator
     allocator_then = number-slice 4 empty new 16 16 (low 16 4 (omega arith)) ∙ front_written.allocator_there

@@ -4,3 +4,4 @@ pub mod KeptOrder
 pub mod ZeroedGaps
 pub mod NewZeros
 pub mod ResizeLaws
+pub mod NewSegmentLaws

@@ -24,7 +24,7 @@ use Rattle.seg_spec.proofs.SliceLaws.{IsSame-part, slice-slice, region-placed}
 use Rattle.seg_spec.specs.Window.{Placement, region_of, with_bytes}
 use Rattle.seg_value.specs.Stored.{Stored}
 use Rattle.seg_manager.specs.Segments.{IsSegment}
-use Rattle.seg_space.specs.Sizes.{used_front, Grows, ShrinksSegment}
+use Rattle.seg_space.specs.Sizes.{used_front, KeepsFixedParts, Grows, ShrinksSegment}
 use Rattle.seg_space.proofs.ZeroedGaps.{free_before}
 use Rattle.seg_spec.proofs.Frozen.KeptCountLaws.{counted_still}
 
@@ -85,6 +85,9 @@ pub record Resized (old new : List ℕ) : Type 0 where
   pub heap : IsHeap (word old allocator_word) new
   pub no_smaller : NoSmaller (live old) (live new)
   pub kept : AllByRecursion (λ b. (p n : ℕ) → b.at + 8 ≤ p → p + n ≤ end_of b → IsSame old new p n) (live old)
+
+pub fixed_parts : (old new : List ℕ) → Resized old new → KeepsFixedParts old new
+fixed_parts old new r = record { front_kept = r.front; words_kept = r.words; back_kept = r.back }
 
 module _ (old new : List ℕ) (picture : Picture) (held : IsHeld old picture) (r : Resized old new) where
   record BlockSame (b : Span) : Type 0 where
@@ -225,16 +228,16 @@ extended old filled new n picture held front_is long sized e =
 drop_twice : (xs : List ℕ) (a b : ℕ) → drop b (drop a xs) ≡ drop (a + b) xs
 drop_twice xs a b = same_lists _ _ (simp (length-drop) (omega arith)) (λ k d l. grind (arith, places))
 
+its_bytes : (r : Placement) → slice (region_of r) (length r.before) (length r.bytes) ≡ r.bytes
+its_bytes r = region-placed r.before r.bytes r.after
+
+pub its_before : (r : Placement) → slice (region_of r) 0 (length r.before) ≡ r.before
+its_before r = ap (λ b. slice b 0 (length r.before)) (append_assoc r.before r.bytes r.after) ∙ region-placed [] r.before (r.bytes ++ r.after)
+
+pub its_after : (r : Placement) → drop (length r.before + length r.bytes) (region_of r) ≡ r.after
+its_after r = ap (λ n. drop n (region_of r)) (sym (length-append r.before r.bytes)) ∙ same_lists _ _ (simp (length-drop, length-append) (omega arith)) (λ k d l. grind (arith, places))
+
 module _ (p q : Placement) (same_region : region_of q ≡ region_of p) (base : length q.before ≡ length p.before) where
-  its_bytes : (r : Placement) → slice (region_of r) (length r.before) (length r.bytes) ≡ r.bytes
-  its_bytes r = region-placed r.before r.bytes r.after
-
-  its_before : (r : Placement) → slice (region_of r) 0 (length r.before) ≡ r.before
-  its_before r = ap (λ b. slice b 0 (length r.before)) (append_assoc r.before r.bytes r.after) ∙ region-placed [] r.before (r.bytes ++ r.after)
-
-  its_after : (r : Placement) → drop (length r.before + length r.bytes) (region_of r) ≡ r.after
-  its_after r = ap (λ n. drop n (region_of r)) (sym (length-append r.before r.bytes)) ∙ same_lists _ _ (simp (length-drop, length-append) (omega arith)) (λ k d l. grind (arith, places))
-
   pub before_same : q.before ≡ p.before
   before_same = sym (its_before q) ∙ ap (λ b. slice b 0 (length q.before)) same_region ∙ ap (slice (region_of p) 0) base ∙ its_before p
 
@@ -255,6 +258,9 @@ pub host_then : (p q r : Placement) (b : List ℕ) → q ≡ with_bytes p q.byte
 host_then p q r b e f = f ∙ ap (λ (x : Placement). with_bytes x b) e ∙ ap (with_bytes p) (sym (ap (λ (x : Placement). x.bytes) f))
 
 -- ---- growing
+
+same_stored : (a b : Stored) → a.window.before ≡ b.window.before → a.window.bytes ≡ b.window.bytes → a.window.after ≡ b.window.after → a.types ≡ b.types → a ≡ b
+same_stored a b before bytes after types = λ i. record { window = record { before = before i; bytes = bytes i; after = after i }; types = types i }
 
 module _ (allocator : ℕ) (old : Stored) (picture : Picture) (is : IsSegment allocator old picture) (q : Placement) (extra : ℕ) (same_region : region_of q ≡ region_of old.window) (base : length q.before ≡ length old.window.before)
     (long : length q.bytes ≡ length old.window.bytes + extra) (sized : IsImageLength (length old.window.bytes + extra)) (whole : extra % 16 ≡ 0) where
@@ -278,14 +284,18 @@ module _ (allocator : ℕ) (old : Stored) (picture : Picture) (is : IsSegment al
   grown_by_none new none window types =
       let b : new.window.bytes ≡ bytes = ap (λ (r : Placement). r.bytes) window ∙ same_bytes none in
       let units : extra / 16 ≡ 0 = omega arith in
+      let before = ap (λ (r : Placement). r.before) window ∙ before_same old.window q same_region base in
+      let after = ap (λ (r : Placement). r.after) window ∙ after_same old.window q same_region base extra long in
       record {
+        unchanged = λ _. same_stored new old before b (after ∙ ap (λ n. drop n old.window.after) none) types;
+        fixed = rw b (record { front_kept = refl; words_kept = refl; back_kept = refl });
         segment = record { held = rw b is.held; counted = rw b is.counted; table_is = types ∙ is.table_is; allocator_is = rw b is.allocator_is };
         length_is = ap length b ∙ omega arith;
         live_is = ap (λ x. live x) b ∙ none_extended (live bytes) (length bytes) ∙ ap (after_extend (live bytes) (length bytes)) (sym units);
         kept = λ h some. rw b (record { live = refl; has_tag = refl; room = omega arith; payload = refl });
         zeros = no_zeros new.window.bytes (length bytes + used_front allocator extra) (extra - used_front allocator extra) (omega arith);
-        before_is = ap (λ (r : Placement). r.before) window ∙ before_same old.window q same_region base;
-        after_is = ap (λ (r : Placement). r.after) window ∙ after_same old.window q same_region base extra long;
+        before_is = before;
+        after_is = after;
       }
 
   module _ (filled new : Placement) (zeros : List ℕ) (filled_is : filled ≡ with_bytes q (put q.bytes (length bytes) zeros)) (host : new ≡ with_bytes filled new.bytes) where
@@ -304,9 +314,9 @@ module _ (allocator : ℕ) (old : Stored) (picture : Picture) (is : IsSegment al
         ap (λ k. take k filled.bytes) n ∙ ap (take (length bytes)) filled_bytes ∙ take-put q.bytes (length bytes) zeros (length bytes) (omega arith)
         ∙ front_bytes old.window q same_region base (length bytes) (omega arith) (omega arith) ∙ take_all (length bytes) bytes (omega arith)
 
-    pub grown : (types : Rattle.seg_spec.specs.Types.Table) → types ≡ old.types → Extends allocator filled.bytes new.bytes (extra / 16)
+    pub grown : (types : Rattle.seg_spec.specs.Types.Table) → types ≡ old.types → 0 < extra → Extends allocator filled.bytes new.bytes (extra / 16)
         → slice new.bytes (length bytes + used_front allocator extra) (extra - used_front allocator extra) ≡ replicate (extra - used_front allocator extra) 0 → Grows allocator old (record { window = new; types = types }) picture extra
-    grown types types_are e zeros_are =
+    grown types types_are more e zeros_are =
         let e' : Extends (word bytes allocator_word) filled.bytes new.bytes (extra / 16) = rw is.allocator_is e in
         let r = extended bytes filled.bytes new.bytes (extra / 16) picture is.held front_is (omega (arith, filled_long, units_are)) (rw filled_long sized) e' in
         let n : length filled.bytes - 16 * (extra / 16) ≡ length bytes = omega (arith, filled_long, units_are) in
@@ -317,6 +327,8 @@ module _ (allocator : ℕ) (old : Stored) (picture : Picture) (is : IsSegment al
             table_is = types_are ∙ is.table_is;
             allocator_is = allocator_then bytes new.bytes picture is.held r ∙ is.allocator_is;
           };
+          unchanged = λ none. absurd (omega arith);
+          fixed = fixed_parts bytes new.bytes r;
           length_is = e.length_kept ∙ filled_long;
           live_is = e.extends ∙ ap (λ b. after_extend (live b) (length filled.bytes - 16 * (extra / 16)) (extra / 16)) front_is ∙ ap (λ k. after_extend (live bytes) k (extra / 16)) n;
           kept = kept_block bytes new.bytes picture is.held r;
@@ -430,6 +442,7 @@ module _ (allocator : ℕ) (old new : Stored) (picture : Picture) (is : IsSegmen
       table_is = types_are ∙ is.table_is;
       allocator_is = allocator_then old.window.bytes new.window.bytes picture is.held resized_cut ∙ is.allocator_is;
     };
+    fixed = fixed_parts old.window.bytes new.window.bytes resized_cut;
     result_is = result_is ∙ sym long;
     length_is = rw (← cuts.cut) (omega arith);
     live_is = ap (λ b. live b) bytes_are ∙ cuts.live_kept;

@@ -3,22 +3,24 @@
 ghost use Rattle.std.specs.Prelude.{◌≡◌, ◌↔◌, ◌⊎◌, [], length, IsOk, IfOk, IfErr};
 ghost use Rattle.seg_spec.specs.Bytes.{word};
 ghost use Rattle.seg_spec.specs.Faulty.{IsImageLength};
-ghost use Rattle.seg_spec.specs.Header.{version_word, allocator_word, index_kind_word, sharing_version};
+ghost use Rattle.seg_spec.specs.Header.{version_word, allocator_word, index_kind_word, next_word, sharing_version};
 ghost use Rattle.seg_spec.specs.Heap.{live};
 ghost use Rattle.seg_spec.specs.Sound.{IsHeld};
 ghost use Rattle.seg_spec.specs.Window.{IsPlace, KeepsHost};
 ghost use Rattle.seg_space.specs.NewSegments.{nothing, word_of_kind, IsNewSegment};
 
+use crate::space::zero_free_memory;
 use seg_block::{Fit, UNIT};
 use seg_index::set_unique;
 use seg_manager::{
-    Fault, IndexKind, MAX_TYPES, Region, Segment, TypeId, TypeTable, Window, header, is_size,
+    Fault, IndexKind, MAX_TYPES, MIN_LEN, Region, Segment, TypeId, TypeTable, Window, header,
+    is_size,
 };
 use std::alloc::Allocator;
 
-/// A new, empty segment of `size` bytes at a base of a region. All its bytes are 0, except in the header and in the
-/// heap, which is one free block. Fails with `BadSize` if the size isn't one of a segment, and with `Misplaced` if the
-/// segment may not be there; the region is returned with the fault.
+/// A new, empty segment of `size` bytes at a base of a region. Its heap is one free block, whose unused bytes are 0, and
+/// the first object that is frozen in it gets the number 0. Fails with `BadSize` if the size isn't one of a segment, and
+/// with `Misplaced` if the segment may not be there; the region is returned with the fault.
 pub fn create<F: Fit, A: Allocator>(
     region: Region<A>,
     base: u32,
@@ -39,9 +41,13 @@ pub fn create<F: Fit, A: Allocator>(
     }
     let mut window = Window::place(region, base, size)?;
     write_empty::<F, A>(&mut window, size, index);
-    Ok(Segment::new(window, TypeTable::new()))
+    let mut segment = Segment::new(window, TypeTable::new());
+    zero_free_memory(&mut segment);
+    Ok(segment)
 }
 
+/// Writes the header of an empty segment, and makes its heap one free block. It writes nothing after the front of that
+/// block.
 fn write_empty<F: Fit, A: Allocator>(w: &mut Window<A>, size: u32, index: IndexKind)
     ensures host { KeepsHost w.old w.new }
     ensures empty { IsImageLength size → length w.old.bytes ≡ size →
@@ -49,9 +55,10 @@ fn write_empty<F: Fit, A: Allocator>(w: &mut Window<A>, size: u32, index: IndexK
         × (length w.new.bytes ≡ size)
         × (word w.new.bytes allocator_word ≡ F.allocator)
         × (word w.new.bytes index_kind_word ≡ word_of_kind index)
-        × (word w.new.bytes version_word ≡ sharing_version) }
+        × (word w.new.bytes version_word ≡ sharing_version)
+        × (word w.new.bytes next_word ≡ 0) }
 {
-    w.fill(0, size as usize, 0);
+    w.fill(0, MIN_LEN as usize, 0);
     header::begin(w);
     w.put32(header::SIZE, size / UNIT);
     w.put32(header::ALLOCATOR, F::word());

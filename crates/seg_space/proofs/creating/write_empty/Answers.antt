@@ -9,7 +9,7 @@ use Rattle.std.specs.Prelude.{codes}
 use Rattle.seg_spec.proofs.Values.CellChangeLaws.{ChangesOnly-none}
 use Rattle.seg_space.specs.NewSegments.{word_of_kind}
 use Rattle.seg_manager.proofs.ResultLaws.{host_twice}
-use Rattle.seg_space.proofs.EmptyImages.{kind_word, few_kinds_of, one_more_null, empty_long, kind_then, version_then, allocator_then, new_long, nothing_held}
+use Rattle.seg_space.proofs.EmptyImages.{kind_word, few_kinds_of, one_more_null, empty_long, kind_then, version_then, next_then, allocator_then, new_long, nothing_held}
 use Rattle.seg_space.proofs.creating.write_empty.Goals as goal
 
 bytes_in : (p q : Placement) → p ≡ q → p.bytes ≡ q.bytes
@@ -89,4 +89,5 @@ returns-clause-empty g c = λ sized long.
       allocator_then len a k w0.bytes w1.bytes magic w2.bytes w3.bytes w4.bytes w5.bytes w6.bytes sized long e1 refl e2 e3 e4 e5 e6 few all w7.bytes w8.bytes changes nulls begins,
       kind_then len a k w0.bytes w1.bytes magic w2.bytes w3.bytes w4.bytes w5.bytes w6.bytes sized long e1 refl e2 e3 e4 e5 e6 few all w7.bytes w8.bytes changes nulls begins,
       version_then len a k w0.bytes w1.bytes magic w2.bytes w3.bytes w4.bytes w5.bytes w6.bytes sized long e1 refl e2 e3 e4 e5 e6 few all w7.bytes w8.bytes changes nulls begins,
+      next_then len a k w0.bytes w1.bytes magic w2.bytes w3.bytes w4.bytes w5.bytes w6.bytes sized long e1 refl e2 e3 e4 e5 e6 few all w7.bytes w8.bytes changes nulls begins,
     )

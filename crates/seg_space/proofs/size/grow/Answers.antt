@@ -71,7 +71,7 @@ returns-then-extra-gt0-clause-grows g c = λ picture is.
     let zeroed = rw (len, c.saturating_sub-rest.ensures, used) at c.fill-then-extra-gt0.ensures in
     let zeros = ap (λ (p : Placement). p.bytes) zeroed in
     let host = host_then c.fill.new.self mid new (put mid.bytes (length old.window.bytes + used_front a extra) (replicate (extra - used_front a extra) 0)) c.extend_end.ensures.host zeroed in
-    grown a old picture is q extra region base long sized whole c.fill.new.self new first filled host c.heap_mut.result.now.types (ap (λ s. s.types) c.heap_mut.ensures.value)
+    grown a old picture is q extra region base long sized whole c.fill.new.self new first filled host c.heap_mut.result.now.types (ap (λ s. s.types) c.heap_mut.ensures.value) c.if-extra-gt0.true
     (zeros_extend a c.fill.new.self.bytes mid.bytes extra (length old.window.bytes) heap extends wide low c.if-extra-gt0.true whole few new.bytes zeros)
     (zeros_there a c.fill.new.self.bytes mid.bytes extra (length old.window.bytes) heap extends wide low c.if-extra-gt0.true whole few new.bytes zeros)
 
