@@ -15,6 +15,8 @@ pub use Rattle.seg_image.specs.Checked
 pub use Rattle.seg_image.specs.Places
 pub use Rattle.seg_image.specs.Owners
 pub use Rattle.seg_image.specs.Iterators
+pub use Rattle.seg_image.specs.TypeLists
+pub use Rattle.seg_image.specs.Forms
 pub use Rattle.seg_image.specs.Faults
 pub use Rattle.seg_image.specs.Stored
 pub use Rattle.seg_image.specs.NewSegments

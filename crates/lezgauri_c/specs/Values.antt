@@ -13,7 +13,7 @@
 --                               none
 --     WhereText, WhereVector, WhereList, WhereMap image table place claim
 --                               the claim is true of the string, the vector, the list or the map at a place
-use Rattle.std.specs.Prelude.{◌≡◌, ◌⊎◌, ◌+◌, ◌-◌, ◌<◌, ◌≤◌, ℕ, ℤ, List, [], Option, Some, None, Result, Ok, Err, MatchResult, option_map}
+use Rattle.std.specs.Prelude.{◌≡◌, ◌⊎◌, ◌+◌, ◌-◌, ◌<◌, ◌≤◌, ℕ, ℤ, List, Option, Some, None, Result, Ok, Err, MatchResult, option_map}
 use Rattle.seg_spec.specs.Bytes.{word}
 use Rattle.seg_spec.specs.Header.{allocator_word}
 use Rattle.seg_spec.specs.Types.{Table}
@@ -25,7 +25,7 @@ use Rattle.seg_raw.specs.declared.code.Code.{Code}
 use Rattle.seg_raw.specs.declared.code.Code.TheVariants as code
 use Rattle.lezgauri.specs.Place.{Place}
 use Rattle.lezgauri.specs.CellPlaces.{place_of}
-use Rattle.seg_value.specs.Stored.{Stored}
+use Rattle.seg_value.specs.Stored.{Stored, whole_of}
 use Rattle.seg_seq.specs.Sequences.{HasText, HasItems, ShowsItem}
 use Rattle.seg_seq.specs.Lists.{HasList}
 use Rattle.lezgauri.specs.EitherMap.{WhereMaps}
@@ -65,10 +65,7 @@ IsReadStatus status = (status ≡ 0) ⊎ (status ≡ 100) ⊎ (status ≡ 10)
 
 -- the segment that is the whole of an image
 abbrev pub stored_in : List ℕ → Table → Stored
-stored_in image table = record {
-  window = record { before = []; bytes = image; after = [] };
-  types = table;
-}
+stored_in = whole_of
 
 abbrev pub allocator_in : List ℕ → ℕ
 allocator_in image = word image allocator_word

@@ -4,6 +4,7 @@ pub mod Checked
 pub mod Places
 pub mod Owners
 pub mod Iterators
+pub mod TypeLists
 -- the words of the crates below that the contracts cite
 pub use Rattle.seg_value.specs.Stored
 pub use Rattle.seg_space.specs.NewSegments
@@ -14,5 +15,6 @@ pub use Rattle.seg_seq.specs.Sequences
 pub use Rattle.seg_seq.specs.Lists
 pub use Rattle.seg_map.specs.Maps
 pub use Rattle.seg_map.specs.EitherMap
+pub use Rattle.seg_layout.specs.Forms
 pub use Rattle.seg_cells.specs.declared.place.Place
 pub use Rattle.seg_cells.specs.Places as CellPlaces

@@ -1,6 +1,6 @@
 //! What values are read from.
 
-ghost use Rattle.std.specs.Prelude.{◌≡◌, [], ℕ};
+ghost use Rattle.std.specs.Prelude.{◌≡◌, ℕ};
 ghost use Rattle.seg_spec.specs.Bytes.{signed_long, word};
 ghost use Rattle.seg_spec.specs.Header.{allocator_word};
 ghost use Rattle.seg_spec.specs.Reads.{count_at, start};
@@ -91,10 +91,9 @@ pub struct Reader<'a> {
 
 impl<'a> SegmentRead for Reader<'a> {
     // The image is a segment that is the whole of its region.
-    ghost stored = { λ reader. record {
-      window = record { before = []; bytes = reader.view.bytes.now; after = [] };
-      types = reader.layouts.now;
-    } };
+    ghost use Rattle.seg_value.specs.Stored.{whole_of};
+
+    ghost stored = { λ reader. whole_of reader.view.bytes.now reader.layouts.now };
 
     ghost allocator = { λ reader. word reader.view.bytes.now allocator_word };
 
