@@ -259,8 +259,12 @@ host_then p q r b e f = f ∙ ap (λ (x : Placement). with_bytes x b) e ∙ ap (
 
 -- ---- growing
 
-same_stored : (a b : Stored) → a.window.before ≡ b.window.before → a.window.bytes ≡ b.window.bytes → a.window.after ≡ b.window.after → a.types ≡ b.types → a ≡ b
-same_stored a b before bytes after types = λ i. record { window = record { before = before i; bytes = bytes i; after = after i }; types = types i }
+same_stored : (a b : Stored) → a.window.before ≡ b.window.before → a.window.bytes ≡ b.window.bytes → a.window.after ≡ b.window.after
+    → a.window.home ≡ b.window.home → a.types ≡ b.types → a ≡ b
+same_stored a b before bytes after home types = λ i. record {
+  window = record { before = before i; bytes = bytes i; after = after i; home = home i };
+  types = types i;
+}
 
 module _ (allocator : ℕ) (old : Stored) (picture : Picture) (is : IsSegment allocator old picture) (q : Placement) (extra : ℕ) (same_region : region_of q ≡ region_of old.window) (base : length q.before ≡ length old.window.before)
     (long : length q.bytes ≡ length old.window.bytes + extra) (sized : IsImageLength (length old.window.bytes + extra)) (whole : extra % 16 ≡ 0) where
@@ -280,14 +284,14 @@ module _ (allocator : ℕ) (old : Stored) (picture : Picture) (is : IsSegment al
   unfolding slice
   no_zeros b at n e = rw e refl
 
-  pub grown_by_none : (new : Stored) → extra ≡ 0 → new.window ≡ q → new.types ≡ old.types → Grows allocator old new picture extra
-  grown_by_none new none window types =
+  pub grown_by_none : (new : Stored) → extra ≡ 0 → new.window ≡ q → q.home ≡ old.window.home → new.types ≡ old.types → Grows allocator old new picture extra
+  grown_by_none new none window home types =
       let b : new.window.bytes ≡ bytes = ap (λ (r : Placement). r.bytes) window ∙ same_bytes none in
       let units : extra / 16 ≡ 0 = omega arith in
       let before = ap (λ (r : Placement). r.before) window ∙ before_same old.window q same_region base in
       let after = ap (λ (r : Placement). r.after) window ∙ after_same old.window q same_region base extra long in
       record {
-        unchanged = λ _. same_stored new old before b (after ∙ ap (λ n. drop n old.window.after) none) types;
+        unchanged = λ _. same_stored new old before b (after ∙ ap (λ n. drop n old.window.after) none) (ap (λ (r : Placement). r.home) window ∙ home) types;
         fixed = rw b (record { front_kept = refl; words_kept = refl; back_kept = refl });
         segment = record { held = rw b is.held; counted = rw b is.counted; table_is = types ∙ is.table_is; allocator_is = rw b is.allocator_is };
         length_is = ap length b ∙ omega arith;

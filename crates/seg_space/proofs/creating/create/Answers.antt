@@ -13,7 +13,7 @@ returns-clause-empty g c =
     let there = c.in_ok-window.ensures.window in
     let empty = rw (← window) at (c.write_empty.ensures.empty (c.is_size.ensures.0 c.if-not-is_size.false) there.2) in
     let host = c.write_empty.ensures.host in
-    let before = ap (λ (p : Placement). p.before) window ∙ ap (λ (p : Placement). p.before) host ∙ placed_before placed c.args.region c.args.base c.args.size there.0 there.1 there.2 in
-    let after = ap (λ (p : Placement). p.after) window ∙ ap (λ (p : Placement). p.after) host ∙ placed_after placed c.args.region c.args.base c.args.size there.0 there.1 there.2 in
-    new_segment a old c.zero_free_memory.new.segment types empty.0 empty.3 c.zero_free_memory.ensures.zeroes c.args.region c.args.base c.args.size c.args.index empty.1 empty.2 empty.4 empty.5 empty.6
+    let before = ap (λ (p : Placement). p.before) window ∙ ap (λ (p : Placement). p.before) host ∙ placed_before placed c.args.region.bytes c.args.base c.args.size there.0 there.1 there.2 in
+    let after = ap (λ (p : Placement). p.after) window ∙ ap (λ (p : Placement). p.after) host ∙ placed_after placed c.args.region.bytes c.args.base c.args.size there.0 there.1 there.2 in
+    new_segment a old c.zero_free_memory.new.segment types empty.0 empty.3 c.zero_free_memory.ensures.zeroes c.args.region.bytes c.args.base c.args.size c.args.index empty.1 empty.2 empty.4 empty.5 empty.6
     c.zero_free_memory.ensures.window before after

@@ -39,7 +39,7 @@ returns-else-extra-gt0-clause-grows g c = λ picture is.
     let region = rw window at c.resize.ensures.region in
     let base = rw window at c.resize.ensures.base in
     grown_by_none g.F.Fit.allocator old picture is c.resize.new.self extra region base long sized c.if-extra-ne0.false (record { window = c.resize.new.self; types = c.heap_mut.result.now.types }) (omega (arith, c.if-extra-gt0.false)) refl
-    (ap (λ s. s.types) c.heap_mut.ensures.value)
+    (c.resize.ensures.home ∙ ap (λ (p : Placement). p.home) window) (ap (λ s. s.types) c.heap_mut.ensures.value)
 
 pub returns-then-extra-gt0-clause-grows : goal.returns-then-extra-gt0-clause-grows
 returns-then-extra-gt0-clause-grows g c = λ picture is.
