@@ -10,7 +10,7 @@ const VALUES: TypeId = 1;
 
 const ORDER: TypeId = 2;
 
-/// A cache of numbers in an open image. When it is full, its oldest key is dropped.
+/// A cache of numbers in an open image. When it is full, its oldest key is dropped. A cache of no keys keeps nothing.
 #[derive(Drop)]
 pub struct Cache {
     image: Image<Global>,
@@ -27,7 +27,7 @@ impl Cache {
         Cache::in_image(image, most)
     }
 
-    /// The cache in a saved image.
+    /// The cache in a saved image. If it has more than `most` keys, the next key that is entered drops the oldest ones.
     pub fn open(alloc: Global, image: Vec<u8>, most: u32) -> Result<Cache, Error> {
         Cache::in_image(Image::open(alloc, image)?, most)
     }
@@ -50,18 +50,27 @@ impl Cache {
 
     /// Enters a key that the cache doesn't have. The image grows if it is full.
     pub fn enter(&mut self, key: i64, number: i64) -> Result<(), Error> {
+        if self.most == 0 {
+            return Ok(());
+        }
         if self.image.largest_gap() < 256 {
             self.image.grow(4096)?;
         }
-        if self.image.len(self.order)? >= self.most {
-            let first = self.image.load(self.image.item(self.order, 0)?)?;
-            self.image.remove(self.values, first);
-            self.image.pop_front(self.order)?;
+        let entered = self.image.len(self.order)?.saturating_add(1);
+        for _ in self.most..entered {
+            self.drop_oldest()?;
         }
         let value = self.image.put(self.values, key)?;
         self.image.store(value, number)?;
         let last = self.image.push_back(self.order)?;
         self.image.store(last, key)?;
+        Ok(())
+    }
+
+    fn drop_oldest(&mut self) -> Result<(), Error> {
+        let oldest = self.image.load(self.image.item(self.order, 0)?)?;
+        self.image.remove(self.values, oldest);
+        self.image.pop_front(self.order)?;
         Ok(())
     }
 

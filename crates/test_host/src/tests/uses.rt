@@ -90,3 +90,20 @@ fn a_cache_forgets_what_came_first(rt: HostRuntime) -> Result<(), Fail> {
     assert_eq!(rt; again.get(3), Ok(9));
     Ok(())
 }
+
+/// A cache of no keys keeps nothing. One that is opened with a lower limit drops the oldest keys for the next one.
+#[test]
+fn a_cache_keeps_to_its_limit(rt: HostRuntime) -> Result<(), Fail> {
+    let mut none = Cache::new(rt.alloc(), 0)?;
+    none.enter(1, 1)?;
+    assert_eq!(rt; none.get(1), Err(Code::Absent));
+    let mut cache = Cache::new(rt.alloc(), 3)?;
+    for (key, value) in [(1, 1), (2, 4), (3, 9)] {
+        cache.enter(key, value)?;
+    }
+    let mut smaller = Cache::open(rt.alloc(), cache.save(rt.alloc())?, 1)?;
+    smaller.enter(4, 16)?;
+    assert_eq!(rt; smaller.get(3), Err(Code::Absent));
+    assert_eq!(rt; smaller.get(4), Ok(16));
+    Ok(())
+}
