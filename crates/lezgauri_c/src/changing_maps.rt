@@ -1,5 +1,5 @@
 ghost use Rattle.std.specs.Prelude.{◌≡◌, ◌<◌};
-ghost use Rattle.lezgauri_c.specs.Changes.{place_at, GivesPlace, IsFound};
+ghost use Rattle.lezgauri_c.specs.Changes.{place_at, GivesPlace, IsFound, StaysSound};
 ghost use Rattle.lezgauri_c.specs.ImageChanges.{Puts, Removes};
 
 use crate::changing::{found, give, on_image, place_at};
@@ -18,6 +18,7 @@ pub extern "C" fn lezgauri_raw_put(
 ) -> u32
     ensures puts { GivesPlace image.old.bytes image.new.bytes result value.old value.new
         (Puts (place_at at type_id) key) }
+    ensures sound { StaysSound image.old.bytes image.new.bytes (place_at at type_id) }
     ensures unwritten { 0 < result → value.new ≡ value.old }
 {
     let map = place_at(at, type_id);
@@ -29,8 +30,9 @@ pub extern "C" fn lezgauri_raw_put(
 /// if the place isn't a map.
 #[unsafe(no_mangle)]
 pub extern "C" fn lezgauri_raw_remove(image: &mut Lent, at: u32, type_id: u32, key: i64) -> u32
-    ensures { IsFound image.old.bytes image.new.bytes result
+    ensures removes { IsFound image.old.bytes image.new.bytes result
         (Removes (place_at at type_id) key) }
+    ensures sound { StaysSound image.old.bytes image.new.bytes (place_at at type_id) }
 {
     let map = place_at(at, type_id);
     found(on_image!(image, opened => opened.remove(map, key)))

@@ -1,5 +1,5 @@
 ghost use Rattle.std.specs.Prelude.{◌≡◌, ◌<◌};
-ghost use Rattle.lezgauri_c.specs.Changes.{place_at, GivesPlace, IsDone};
+ghost use Rattle.lezgauri_c.specs.Changes.{place_at, GivesPlace, IsDone, StaysSound, StaysSoundFrom};
 ghost use Rattle.lezgauri_c.specs.ImageChanges.{PutsContent, Freezes, Shares};
 
 use crate::changing::{done, give, on_image, place_at};
@@ -17,6 +17,7 @@ pub extern "C" fn lezgauri_raw_put_content(
 ) -> u32
     ensures puts { GivesPlace image.old.bytes image.new.bytes result content.old content.new
         (PutsContent (place_at at type_id)) }
+    ensures sound { StaysSound image.old.bytes image.new.bytes (place_at at type_id) }
     ensures unwritten { 0 < result → content.new ≡ content.old }
 {
     let own = place_at(at, type_id);
@@ -52,8 +53,10 @@ pub extern "C" fn lezgauri_raw_share(
     to_at: u32,
     to_type_id: u32,
 ) -> u32
-    ensures { IsDone image.old.bytes image.new.bytes result
+    ensures shares { IsDone image.old.bytes image.new.bytes result
         (Shares (place_at to_at to_type_id) (place_at at type_id)) }
+    ensures sound { StaysSoundFrom image.old.bytes image.new.bytes (place_at at type_id)
+        (place_at to_at to_type_id) }
 {
     let from = place_at(at, type_id);
     let to = place_at(to_at, to_type_id);

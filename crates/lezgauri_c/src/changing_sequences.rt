@@ -1,5 +1,5 @@
 ghost use Rattle.std.specs.Prelude.{◌≡◌, ◌<◌};
-ghost use Rattle.lezgauri_c.specs.Changes.{place_at, GivesPlace, IsDone};
+ghost use Rattle.lezgauri_c.specs.Changes.{place_at, GivesPlace, IsDone, StaysSound};
 ghost use Rattle.lezgauri_c.specs.ImageChanges.{Assigns, Appends, PushesItem, PushesItemFront, PopsItem, PopsItemFront};
 
 use crate::changing::{done, give, on_image, place_at};
@@ -10,8 +10,9 @@ use crate::place::Place;
 /// then nothing changes.
 #[unsafe(no_mangle)]
 pub extern "C" fn lezgauri_raw_assign(image: &mut Lent, at: u32, type_id: u32, bytes: &[u8]) -> u32
-    ensures { IsDone image.old.bytes image.new.bytes result
+    ensures assigns { IsDone image.old.bytes image.new.bytes result
         (Assigns (place_at at type_id) bytes.now) }
+    ensures sound { StaysSound image.old.bytes image.new.bytes (place_at at type_id) }
 {
     let string = place_at(at, type_id);
     done(on_image!(image, opened => opened.assign(string, bytes)))
@@ -20,8 +21,9 @@ pub extern "C" fn lezgauri_raw_assign(image: &mut Lent, at: u32, type_id: u32, b
 /// Appends bytes to the string at a place. Fails as `lezgauri_raw_assign` does.
 #[unsafe(no_mangle)]
 pub extern "C" fn lezgauri_raw_append(image: &mut Lent, at: u32, type_id: u32, bytes: &[u8]) -> u32
-    ensures { IsDone image.old.bytes image.new.bytes result
+    ensures appends { IsDone image.old.bytes image.new.bytes result
         (Appends (place_at at type_id) bytes.now) }
+    ensures sound { StaysSound image.old.bytes image.new.bytes (place_at at type_id) }
 {
     let string = place_at(at, type_id);
     done(on_image!(image, opened => opened.append(string, bytes)))
@@ -38,6 +40,7 @@ pub extern "C" fn lezgauri_raw_push_back(
 ) -> u32
     ensures pushes { GivesPlace image.old.bytes image.new.bytes result item.old item.new
         (PushesItem (place_at at type_id)) }
+    ensures sound { StaysSound image.old.bytes image.new.bytes (place_at at type_id) }
     ensures unwritten { 0 < result → item.new ≡ item.old }
 {
     let sequence = place_at(at, type_id);
@@ -56,6 +59,7 @@ pub extern "C" fn lezgauri_raw_push_front(
 ) -> u32
     ensures pushes { GivesPlace image.old.bytes image.new.bytes result item.old item.new
         (PushesItemFront (place_at at type_id)) }
+    ensures sound { StaysSound image.old.bytes image.new.bytes (place_at at type_id) }
     ensures unwritten { 0 < result → item.new ≡ item.old }
 {
     let list = place_at(at, type_id);
@@ -67,7 +71,9 @@ pub extern "C" fn lezgauri_raw_push_front(
 /// nothing changes.
 #[unsafe(no_mangle)]
 pub extern "C" fn lezgauri_raw_pop_back(image: &mut Lent, at: u32, type_id: u32) -> u32
-    ensures { IsDone image.old.bytes image.new.bytes result (PopsItem (place_at at type_id)) }
+    ensures pops { IsDone image.old.bytes image.new.bytes result
+        (PopsItem (place_at at type_id)) }
+    ensures sound { StaysSound image.old.bytes image.new.bytes (place_at at type_id) }
 {
     let sequence = place_at(at, type_id);
     done(on_image!(image, opened => opened.pop_back(sequence)))
@@ -76,8 +82,9 @@ pub extern "C" fn lezgauri_raw_pop_back(image: &mut Lent, at: u32, type_id: u32)
 /// Destroys the first item of the list at a place. Fails as `Image::pop_front` does; then nothing changes.
 #[unsafe(no_mangle)]
 pub extern "C" fn lezgauri_raw_pop_front(image: &mut Lent, at: u32, type_id: u32) -> u32
-    ensures { IsDone image.old.bytes image.new.bytes result
+    ensures pops { IsDone image.old.bytes image.new.bytes result
         (PopsItemFront (place_at at type_id)) }
+    ensures sound { StaysSound image.old.bytes image.new.bytes (place_at at type_id) }
 {
     let list = place_at(at, type_id);
     done(on_image!(image, opened => opened.pop_front(list)))

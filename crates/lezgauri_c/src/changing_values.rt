@@ -1,5 +1,5 @@
 ghost use Rattle.std.specs.Prelude.{◌≡◌};
-ghost use Rattle.lezgauri_c.specs.Changes.{place_at, IsDone, IsOver};
+ghost use Rattle.lezgauri_c.specs.Changes.{place_at, IsDone, IsOver, StaysSound};
 ghost use Rattle.lezgauri_c.specs.ImageChanges.{Clears, ShrinksBuffer};
 
 use crate::changing::{done, on_image, place_at};
@@ -10,7 +10,9 @@ use crate::status::OK;
 /// it owns, and each frozen object that no other cell points to.
 #[unsafe(no_mangle)]
 pub extern "C" fn lezgauri_raw_clear(image: &mut Lent, at: u32, type_id: u32) -> u32
-    ensures { IsOver image.old.bytes image.new.bytes result (Clears (place_at at type_id)) }
+    ensures clears { IsOver image.old.bytes image.new.bytes result
+        (Clears (place_at at type_id)) }
+    ensures sound { StaysSound image.old.bytes image.new.bytes (place_at at type_id) }
 {
     let value = place_at(at, type_id);
     on_image!(image, opened => opened.clear(value));
@@ -21,8 +23,9 @@ pub extern "C" fn lezgauri_raw_clear(image: &mut Lent, at: u32, type_id: u32) ->
 /// changes.
 #[unsafe(no_mangle)]
 pub extern "C" fn lezgauri_raw_shrink_to_fit(image: &mut Lent, at: u32, type_id: u32) -> u32
-    ensures { IsDone image.old.bytes image.new.bytes result
+    ensures shrinks { IsDone image.old.bytes image.new.bytes result
         (ShrinksBuffer (place_at at type_id)) }
+    ensures sound { StaysSound image.old.bytes image.new.bytes (place_at at type_id) }
 {
     let container = place_at(at, type_id);
     done(on_image!(image, opened => opened.shrink_to_fit(container)))

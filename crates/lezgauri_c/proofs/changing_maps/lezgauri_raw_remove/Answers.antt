@@ -2,13 +2,14 @@ use Rattle.std.proofs.Common.{◌≡◌, sym, ◌∙◌, subst, ℤ, w64}
 use Rattle.std.proofs.lemmas.Int.{to_z-of_z}
 use Rattle.lezgauri.specs.Place.{Place}
 use Rattle.lezgauri.specs.Images.{bytes_in}
-use Rattle.lezgauri_c.specs.Changes.{IsFound}
+use Rattle.lezgauri_c.specs.Changes.{place_at, IsFound}
 use Rattle.lezgauri_c.specs.ImageChanges.{Removes}
 use Rattle.lezgauri_c.proofs.ChangeLaws.{calls}
+use Rattle.lezgauri_c.proofs.PlaceChangeLaws.{stays_sound, remove_stays}
 use Rattle.lezgauri_c.proofs.changing_maps.lezgauri_raw_remove.Goals as goal
 
-pub returns : goal.returns
-returns c =
+pub returns-clause-removes : goal.returns-clause-removes
+returns-clause-removes c =
     let opened = c.in-Ok.image in
     let left = c.remove-returned.new.self in
     let left_is : bytes_in left ≡ c.give_back.new.self.bytes = sym (c.give_back.ensures.bytes ∙ c.into_bytes.ensures) in
@@ -19,3 +20,8 @@ returns c =
       other = c.remove-returned.ensures.other;
       removes = c.remove-returned.ensures.removes;
     })))
+
+pub returns-clause-sound : goal.returns-clause-sound
+returns-clause-sound c =
+    let place = place_at c.args.at c.args.type_id in
+    stays_sound (returns-clause-removes c) place (λ opened left result it picture is_open reached. remove_stays opened left place picture is_open reached c.args.key result it)

@@ -4,10 +4,11 @@ use Rattle.lezgauri.specs.Images.{bytes_in}
 use Rattle.lezgauri_c.specs.Changes.{IsDone, place_at}
 use Rattle.lezgauri_c.specs.ImageChanges.{Shares}
 use Rattle.lezgauri_c.proofs.ChangeLaws.{calls}
+use Rattle.lezgauri_c.proofs.PlaceChangeLaws.{stays_sound_from, share_stays}
 use Rattle.lezgauri_c.proofs.changing_owners.lezgauri_raw_share.Goals as goal
 
-pub returns : goal.returns
-returns c =
+pub returns-clause-shares : goal.returns-clause-shares
+returns-clause-shares c =
     let opened = c.in-Ok.image in
     let left = c.share-returned.new.self in
     let left_is : bytes_in left ≡ c.give_back.new.self.bytes = sym (c.give_back.ensures.bytes ∙ c.into_bytes.ensures) in
@@ -19,3 +20,9 @@ returns c =
       done = c.share-returned.ensures.done;
       shares = c.share-returned.ensures.shares;
     })))
+
+pub returns-clause-sound : goal.returns-clause-sound
+returns-clause-sound c =
+    let from = place_at c.args.at c.args.type_id in
+    let to = place_at c.args.to_at c.args.to_type_id in
+    stays_sound_from (returns-clause-shares c) from to (λ opened left result it picture is_open other reached. share_stays opened left from to picture is_open other reached result it)

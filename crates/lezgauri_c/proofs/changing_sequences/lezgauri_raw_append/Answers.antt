@@ -1,13 +1,14 @@
 use Rattle.std.proofs.Common.{◌≡◌, sym, ◌∙◌, subst}
 use Rattle.lezgauri.specs.Place.{Place}
 use Rattle.lezgauri.specs.Images.{bytes_in}
-use Rattle.lezgauri_c.specs.Changes.{IsDone}
+use Rattle.lezgauri_c.specs.Changes.{place_at, IsDone}
 use Rattle.lezgauri_c.specs.ImageChanges.{Appends}
 use Rattle.lezgauri_c.proofs.ChangeLaws.{calls}
+use Rattle.lezgauri_c.proofs.PlaceChangeLaws.{stays_sound, append_stays}
 use Rattle.lezgauri_c.proofs.changing_sequences.lezgauri_raw_append.Goals as goal
 
-pub returns : goal.returns
-returns c =
+pub returns-clause-appends : goal.returns-clause-appends
+returns-clause-appends c =
     let opened = c.in-Ok.image in
     let left = c.append-returned.new.self in
     let left_is : bytes_in left ≡ c.give_back.new.self.bytes = sym (c.give_back.ensures.bytes ∙ c.into_bytes.ensures) in
@@ -17,3 +18,8 @@ returns c =
       text = c.append-returned.ensures.text;
       other = c.append-returned.ensures.other;
     }))
+
+pub returns-clause-sound : goal.returns-clause-sound
+returns-clause-sound c =
+    let place = place_at c.args.at c.args.type_id in
+    stays_sound (returns-clause-appends c) place (λ opened left result it picture is_open reached. append_stays opened left place picture is_open reached c.args.bytes.now result it)

@@ -1,13 +1,14 @@
 use Rattle.std.proofs.Common.{◌≡◌, sym, ◌∙◌, subst}
 use Rattle.lezgauri.specs.Place.{Place}
 use Rattle.lezgauri.specs.Images.{bytes_in}
-use Rattle.lezgauri_c.specs.Changes.{IsDone}
+use Rattle.lezgauri_c.specs.Changes.{place_at, IsDone}
 use Rattle.lezgauri_c.specs.ImageChanges.{PopsItem}
 use Rattle.lezgauri_c.proofs.ChangeLaws.{calls}
+use Rattle.lezgauri_c.proofs.PlaceChangeLaws.{stays_sound, pop_back_stays}
 use Rattle.lezgauri_c.proofs.changing_sequences.lezgauri_raw_pop_back.Goals as goal
 
-pub returns : goal.returns
-returns c =
+pub returns-clause-pops : goal.returns-clause-pops
+returns-clause-pops c =
     let opened = c.in-Ok.image in
     let left = c.pop_back-returned.new.self in
     let left_is : bytes_in left ≡ c.give_back.new.self.bytes = sym (c.give_back.ensures.bytes ∙ c.into_bytes.ensures) in
@@ -20,3 +21,8 @@ returns c =
       other = c.pop_back-returned.ensures.other;
       counted = c.pop_back-returned.ensures.counted;
     }))
+
+pub returns-clause-sound : goal.returns-clause-sound
+returns-clause-sound c =
+    let place = place_at c.args.at c.args.type_id in
+    stays_sound (returns-clause-pops c) place (λ opened left result it picture is_open reached. pop_back_stays opened left place picture is_open reached result it)

@@ -1,13 +1,14 @@
 use Rattle.std.proofs.Common.{◌≡◌, sym, ◌∙◌, refl, arith, subst}
 use Rattle.lezgauri.specs.Place.{Place}
 use Rattle.lezgauri.specs.Images.{bytes_in}
-use Rattle.lezgauri_c.specs.Changes.{IsOver}
+use Rattle.lezgauri_c.specs.Changes.{place_at, IsOver}
 use Rattle.lezgauri_c.specs.ImageChanges.{Clears}
 use Rattle.lezgauri_c.proofs.ChangeLaws.{calls}
+use Rattle.lezgauri_c.proofs.PlaceChangeLaws.{stays_sound, clear_stays}
 use Rattle.lezgauri_c.proofs.changing_values.lezgauri_raw_clear.Goals as goal
 
-pub returns : goal.returns
-returns c =
+pub returns-clause-clears : goal.returns-clause-clears
+returns-clause-clears c =
     let opened = c.in-Ok.image in
     let left = c.clear-returned.new.self in
     let left_is : bytes_in left ≡ c.give_back.new.self.bytes = sym (c.give_back.ensures.bytes ∙ c.into_bytes.ensures) in
@@ -16,3 +17,8 @@ returns c =
       bytes = c.clear-returned.ensures.bytes;
       cleared = c.clear-returned.ensures.cleared;
     }))
+
+pub returns-clause-sound : goal.returns-clause-sound
+returns-clause-sound c =
+    let place = place_at c.args.at c.args.type_id in
+    stays_sound (returns-clause-clears c) place (λ opened left result it picture is_open reached. clear_stays opened left place picture is_open reached it)

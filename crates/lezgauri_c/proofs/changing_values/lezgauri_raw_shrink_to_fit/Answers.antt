@@ -1,13 +1,14 @@
 use Rattle.std.proofs.Common.{◌≡◌, sym, ◌∙◌, subst}
 use Rattle.lezgauri.specs.Place.{Place}
 use Rattle.lezgauri.specs.Images.{bytes_in}
-use Rattle.lezgauri_c.specs.Changes.{IsDone}
+use Rattle.lezgauri_c.specs.Changes.{place_at, IsDone}
 use Rattle.lezgauri_c.specs.ImageChanges.{ShrinksBuffer}
 use Rattle.lezgauri_c.proofs.ChangeLaws.{calls}
+use Rattle.lezgauri_c.proofs.PlaceChangeLaws.{stays_sound, shrink_stays}
 use Rattle.lezgauri_c.proofs.changing_values.lezgauri_raw_shrink_to_fit.Goals as goal
 
-pub returns : goal.returns
-returns c =
+pub returns-clause-shrinks : goal.returns-clause-shrinks
+returns-clause-shrinks c =
     let opened = c.in-Ok.image in
     let left = c.shrink_to_fit-returned.new.self in
     let left_is : bytes_in left ≡ c.give_back.new.self.bytes = sym (c.give_back.ensures.bytes ∙ c.into_bytes.ensures) in
@@ -18,3 +19,8 @@ returns c =
       done = c.shrink_to_fit-returned.ensures.done;
       other = c.shrink_to_fit-returned.ensures.other;
     }))
+
+pub returns-clause-sound : goal.returns-clause-sound
+returns-clause-sound c =
+    let place = place_at c.args.at c.args.type_id in
+    stays_sound (returns-clause-shrinks c) place (λ opened left result it picture is_open reached. shrink_stays opened left place picture is_open reached result it)
