@@ -31,8 +31,9 @@
  *
  * Proofs: each call is a thin layer of C over a function that is proved. It is proved that for any bytes of an image, and any place, this
  * function returns, and reads and writes only memory that it is passed; and that on a sound image, with valid places, it does what is
- * stated here. It is also proved that calls which make or destroy named and unique objects leave a sound image; that the other calls on
- * values do is tested. C tests pointers and lengths, and is itself only tested. CALLING.md states both in detail.
+ * stated here. It is also proved that a sound image is sound after a call which makes or destroys a named or unique object, and after a
+ * call on a place in one of its objects; for lezgauri_freeze and lezgauri_store that is tested. C tests pointers and lengths, and is
+ * itself only tested. CALLING.md states both in detail.
  *
  * Stack: each call touches at most LEZGAURI_STACK_.. bytes of its thread's stack, in addition to what malloc and the caller use.
  */

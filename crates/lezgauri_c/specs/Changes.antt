@@ -10,6 +10,10 @@
 --                             the same, for a call that returns a place or a code, nothing or a
 --                             code, whether something was there, and nothing
 --     IsStillSound old new    a sound image of the same size is left
+--     StaysSound old new place
+--                             the same, if the place is in one of the sound image's objects
+--     StaysSoundFrom old new from to
+--                             the same, if both places are
 --     HasMoreTypes old new entries before     a longer table took the place of the image's
 --     RefusesTypes, RefusesTypesAs            why it didn't, and as that is reported
 use Rattle.std.specs.Prelude.{◌≡◌, ◌<◌, ◌≤◌, ℕ, List, length, Bool, true, false, None, Result, Ok, Err}
@@ -17,12 +21,14 @@ use Rattle.seg_spec.specs.Bytes.{ChangesOnly}
 use Rattle.seg_spec.specs.Header.{types_start, types_size, sharing_version}
 use Rattle.seg_spec.specs.Heap.{live}
 use Rattle.seg_spec.specs.Sound.{Picture}
+use Rattle.seg_spec.specs.Roots.{IsReached}
 use Rattle.seg_spec.specs.Types.{Table, Agree, Spells, IsFirstWrong, IsFirstDifference, longer}
 use Rattle.seg_spec.specs.Images.{IsSound, upgraded}
 use Rattle.seg_raw.specs.declared.fault.Fault as seg_raw_fault
 use Rattle.seg_raw.specs.declared.fault.Fault.TheVariants as fault
 use Rattle.seg_raw.specs.declared.code.Code.{Code}
 use Rattle.lezgauri.specs.Place.{Place}
+use Rattle.lezgauri.specs.CellPlaces.{place_of}
 use Rattle.std_alloc.specs.declared.vec.lodged.Lodged.{Lodged}
 use Rattle.lezgauri.specs.Image.{Image}
 use Rattle.lezgauri.specs.Images.{bytes_in, IsOpen}
@@ -83,6 +89,17 @@ IsOver old new status claim =
 pub record IsStillSound (old new : List ℕ) : Type 0 where
   pub sound : IsSound new
   pub length_kept : length new ≡ length old
+
+-- If a path from an item of one of the sound image's objects reaches the place, a sound image is
+-- left.
+abbrev pub StaysSound : List ℕ → List ℕ → Place → Type 0
+StaysSound old new place = (sound : IsSound old) →
+    IsReached old sound.picture (place_of place) → IsStillSound old new
+
+abbrev pub StaysSoundFrom : List ℕ → List ℕ → Place → Place → Type 0
+StaysSoundFrom old new from to = (sound : IsSound old) →
+    IsReached old sound.picture (place_of from) → IsReached old sound.picture (place_of to) →
+    IsStillSound old new
 
 -- ---- types
 

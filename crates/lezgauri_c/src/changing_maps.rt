@@ -1,5 +1,5 @@
 ghost use Rattle.std.specs.Prelude.{◌≡◌, ◌<◌};
-ghost use Rattle.lezgauri_c.specs.Changes.{place_at, GivesPlace, IsFound};
+ghost use Rattle.lezgauri_c.specs.Changes.{place_at, GivesPlace, IsFound, StaysSound};
 ghost use Rattle.lezgauri_c.specs.ImageChanges.{Puts, Removes};
 ghost use Rattle.lezgauri_c.specs.Memory.{memory_of};
 
@@ -19,6 +19,7 @@ pub extern "C" fn lezgauri_raw_put(
 ) -> u32
     ensures puts { GivesPlace image.old.bytes image.new.bytes result value.old value.new
         (Puts (place_at at type_id) key) }
+    ensures sound { StaysSound image.old.bytes image.new.bytes (place_at at type_id) }
     ensures unwritten { 0 < result → value.new ≡ value.old }
     ensures home { memory_of image.new ≡ memory_of image.old }
 {
@@ -33,6 +34,7 @@ pub extern "C" fn lezgauri_raw_put(
 pub extern "C" fn lezgauri_raw_remove(image: &mut Lent, at: u32, type_id: u32, key: i64) -> u32
     ensures removes { IsFound image.old.bytes image.new.bytes result
         (Removes (place_at at type_id) key) }
+    ensures sound { StaysSound image.old.bytes image.new.bytes (place_at at type_id) }
     ensures home { memory_of image.new ≡ memory_of image.old }
 {
     let map = place_at(at, type_id);

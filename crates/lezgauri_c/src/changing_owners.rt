@@ -1,5 +1,5 @@
 ghost use Rattle.std.specs.Prelude.{◌≡◌, ◌<◌};
-ghost use Rattle.lezgauri_c.specs.Changes.{place_at, GivesPlace, IsDone};
+ghost use Rattle.lezgauri_c.specs.Changes.{place_at, GivesPlace, IsDone, StaysSound, StaysSoundFrom};
 ghost use Rattle.lezgauri_c.specs.ImageChanges.{PutsContent, Freezes, Shares};
 ghost use Rattle.lezgauri_c.specs.Memory.{memory_of};
 
@@ -18,6 +18,7 @@ pub extern "C" fn lezgauri_raw_put_content(
 ) -> u32
     ensures puts { GivesPlace image.old.bytes image.new.bytes result content.old content.new
         (PutsContent (place_at at type_id)) }
+    ensures sound { StaysSound image.old.bytes image.new.bytes (place_at at type_id) }
     ensures unwritten { 0 < result → content.new ≡ content.old }
     ensures home { memory_of image.new ≡ memory_of image.old }
 {
@@ -57,6 +58,8 @@ pub extern "C" fn lezgauri_raw_share(
 ) -> u32
     ensures shares { IsDone image.old.bytes image.new.bytes result
         (Shares (place_at to_at to_type_id) (place_at at type_id)) }
+    ensures sound { StaysSoundFrom image.old.bytes image.new.bytes (place_at at type_id)
+        (place_at to_at to_type_id) }
     ensures home { memory_of image.new ≡ memory_of image.old }
 {
     let from = place_at(at, type_id);

@@ -1,5 +1,5 @@
 ghost use Rattle.std.specs.Prelude.{◌≡◌, ◌<◌};
-ghost use Rattle.lezgauri_c.specs.Changes.{place_at, GivesPlace, IsDone};
+ghost use Rattle.lezgauri_c.specs.Changes.{place_at, GivesPlace, IsDone, StaysSound};
 ghost use Rattle.lezgauri_c.specs.ImageChanges.{Assigns, Appends, PushesItem, PushesItemFront, PopsItem, PopsItemFront};
 ghost use Rattle.lezgauri_c.specs.Memory.{memory_of};
 
@@ -13,6 +13,7 @@ use crate::place::Place;
 pub extern "C" fn lezgauri_raw_assign(image: &mut Lent, at: u32, type_id: u32, bytes: &[u8]) -> u32
     ensures assigns { IsDone image.old.bytes image.new.bytes result
         (Assigns (place_at at type_id) bytes.now) }
+    ensures sound { StaysSound image.old.bytes image.new.bytes (place_at at type_id) }
     ensures home { memory_of image.new ≡ memory_of image.old }
 {
     let string = place_at(at, type_id);
@@ -24,6 +25,7 @@ pub extern "C" fn lezgauri_raw_assign(image: &mut Lent, at: u32, type_id: u32, b
 pub extern "C" fn lezgauri_raw_append(image: &mut Lent, at: u32, type_id: u32, bytes: &[u8]) -> u32
     ensures appends { IsDone image.old.bytes image.new.bytes result
         (Appends (place_at at type_id) bytes.now) }
+    ensures sound { StaysSound image.old.bytes image.new.bytes (place_at at type_id) }
     ensures home { memory_of image.new ≡ memory_of image.old }
 {
     let string = place_at(at, type_id);
@@ -41,6 +43,7 @@ pub extern "C" fn lezgauri_raw_push_back(
 ) -> u32
     ensures pushes { GivesPlace image.old.bytes image.new.bytes result item.old item.new
         (PushesItem (place_at at type_id)) }
+    ensures sound { StaysSound image.old.bytes image.new.bytes (place_at at type_id) }
     ensures unwritten { 0 < result → item.new ≡ item.old }
     ensures home { memory_of image.new ≡ memory_of image.old }
 {
@@ -60,6 +63,7 @@ pub extern "C" fn lezgauri_raw_push_front(
 ) -> u32
     ensures pushes { GivesPlace image.old.bytes image.new.bytes result item.old item.new
         (PushesItemFront (place_at at type_id)) }
+    ensures sound { StaysSound image.old.bytes image.new.bytes (place_at at type_id) }
     ensures unwritten { 0 < result → item.new ≡ item.old }
     ensures home { memory_of image.new ≡ memory_of image.old }
 {
@@ -72,7 +76,9 @@ pub extern "C" fn lezgauri_raw_push_front(
 /// nothing changes.
 #[unsafe(no_mangle)]
 pub extern "C" fn lezgauri_raw_pop_back(image: &mut Lent, at: u32, type_id: u32) -> u32
-    ensures pops { IsDone image.old.bytes image.new.bytes result (PopsItem (place_at at type_id)) }
+    ensures pops { IsDone image.old.bytes image.new.bytes result
+        (PopsItem (place_at at type_id)) }
+    ensures sound { StaysSound image.old.bytes image.new.bytes (place_at at type_id) }
     ensures home { memory_of image.new ≡ memory_of image.old }
 {
     let sequence = place_at(at, type_id);
@@ -84,6 +90,7 @@ pub extern "C" fn lezgauri_raw_pop_back(image: &mut Lent, at: u32, type_id: u32)
 pub extern "C" fn lezgauri_raw_pop_front(image: &mut Lent, at: u32, type_id: u32) -> u32
     ensures pops { IsDone image.old.bytes image.new.bytes result
         (PopsItemFront (place_at at type_id)) }
+    ensures sound { StaysSound image.old.bytes image.new.bytes (place_at at type_id) }
     ensures home { memory_of image.new ≡ memory_of image.old }
 {
     let list = place_at(at, type_id);

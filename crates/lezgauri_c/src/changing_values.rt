@@ -1,5 +1,5 @@
 ghost use Rattle.std.specs.Prelude.{◌≡◌};
-ghost use Rattle.lezgauri_c.specs.Changes.{place_at, IsDone, IsOver};
+ghost use Rattle.lezgauri_c.specs.Changes.{place_at, IsDone, IsOver, StaysSound};
 ghost use Rattle.lezgauri_c.specs.ImageChanges.{Clears, ShrinksBuffer};
 ghost use Rattle.lezgauri_c.specs.Memory.{memory_of};
 
@@ -11,7 +11,9 @@ use crate::status::OK;
 /// it owns, and each frozen object that no other cell points to.
 #[unsafe(no_mangle)]
 pub extern "C" fn lezgauri_raw_clear(image: &mut Lent, at: u32, type_id: u32) -> u32
-    ensures clears { IsOver image.old.bytes image.new.bytes result (Clears (place_at at type_id)) }
+    ensures clears { IsOver image.old.bytes image.new.bytes result
+        (Clears (place_at at type_id)) }
+    ensures sound { StaysSound image.old.bytes image.new.bytes (place_at at type_id) }
     ensures home { memory_of image.new ≡ memory_of image.old }
 {
     let value = place_at(at, type_id);
@@ -25,6 +27,7 @@ pub extern "C" fn lezgauri_raw_clear(image: &mut Lent, at: u32, type_id: u32) ->
 pub extern "C" fn lezgauri_raw_shrink_to_fit(image: &mut Lent, at: u32, type_id: u32) -> u32
     ensures shrinks { IsDone image.old.bytes image.new.bytes result
         (ShrinksBuffer (place_at at type_id)) }
+    ensures sound { StaysSound image.old.bytes image.new.bytes (place_at at type_id) }
     ensures home { memory_of image.new ≡ memory_of image.old }
 {
     let container = place_at(at, type_id);

@@ -2,20 +2,25 @@
 use Rattle.std.proofs.Common.{◌≡◌, ℕ, suc, ◌+◌, ◌<◌, ◌≤◌, inl, inr, List, [], ◌∷◌, ◌++◌, length, Some, refl, sym, ◌∙◌, ap, subst, arith}
 use Rattle.std.proofs.lemmas.Bool.{cases_eq}
 use Rattle.std.specs.List.{AllByRecursion}
-use Rattle.seg_spec.specs.Bytes.{word}
+use Rattle.seg_spec.specs.Bytes.{word, signed_long, ChangesOnly}
 use Rattle.seg_spec.specs.Header.{allocator_word, next_word}
-use Rattle.seg_spec.specs.Types.{Table}
-use Rattle.seg_spec.specs.Value.{Value, count, nth, Selector, value_at, with_value_at}
+use Rattle.seg_spec.specs.Types.{Table, Form, form_at}
+use Rattle.seg_spec.specs.Value.{Value, count, nth, Selector, value_at, with_value_at, Int}
 use Rattle.seg_spec.specs.Heap.{Span, live, heap_start}
 use Rattle.seg_spec.specs.Index.{Root, AreEntries}
 use Rattle.seg_spec.specs.Reads.{Place, Holds, Leads}
 use Rattle.seg_spec.specs.Frozen.{Frozen, blocks_by}
-use Rattle.seg_spec.specs.Shared.{names_in, left, IsBelow, raised_by}
+use Rattle.seg_spec.specs.Shared.{names_in, left, IsBelow, raised_by, IsCounted}
 use Rattle.seg_spec.specs.Sound.{Picture, IsPlain, IsHeld, times, positions}
 use Rattle.seg_spec.specs.Destroying.{HoldFrozen}
 use Rattle.seg_spec.specs.Clearing.{SharedBeside, BesideShared, ClearsPlace}
 use Rattle.seg_spec.specs.Counting.{owners_in, AreCounted}
 use Rattle.seg_spec.specs.Roots.{Listed, roots_in, with_roots, roots_before, item_of, with_item, IsReached, RootComesApart, PartComesApart, ChangesPlace}
+use Rattle.seg_spec.specs.Sharing.{FrozenBeside}
+use Rattle.seg_spec.proofs.Frozen.ValueCellLaws.{names_int}
+use Rattle.seg_spec.proofs.Values.OneValueLaws.{Holds-one}
+use Rattle.seg_spec.proofs.Values.PlaceWriteLaws.{changes_place}
+use Rattle.seg_spec.proofs.Tables.TypeSizeLaws.{size-form}
 use Rattle.seg_spec.specs.Images.{StaysHeld}
 use Rattle.seg_spec.specs.Owning.{Stands}
 use Rattle.seg_spec.proofs.Values.PlaceFrameLaws.{each_left, each_right}
@@ -25,11 +30,11 @@ use Rattle.seg_spec.proofs.Images.RootCallLaws.{place_changed}
 use Rattle.seg_spec.proofs.Images.RootChangeLaws.{HoldsRoot_blocks-one}
 use Rattle.seg_spec.proofs.Images.RootLaws.{root_comes_apart, HoldsRoots-only, table_kept}
 use Rattle.seg_spec.proofs.Images.RootPartLaws.{part_comes_apart}
-use Rattle.seg_spec.proofs.Images.RootWriteLaws.{root_apart}
+use Rattle.seg_spec.proofs.Images.RootWriteLaws.{root_apart, number_held}
 use Rattle.seg_spec.proofs.Frozen.CountDecreaseLaws.{positions_of}
 use Rattle.seg_spec.proofs.Frozen.KeptCountLaws.{counted_on}
 use Rattle.seg_spec.proofs.Frozen.PictureCountLaws.{owner_beside}
-use Rattle.seg_spec.proofs.Frozen.PartCountLaws.{owners_after, owners_are, owners_with, frozen_same, SameNames, counted_still, counted_then, counted_shared, kept_cells, part_beside, part_cleared}
+use Rattle.seg_spec.proofs.Frozen.PartCountLaws.{owners_after, owners_are, owners_with, frozen_same, SameNames, counted_still, counted_then, counted_shared, kept_cells, part_beside, part_cleared, names_same, counted_part}
 
 -- ---- a place as calls find it
 
@@ -270,3 +275,45 @@ module _ (old : List ℕ) (picture : Picture) (held : IsHeld old picture) (count
     stays_cleared new w gone same names names_are news says =
         let s = shared_there gone (names_in w) same names names_are {claim = ClearsPlace old new table place w f.blocks news} says in
         stays_released new w gone same news s.theirs s.holds s.claimed.changes s.claimed.holds
+
+    -- the frozen objects apart from the place count its cells and the others
+    pub record FrozenThere : Type 0 where
+      pub theirs : ℕ → List ℕ
+      pub kept : List Place
+      pub beside : FrozenBeside old table (f.stands.home ∷ f.blocks) (names_in v ++ kept) (word old next_word) theirs picture.frozen
+
+    abbrev others : List Place
+    others = kept_cells reached.root reached.item f.whole f.item_is reached.path v f.value_is (word old next_word) picture front back split counted
+
+    all_counted : IsCounted (word old next_word) picture.frozen (names_in v ++ others)
+    all_counted = counted_part reached.root reached.item f.whole f.item_is reached.path v f.value_is (word old next_word) picture front back split counted
+
+    pub frozen_there : FrozenThere
+    frozen_there =
+        let s = shared_there [] (names_in v) (names_same refl) [] refl
+        {claim = λ theirs now final. (kept : List Place) × SharedBeside old table (f.stands.home ∷ f.blocks) [] theirs kept now final} (λ theirs kept now final beside. (kept, beside)) in
+        let beside = s.claimed.1 in
+        record {
+          theirs = s.theirs;
+          kept = others;
+          beside = record { holds = beside.holds; ownable = beside.ownable; owned = beside.owned; counted = all_counted; falling = counted.falling };
+        }
+
+    -- the objects to which the cells of the place point
+    pub cells_below : AllByRecursion (IsBelow (word old next_word) picture.frozen) (names_in v)
+    cells_below = each_left (IsBelow (word old next_word) picture.frozen) (names_in v) others all_counted.named
+
+  -- ---- a number that is stored at the place
+
+  pub stays_stored : (new : List ℕ) → form_at picture.table place.type ≡ Some Form.i64 → ChangesOnly old new place.at 8 → StaysHeld old new picture
+  stays_stored new form changes =
+      let table = picture.table in
+      let v = found_place.0 in
+      let f = found_place.1 in
+      let was = Holds-one old table f.stands.holds_it (number_held old table place form) in
+      let only = subst (λ n. ChangesOnly old new place.at n) (sym (size-form table f.stands.is_table place.type Form.i64 form)) changes in
+      let number = Int (signed_long new place.at) in
+      let same : names_in v ≡ names_in number = ap names_in was.0 ∙ names_int (signed_long old place.at) ∙ sym (names_int (signed_long new place.at)) in
+      stays_changed (word old allocator_word) table refl v f new number [] (names_same same)
+      (subst (λ bs. ChangesPlace old new table place number [] (live old) bs []) (sym was.1)
+      (changes_place (word old allocator_word) old table place v f.blocks f.stands new only number [] [] (number_held new table place form)))

@@ -2,9 +2,10 @@ use Rattle.std.proofs.Common.{◌≡◌, sym, ◌∙◌, subst, ℤ, w64}
 use Rattle.std.proofs.lemmas.Int.{to_z-of_z}
 use Rattle.lezgauri.specs.Place.{Place}
 use Rattle.lezgauri.specs.Images.{bytes_in}
-use Rattle.lezgauri_c.specs.Changes.{IsFound}
+use Rattle.lezgauri_c.specs.Changes.{place_at, IsFound}
 use Rattle.lezgauri_c.specs.ImageChanges.{Removes}
 use Rattle.lezgauri_c.proofs.ChangeLaws.{calls, same_memory}
+use Rattle.lezgauri_c.proofs.PlaceChangeLaws.{stays_sound, remove_stays}
 use Rattle.lezgauri_c.proofs.changing_maps.lezgauri_raw_remove.Goals as goal
 
 pub returns-clause-removes : goal.returns-clause-removes
@@ -22,3 +23,8 @@ returns-clause-removes c =
 
 pub returns-clause-home : goal.returns-clause-home
 returns-clause-home c = same_memory c.in-Ok.image c.remove-returned.new.self c.in-Ok.ensures.home c.remove-returned.ensures.bytes c.into_bytes.ensures.home c.give_back.ensures.home
+
+pub returns-clause-sound : goal.returns-clause-sound
+returns-clause-sound c =
+    let place = place_at c.args.at c.args.type_id in
+    stays_sound (returns-clause-removes c) place (λ opened left result it picture is_open reached. remove_stays opened left place picture is_open reached c.args.key result it)

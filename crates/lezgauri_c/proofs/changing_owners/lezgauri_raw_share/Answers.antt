@@ -4,6 +4,7 @@ use Rattle.lezgauri.specs.Images.{bytes_in}
 use Rattle.lezgauri_c.specs.Changes.{IsDone, place_at}
 use Rattle.lezgauri_c.specs.ImageChanges.{Shares}
 use Rattle.lezgauri_c.proofs.ChangeLaws.{calls, same_memory}
+use Rattle.lezgauri_c.proofs.PlaceChangeLaws.{stays_sound_from, share_stays}
 use Rattle.lezgauri_c.proofs.changing_owners.lezgauri_raw_share.Goals as goal
 
 pub returns-clause-shares : goal.returns-clause-shares
@@ -22,3 +23,9 @@ returns-clause-shares c =
 
 pub returns-clause-home : goal.returns-clause-home
 returns-clause-home c = same_memory c.in-Ok.image c.share-returned.new.self c.in-Ok.ensures.home c.share-returned.ensures.bytes c.into_bytes.ensures.home c.give_back.ensures.home
+
+pub returns-clause-sound : goal.returns-clause-sound
+returns-clause-sound c =
+    let from = place_at c.args.at c.args.type_id in
+    let to = place_at c.args.to_at c.args.to_type_id in
+    stays_sound_from (returns-clause-shares c) from to (λ opened left result it picture is_open other reached. share_stays opened left from to picture is_open other reached result it)

@@ -1,9 +1,10 @@
 use Rattle.std.proofs.Common.{◌≡◌, sym, ◌∙◌, subst}
 use Rattle.lezgauri.specs.Place.{Place}
 use Rattle.lezgauri.specs.Images.{bytes_in}
-use Rattle.lezgauri_c.specs.Changes.{IsDone}
+use Rattle.lezgauri_c.specs.Changes.{place_at, IsDone}
 use Rattle.lezgauri_c.specs.ImageChanges.{Appends}
 use Rattle.lezgauri_c.proofs.ChangeLaws.{calls, same_memory}
+use Rattle.lezgauri_c.proofs.PlaceChangeLaws.{stays_sound, append_stays}
 use Rattle.lezgauri_c.proofs.changing_sequences.lezgauri_raw_append.Goals as goal
 
 pub returns-clause-appends : goal.returns-clause-appends
@@ -20,3 +21,8 @@ returns-clause-appends c =
 
 pub returns-clause-home : goal.returns-clause-home
 returns-clause-home c = same_memory c.in-Ok.image c.append-returned.new.self c.in-Ok.ensures.home c.append-returned.ensures.bytes c.into_bytes.ensures.home c.give_back.ensures.home
+
+pub returns-clause-sound : goal.returns-clause-sound
+returns-clause-sound c =
+    let place = place_at c.args.at c.args.type_id in
+    stays_sound (returns-clause-appends c) place (λ opened left result it picture is_open reached. append_stays opened left place picture is_open reached c.args.bytes.now result it)

@@ -1,9 +1,10 @@
 use Rattle.std.proofs.Common.{◌≡◌, sym, ◌∙◌, subst}
 use Rattle.lezgauri.specs.Place.{Place}
 use Rattle.lezgauri.specs.Images.{bytes_in}
-use Rattle.lezgauri_c.specs.Changes.{IsDone}
+use Rattle.lezgauri_c.specs.Changes.{place_at, IsDone}
 use Rattle.lezgauri_c.specs.ImageChanges.{Assigns}
 use Rattle.lezgauri_c.proofs.ChangeLaws.{calls, same_memory}
+use Rattle.lezgauri_c.proofs.PlaceChangeLaws.{stays_sound, assign_stays}
 use Rattle.lezgauri_c.proofs.changing_sequences.lezgauri_raw_assign.Goals as goal
 
 pub returns-clause-assigns : goal.returns-clause-assigns
@@ -20,3 +21,8 @@ returns-clause-assigns c =
 
 pub returns-clause-home : goal.returns-clause-home
 returns-clause-home c = same_memory c.in-Ok.image c.assign-returned.new.self c.in-Ok.ensures.home c.assign-returned.ensures.bytes c.into_bytes.ensures.home c.give_back.ensures.home
+
+pub returns-clause-sound : goal.returns-clause-sound
+returns-clause-sound c =
+    let place = place_at c.args.at c.args.type_id in
+    stays_sound (returns-clause-assigns c) place (λ opened left result it picture is_open reached. assign_stays opened left place picture is_open reached c.args.bytes.now result it)

@@ -1,9 +1,10 @@
 use Rattle.std.proofs.Common.{◌≡◌, sym, ◌∙◌, subst}
 use Rattle.lezgauri.specs.Place.{Place}
 use Rattle.lezgauri.specs.Images.{bytes_in}
-use Rattle.lezgauri_c.specs.Changes.{GivesPlace}
+use Rattle.lezgauri_c.specs.Changes.{place_at, GivesPlace}
 use Rattle.lezgauri_c.specs.ImageChanges.{PushesItem}
 use Rattle.lezgauri_c.proofs.ChangeLaws.{calls, same_memory}
+use Rattle.lezgauri_c.proofs.PlaceChangeLaws.{stays_sound, push_back_stays}
 use Rattle.lezgauri_c.proofs.changing_sequences.lezgauri_raw_push_back.Goals as goal
 
 pub returns-clause-pushes : goal.returns-clause-pushes
@@ -22,3 +23,8 @@ returns-clause-pushes c =
 
 pub returns-clause-home : goal.returns-clause-home
 returns-clause-home c = same_memory c.in-Ok.image c.push_back-returned.new.self c.in-Ok.ensures.home c.push_back-returned.ensures.bytes c.into_bytes.ensures.home c.give_back.ensures.home
+
+pub returns-clause-sound : goal.returns-clause-sound
+returns-clause-sound c =
+    let place = place_at c.args.at c.args.type_id in
+    stays_sound (returns-clause-pushes c) place (λ opened left result it picture is_open reached. push_back_stays opened left place picture is_open reached result it)

@@ -1,9 +1,10 @@
 use Rattle.std.proofs.Common.{◌≡◌, sym, ◌∙◌, refl, arith, subst}
 use Rattle.lezgauri.specs.Place.{Place}
 use Rattle.lezgauri.specs.Images.{bytes_in}
-use Rattle.lezgauri_c.specs.Changes.{IsOver}
+use Rattle.lezgauri_c.specs.Changes.{place_at, IsOver}
 use Rattle.lezgauri_c.specs.ImageChanges.{Clears}
 use Rattle.lezgauri_c.proofs.ChangeLaws.{calls, same_memory}
+use Rattle.lezgauri_c.proofs.PlaceChangeLaws.{stays_sound, clear_stays}
 use Rattle.lezgauri_c.proofs.changing_values.lezgauri_raw_clear.Goals as goal
 
 pub returns-clause-clears : goal.returns-clause-clears
@@ -19,3 +20,8 @@ returns-clause-clears c =
 
 pub returns-clause-home : goal.returns-clause-home
 returns-clause-home c = same_memory c.in-Ok.image c.clear-returned.new.self c.in-Ok.ensures.home c.clear-returned.ensures.bytes c.into_bytes.ensures.home c.give_back.ensures.home
+
+pub returns-clause-sound : goal.returns-clause-sound
+returns-clause-sound c =
+    let place = place_at c.args.at c.args.type_id in
+    stays_sound (returns-clause-clears c) place (λ opened left result it picture is_open reached. clear_stays opened left place picture is_open reached it)
