@@ -25,6 +25,7 @@ use Rattle.seg_raw.specs.declared.code.Code.{Code}
 use Rattle.seg_raw.specs.declared.code.Code.TheVariants as code
 use Rattle.lezgauri.specs.Place.{Place}
 use Rattle.lezgauri.specs.CellPlaces.{place_of}
+use Rattle.seg_value.specs.Borrowed.{window_on}
 use Rattle.seg_value.specs.Stored.{Stored}
 use Rattle.seg_seq.specs.Sequences.{HasText, HasItems, ShowsItem}
 use Rattle.seg_seq.specs.Lists.{HasList}
@@ -66,7 +67,7 @@ IsReadStatus status = (status ≡ 0) ⊎ (status ≡ 100) ⊎ (status ≡ 10)
 -- the segment that is the whole of an image
 abbrev pub stored_in : List ℕ → Table → Stored
 stored_in image table = record {
-  window = record { before = []; bytes = image; after = [] };
+  window = window_on image;
   types = table;
 }
 

@@ -1,3 +1,4 @@
+pub mod Borrowed
 pub mod Stored
 pub mod Contents
 pub mod Buffers

@@ -1,11 +1,12 @@
 //! What values are read from.
 
-ghost use Rattle.std.specs.Prelude.{◌≡◌, [], ℕ};
+ghost use Rattle.std.specs.Prelude.{◌≡◌, ℕ};
 ghost use Rattle.seg_spec.specs.Bytes.{signed_long, word};
 ghost use Rattle.seg_spec.specs.Header.{allocator_word};
 ghost use Rattle.seg_spec.specs.Reads.{count_at, start};
 ghost use Rattle.seg_spec.specs.Types.{form_at};
 ghost use Rattle.seg_cells.specs.Contents.{ContentOf};
+ghost use Rattle.seg_value.specs.Borrowed.{window_on};
 
 use crate::contents::Layouts;
 use crate::heap::Heap;
@@ -92,7 +93,7 @@ pub struct Reader<'a> {
 impl<'a> SegmentRead for Reader<'a> {
     // The image is a segment that is the whole of its region.
     ghost stored = { λ reader. record {
-      window = record { before = []; bytes = reader.view.bytes.now; after = [] };
+      window = window_on reader.view.bytes.now;
       types = reader.layouts.now;
     } };
 
