@@ -39,23 +39,29 @@ fn finds_the_first_wrong_entry(rt: HostRuntime) -> Result<(), Fail> {
     Ok(())
 }
 
+/// Tests how many types a file of version 2 has, the first of which has 8 bytes, or its first wrong entry.
+fn check_shared<R: Abort + AllocGlobal>(
+    rt: &R,
+    entries: &[Spelled],
+    types: Result<usize, Fault>,
+) -> Result<(), AllocError> {
+    let bytes = spelled(rt.alloc(), entries)?;
+    let read = TypeTable::read_shared(&bytes);
+    assert_eq!(rt;
+        read.map(|table| (table.len(), table.size(0))),
+        types.map(|n| (n, 8))
+    );
+    Ok(())
+}
+
 #[test]
 fn shared_types_are_of_version_2(rt: HostRuntime) -> Result<(), Fail> {
     let (shared_1, shared_2) = (shared_of(1), shared_of(2));
     let no_part = [9, 0, 0, 0, 0, 0, 0, 0, 0, 0];
     check_file(&rt, &[shared_1, I64], Err(Fault::BadType(0)))?;
-    for (entries, types) in [
-        ([shared_1, I64], Ok(2)),
-        ([I64, shared_2], Err(Fault::BadType(1))),
-        ([no_part, I64], Err(Fault::BadType(0))),
-    ] {
-        let bytes = spelled(rt.alloc(), &entries)?;
-        let read = TypeTable::read_shared(&bytes);
-        assert_eq!(&rt;
-            read.map(|table| (table.len(), table.size(0))),
-            types.map(|n| (n, 8))
-        );
-    }
+    check_shared(&rt, &[shared_1, I64], Ok(2))?;
+    check_shared(&rt, &[I64, shared_2], Err(Fault::BadType(1)))?;
+    check_shared(&rt, &[no_part, I64], Err(Fault::BadType(0)))?;
     Ok(())
 }
 

@@ -10,23 +10,28 @@ fn segment(alloc: Global) -> Result<Window<Global>, Fail> {
     }
 }
 
-/// Bytes, numbers and pointers, each written and read once.
-#[test]
-fn reads_what_it_wrote(rt: HostRuntime) -> Result<(), Fail> {
-    let mut w = segment(rt.alloc())?;
+/// Writes bytes, numbers and a pointer, each once.
+fn write_each(w: &mut Window<Global>) {
     w.put64(0, 0x0102_0304_0506_0708);
     w.put32(4, 0x0a0b_0c0d);
     w.move_within(0, 2, 4);
     w.fill(0, 2, 1);
     w.copy_in(6, &[2, 3]);
     w.put8(31, 9);
+    w.point(8, Some(20));
+}
+
+/// Bytes, numbers and a pointer, each written and read once.
+#[test]
+fn reads_what_it_wrote(rt: HostRuntime) -> Result<(), Fail> {
+    let mut w = segment(rt.alloc())?;
+    write_each(&mut w);
     assert_eq!(rt; w.slice(0, 8), [1, 1, 8, 7, 6, 5, 2, 3].as_slice());
     assert_eq!(rt;
         (w.get64(0), w.get32(2)),
         (0x0302_0506_0708_0101, 0x0506_0708)
     );
     assert_eq!(rt; (w.get16(6), w.get8(31)), (0x0302, 9));
-    w.point(8, Some(20));
     assert_eq!(rt; (w.get32(8), w.target(8)), (12, Some(20)));
     Ok(())
 }
