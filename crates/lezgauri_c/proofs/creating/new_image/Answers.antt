@@ -15,7 +15,7 @@ returns-clause-created g c =
     let new = IfOk-at_ok (λ (s : Stored). IsNewSegment allocator s c.from_vec.result.bytes 0 c.args.size c.args.index) c.unwrap-segment.ensures c.create.ensures.empty in
     let left : s.window.bytes ≡ c.into_bytes.result.items = sym (c.into_bytes.ensures.bytes ∙ ap (λ (w : Placement). w.bytes) c.into_window.ensures) in
     subst (λ (b : List ℕ). IsNewImage allocator kind c.args.size b) left
-    (new_image allocator kind c.args.size s.window.bytes new.segment.held new.segment.counted new.no_block new.length_is new.segment.allocator_is new.kind_is new.version_is)
+    (new_image allocator kind c.args.size s.window.bytes new.segment.held new.segment.counted new.no_block new.zeroed new.length_is new.segment.allocator_is new.kind_is new.version_is new.next_is)
 
 pub returns-clause-home : goal.returns-clause-home
 returns-clause-home g c =
