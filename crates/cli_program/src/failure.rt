@@ -1,3 +1,7 @@
+ghost use Rattle.std.specs.Prelude.{◌≡◌, None};
+ghost use Rattle.cli_program.specs.declared.failure.Failure.TheVariants as failure;
+ghost use Rattle.cli_program.specs.Failures.{out_of_memory, failure_of};
+
 use cli_files::{FileFailure, FileProblem};
 use cli_words::Misread;
 use client_vm::{Fault, Refused};
@@ -41,24 +45,32 @@ impl Failure<'_> {
 }
 
 impl From<Refused> for Failure<'_> {
+    ghost from_gives = { λ refused made. made ≡ failure.Refused refused };
+
     fn from(refused: Refused) -> Self {
         Failure::Refused(refused)
     }
 }
 
 impl From<Fault> for Failure<'_> {
+    ghost from_gives = { λ fault made. made ≡ failure.Refused (record { client = None; fault = fault }) };
+
     fn from(fault: Fault) -> Self {
         Failure::Refused(Refused::from(fault))
     }
 }
 
 impl From<AllocError> for Failure<'_> {
+    ghost from_gives = { λ _ made. made ≡ failure.Refused out_of_memory };
+
     fn from(_: AllocError) -> Self {
         Failure::from(Fault::Memory)
     }
 }
 
 impl<'a> From<FileFailure<'a>> for Failure<'a> {
+    ghost from_gives = { λ failed made. made ≡ failure_of failed };
+
     fn from(failure: FileFailure<'a>) -> Self {
         match failure {
             FileFailure::Memory => Failure::from(Fault::Memory),

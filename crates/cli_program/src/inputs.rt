@@ -1,3 +1,7 @@
+ghost use Rattle.std.specs.Prelude.{◌≡◌, [], map, IfOk, IfNone};
+ghost use Rattle.cli_files.specs.Accesses.{Adds};
+ghost use Rattle.cli_program.specs.Runs.{WasRead, input_read, read_of};
+
 use cli_files::{
     FileFailure, Files, Format, is_same_file, read_file, read_files, read_image, refuse_input,
     refuse_other_format,
@@ -18,7 +22,11 @@ pub fn read_inputs<'a, F: Files>(
     alloc: Global,
     files: &mut F,
     run: &Run<'a>,
-) -> Result<Inputs, FileFailure<'a>> {
+) -> Result<Inputs, FileFailure<'a>>
+    ensures read { IfOk result (λ inputs.
+        WasRead run.now (F.was_read files.old) (F.was_read files.new) (read_of inputs)) }
+    ensures nothing_written { F.was_written files.new ≡ F.was_written files.old }
+{
     let image = read_image(alloc, files, run.image)?;
     check_out(alloc, files, run)?;
     let clients = read_files(alloc, files, run.clients.as_slice())?;
@@ -36,7 +44,10 @@ fn check_out<'a, F: Files>(
     alloc: Global,
     files: &mut F,
     run: &Run<'a>,
-) -> Result<(), FileFailure<'a>> {
+) -> Result<(), FileFailure<'a>>
+    ensures nothing_read { F.was_read files.new ≡ F.was_read files.old }
+    ensures nothing_written { F.was_written files.new ≡ F.was_written files.old }
+{
     for client in &run.clients {
         refuse_input(files, run.out, client)?;
     }
@@ -54,7 +65,12 @@ pub fn read_input<'a, F: Files>(
     alloc: Global,
     files: &mut F,
     name: Option<&'a str>,
-) -> Result<Vec<u8>, FileFailure<'a>> {
+) -> Result<Vec<u8>, FileFailure<'a>>
+    ensures read { IfOk result (λ bytes. Adds (F.was_read files.old) (F.was_read files.new)
+        (input_read name.entry bytes.items)) }
+    ensures empty { IfOk result (λ bytes. IfNone name.entry (bytes.items ≡ [])) }
+    ensures nothing_written { F.was_written files.new ≡ F.was_written files.old }
+{
     match name {
         Some(name) => read_file(alloc, files, name),
         None => Ok(Vec::new(alloc)),
@@ -62,7 +78,10 @@ pub fn read_input<'a, F: Files>(
 }
 
 /// The bytes of several files, as slices.
-pub fn slices(alloc: Global, files: &[Vec<u8>]) -> Result<Vec<&[u8]>, AllocError> {
+pub fn slices(alloc: Global, files: &[Vec<u8>]) -> Result<Vec<&[u8]>, AllocError>
+    ensures { IfOk result (λ slices.
+        map (λ slice. slice.now) slices.items ≡ map (λ file. file.items) files.now) }
+{
     let mut slices = Vec::new(alloc);
     for file in files {
         slices.push(file.as_slice())?;

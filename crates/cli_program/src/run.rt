@@ -1,4 +1,7 @@
-ghost use Rattle.std.specs.Prelude.{◌≡◌, false};
+ghost use Rattle.std.specs.Prelude.{◌≡◌, ◌↔◌, true, false, length, IfOk, IfErr, OnOk, OnErr};
+ghost use Rattle.client_vm.specs.Jobs.{effect_of};
+ghost use Rattle.client_vm.specs.Outcomes.{HasOutcome};
+ghost use Rattle.cli_program.specs.Runs.{read_of, room_of, job_of_run, IsRefusal, HasSaved, HasFailed};
 
 use crate::failure::Failure;
 use crate::inputs::{Inputs, read_inputs, slices};
@@ -17,6 +20,10 @@ pub fn run_files<'a, F: Files, O: Sink>(
     out: &mut O,
 ) -> Result<(), Failure<'a>>
     requires works { O.has_failed out.old ≡ false }
+    ensures saved { OnOk result (HasSaved run.now (F.was_read files.old) (F.was_read files.new)
+        (F.was_written files.old) (F.was_written files.new) (O.taken out.old) (O.taken out.new)) }
+    ensures failed { IfErr result (HasFailed run.now (F.was_read files.old) (F.was_read files.new)
+        (F.was_written files.old) (F.was_written files.new) (O.taken out.old) (O.taken out.new)) }
 {
     let inputs = read_inputs(alloc, files, run)?;
     let outcome = outcome_of(alloc, run, inputs, out)?;
@@ -31,6 +38,10 @@ fn outcome_of<O: Sink>(
     out: &mut O,
 ) -> Result<Outcome<Global>, Refused>
     requires works { O.has_failed out.old ≡ false }
+    ensures refused { IfErr result (IsRefusal (job_of_run run.now (read_of inputs))) }
+    ensures outcome { IfOk result (λ o. HasOutcome (job_of_run run.now (read_of inputs))
+        (effect_of (O.taken out.old) (O.taken out.new) o)) }
+    ensures nothing_written { OnErr result (out.new ≡ out.old) }
 {
     let Inputs {
         image,
@@ -54,7 +65,9 @@ fn outcome_of<O: Sink>(
 }
 
 /// The region's size in bytes: `--room`, or just enough for the image at its base.
-fn room_of(run: &Run, len: usize) -> u32 {
+fn room_of(run: &Run, len: usize) -> u32
+    ensures { result ≡ room_of run.now len }
+{
     let len = u32::try_from(len).unwrap_or(u32::MAX);
     run.room.unwrap_or(run.base.saturating_add(len))
 }

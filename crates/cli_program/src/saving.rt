@@ -1,3 +1,7 @@
+ghost use Rattle.std.specs.Prelude.{◌≡◌, ◌⊎◌, [], ◌∷◌, OnOk, IfErr};
+ghost use Rattle.cli_files.specs.Accesses.{Adds, access};
+ghost use Rattle.cli_program.specs.Failures.{IsUnsaved};
+
 use crate::failure::Failure;
 use cli_files::{Files, write_file};
 use client_vm::Ended;
@@ -8,7 +12,14 @@ pub fn save<'a, F: Files>(
     name: &'a str,
     image: &[u8],
     ended: Ended,
-) -> Result<(), Failure<'a>> {
+) -> Result<(), Failure<'a>>
+    ensures done { OnOk result (ended ≡ Ended.Done) }
+    ensures saved { OnOk result (Adds (F.was_written files.old) (F.was_written files.new)
+        (access name.now image.now ∷ [])) }
+    ensures unsaved { IfErr result (IsUnsaved (F.was_written files.old) (F.was_written files.new)
+        (access name.now image.now) ended) }
+    ensures nothing_read { F.was_read files.new ≡ F.was_read files.old }
+{
     let saved = write_file(files, name, image);
     match ended {
         Ended::Done => Ok(saved?),

@@ -1,0 +1,31 @@
+-- The failures of commands.
+--     out_of_memory                no memory was left
+--     failure_of failure           a failed file, as the failure of a command
+--     IsUnsaved ..                 why an image wasn't saved, or that the output had failed
+use Rattle.std.specs.Prelude.{◌≡◌, ◌⊎◌, List, [], ◌∷◌, Option, None}
+use Rattle.seg_raw.specs.declared.fault.Fault.TheVariants.{Memory}
+use Rattle.client_output.specs.declared.refused.Refused.{Refused}
+use Rattle.client_output.specs.declared.report.Ended.{Ended}
+use Rattle.client_output.specs.declared.report.Ended.TheVariants.{Done, OutputFailed}
+use Rattle.cli_files.specs.Accesses.{Access, Adds}
+use Rattle.cli_files.specs.declared.named.FileFailure.{FileFailure}
+use Rattle.cli_files.specs.declared.named.FileFailure.TheVariants as file_failure
+use Rattle.cli_program.specs.declared.failure.Failure.{Failure}
+use Rattle.cli_program.specs.declared.failure.Failure.TheVariants as failure
+
+abbrev pub out_of_memory : Refused
+out_of_memory = record { client = None; fault = Memory }
+
+abbrev pub failure_of : FileFailure → Failure
+failure_of file_failure.Memory = failure.Refused out_of_memory
+failure_of (file_failure.File name problem) = failure.File name problem
+
+-- nothing was written, unless it is the output that failed
+abbrev pub IsUnsaved : Option (List Access) → Option (List Access) → Access → Ended → Failure → Type 0
+IsUnsaved before after saved ended (failure.Words text) = ⊥
+IsUnsaved before after saved ended (failure.Absent name) = ⊥
+IsUnsaved before after saved ended (failure.Refused refused) =
+    (after ≡ before) × (refused ≡ out_of_memory)
+IsUnsaved before after saved ended (failure.File name problem) = after ≡ before
+IsUnsaved before after saved ended failure.Output =
+    (ended ≡ OutputFailed) × ((after ≡ before) ⊎ Adds before after (saved ∷ []))
