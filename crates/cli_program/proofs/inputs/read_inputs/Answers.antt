@@ -15,6 +15,6 @@ returns-clause-read g c =
     let first = was_read c.read_image.new.files in
     let second = was_read c.read_files.new.files in
     let texts =
-        subst (λ them. Adds first second (accesses_of (map (λ client. client.now) them) it.texts)) names
-            (subst (λ before. Adds before second (accesses_of (map (λ client. client.now) c.as_slice.result.now) it.texts)) c.check_out.ensures.nothing_read c.in_ok-clients.ensures.read) in
+    subst (λ them. Adds first second (accesses_of (map (λ client. client.now) them) it.texts)) names
+    (subst (λ before. Adds before second (accesses_of (map (λ client. client.now) c.as_slice.result.now) it.texts)) c.check_out.ensures.nothing_read c.in_ok-clients.ensures.read) in
     all_read c.args.run.now it (was_read c.args.files.now) first second (was_read c.read_input.new.files) c.in_ok-image.ensures.read same texts c.in_ok-input.ensures.empty c.in_ok-input.ensures.read

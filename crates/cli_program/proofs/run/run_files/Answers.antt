@@ -25,7 +25,7 @@ returns-clause-saved g c =
       outcome = c.in_ok-outcome.ensures.outcome;
     } in
     let written = subst (λ w. OnOk c.save.result (Adds w writes_then (access run.out.now o.image.items ∷ []))) c.in_ok-inputs.ensures.nothing_written
-        (subst (λ (i : List ℕ). OnOk c.save.result (Adds (g.F.Files.was_written c.read_inputs.new.files) writes_then (access run.out.now i ∷ []))) c.as_slice.ensures.value c.save.ensures.saved) in
+    (subst (λ (i : List ℕ). OnOk c.save.result (Adds (g.F.Files.was_written c.read_inputs.new.files) writes_then (access run.out.now i ∷ []))) c.as_slice.ensures.value c.save.ensures.saved) in
     saved_by run reads reads_then writes writes_then taken taken_then c.save.result o.image.items o.ended ran c.save.ensures.done written
 
 pub returns-clause-failed : goal.returns-clause-failed
@@ -47,7 +47,7 @@ returns-clause-failed g c =
       outcome = c.in_ok-outcome.ensures.outcome;
     } in
     IfErr-weaker c.save.result (IsUnsaved writes_between writes_then (access run.out.now c.as_slice.result.now) o.ended) (HasFailed run reads reads_then writes writes_then taken taken_then)
-        (λ failed h. failed_save run reads reads_then writes writes_then taken taken_then o.image.items o.ended failed ran
-            (subst (λ w. IsUnsaved w writes_then (access run.out.now o.image.items) o.ended failed) c.in_ok-inputs.ensures.nothing_written
-            (subst (λ (i : List ℕ). IsUnsaved writes_between writes_then (access run.out.now i) o.ended failed) c.as_slice.ensures.value h)))
-        c.save.ensures.unsaved
+    (λ failed h. failed_save run reads reads_then writes writes_then taken taken_then o.image.items o.ended failed ran
+    (subst (λ w. IsUnsaved w writes_then (access run.out.now o.image.items) o.ended failed) c.in_ok-inputs.ensures.nothing_written
+    (subst (λ (i : List ℕ). IsUnsaved writes_between writes_then (access run.out.now i) o.ended failed) c.as_slice.ensures.value h)))
+    c.save.ensures.unsaved
