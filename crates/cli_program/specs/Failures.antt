@@ -6,7 +6,7 @@ use Rattle.std.specs.Prelude.{◌≡◌, ◌⊎◌, List, [], ◌∷◌, Option,
 use Rattle.seg_raw.specs.declared.fault.Fault.TheVariants.{Memory}
 use Rattle.client_output.specs.declared.refused.Refused.{Refused}
 use Rattle.client_output.specs.declared.report.Ended.{Ended}
-use Rattle.client_output.specs.declared.report.Ended.TheVariants.{Done, OutputFailed}
+use Rattle.client_output.specs.declared.report.Ended.TheVariants.{OutputFailed}
 use Rattle.cli_files.specs.Accesses.{Access, Adds}
 use Rattle.cli_files.specs.declared.named.FileFailure.{FileFailure}
 use Rattle.cli_files.specs.declared.named.FileFailure.TheVariants as file_failure
@@ -21,7 +21,8 @@ failure_of file_failure.Memory = failure.Refused out_of_memory
 failure_of (file_failure.File name problem) = failure.File name problem
 
 -- nothing was written, unless it is the output that failed
-abbrev pub IsUnsaved : Option (List Access) → Option (List Access) → Access → Ended → Failure → Type 0
+abbrev pub IsUnsaved : Option (List Access) → Option (List Access) → Access → Ended → Failure →
+    Type 0
 IsUnsaved before after saved ended (failure.Words text) = ⊥
 IsUnsaved before after saved ended (failure.Absent name) = ⊥
 IsUnsaved before after saved ended (failure.Refused refused) =

@@ -1,4 +1,4 @@
-ghost use Rattle.std.specs.Prelude.{◌≡◌, ◌↔◌, true, false, length, IfOk, IfErr, OnOk, OnErr};
+ghost use Rattle.std.specs.Prelude.{◌≡◌, false, IfOk, IfErr, OnOk, OnErr};
 ghost use Rattle.client_vm.specs.Jobs.{effect_of};
 ghost use Rattle.client_vm.specs.Outcomes.{HasOutcome};
 ghost use Rattle.cli_program.specs.Runs.{read_of, room_of, job_of_run, IsRefusal, HasSaved, HasFailed};
