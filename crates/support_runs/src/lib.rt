@@ -10,4 +10,6 @@ pub use runs::{
     checked, client, created, empty, outcome_in, outcome_of, ready, run_anew, run_files, run_in,
     run_on, statistics_of, verified,
 };
+pub use seg_check::{check, open, save};
+pub use seg_seqfit::SeqFit;
 pub use windows::{opened, placed, window};

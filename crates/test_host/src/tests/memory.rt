@@ -5,12 +5,11 @@ use lezgauri::{
     Window, assemble, parse, print, run_bytes,
 };
 use linked_list_allocator::LocalHeap;
-use seg_check::{check, open, save};
 use std::alloc::Global;
 use std::process::Abort;
 use std::test::Fail;
 use support_data::{INCREMENT, INCREMENT_FILE, Limited, counter, counter_saved};
-use support_runs::{opened, window};
+use support_runs::{check, open, opened, save, window};
 
 /// Runs a client with this many bytes of host memory. Either it is refused for lack of memory before anything is written, or it
 /// runs completely. Returns whether it ran.

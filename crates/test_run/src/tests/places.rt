@@ -4,14 +4,13 @@ use crate::tests::containers::{FIVE_TEXTS, PRINT_TEXTS};
 use crate::tests::left::leaves;
 use client_vm::{Ended, Move, Through, moves_fit, run};
 use seg_manager::{Fault, Region, Segment};
-use seg_seqfit::SeqFit;
 use std::alloc::Global;
 use std::process::Abort;
 use std::test::Fail;
 use support_data::{INCREMENT_FILE, Limited, chain, counter, counter_saved};
 use support_runs::{
-    KINDS, PLAIN, Ran, SEQ_FLAT, Setting, empty, opened, outcome_of, placed, ready, run_files,
-    run_in,
+    KINDS, PLAIN, Ran, SEQ_FLAT, SeqFit, Setting, empty, opened, outcome_of, placed, ready,
+    run_files, run_in,
 };
 
 /// The size of the host. All its bytes outside the segment are 0xa5.

@@ -3,12 +3,11 @@
 use client_trace::{Untraced, trace};
 use client_vm::Through;
 use seg_manager::IndexKind;
-use seg_seqfit::SeqFit;
 use std::alloc::Global;
 use std::process::Abort;
 use std::test::Fail;
 use support_data::Limited;
-use support_runs::{client, created, ready};
+use support_runs::{SeqFit, client, created, ready};
 
 /// A vector gets a struct, and the field of the struct the numbers 2 and 1 in a loop. The vector has no item 1. Then an object is
 /// made and destroyed.
