@@ -35,14 +35,18 @@ module _ (run : Run) (reads reads_then writes writes_then : Option (List Access)
     was_saved = h.1;
   }
 
-  pub saved_run : (saved : List ℕ) (ended : Ended) → HasRun run reads reads_then taken taken_then saved ended → ended ≡ Done → Adds writes writes_then (access run.out.now saved ∷ []) → HasSaved run reads reads_then writes writes_then taken taken_then
+  pub saved_run : (saved : List ℕ) (ended : Ended) → HasRun run reads reads_then taken taken_then saved ended
+      → ended ≡ Done → Adds writes writes_then (access run.out.now saved ∷ [])
+      → HasSaved run reads reads_then writes writes_then taken taken_then
   saved_run saved ended ran done written = record {
     saved = saved;
     has_run = subst (HasRun run reads reads_then taken taken_then saved) done ran;
     was_saved = written;
   }
 
-  pub saved_by : {T E : Type 0} (result : Result T E) (saved : List ℕ) (ended : Ended) → HasRun run reads reads_then taken taken_then saved ended → OnOk result (ended ≡ Done) → OnOk result (Adds writes writes_then (access run.out.now saved ∷ []))
+  pub saved_by : {T E : Type 0} (result : Result T E) (saved : List ℕ) (ended : Ended)
+      → HasRun run reads reads_then taken taken_then saved ended → OnOk result (ended ≡ Done)
+      → OnOk result (Adds writes writes_then (access run.out.now saved ∷ []))
       → OnOk result (HasSaved run reads reads_then writes writes_then taken taken_then)
   saved_by (Ok it) saved ended ran done written = saved_run saved ended ran done written
   saved_by (Err it) saved ended ran done written = tt

@@ -218,7 +218,8 @@ module _ (h : List ℕ) where
 
   sets_one : Row (at Operation.Const 2 0 0 (pos 1)) (situation loaded start h2 2) (situation with_one start h3 3)
   unfolding effect
-  sets_one = kept_row _ loaded with_one h2 2 refl (pictured loaded.registers tt) (pictured with_one.registers tt) (unchanged refl (record { asks = []; asked = refl; gives = []; returned = refl; blocks = live start; granted = refl; left = refl }))
+  sets_one = kept_row _ loaded with_one h2 2 refl (pictured loaded.registers tt) (pictured with_one.registers tt)
+      (unchanged refl (record { asks = []; asked = refl; gives = []; returned = refl; blocks = live start; granted = refl; left = refl }))
 
   adds : Row (at Operation.Add 1 1 2 (pos 0)) (situation with_one start h3 3) (situation added start h4 4)
   unfolding effect
