@@ -1,4 +1,6 @@
-ghost use Rattle.std.specs.Prelude.{◌≡◌, false};
+ghost use Rattle.std.specs.Prelude.{◌≡◌, ◌≤◌, false, IfErr, OnOk};
+ghost use Rattle.cli_program.specs.Runs.{HasSaved, HasFailed};
+ghost use Rattle.cli_commands.specs.Requests.{OfRun};
 
 use crate::clients::{assemble_file, print_file, trace_file, verify_file};
 use crate::explaining::explain_failure;
@@ -21,6 +23,7 @@ pub fn command<S: AsStr, F: Files, O: Sink, E: Sink>(
 ) -> u8
     requires out_works { O.has_failed out.old ≡ false }
     requires err_works { E.has_failed err.old ≡ false }
+    ensures status { result ≤ 3 }
 {
     match cli_words::read(alloc, words) {
         Ok(asked) => answer(alloc, &asked, files, out, err),
@@ -38,6 +41,10 @@ fn answer<F: Files, O: Sink, E: Sink>(
 ) -> u8
     requires out_works { O.has_failed out.old ≡ false }
     requires err_works { E.has_failed err.old ≡ false }
+    ensures status { result ≤ 3 }
+    ensures saved { OfRun asked.now.request (λ run. result ≡ 0 → HasSaved run
+        (F.was_read files.old) (F.was_read files.new) (F.was_written files.old)
+        (F.was_written files.new) (O.taken out.old) (O.taken out.new)) }
 {
     match perform(alloc, &asked.request, files, out) {
         Ok(()) => 0,
@@ -60,6 +67,12 @@ fn perform<'a, F: Files, O: Sink>(
     out: &mut O,
 ) -> Result<(), Failure<'a>>
     requires works { O.has_failed out.old ≡ false }
+    ensures saved { OfRun request.now (λ run. OnOk result (HasSaved run
+        (F.was_read files.old) (F.was_read files.new) (F.was_written files.old)
+        (F.was_written files.new) (O.taken out.old) (O.taken out.new))) }
+    ensures failed { OfRun request.now (λ run. IfErr result (HasFailed run
+        (F.was_read files.old) (F.was_read files.new) (F.was_written files.old)
+        (F.was_written files.new) (O.taken out.old) (O.taken out.new))) }
 {
     match request {
         Request::New(new) => new_file(alloc, new, files),

@@ -1,4 +1,4 @@
-ghost use Rattle.std.specs.Prelude.{◌≡◌, None};
+ghost use Rattle.std.specs.Prelude.{◌≡◌, ◌<◌, ◌≤◌, None};
 ghost use Rattle.cli_program.specs.declared.failure.Failure.TheVariants as failure;
 ghost use Rattle.cli_program.specs.Failures.{out_of_memory, failure_of};
 
@@ -24,7 +24,9 @@ pub enum Failure<'a> {
 
 impl Failure<'_> {
     /// The exit status of the program.
-    pub fn status(&self) -> u8 {
+    pub fn status(&self) -> u8
+        ensures { (0 < result) × (result ≤ 3) }
+    {
         match self {
             Failure::Refused(_) | Failure::Absent(_) => 1,
             Failure::Words(_) => 2,

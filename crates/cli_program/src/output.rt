@@ -1,4 +1,4 @@
-ghost use Rattle.std.specs.Prelude.{◌≡◌, false};
+ghost use Rattle.std.specs.Prelude.{◌≡◌, ◌<◌, ◌≤◌, false};
 
 use crate::failure::Failure;
 use client_vm::{Sink, write_all};
@@ -18,6 +18,7 @@ pub fn print<'a, O: Sink>(out: &mut O, text: &[u8]) -> Result<(), Failure<'a>>
 /// only the status reports the failure.
 pub fn report<E: Sink>(alloc: Global, failure: &Failure, err: &mut E) -> u8
     requires works { E.has_failed err.old ≡ false }
+    ensures status { (0 < result) × (result ≤ 3) }
 {
     if let Ok(line) = failure.line(alloc) {
         tell(err, line.as_bytes());

@@ -1,5 +1,4 @@
 use crate::tests::support::{Accepted, Rejected, check_accepted, check_rejected};
-use client_verify::{Class, Reason, RegisterType, Registers};
 
 // References that an instruction ends, and a use of each after that.
 static ENDED: [Rejected; 27] = [
@@ -200,45 +199,4 @@ fn parts_that_end_apart(rt: HostRuntime) {
     for row in &JOINS {
         check_rejected(&rt, row);
     }
-}
-
-// A part must drop an owner that it makes before it ends, so no client reaches these cases.
-#[test]
-fn owners_at_the_end_of_a_part(rt: HostRuntime) {
-    let undefined = Registers::new();
-    let mut owner = undefined;
-    owner.set(3, RegisterType::Owner(0));
-    assert_eq!(rt; undefined.keeps(&owner), Err(Reason::OwnerLost));
-    let mut int = undefined;
-    int.set(5, RegisterType::Int);
-    assert_eq!(rt;
-        int.keeps(&owner),
-        Err(Reason::OwnerLost),
-        "register 3 comes first"
-    );
-    int.set(2, RegisterType::Int);
-    assert_eq!(rt;
-        int.keeps(&owner),
-        Err(Reason::ChangedInLoop),
-        "register 2 comes first"
-    );
-    let mut other = undefined;
-    other.set(3, RegisterType::Owner(1));
-    assert_eq!(rt; other.join(&owner), Err(Reason::OwnerLost));
-    let mut both = owner;
-    assert_eq!(rt; both.join(&owner), Ok(()));
-    assert_eq!(rt; both, owner);
-    let mut nothing = undefined;
-    assert_eq!(rt;
-        nothing.join(&owner),
-        Err(Reason::OwnerLost),
-        "the success part alone has an owner"
-    );
-    other.set(3, RegisterType::Reference(Class::Name(0), 1));
-    assert_eq!(rt; int.join(&other), Ok(()));
-    assert_eq!(rt;
-        int,
-        undefined,
-        "of no register the same is known at both ends"
-    );
 }
