@@ -219,6 +219,8 @@ impl Walk<'_> {
     ghost use Rattle.seg_check.specs.Walks.{Completes, IsSteady, Proceeds};
 
     /// The next step of the walk, or `None` at its end.
+    // Inlined, so that a step isn't written to memory to be returned.
+    #[inline(always)]
     pub(crate) fn next(&mut self) -> Result<Option<Visit>, u32>
         ensures fewer { OnOk result (self.new.turns + 1 ≡ self.old.turns) }
         ensures steady { IsSteady self.old.bytes.bytes.now self.old.stage self.old.turns
