@@ -34,20 +34,23 @@ pub(crate) struct Claims<A: Allocator> {
     /// if more point to it than it counts. Only for objects that a cell points to so far. Empty if no type shares
     /// objects.
     counts: Vec<Option<u32>, A>,
+    /// Whether a cell points to a frozen object so far.
+    has_named: bool,
     /// While the values of a frozen object are checked, its number: objects that they point to have lower ones.
     below: Option<u32>,
 }
 
 impl<A: Allocator> Model for Claims<A> {
-    ghost use Rattle.std.specs.Prelude.{◌≤◌, ◌^◌, length};
-    ghost use Rattle.seg_check.specs.Marks.{Known, known_of};
+    ghost use Rattle.std.specs.Prelude.{◌≡◌, ◌≤◌, ◌^◌, false, length};
+    ghost use Rattle.seg_check.specs.Marks.{Known, known_of, HasNoneNamed};
 
     ghost Value = { Known };
 
     ghost view = { λ c. known_of c.marks.items c.unclaimed c.free c.queue.items c.taken
         c.counts.items c.below };
 
-    ghost invariant = { λ c. (length c.marks.items ≤ 2 ^ 26) × (c.taken ≤ length c.queue.items) };
+    ghost invariant = { λ c. (length c.marks.items ≤ 2 ^ 26) × (c.taken ≤ length c.queue.items)
+        × (c.has_named ≡ false → HasNoneNamed c.marks.items) };
 }
 
 impl<A: Allocator> Claims<A> {
@@ -73,6 +76,7 @@ impl<A: Allocator> Claims<A> {
             queue: Vec::with_capacity(alloc, units / 2)?,
             taken: 0,
             counts: Vec::from_elem(alloc, None, slots)?,
+            has_named: false,
             below: None,
         })
     }
@@ -100,6 +104,7 @@ impl<A: Allocator> Claims<A> {
     {
         if let Some(unit) = self.unit_at(block) {
             self.marks[unit] = new;
+            self.has_named |= new.is_named();
         }
     }
 
@@ -307,6 +312,9 @@ impl<A: Allocator> Claims<A> {
             MatchResult result (λ _. AreCountsRight bytes.entry.bytes.now self.now)
             (λ fault. Refutes fault (AreCountsRight bytes.entry.bytes.now self.now)) }
     {
+        if !self.has_named {
+            return Ok(());
+        }
         let mut block = HEAP_START;
         for mark in &self.marks {
             if mark.is_named() && !self.is_right(bytes, block, next) {

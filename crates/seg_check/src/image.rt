@@ -94,8 +94,8 @@ impl TypedImage<'_> {
     }
 }
 
-/// How a cell claims the blocks that it points to. It has its own copy of what each claim reads, since a list claims
-/// each of its nodes.
+/// How a cell claims the blocks that it points to. It has its own copy of what each claim reads, since lists and
+/// maps claim each of their nodes.
 #[derive(Clone, Copy)]
 pub(crate) struct Claimant<'a> {
     bytes: View<'a>,

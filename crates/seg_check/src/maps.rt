@@ -58,12 +58,13 @@ impl TypedImage<'_> {
             root: cell,
             nodes: count as usize,
         };
+        let owner = self.owner(content);
         let mut walk = tree.walk(self.bytes);
         let mut keys = Keys::new();
         while let Some(visit) = walk.next().map_err(ContentFault::BadValue)? {
             match visit {
                 Visit::Enter(pointer) => {
-                    self.claim_entries(claims, pointer, content, 1)?;
+                    owner.claim(claims, pointer, 1)?;
                 }
                 Visit::Pass(node) => keys.add(self.key(content.entry.value_at(node, 0))),
             }

@@ -1,6 +1,7 @@
 ghost use Rattle.std.specs.Prelude.{◌≡◌, ◌^◌, ◌<◌, ◌≤◌, true, [], None, OnOk};
 ghost use Rattle.seg_rbtree.specs.Nodes.{side_word};
 ghost use Rattle.seg_check.specs.Colours.{is_red, may_stand, is_height};
+ghost use Rattle.seg_check.specs.Walks.{IsColourAt};
 
 use arrayvec::ArrayVec;
 use seg_block::UNIT;
@@ -39,7 +40,7 @@ impl Tree {
             bytes,
             root: self.root,
             turns: bytes.len() as u32 / UNIT,
-            stage: Stage::new(self),
+            stage: Stage::new(bytes, self),
         }
     }
 }
@@ -62,6 +63,9 @@ struct Above {
     blacks: u8,
     /// Whether the nearest one is red, so that a node at the place has to be black.
     is_red: bool,
+    /// The colour of the right child of the nearest one, if it has a right child with a colour. It is read before the
+    /// left subtree is walked, so that this node is in the processor's cache once the walk gets there.
+    right: Option<Colour>,
 }
 
 /// A node that was entered and not passed, and what is above its children.
@@ -78,6 +82,8 @@ struct Stage {
     wanted: usize,
     /// The position of the pointer to the current place.
     pointer: u32,
+    /// The colour of the node at this place, if there is one and it has a colour.
+    colour: Option<Colour>,
     above: Above,
     /// The nodes above the current place that aren't passed yet.
     entered: ArrayVec<Entered, DEPTH>,
@@ -94,7 +100,7 @@ impl Stage {
     ghost use Rattle.seg_spec.specs.Pointer.{target};
     ghost use Rattle.seg_check.specs.Walks.{Completes, IsColourOf, IsAtEnd, IsShallow, AreFewRed};
 
-    fn new(tree: Tree) -> Stage
+    fn new(bytes: View, tree: Tree) -> Stage
         ensures wanted { result.wanted ≡ tree.nodes }
         ensures pointer { result.pointer ≡ tree.root }
         ensures entered { result.entered.items ≡ [] }
@@ -105,15 +111,18 @@ impl Stage {
         ensures is_red { result.above.is_red ≡ true }
         ensures shallow { IsShallow result.above }
         ensures few_red { AreFewRed result.above }
+        ensures colour { IsColourAt bytes.entry.bytes.now result.pointer result.colour }
     {
         Stage {
             wanted: tree.nodes,
             pointer: tree.root,
+            colour: colour_at(bytes, tree.root),
             above: Above {
                 nodes: 0,
                 blacks: 0,
                 // the root must be black, like a node below a red one
                 is_red: true,
+                right: None,
             },
             entered: ArrayVec::new(),
             nodes: 0,
@@ -124,7 +133,7 @@ impl Stage {
 
     /// Enters the node of this colour at the current place, and goes to its left child. False before a node that would
     /// be too deep.
-    fn enter(&mut self, node: NodeAt, colour: Option<Colour>) -> bool
+    fn enter(&mut self, view: View, node: NodeAt, colour: Option<Colour>) -> bool
         ensures goes_on { IsTrue result → (bytes : List ℕ) (height : ℕ) (rest entering : List ℕ)
             → target bytes self.old.pointer ≡ Some node → IsColourOf bytes node colour
             → self.old.nodes < 2 ^ 32 → self.old.above.blacks < 255
@@ -144,6 +153,9 @@ impl Stage {
         ensures few_red { IsTrue result → IsShallow self.old.above
             → self.new.is_red_black ≡ true → (self.old.is_red_black ≡ true)
             × (AreFewRed self.old.above → AreFewRed self.new.above) }
+        ensures colour { IsTrue result → IsColourAt view.entry.bytes.now node self.new.colour }
+        ensures right { IsTrue result → node + 4 < 2 ^ 32
+            → IsColourAt view.entry.bytes.now (node + 4) self.new.above.right }
         ensures deep { result ≡ false → (60 ≤ self.old.above.nodes)
             ⊎ (60 ≤ length self.old.entered.items) }
     {
@@ -152,6 +164,7 @@ impl Stage {
             nodes: self.above.nodes.saturating_add(1),
             blacks: self.above.blacks.saturating_add(u8::from(!is_red)),
             is_red,
+            right: colour_at(view, child_pointer(node, Side::Right)),
         };
         let is_deep = usize::from(self.above.nodes) >= DEPTH;
         if is_deep || self.entered.try_push(Entered { node, above }).is_err() {
@@ -160,6 +173,7 @@ impl Stage {
         self.is_red_black = self.is_red_black && may_stand(colour, self.above.is_red);
         self.nodes = self.nodes.saturating_add(1);
         self.pointer = child_pointer(node, Side::Left);
+        self.colour = colour_at(view, self.pointer);
         self.above = above;
         true
     }
@@ -182,6 +196,9 @@ impl Stage {
             ↔ IsAtEnd height self.old self.new rest entering) }
         ensures left { IfSome result (λ node. self.old.entered.items
             ≡ self.new.entered.items ++ record { node = node; above = self.new.above } ∷ []) }
+        ensures pointer { IfSome result (λ node. node + 4 < 2 ^ 32
+            → self.new.pointer ≡ node + 4) }
+        ensures colour { IfSome result (λ _. self.new.colour ≡ self.new.above.right) }
         ensures nodes { self.new.nodes ≡ self.old.nodes }
         ensures kept { self.new.is_red_black ≡ true → self.old.is_red_black ≡ true }
     {
@@ -190,6 +207,7 @@ impl Stage {
         self.height = Some(blacks);
         let Entered { node, above } = self.entered.pop()?;
         self.pointer = child_pointer(node, Side::Right);
+        self.colour = above.right;
         self.above = above;
         Some(node)
     }
@@ -219,6 +237,8 @@ impl Walk<'_> {
     ghost use Rattle.seg_check.specs.Walks.{Completes, IsSteady, Proceeds};
 
     /// The next step of the walk, or `None` at its end.
+    // Inlined, so that a step isn't written to memory to be returned.
+    #[inline(always)]
     pub(crate) fn next(&mut self) -> Result<Option<Visit>, u32>
         ensures fewer { OnOk result (self.new.turns + 1 ≡ self.old.turns) }
         ensures steady { IsSteady self.old.bytes.bytes.now self.old.stage self.old.turns
@@ -238,7 +258,8 @@ impl Walk<'_> {
         self.turns -= 1;
         let pointer = self.stage.pointer;
         if let Some(node) = self.bytes.target(pointer as usize) {
-            if self.stage.enter(node, node_colour(self.bytes, node)) {
+            let colour = self.stage.colour;
+            if self.stage.enter(self.bytes, node, colour) {
                 return Ok(Some(Visit::Enter(pointer)));
             }
             return Err(self.root);
@@ -275,6 +296,16 @@ fn may_stand(colour: Option<Colour>, below_red: bool) -> bool
         None => false,
         Some(Colour::Black) => true,
         Some(Colour::Red) => !below_red,
+    }
+}
+
+/// The colour of the node that a pointer points to, if there is one and it has a colour.
+fn colour_at(bytes: View, pointer: u32) -> Option<Colour>
+    ensures { IsColourAt bytes.entry.bytes.now pointer result }
+{
+    match bytes.target(pointer as usize) {
+        Some(node) => node_colour(bytes, node),
+        None => None,
     }
 }
 

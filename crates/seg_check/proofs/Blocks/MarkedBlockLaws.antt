@@ -1,5 +1,5 @@
 -- The facts about a block that its mark states.
-use Rattle.std.proofs.Common.{◌≡◌, ℕ, ◌+◌, ◌-◌, ◌*◌, ◌^◌, ◌<◌, ◌≤◌, zero, suc, ⊎_elim, true, false, Bool, cond, Option, None, List, [], ◌∷◌, ◌++◌, length, get_or, set, take, drop, replicate, refl, sym, ap, ◌∙◌, subst, arith}
+use Rattle.std.proofs.Common.{◌≡◌, ℕ, ◌+◌, ◌-◌, ◌*◌, ◌^◌, ◌<◌, ◌≤◌, zero, suc, ⊎_elim, true, false, Bool, cond, ◌||◌, Option, None, List, [], ◌∷◌, ◌++◌, length, get_or, set, take, drop, replicate, refl, sym, ap, ◌∙◌, subst, arith}
 use Rattle.std.proofs.Math.ListN.{length-set}
 use Rattle.std.proofs.lemmas.List.{append-nil, length-replicate}
 use Rattle.std.proofs.lemmas.Grind.{get_or-set_at}
@@ -10,7 +10,7 @@ use Rattle.seg_spec.proofs.Heap.LiveBlockLaws.{times-same, times-other, times-ap
 use Rattle.seg_check.specs.declared.marks.Mark.{Mark}
 use Rattle.seg_check.specs.declared.marks.Mark.TheVariants.{Inside, Free, Live, Claimed, Named}
 use Rattle.seg_check.specs.declared.marks.Waiting.{Waiting}
-use Rattle.seg_check.specs.Marks.{Known, known_of, nothing_known, is_unclaimed, is_free, is_named, unclaimed_from, free_from, named_from, Within, IsUnit, IsMarked, KeepsOtherBlocks, AddsBlock, ClaimsAll}
+use Rattle.seg_check.specs.Marks.{Known, known_of, nothing_known, is_unclaimed, is_free, is_named, unclaimed_from, free_from, named_from, HasNoneNamed, Within, IsUnit, IsMarked, KeepsOtherBlocks, AddsBlock, ClaimsAll}
 use Rattle.seg_check.specs.Naming.{ClaimsFrozen}
 use Rattle.seg_check.proofs.Blocks.MarkLaws.{bit, one, looked, no_unit, set_other, set_same, unit_of, one_more, none_in, few, after_none}
 use Rattle.seg_check.proofs.SameLengthLaws.{same_length}
@@ -191,6 +191,30 @@ module _ (marks : List Mark) (u f : ℕ) (queue : List Waiting) (taken : ℕ) (c
         counts_kept = kept.counts_kept;
         below_kept = kept.below_kept;
       }
+
+-- ---- no frozen object that a cell points to
+
+pub none_named : (marks : List Mark) (units : ℕ) → marks ≡ replicate units Inside → HasNoneNamed marks
+none_named marks units e h = ap (λ ms. times h (named_from heap_start ms)) e ∙ ap (times h) (none_in is_named heap_start units Inside refl)
+
+pub still_none_named : (marks : List Mark) (unit : ℕ) (m : Mark) → unit < length marks → is_named m ≡ false → HasNoneNamed marks → HasNoneNamed (set marks unit m)
+still_none_named marks unit m inside is none h =
+    let at : ℕ = heap_start + 16 * unit in
+    let there : unit < length (set marks unit m) = omega (arith, length-set marks unit m) in
+    ⊎_elim
+    (λ same. subst (λ x. times x (named_from heap_start (set marks unit m)) ≡ 0) same
+    (looked is_named at heap_start unit (set marks unit m) refl there ∙ ap (λ x. cond (is_named x) 1 0) (get_or-set_at marks unit unit m Inside refl inside) ∙ ap (λ b. cond b 1 0) is))
+    (λ other. set_other is_named h heap_start unit marks m other ∙ none h)
+    (cases_eq at h)
+
+neither : (a b : Bool) → (a || b) ≡ false → (a ≡ false) × (b ≡ false)
+neither false b none = (refl, none)
+neither true b none = cc
+
+pub none_named_still : (marks : List Mark) (unit : ℕ) (m : Mark) (some here : Bool) → unit < length marks → here ≡ is_named m → (some ≡ false → HasNoneNamed marks) → (some || here) ≡ false → HasNoneNamed (set marks unit m)
+none_named_still marks unit m some here inside is so_far none =
+    let neither_is = neither some here none in
+    still_none_named marks unit m inside (sym is ∙ neither_is.1) (so_far neither_is.0)
 
 -- ---- walks over the marks
 

@@ -340,6 +340,22 @@ module _ (bytes : List ℕ) (table : Table) (T U : ℕ) (content : Content) (by 
   pub node_can : (known : Known) (pointer : ℕ) → CanClaim bytes known pointer (tag_of Kind.node T) (1 * (map_words + size table U)) → CanClaim bytes known pointer (word_of content.tag) (1 * content.entry.size)
   node_can known pointer c = content_can bytes table known pointer 1 _ (tag_of Kind.node T) map_words U (map_words + size table U) content by.content_of refl c
 
+  -- the same of a claimant, which has copies of what it reads
+  pub owned_node : (bs : List ℕ) (word each : ℕ) (b : Bool) → bs ≡ bytes → word ≡ word_of content.tag → each ≡ content.entry.size → b ≡ has_turns table content.entry.held → (old new : Known) (pointer p : ℕ)
+      → ClaimsBlock bs old new pointer word (1 * each) (turns_where b p 1) p → ClaimsBlock bytes old new pointer (tag_of Kind.node T) (1 * (map_words + size table U)) (turns_where (has_cells (form_at table U)) p 1) p
+  owned_node bs word each b e t s h old new pointer p c = node_claimed old new pointer p
+      (subst (λ x. ClaimsBlock bytes old new pointer (word_of content.tag) (1 * content.entry.size) (turns_where x p 1) p) h
+      (subst (λ x. ClaimsBlock bytes old new pointer (word_of content.tag) (1 * x) (turns_where b p 1) p) s
+      (subst (λ x. ClaimsBlock bytes old new pointer x (1 * each) (turns_where b p 1) p) t
+      (subst (λ x. ClaimsBlock x old new pointer word (1 * each) (turns_where b p 1) p) e c))))
+
+  pub owned_can : (bs : List ℕ) (word each : ℕ) → bs ≡ bytes → word ≡ word_of content.tag → each ≡ content.entry.size → (known : Known) (pointer : ℕ)
+      → CanClaim bytes known pointer (tag_of Kind.node T) (1 * (map_words + size table U)) → CanClaim bs known pointer word (1 * each)
+  owned_can bs word each e t s known pointer c =
+      subst (λ x. CanClaim x known pointer word (1 * each)) (sym e)
+      (subst (λ x. CanClaim bytes known pointer x (1 * each)) (sym t)
+      (subst (λ x. CanClaim bytes known pointer (word_of content.tag) (1 * x)) (sym s) (node_can known pointer c)))
+
   -- the position of the key of a node
   pub node_key : (p x : ℕ) → p + map_words < 2 ^ 32 → x ≡ (p + 0 * content.entry.size + content.entry.before) % 2 ^ 32 → (8 ≤ x) × (x - 8 ≡ p + tree_words)
   node_key p x low x_is = let before = by.content_of.entry_is.before_is in (omega arith, omega arith)

@@ -1,6 +1,6 @@
-use Rattle.std.proofs.Common.{◌≡◌, ◌+◌, ◌-◌, ◌/◌, length, sym, ap, ◌∙◌, arith, rules}
+use Rattle.std.proofs.Common.{◌≡◌, ◌+◌, ◌-◌, ◌/◌, ◌^◌, ◌≤◌, length, sym, ap, ◌∙◌, arith, rules}
 use Rattle.seg_check.specs.Marks.{slots_in}
-use Rattle.seg_check.proofs.Blocks.MarkedBlockLaws.{fresh}
+use Rattle.seg_check.proofs.Blocks.MarkedBlockLaws.{fresh, none_named}
 use Rattle.seg_check.proofs.claims.Claims.new.Goals as goal
 use Rattle.seg_check.proofs.claims.Claims.new.Goals.{then-shares, else-shares}
 
@@ -18,3 +18,9 @@ returns g c =
     ] in
     fresh c.in_ok-from_elem.field-0.items c.in_ok-with_capacity.field-0.items c.in_ok-from_elem-2.field-0.items (c.saturating_sub.result / 16) _ c.if-shares.slots _
     (marks.items_if_clones_equal (λ y e. e)) queue.items units (counts.items_if_clones_equal (λ y e. search rules)) slots
+
+pub invariant_of-result : goal.invariant_of-result
+invariant_of-result g c =
+    let marks = c.in_ok-from_elem.ensures in
+    let few : length c.in_ok-from_elem.field-0.items ≤ 2 ^ 26 = omega (arith, marks.len, c.saturating_sub.ensures, c.len.ensures, c.args.bytes.small) in
+    (few, omega arith, λ none. none_named c.in_ok-from_elem.field-0.items (c.saturating_sub.result / 16) (marks.items_if_clones_equal (λ y e. e)))

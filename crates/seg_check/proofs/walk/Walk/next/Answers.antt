@@ -9,11 +9,14 @@ returns-then-enter-clause-steady c = λ s.
     steady_enter c.args.self.now.bytes.bytes.now c.args.self.now.stage c.enter.new.self c.args.self.now.turns c.in-Some.node s (omega arith)
     (sym c.in-Some.ensures) (c.enter.ensures.pointer c.if-enter.true) (c.enter.ensures.entered c.if-enter.true) (c.enter.ensures.nodes few)
     (c.enter.ensures.above c.if-enter.true s.above) (c.enter.ensures.deeper c.if-enter.true s.above) (c.enter.ensures.few_red c.if-enter.true s.above)
+    (c.enter.ensures.colour c.if-enter.true) (c.enter.ensures.right c.if-enter.true)
 
 pub returns-in-Some-pass-clause-steady : goal.returns-in-Some-pass-clause-steady
 returns-in-Some-pass-clause-steady c = λ s.
     let empty : target c.args.self.now.bytes.bytes.now c.args.self.now.stage.pointer ≡ None = sym c.target.ensures ∙ c.in_default.is in
+    let low = node_low c.args.self.now.bytes.bytes.now c.args.self.now.stage c.pass.new.self c.args.self.now.turns c.in-Some-pass.node s (omega arith) empty c.in-Some-pass.ensures.left in
     steady_pass c.args.self.now.bytes.bytes.now c.args.self.now.stage c.pass.new.self c.args.self.now.turns c.in-Some-pass.node s (omega arith) empty c.in-Some-pass.ensures.left c.pass.ensures.nodes c.pass.ensures.kept
+    (c.in-Some-pass.ensures.pointer low) c.in-Some-pass.ensures.colour
 
 pub returns-in-Some-pass-clause-goes_on : goal.returns-in-Some-pass-clause-goes_on
 returns-in-Some-pass-clause-goes_on c = λ s height rest entering.
@@ -41,7 +44,7 @@ returns-then-enter-clause-goes_on c = λ s.
       c.in-Some.node,
       sym c.in-Some.ensures,
       λ height rest entering. (
-        c.enter.ensures.goes_on c.if-enter.true bytes height rest entering (sym c.in-Some.ensures) c.node_colour.ensures few near,
+        c.enter.ensures.goes_on c.if-enter.true bytes height rest entering (sym c.in-Some.ensures) (s.colour c.in-Some.node (sym c.in-Some.ensures)) few near,
         c.enter.ensures.next bytes height rest entering (sym c.in-Some.ensures),
       ),
     )
