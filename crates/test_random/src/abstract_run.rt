@@ -11,7 +11,7 @@ use std::test::Fail;
 const MARK: &[u8] = b"+\n";
 
 /// The contents of a register.
-#[derive(Debug, Clone, Copy, PartialEq, Eq, Default)]
+#[derive(Clone, Copy, PartialEq, Eq, Default)]
 pub(crate) enum Register {
     #[default]
     Undefined,
@@ -21,7 +21,7 @@ pub(crate) enum Register {
 }
 
 /// What a run did with frozen objects.
-#[derive(Debug, Clone, Copy, PartialEq, Eq, Default)]
+#[derive(Clone, Copy, PartialEq, Eq, Default)]
 pub(crate) struct Sharing {
     pub(crate) froze: bool,
     /// Whether an object couldn't be frozen because there was no room.
@@ -34,7 +34,7 @@ pub(crate) struct Sharing {
 }
 
 /// An open part of the code.
-#[derive(Debug, Clone, Copy)]
+#[derive(Clone, Copy)]
 enum EnteredPart {
     Opener,
     Loop { start: u32, turns: i32 },

@@ -8,7 +8,7 @@ use std::fmt::Write;
 use support_data::Random;
 
 /// The version of a client's file. Only version 2 has frozen objects.
-#[derive(Debug, Clone, Copy, PartialEq, Eq)]
+#[derive(Clone, Copy, PartialEq, Eq)]
 pub(crate) enum Version {
     One,
     Two,
@@ -76,7 +76,7 @@ CONST r4 300
 const DEPTH: usize = 7;
 
 /// How an open part ends.
-#[derive(Debug, Clone, Copy, PartialEq, Eq)]
+#[derive(Clone, Copy, PartialEq, Eq)]
 enum Close {
     /// Without a mark, for the field of a value.
     Nothing,
@@ -89,7 +89,7 @@ enum Close {
 }
 
 /// What a client may do with a value.
-#[derive(Debug, Clone, Copy, PartialEq, Eq)]
+#[derive(Clone, Copy, PartialEq, Eq)]
 enum Access {
     Change,
     /// Only read it: it is in a frozen object.
@@ -97,7 +97,7 @@ enum Access {
 }
 
 /// An open part, the register and type of the value that it works on, and the class of references to that value.
-#[derive(Debug, Clone, Copy)]
+#[derive(Clone, Copy)]
 struct OpenPart {
     close: Close,
     register: usize,

@@ -6,7 +6,7 @@ use std::collections::BTreeMap;
 use std::mem;
 
 /// The kind of a type, with the types of its parts.
-#[derive(Debug, Clone, Copy, PartialEq, Eq)]
+#[derive(Clone, Copy, PartialEq, Eq)]
 pub(crate) enum Shape {
     Number,
     Text,
@@ -43,7 +43,7 @@ pub(crate) fn shape_of(t: usize) -> Shape {
 }
 
 /// The contents of a value.
-#[derive(Debug, Clone, Drop)]
+#[derive(Clone, Drop)]
 pub(crate) enum ValueContent {
     Number(i64),
     Text(Vec<u8>),
@@ -55,14 +55,14 @@ pub(crate) enum ValueContent {
 }
 
 /// A value: its type and its contents.
-#[derive(Debug, Clone, Drop)]
+#[derive(Clone, Drop)]
 pub(crate) struct Value {
     pub(crate) t: usize,
     pub(crate) content: ValueContent,
 }
 
 /// A named object: its type and its values.
-#[derive(Debug, Drop)]
+#[derive(Drop)]
 pub(crate) struct Object {
     pub(crate) t: usize,
     pub(crate) values: Vec<usize>,

@@ -28,7 +28,7 @@ const GREETING: &str = "
     800='hi'";
 
 /// How many changes of one byte had each result.
-#[derive(Debug, Clone, Copy, PartialEq, Eq, Default)]
+#[derive(Clone, Copy, PartialEq, Eq, Default)]
 struct Answers {
     accepted: u32,
     header: u32,
@@ -123,7 +123,7 @@ fn finds_each_changed_byte_of_the_counter(rt: HostRuntime) -> Result<(), Fail> {
         pointer: 36_269,
         other: 0,
     };
-    assert_eq!(rt; answers, wanted);
+    assert!(rt; answers == wanted);
     Ok(())
 }
 
