@@ -1,4 +1,4 @@
--- `lend` keeps the borrow open while the work runs, and shuts it at the bytes that came back. Assumes `Logic`.
+-- `lend_whole` keeps the borrow open while the work runs, and shuts it at the bytes that came back. Assumes `Logic`.
 use Rattle.std.proofs.Common.{◌≡◌, ℕ, ◌*◌, ◌^◌, ◌<◌, List, [], ◌∷◌, ◌++◌, length, refl, sym, ap, ◌∙◌, subst, arith, true, false, Bool, Vec}
 use lib.Dec.{T}
 use mathlib.Core.Bool.{◌&&◌}
@@ -52,14 +52,14 @@ use Rattle.std_alloc.specs.contracts.vec.lodge.Key.{name as lodge_name}
 use Rattle.std_alloc.proofs.vec.lodge.Met as lodge
 use Rattle.std_alloc.specs.contracts.vec.lodged.Vec+T+Lodged.dislodge.Key.{name as dislodge_name}
 use Rattle.std_alloc.proofs.vec.lodged.Vec+T+Lodged.dislodge.Met as dislodge
-use Rattle.seg_raw.specs.Loans.{IsLoan, IsReturned}
+use Rattle.seg_raw.specs.Loans.{IsWhole, IsReturned}
 use Rattle.seg_raw.proofs.LodgeLaws.{byte_laws, Housed, housed-laws, Good, tells, Lodges, at_lodge, IsLodged, lodge_goes, lodge_gives, Dislodges, at_dislodge, dislodge_goes, dislodge_gives}
 use Rattle.seg_raw.proofs.SliceMemory.{row_lodged, lodged_row}
-use Rattle.seg_raw.specs.contracts.lending.lend as F
-use Rattle.seg_raw.specs.contracts.lending.lend.F-FnOnce as Called
-use Rattle.seg_raw.specs.contracts.lending.lend.Key.{name as #self}
-use Rattle.seg_raw.proofs.lending.lend.Statement as stated
-use Rattle.seg_raw.proofs.lending.lend.Code as code
+use Rattle.seg_raw.specs.contracts.lending.lend_whole as F
+use Rattle.seg_raw.specs.contracts.lending.lend_whole.F-FnOnce as Called
+use Rattle.seg_raw.specs.contracts.lending.lend_whole.Key.{name as #self}
+use Rattle.seg_raw.proofs.lending.lend_whole.Statement as stated
+use Rattle.seg_raw.proofs.lending.lend_whole.Code as code
 
 both : (a b : Bool) → T a → T b → T (a && (b && true))
 both true true s t = tt
@@ -118,8 +118,8 @@ module _ (Y Z : RattleType) (g : Called.Ghosts Y Z) (d d' : Dict) where
           let y₀ = At to (w ∷ []) in
           let Post : Val → SProp 𝓤 = (walk_of 𝓛 ended stayed held).post y₀ in
           let Two : RattleType = Tuple (Housed ∷ param 0 Y ∷ []) in
-          let Asks : Type 0 = (vec : Vec ℕ Lodged) → IsLoan xs vec → F.F-pre Y Z g d d' f vec in
-          let Returns : Type 0 = (vec : Vec ℕ Lodged) (out : Vec ℕ Lodged × Y.Denot) → IsLoan xs vec → F.F-post Y Z g d d' f vec out → IsReturned xs vec out.0 in
+          let Asks : Type 0 = (vec : Vec ℕ Lodged) → IsWhole xs vec → F.F-pre Y Z g d d' f vec in
+          let Returns : Type 0 = (vec : Vec ℕ Lodged) (out : Vec ℕ Lodged × Y.Denot) → IsWhole xs vec → F.F-post Y Z g d d' f vec out → IsReturned xs vec out.0 in
           let κs : Lfts 2 = (κ₂, (κ₁, tt)) in
           qed 𝓛 (((‵ (flft κ₀ q₀) ⊛ ‵ (flft κ₁ q₁) ⊛ ‵ (flft κ₂ q₂) ⊛ ‵ ftrue) ⊛ ‵ (owns (types_at ended.signature.params z.0.0) z.0.3 y₀.0.4))
           ∷ (raw (fact 𝓤 (κ₁ ⊑ Y.lives)) ⊛ raw (fact 𝓤 (κ₂ ⊑ Z.lives)) ⊛ raw (fact 𝓤 Asks) ⊛ raw (fact 𝓤 Returns)) ∷ []) ∵
@@ -141,7 +141,7 @@ module _ (Y Z : RattleType) (g : Called.Ghosts Y Z) (d d' : Dict) where
           rewrite ! 0 (λ s. ‵ (Housed.own_val lent (s ∷ []))) (sym (ap only same)) refl $ lands_last ! refl fine $
           exec ! 𝓣.C 𝓣.Λ En (after 4 here.body) (at_ret En Post) $ sets ! (of_opd ! (get ! refl)) refl fine $
           -- [the vector; the open borrow, obs, auth; the work; the other tokens]
-          let loan : IsLoan xs lent = record { items = made.0; full = made.2 } in
+          let loan : IsWhole xs lent = record { items = made.0; full = made.2 } in
           let Ok : Type 0 = g.pre f (lent, tt) in
           let passed : Passed callee.signature κs = (f, (lent, tt)) in
           let y : (Once 𝓛).Ghost = ((κs, (q₂, (q₁, tt)), tt, passed, (w ∷ [], (v ∷ [], tt))), tt) in
@@ -188,9 +188,9 @@ module _ (Y Z : RattleType) (g : Called.Ghosts Y Z) (d d' : Dict) where
         subst (λ (us : List Val). Goes z us vss.1.0) (sym are.0.0.0)
         (one_value (layout Z) (λ fs. Goes z (to z) fs) vss.1.0 (((param_laws 1 Z LZ).lawful 𝓛).typed a.1.0 vss.1.0 are.1.0) (walk z are.0.0.1))))
 
-pub lend_spec : {M : Type 1} → stated.statement M
+pub lend_whole_spec : {M : Type 1} → stated.statement M
 unfolding tables_of
-lend_spec 𝓤 𝓛 𝓜 𝓡 wired Y Z LY LZ g d d' met _ =
+lend_whole_spec 𝓤 𝓛 𝓜 𝓡 wired Y Z LY LZ g d d' met _ =
     let 𝓣 : Tables 𝓤 𝓛.H = tables_of 𝓤 𝓛.H 𝓜 (tables 𝓤 𝓛.H 𝓜 𝓡 𝓡.env) in
     entered 𝓤 𝓛.H (triple_of 𝓛 (F.signature Y Z) (F.spec Y Z g d d' 𝓛 𝓜.mem 𝓡.returns)) 𝓣.C 𝓣.Λ (#self (args Y Z g d d')) (here Y Z g d d')
     (code.unfolded 𝓤 𝓛.H 𝓜 𝓡 wired (Y, (Z, tt)) d d')
