@@ -1,9 +1,9 @@
 ghost use Rattle.std.specs.Prelude.{◌≡◌, ℕ, ◌-◌, ◌≤◌, ◌++◌, length, take, replicate, Vec, vec_len, vec_capacity};
 ghost use Rattle.std_alloc.specs.declared.vec.lodged.Lodged.{Lodged as Tenant};
 ghost use Rattle.seg_raw.specs.Homes.{home_of};
-ghost use Rattle.seg_raw.specs.Loans.{IsLoan, IsWhole, IsReturned, IsFilled};
+ghost use Rattle.lezgauri.specs.Loans.{IsLoan, IsWhole, IsReturned, IsFilled};
 
-use crate::in_place::{lengthen, shorten};
+use seg_raw::{lengthen, shorten};
 use std_alloc::vec::{Lodged, lodge};
 
 /// Calls `work` with the first `used` bytes of `bytes` as a vector, in place and without a copy, and returns its

@@ -52,14 +52,14 @@ use Rattle.std_alloc.specs.contracts.vec.lodge.Key.{name as lodge_name}
 use Rattle.std_alloc.proofs.vec.lodge.Met as lodge
 use Rattle.std_alloc.specs.contracts.vec.lodged.Vec+T+Lodged.dislodge.Key.{name as dislodge_name}
 use Rattle.std_alloc.proofs.vec.lodged.Vec+T+Lodged.dislodge.Met as dislodge
-use Rattle.seg_raw.specs.Loans.{IsWhole, IsReturned}
-use Rattle.seg_raw.proofs.LodgeLaws.{byte_laws, Housed, housed-laws, Good, tells, Lodges, at_lodge, IsLodged, lodge_goes, lodge_gives, Dislodges, at_dislodge, dislodge_goes, dislodge_gives}
-use Rattle.seg_raw.proofs.SliceMemory.{row_lodged, lodged_row}
-use Rattle.seg_raw.specs.contracts.lending.lend_whole as F
-use Rattle.seg_raw.specs.contracts.lending.lend_whole.F-FnOnce as Called
-use Rattle.seg_raw.specs.contracts.lending.lend_whole.Key.{name as #self}
-use Rattle.seg_raw.proofs.lending.lend_whole.Statement as stated
-use Rattle.seg_raw.proofs.lending.lend_whole.Code as code
+use Rattle.lezgauri.specs.Loans.{IsWhole, IsReturned}
+use Rattle.lezgauri.proofs.LodgeLaws.{byte_laws, Housed, housed-laws, Good, tells, Lodges, at_lodge, IsLodged, lodge_goes, lodge_gives, Dislodges, at_dislodge, dislodge_goes, dislodge_gives}
+use Rattle.lezgauri.proofs.SliceMemory.{row_lodged, lodged_row}
+use Rattle.lezgauri.specs.contracts.lending.lend_whole as F
+use Rattle.lezgauri.specs.contracts.lending.lend_whole.F-FnOnce as Called
+use Rattle.lezgauri.specs.contracts.lending.lend_whole.Key.{name as #self}
+use Rattle.lezgauri.proofs.lending.lend_whole.Statement as stated
+use Rattle.lezgauri.proofs.lending.lend_whole.Code as code
 
 both : (a b : Bool) → T a → T b → T (a && (b && true))
 both true true s t = tt

@@ -2,8 +2,8 @@ use Rattle.std.proofs.Common.{◌≡◌, ℕ, ◌-◌, ◌++◌, List, length, t
 use Rattle.std_alloc.specs.declared.vec.lodged.Lodged.{Lodged}
 use Rattle.seg_spec.specs.Window.{Home}
 use Rattle.seg_raw.specs.Homes.{home_of}
-use Rattle.seg_raw.specs.Loans.{IsLoan, IsWhole, IsReturned, IsFilled}
-use Rattle.seg_raw.proofs.lending.lend.Goals as goal
+use Rattle.lezgauri.specs.Loans.{IsLoan, IsWhole, IsReturned, IsFilled}
+use Rattle.lezgauri.proofs.lending.lend.Goals as goal
 
 same_room : (vec other : Vec ℕ Lodged) → home_of vec ≡ home_of other → vec_capacity vec ≡ vec_capacity other
 same_room vec other home = ap (λ (h : Home). h.room) home
