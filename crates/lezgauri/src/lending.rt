@@ -22,16 +22,19 @@ pub fn lend<R, F: FnOnce(Vec<u8, Lodged>) -> (Vec<u8, Lodged>, R)>(
         × F.post work vec (back, result)
         × (bytes.new ≡ back.items ++ replicate (length bytes.old - vec_len back) 0) }
 {
-    lend_whole(bytes, |vec|
-        requires { (short : Vec ℕ Tenant) → short.items ≡ take used vec.items
-            → home_of short ≡ home_of vec → F.pre work short }
-        ensures { (short : Vec ℕ Tenant) × (back : Vec ℕ Tenant)
-            × (short.items ≡ take used vec.items) × (home_of short ≡ home_of vec)
-            × F.post work short (back, result.1) × IsFilled back result.0 }
-    {
-        let (back, result) = work(cut(vec, used));
-        (filled(back), result)
-    })
+    lend_whole(
+        bytes,
+        |vec|
+            requires { (short : Vec ℕ Tenant) → short.items ≡ take used vec.items
+                → home_of short ≡ home_of vec → F.pre work short }
+            ensures { (short : Vec ℕ Tenant) × (back : Vec ℕ Tenant)
+                × (short.items ≡ take used vec.items) × (home_of short ≡ home_of vec)
+                × F.post work short (back, result.1) × IsFilled back result.0 }
+        {
+            let (back, result) = work(cut(vec, used));
+            (filled(back), result)
+        },
+    )
 }
 
 /// The first `len` items, in the same memory.
@@ -53,10 +56,7 @@ fn filled(mut vec: Vec<u8, Lodged>) -> Vec<u8, Lodged>
 }
 
 /// Calls `work` with the bytes as a vector without further room, which it gives back with as many bytes.
-fn lend_whole<R, F: FnOnce(Vec<u8, Lodged>) -> (Vec<u8, Lodged>, R)>(
-    bytes: &mut [u8],
-    work: F,
-) -> R
+fn lend_whole<R, F: FnOnce(Vec<u8, Lodged>) -> (Vec<u8, Lodged>, R)>(bytes: &mut [u8], work: F) -> R
     requires callable { (vec : Vec ℕ Tenant) → IsWhole bytes.old vec → F.pre work vec }
     requires returned { (vec : Vec ℕ Tenant) (out : Vec ℕ Tenant × R) → IsWhole bytes.old vec
         → F.post work vec out → IsReturned bytes.old vec out.0 }
