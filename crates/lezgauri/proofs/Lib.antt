@@ -1,4 +1,7 @@
 pub mod OpenedLaws
+-- memory that a host lends
+pub mod LodgeLaws
+pub mod SliceMemory
 -- runs of clients, one after the other
 pub use Rattle.client_vm.proofs.TogetherLaws
 -- an image keeps its size

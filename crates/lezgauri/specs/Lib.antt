@@ -1,5 +1,8 @@
 -- The words of this crate's contracts, for a crate that lists only `lezgauri`: each line makes a
 -- file of definitions `Rattle.lezgauri.specs.NAME`.
+-- memory lent as a vector, and where a vector and an image are
+pub mod Loans
+pub use Rattle.seg_raw.specs.Homes
 -- bytes, types, values, named objects, and the picture of an image
 pub use Rattle.seg_spec.specs.Bytes
 pub use Rattle.seg_spec.specs.Window

@@ -7,6 +7,7 @@
 #![tactic(auto)]
 
 mod clients;
+mod lending;
 
 pub use client_code::{Client, parse, parse_typed};
 pub use client_text::{assemble, print};
@@ -16,9 +17,11 @@ pub use client_vm::{
     run_bytes, run_image, write_all,
 };
 pub use clients::{run, verify};
+pub use lending::lend;
 pub use seg_image::{
     AllocatorKind, BestFit, CheckedImage, Code, ENTRY, Entries, Error, Fault, Fields, Fit, Heap,
     Image, ImageRead, IndexKind, Items, Keys, MAX_LEN, MAX_NAME, MAX_TYPES, MIN_LEN, Named, Names,
     Numbers, Place, Reader, Region, Segment, SegmentRead, SeqFit, Type, TypeId, TypeTable,
     Unopened, View, Window, check, is_size, read_types, type_table,
 };
+pub use std_alloc::vec::Lodged;

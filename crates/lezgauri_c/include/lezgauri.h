@@ -524,7 +524,7 @@ uint32_t lezgauri_put_content(lezgauri_handle *handle, lezgauri_place own, lezga
 
 /*
  * Makes a value of any type the default of this type: 0, empty, null, or for a struct the default of each field. It frees all that the
- * value owns, and each frozen object to which no other cell points. Nothing changes if the segment doesn't have the type.
+ * value owns, and each frozen object to which no other cell points.
  */
 uint32_t lezgauri_clear(lezgauri_handle *handle, lezgauri_place place);
 

@@ -317,8 +317,8 @@ module _ {A : Type 0} (opened left : Image A) (place : Place) (picture : Picture
   nothing_kept : (v w : Value) → names_in w ≡ [] → SameNames (names_in v) (names_in v ++ names_in w)
   nothing_kept v w none = names_same (sym (append-nil (names_in v)) ∙ ap (λ xs. names_in v ++ xs) (sym none))
 
-  pub clear_stays : Clears place opened left → Left
-  clear_stays it =
+  pub clear_stays : (result : Result (Unit {0}) Code) → Clears place opened left result → Left
+  clear_stays result it =
       let v = found.0 in
       let f = found.1 in
       stays_cleared (bytes_in opened) picture is_open.held is_open.counted (place_of place) reached (allocator_of opened) (types_of opened) is_open.table_is v f

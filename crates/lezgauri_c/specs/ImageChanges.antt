@@ -345,8 +345,12 @@ pub record DestroysAnonymous {A : Type 0} (at : ℕ) (old new : Image A) : Type 
 
 -- ---- values of any type
 
-pub record Clears {A : Type 0} (place : Place) (old new : Image A) : Type 0 where
+pub record Clears {A : Type 0} (place : Place) (old new : Image A)
+    (result : Result (Unit {0}) Code) : Type 0 where
   pub bytes : ChangesBytes old new
+  pub known : place.type_id < length (types_of old) → IsOk result
+  pub unknown : length (types_of old) ≤ place.type_id →
+      (result ≡ Err code.OtherType) × (new ≡ old)
   pub cleared : (v : Value) (blocks : List ℕ) → (s : StandsIn old place v blocks) →
       BesideShared (bytes_in old) (types_of old) (s.home ∷ blocks) (named_in v)
       (ClearsPlace (bytes_in old) (bytes_in new) (types_of old) (place_of place)

@@ -1,3 +1,4 @@
+pub mod GrowthLaws
 pub mod NamedItems
 pub mod PutContent
 pub mod IteratorLaws

@@ -52,8 +52,8 @@ pub(crate) fn view_of(bytes: &[u8]) -> Result<View<'_>, Fault>
 impl<A: Allocator> Image<A> {
     /// Opens a sound image in its own memory. It then is one of the version that may have frozen objects. Otherwise it
     /// returns the bytes with the image's first fault, or with `Memory` if host memory for the check is refused: as
-    /// much as for [`check`].
-    pub fn open(alloc: A, bytes: Vec<u8, A>) -> Result<Image<A>, Unopened<A>>
+    /// much as for [`check`], from `alloc`.
+    pub fn open<B: Allocator>(alloc: B, bytes: Vec<u8, A>) -> Result<Image<A>, Unopened<A>>
         ensures opened { IfOk result
             (λ image. (segment_of image).window.bytes ≡ upgraded bytes.items) }
         ensures image { IfOk result

@@ -86,6 +86,7 @@ impl<A: Allocator> Image<A> {
 }
 
 /// Grows the segment, in its own memory if there is room, or else in more.
+#[tactic(auto, using(crate::proofs::GrowthLaws::image_grows))]
 fn grow<F: Fit, A: Allocator>(segment: &mut Segment<F, A>, extra: u32) -> Result<u32, Fault>
     ensures types { segment.new.types ≡ segment.old.types }
     ensures size { IfOk result (λ size. size ≡ length segment.old.window.bytes + extra) }

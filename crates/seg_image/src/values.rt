@@ -1,4 +1,4 @@
-ghost use Rattle.std.specs.Prelude.{◌≡◌, ◌≢◌, ℕ, ◌+◌, ◌≤◌, List, [], ◌∷◌, length, Some, Err, IsOk, OnOk};
+ghost use Rattle.std.specs.Prelude.{◌≡◌, ◌≢◌, ℕ, ◌+◌, ◌<◌, ◌≤◌, List, [], ◌∷◌, length, Some, Err, IsOk, OnOk};
 ghost use Rattle.seg_spec.specs.Bytes.{signed_long, ChangesOnly};
 ghost use Rattle.seg_spec.specs.Clearing.{BesideShared, ClearsPlace};
 ghost use Rattle.seg_spec.specs.Shared.{named_in};
@@ -9,7 +9,7 @@ ghost use Rattle.seg_image.specs.Images.{bytes_in, types_of, ChangesBytes};
 ghost use Rattle.seg_image.specs.Places.{StandsIn};
 
 use crate::image::{Image, on};
-use crate::places::expect_number;
+use crate::places::{expect_number, known};
 use seg_raw::Code;
 use seg_value::Place;
 use std::alloc::Allocator;
@@ -38,14 +38,21 @@ impl<A: Allocator> Image<A> {
     }
 
     /// Makes a value the default of its type. Frees everything that it owns, and each frozen object that no other cell
-    /// points to.
-    pub fn clear(&mut self, place: Place)
+    /// points to. `OtherType` if the image doesn't have the type; then nothing changes.
+    pub fn clear(&mut self, place: Place) -> Result<(), Code>
         ensures bytes { ChangesBytes self.old self.new }
+        ensures known { place.type_id < length (types_of self.old) → IsOk result }
+        ensures unknown { length (types_of self.old) ≤ place.type_id →
+            (result ≡ Err Code.OtherType) × (self.new ≡ self.old) }
         ensures cleared { (v : Value) (blocks : List ℕ) → (s : StandsIn self.old place v blocks) →
             BesideShared (bytes_in self.old) (types_of self.old) (s.home ∷ blocks) (named_in v)
             (ClearsPlace (bytes_in self.old) (bytes_in self.new) (types_of self.old)
             (place_of place) (default_of (types_of self.old) place.type_id) blocks []) }
     {
-        on!(self, segment => segment.heap_mut().clear(place))
+        known(self, place.type_id)?;
+        on!(self, segment => {
+            segment.heap_mut().clear(place);
+            Ok(())
+        })
     }
 }

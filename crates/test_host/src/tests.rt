@@ -2,6 +2,7 @@ mod clients;
 mod door;
 mod hosts;
 mod images;
+mod lent;
 mod memory;
 mod mutations;
 mod readers;

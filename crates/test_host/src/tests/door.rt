@@ -2,8 +2,8 @@
 
 use lezgauri::{
     AllocatorKind, CheckedImage, Code, Entries, Fault, Image, ImageRead, IndexKind, Keys, Named,
-    Names, Numbers, Place, Ready, Report, Through, Type, TypeId, TypeTable, Verified, check,
-    prepare, run, type_table, verify,
+    Names, Numbers, Place, Ready, Region, Report, Through, Type, TypeId, TypeTable, Verified,
+    Window, check, prepare, run, type_table, verify,
 };
 use std::alloc::Global;
 use std::test::Fail;
@@ -40,6 +40,21 @@ impl Host {
         match Host::open(alloc, bytes) {
             Ok(host) => Ok(host),
             Err((fault, _bytes)) => Err(Fail::from(fault)),
+        }
+    }
+
+    /// The image in a window, which isn't checked again.
+    pub(crate) fn in_window(window: Window<Global>, types: TypeTable) -> Host {
+        Host {
+            image: Image::in_window(window, types),
+        }
+    }
+
+    /// The region that the image is in.
+    pub(crate) fn into_region(self) -> Region<Global> {
+        match self.image {
+            Image::Seq(segment) => segment.into_window().into_region(),
+            Image::Best(segment) => segment.into_window().into_region(),
         }
     }
 
@@ -208,8 +223,8 @@ impl Host {
         self.image.field(place, index)
     }
 
-    pub(crate) fn clear(&mut self, place: Place) {
-        self.image.clear(place);
+    pub(crate) fn clear(&mut self, place: Place) -> Result<(), Code> {
+        self.image.clear(place)
     }
 
     pub(crate) fn content(&self, own: Place) -> Result<Place, Code> {

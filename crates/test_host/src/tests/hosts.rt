@@ -102,8 +102,13 @@ fn has_fields(rt: &impl Abort, image: &mut Host) -> Result<(), Fail> {
     refused(rt, image.field(number, 0), Code::OtherType);
     image.store(number, -5)?;
     holds(rt, image, number, Ok(-5));
-    image.clear(pair);
+    image.clear(pair)?;
     holds(rt, image, number, Ok(0));
+    let unknown = Place {
+        at: pair.at,
+        type_id: 31,
+    };
+    assert_eq!(rt; image.clear(unknown), Err(Code::OtherType));
     Ok(())
 }
 

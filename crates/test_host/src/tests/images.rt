@@ -1,5 +1,5 @@
 use crate::tests::door::{Host, types_in};
-use lezgauri::{AllocatorKind, Fault, IndexKind, MAX_LEN, Type};
+use lezgauri::{AllocatorKind, Fault, IndexKind, MAX_LEN, Region, Type, Window, check};
 use std::process::Abort;
 use std::test::Fail;
 use support_data::{counter, counter_where, front};
@@ -44,6 +44,38 @@ fn opens_again(rt: &(impl Abort + AllocGlobal), image: Host) -> Result<(), Fail>
 fn an_image_changes_its_size(rt: HostRuntime) -> Result<(), Fail> {
     changes_size(&rt, AllocatorKind::Seq)?;
     changes_size(&rt, AllocatorKind::Best)
+}
+
+/// Tests that a checked image can be opened where it is in a larger region, and that the byte before it stays.
+fn opens_in_a_region(
+    rt: &(impl Abort + AllocGlobal),
+    allocator: AllocatorKind,
+) -> Result<(), Fail> {
+    let bytes = made(rt, allocator)?.into_bytes();
+    let types = check(rt.alloc(), bytes.as_slice())?;
+    assert_eq!(rt; bytes.len(), 1024);
+    let mut region = Region::new(rt.alloc(), 4096)?;
+    region.put8(2047, 9);
+    region.copy_in(2048, bytes.as_slice());
+    let Ok(window) = Window::place(region, 2048, 1024) else {
+        return Err(Fail::from("misplaced"));
+    };
+    let mut image = Host::in_window(window, types);
+    let seven = image.find(b"seven", 0)?;
+    image.store(seven, 8)?;
+    let region = image.into_region();
+    assert_eq!(rt; region.len(), 4096);
+    assert_eq!(rt; region.get8(2047), 9);
+    let left = Vec::from_slice(rt.alloc(), region.slice(2048, 1024))?;
+    let again = Host::opened(rt.alloc(), left)?;
+    assert_eq!(rt; again.load(again.find(b"seven", 0)?), Ok(8));
+    Ok(())
+}
+
+#[test]
+fn an_image_is_opened_in_a_region(rt: HostRuntime) -> Result<(), Fail> {
+    opens_in_a_region(&rt, AllocatorKind::Seq)?;
+    opens_in_a_region(&rt, AllocatorKind::Best)
 }
 
 /// Tests that bytes that aren't an image are refused, and returned unchanged.

@@ -36,7 +36,7 @@ use Rattle.std_alloc.specs.contracts.vec.lodge.Key.{name as callee_name}
 use Rattle.std_alloc.proofs.vec.lodge.Met as callee
 use Rattle.std_alloc.specs.Vec.Ownership.{lodged}
 use Rattle.lezgauri_c.specs.contracts.lent.Lent.{the_row as R}
-use Rattle.lezgauri_c.proofs.LodgeLaws.{byte_laws, Housed, housed-laws, Good, tells, Lodges, at_lodge, IsLodged, lodge_goes, lodge_gives}
+use Rattle.lezgauri.proofs.LodgeLaws.{byte_laws, Housed, housed-laws, Good, tells, Lodges, at_lodge, IsLodged, lodge_goes, lodge_gives}
 use Rattle.lezgauri_c.specs.contracts.lent.Lent.into_vec as F
 use Rattle.lezgauri_c.specs.contracts.lent.Lent.into_vec.Key.{name as #self}
 use Rattle.lezgauri_c.proofs.lent.Lent.into_vec.Statement as stated

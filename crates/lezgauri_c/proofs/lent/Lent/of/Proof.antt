@@ -36,7 +36,7 @@ use Rattle.std_alloc.specs.contracts.vec.lodged.Vec+T+Lodged.dislodge.Key.{name 
 use Rattle.std_alloc.proofs.vec.lodged.Vec+T+Lodged.dislodge.Met as callee
 use Rattle.std_alloc.specs.Vec.Ownership.{lodged}
 use Rattle.lezgauri_c.specs.contracts.lent.Lent.{the_type, the_row as R}
-use Rattle.lezgauri_c.proofs.LodgeLaws.{byte_laws, Housed, housed-laws, tells, Dislodges, at_dislodge, dislodge_goes, dislodge_gives}
+use Rattle.lezgauri.proofs.LodgeLaws.{byte_laws, Housed, housed-laws, tells, Dislodges, at_dislodge, dislodge_goes, dislodge_gives}
 use Rattle.lezgauri_c.specs.contracts.lent.Lent.of as F
 use Rattle.lezgauri_c.specs.contracts.lent.Lent.of.Key.{name as #self}
 use Rattle.lezgauri_c.proofs.lent.Lent.of.Statement as stated

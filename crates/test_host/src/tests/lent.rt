@@ -1,0 +1,67 @@
+//! Images in memory that their host lends for a call.
+
+ghost use Rattle.std.specs.Prelude.{◌≡◌, ◌≤◌, length};
+ghost use Rattle.lezgauri.specs.Homes.{home_of};
+ghost use Rattle.lezgauri.specs.Images.{segment_of};
+
+use crate::tests::door::Host;
+use lezgauri::{AllocatorKind, Error, Fault, Image, ImageRead, IndexKind, Lodged, Type, lend};
+use std::alloc::Global;
+use std::process::Abort;
+use std::test::Fail;
+
+/// Adds 1 to the number `count` of an image, and returns it.
+fn count(image: &mut Image<Lodged>) -> Result<i64, Error>
+    ensures { (segment_of image.new).window.home ≡ (segment_of image.old).window.home }
+{
+    let count = image.find(b"count", 0)?;
+    let next = image.load(count)?.saturating_add(1);
+    image.store(count, next)?;
+    Ok(next)
+}
+
+/// The same in the memory of an image, which is in the first `used` bytes.
+fn count_in(alloc: Global, memory: &mut [u8], used: usize) -> Result<i64, Error>
+    requires { used ≤ length memory.old }
+{
+    lend(
+        memory,
+        used,
+        |bytes|
+            ensures { home_of result.0 ≡ home_of bytes }
+        {
+            match Image::open(alloc, bytes) {
+                Ok(mut image) => {
+                    let counted = count(&mut image);
+                    (image.into_bytes(), counted)
+                }
+                Err(unopened) => (unopened.bytes, Err(Error::from(unopened.fault))),
+            }
+        },
+    )
+}
+
+/// Tests that the image in lent memory changes in place, and that 0 is after it.
+fn counts(rt: &(impl Abort + AllocGlobal), allocator: AllocatorKind) -> Result<(), Fail> {
+    let mut image = Host::create(rt.alloc(), 1024, allocator, IndexKind::Flat)?;
+    image.add_types(&[Type::I64])?;
+    image.construct(b"count", 0, 1)?;
+    let mut memory = image.into_bytes();
+    memory.resize(2048, 7)?;
+    let lent = memory.as_mut_slice();
+    assert_eq!(rt; lent.len(), 2048);
+    assert_eq!(rt; count_in(rt.alloc(), lent, 1024), Ok(1));
+    assert_eq!(rt; count_in(rt.alloc(), lent, 1024), Ok(2));
+    assert_eq!(rt;
+        count_in(rt.alloc(), lent, 1023),
+        Err(Error::from(Fault::BadHeader))
+    );
+    assert_eq!(rt; lent.last(), Some(&0));
+    Ok(())
+}
+
+#[test]
+fn an_image_is_opened_in_lent_memory(rt: HostRuntime) -> Result<(), Fail> {
+    counts(&rt, AllocatorKind::Seq)?;
+    counts(&rt, AllocatorKind::Best)
+}
