@@ -33,7 +33,8 @@ fn calls_on_texts<F: Fit>(rt: &(impl Abort + AllocGlobal)) -> Result<(), Fail> {
         b"hello, all!".as_slice()
     );
     s.heap.clear(s.root);
-    is_one_gap(rt, s.heap.window())
+    is_one_gap(rt, s.heap.window());
+    Ok(())
 }
 
 #[test]
@@ -75,7 +76,8 @@ fn calls_on_lists<F: Fit>(rt: &(impl Abort + AllocGlobal)) -> Result<(), Fail> {
     assert_eq!(rt; (item(&s, 0), item(&s, 1)), (Ok(2), Err(Code::OutOfRange)));
     pop_back(&mut s.heap, s.root)?;
     assert_eq!(rt; pop_back(&mut s.heap, s.root), Err(Code::Null));
-    is_one_gap(rt, s.heap.window())
+    is_one_gap(rt, s.heap.window());
+    Ok(())
 }
 
 #[test]
@@ -147,7 +149,8 @@ fn calls_on_owns<F: Fit>(rt: &(impl Abort + AllocGlobal)) -> Result<(), Fail> {
     assert_eq!(rt; take_own(&mut s.heap, s.root), Some(object));
     assert_eq!(rt; take_own(&mut s.heap, s.root), None);
     s.heap.destroy(object);
-    is_one_gap(rt, s.heap.window())
+    is_one_gap(rt, s.heap.window());
+    Ok(())
 }
 
 #[test]

@@ -41,7 +41,8 @@ fn a_deep_value_is_destroyed(rt: HostRuntime) -> Result<(), Fail> {
     }
     assert_eq!(rt; tiles(rt.alloc(), s.heap.window())?.len(), 20_001);
     s.heap.clear(place_of(1, ROOT));
-    is_one_gap(&rt, s.heap.window())
+    is_one_gap(&rt, s.heap.window());
+    Ok(())
 }
 
 /// Values that move to an overlapping place still refer to their blocks.

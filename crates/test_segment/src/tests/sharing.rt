@@ -46,7 +46,8 @@ fn calls_on_shared<F: Fit>(rt: &(impl Abort + AllocGlobal)) -> Result<(), Fail> 
     assert_eq!(rt; frozen(&s.heap, s.root), first);
     live_are(rt, s.heap.window(), &[(736, 3)])?;
     s.heap.clear(s.root);
-    is_one_gap(rt, s.heap.window())
+    is_one_gap(rt, s.heap.window());
+    Ok(())
 }
 
 #[test]
@@ -64,5 +65,6 @@ fn a_chain_goes_with_its_cell(rt: HostRuntime) -> Result<(), Fail> {
     }
     assert_eq!(rt; frozen(&s.heap, place_of(SHARED, ROOT)), Some(960_712));
     s.heap.clear(s.root);
-    is_one_gap(&rt, s.heap.window())
+    is_one_gap(&rt, s.heap.window());
+    Ok(())
 }

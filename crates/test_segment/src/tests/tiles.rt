@@ -41,32 +41,38 @@ pub(crate) fn live_are(
     w: &Window<Global>,
     wanted: &[(u32, u32)],
 ) -> Result<(), Fail> {
-    let mut live = tiles(rt.alloc(), w)?;
-    live.retain(|tile| tile.live);
-    let found: Vec<(u32, u32)> = live
-        .iter()
-        .map(|tile| (tile.at, tile.units))
-        .collect(rt.alloc())?;
-    assert_eq!(rt; found.as_slice(), wanted);
+    let tiles = tiles(rt.alloc(), w)?;
+    assert!(rt; are_live(tiles.as_slice(), wanted));
     Ok(())
+}
+
+fn are_live(tiles: &[Tile], wanted: &[(u32, u32)]) -> bool {
+    let mut wanted = wanted.iter();
+    for tile in tiles {
+        if !tile.live {
+            continue;
+        }
+        match wanted.next() {
+            Some(&(at, units)) if at == tile.at && units == tile.units => {}
+            _ => return false,
+        }
+    }
+    wanted.next().is_none()
 }
 
 /// Whether the heap is one free block, to which the free structure points, with a null link.
-fn is_gap(alloc: Global, w: &Window<Global>) -> Result<bool, Fail> {
-    let whole = Tile {
-        at: HEAP_START,
-        units: w.len().saturating_sub(HEAP_START) / UNIT,
-        live: false,
-        tag: 0,
+fn is_gap(w: &Window<Global>) -> bool {
+    let Some(block) = block_at(w, HEAP_START) else {
+        return false;
     };
-    let tiles = tiles(alloc, w)?;
+    let is_whole = block.units == w.len().saturating_sub(HEAP_START) / UNIT;
+    let is_free = !is_live(w, HEAP_START) && tag_word(w, HEAP_START) == 0;
     let starts = w.target(FREE) == Some(HEAP_START + UNIT);
     let ends = w.target(HEAP_START as usize + 12).is_none();
-    Ok(tiles.as_slice() == [whole].as_slice() && starts && ends)
+    is_whole && is_free && starts && ends
 }
 
 /// Tests that the heap is one free block, to which the free structure points, with a null link.
-pub(crate) fn is_one_gap(rt: &(impl Abort + AllocGlobal), w: &Window<Global>) -> Result<(), Fail> {
-    assert!(rt; is_gap(rt.alloc(), w)?);
-    Ok(())
+pub(crate) fn is_one_gap(rt: &impl Abort, w: &Window<Global>) {
+    assert!(rt; is_gap(w));
 }
