@@ -1,4 +1,4 @@
-use Rattle.std.proofs.Common.{◌≡◌, ℕ, ◌-◌, ◌++◌, List, length, take, replicate, Vec, vec_len, vec_capacity, ap, ◌∙◌}
+use Rattle.std.proofs.Common.{◌≡◌, ℕ, ◌-◌, ◌++◌, List, take, replicate, Vec, vec_len, vec_capacity, ap, ◌∙◌}
 use Rattle.std_alloc.specs.declared.vec.lodged.Lodged.{Lodged}
 use Rattle.seg_spec.specs.Window.{Home}
 use Rattle.seg_raw.specs.Homes.{home_of}

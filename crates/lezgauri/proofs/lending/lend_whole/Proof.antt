@@ -1,10 +1,10 @@
 -- `lend_whole` keeps the borrow open while the work runs, and shuts it at the bytes that came back. Assumes `Logic`.
-use Rattle.std.proofs.Common.{◌≡◌, ℕ, ◌*◌, ◌^◌, ◌<◌, List, [], ◌∷◌, ◌++◌, length, refl, sym, ap, ◌∙◌, subst, arith, true, false, Bool, Vec}
+use Rattle.std.proofs.Common.{◌≡◌, ℕ, ◌^◌, ◌<◌, List, [], ◌∷◌, ◌++◌, length, refl, sym, ap, ◌∙◌, subst, arith, true, false, Bool, Vec}
 use lib.Dec.{T}
 use mathlib.Core.Bool.{◌&&◌}
 use seplogic.Ra.Ura.{Ura}
 use mir.Syntax.{Args, Fn, Callee, Dict, a_type, dnil, dcons, method, no_args, w64}
-use mir.Val.{Val, vint, vptr, vstruct, of_list, has_ty, WT}
+use mir.Val.{Val, vint, vstruct, of_list, has_ty, WT}
 use mir.MapTy.{inst_fn}
 use base.Fraction.{full_share}
 use base.Logic.{SProp, ent, emp, id⊢, via, fst∗, snd∗}
@@ -184,7 +184,8 @@ module _ (Y Z : RattleType) (g : Called.Ghosts Y Z) (d d' : Dict) where
         (WpFn 𝓤 H 𝓣.C 𝓣.Λ here) (WpFn-mono 𝓤 H 𝓛.laws 𝓣 here)
         (λ z. let a = z.0.3 in let vss = z.0.4 in let Rs : List RattleType = types_at ended.signature.params z.0.0 in
         let entry : SProp 𝓤 = on_entry 𝓛 ended.signature z.0.0 z.0.1 a vss in
-        fact_use 𝓤 (Are Rs (Ises Rs) a vss) (via 𝓤 (sem 𝓛 (owns Rs a vss)) (via 𝓤 entry (fst∗ 𝓤 entry ((held z.0.0 a).requires z.1)) (snd∗ 𝓤 (alive 𝓛 ended.signature z.0.0 z.0.1) (sem 𝓛 (owns Rs a vss)))) (owns_show 𝓛 Rs (Ises Rs) (showss 𝓛 Rs) a vss)) (λ are.
+        let owned : SProp 𝓤 = sem 𝓛 (owns Rs a vss) in
+        fact_use 𝓤 (Are Rs (Ises Rs) a vss) (via 𝓤 owned (via 𝓤 entry (fst∗ 𝓤 entry ((held z.0.0 a).requires z.1)) (snd∗ 𝓤 (alive 𝓛 ended.signature z.0.0 z.0.1) owned)) (owns_show 𝓛 Rs (Ises Rs) (showss 𝓛 Rs) a vss)) (λ are.
         subst (λ (us : List Val). Goes z us vss.1.0) (sym are.0.0.0)
         (one_value (layout Z) (λ fs. Goes z (to z) fs) vss.1.0 (((param_laws 1 Z LZ).lawful 𝓛).typed a.1.0 vss.1.0 are.1.0) (walk z are.0.0.1))))
 
