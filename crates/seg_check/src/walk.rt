@@ -133,6 +133,7 @@ impl Stage {
 
     /// Enters the node of this colour at the current place, and goes to its left child. False before a node that would
     /// be too deep.
+    #[inline(always)]
     fn enter(&mut self, view: View, node: NodeAt, colour: Option<Colour>) -> bool
         ensures goes_on { IsTrue result → (bytes : List ℕ) (height : ℕ) (rest entering : List ℕ)
             → target bytes self.old.pointer ≡ Some node → IsColourOf bytes node colour
@@ -179,6 +180,7 @@ impl Stage {
     }
 
     /// Goes from an empty place to the right child of the next node in order, and returns this node.
+    #[inline(always)]
     fn pass(&mut self) -> Option<NodeAt>
         ensures goes_on { IfSome result (λ node. (bytes : List ℕ) (height : ℕ)
             → (rest entering : List ℕ)
