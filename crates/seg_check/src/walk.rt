@@ -64,7 +64,7 @@ struct Above {
     /// Whether the nearest one is red, so that a node at the place has to be black.
     is_red: bool,
     /// The colour of the right child of the nearest one, if it has a right child with a colour. It is read before the
-    /// left subtree is walked, so that this node is in the processor's cache once the walk gets there.
+    /// walk goes through the left subtree, so that the child is in the processor's cache when the walk reaches it.
     right: Option<Colour>,
 }
 
@@ -131,11 +131,11 @@ impl Stage {
         }
     }
 
-    /// Enters the node of this colour at the current place, and goes to its left child. False before a node that would
-    /// be too deep.
-    fn enter(&mut self, view: View, node: NodeAt, colour: Option<Colour>) -> bool
+    /// Enters the node at the current place, and goes to its left child. False before a node that would be too deep.
+    #[inline(always)]
+    fn enter(&mut self, view: View, node: NodeAt) -> bool
         ensures goes_on { IsTrue result → (bytes : List ℕ) (height : ℕ) (rest entering : List ℕ)
-            → target bytes self.old.pointer ≡ Some node → IsColourOf bytes node colour
+            → target bytes self.old.pointer ≡ Some node → IsColourOf bytes node self.old.colour
             → self.old.nodes < 2 ^ 32 → self.old.above.blacks < 255
             → Completes bytes height self.old rest (node ∷ entering)
             ↔ Completes bytes height self.new rest entering }
@@ -159,6 +159,7 @@ impl Stage {
         ensures deep { result ≡ false → (60 ≤ self.old.above.nodes)
             ⊎ (60 ≤ length self.old.entered.items) }
     {
+        let colour = self.colour;
         let is_red = is_red(colour);
         let above = Above {
             nodes: self.above.nodes.saturating_add(1),
@@ -179,6 +180,7 @@ impl Stage {
     }
 
     /// Goes from an empty place to the right child of the next node in order, and returns this node.
+    #[inline(always)]
     fn pass(&mut self) -> Option<NodeAt>
         ensures goes_on { IfSome result (λ node. (bytes : List ℕ) (height : ℕ)
             → (rest entering : List ℕ)
@@ -237,7 +239,7 @@ impl Walk<'_> {
     ghost use Rattle.seg_check.specs.Walks.{Completes, IsSteady, Proceeds};
 
     /// The next step of the walk, or `None` at its end.
-    // Inlined, so that a step isn't written to memory to be returned.
+    // Inlined with the two functions that make a step, since a check of trees consists mostly of steps.
     #[inline(always)]
     pub(crate) fn next(&mut self) -> Result<Option<Visit>, u32>
         ensures fewer { OnOk result (self.new.turns + 1 ≡ self.old.turns) }
@@ -258,8 +260,7 @@ impl Walk<'_> {
         self.turns -= 1;
         let pointer = self.stage.pointer;
         if let Some(node) = self.bytes.target(pointer as usize) {
-            let colour = self.stage.colour;
-            if self.stage.enter(self.bytes, node, colour) {
+            if self.stage.enter(self.bytes, node) {
                 return Ok(Some(Visit::Enter(pointer)));
             }
             return Err(self.root);
@@ -307,6 +308,14 @@ fn colour_at(bytes: View, pointer: u32) -> Option<Colour>
         Some(node) => node_colour(bytes, node),
         None => None,
     }
+}
+
+/// The positions of the pointers to the children of a node that lies in the segment.
+pub(crate) fn child_pointers(node: NodeAt) -> [u32; 2] {
+    [
+        child_pointer(node, Side::Left),
+        child_pointer(node, Side::Right),
+    ]
 }
 
 /// The position of the pointer to a child of a node that lies in the segment.

@@ -1,4 +1,4 @@
-use Rattle.std.proofs.Common.{rules, ◌≡◌, List, ℕ, refl, inr, subst}
+use Rattle.std.proofs.Common.{rules, List, ℕ, refl, inr, subst}
 use Rattle.seg_spec.specs.Images.{IsSound}
 use Rattle.seg_check.specs.Faults.{IsImageOf}
 use Rattle.seg_check.proofs.opening.open.Goals as goal
