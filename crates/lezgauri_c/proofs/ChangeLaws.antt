@@ -9,7 +9,9 @@ use Rattle.std_alloc.specs.declared.vec.lodged.Lodged.{Lodged}
 use Rattle.lezgauri.specs.Image.{Image}
 use Rattle.lezgauri.specs.Images.{segment_of, bytes_in, types_of, IsOpen, ChangesBytes}
 use Rattle.lezgauri_c.specs.declared.kept_types.KeptTypes.{KeptTypes}
-use Rattle.lezgauri_c.specs.Changes.{Calls, IsStillSound}
+use Rattle.lezgauri_c.specs.declared.kept_image.KeptImage.{KeptImage}
+use Rattle.lezgauri_c.specs.declared.lent.Lent.{Lent}
+use Rattle.lezgauri_c.specs.Changes.{Calls, IsOpenedOn, IsStillSound}
 use Rattle.lezgauri_c.specs.Values.{table_in, OnSound}
 
 module _ {old new : List ℕ} (types : KeptTypes) (opened left : Image Lodged) (opened_is : bytes_in opened ≡ old) (left_is : bytes_in left ≡ new)
@@ -54,6 +56,10 @@ sound_then {other = other} becomes none = record {
   sound = record { picture = other; held = becomes.segment.held; counted = becomes.segment.counted; none_loose = none };
   length_kept = becomes.length_kept;
 }
+
+-- the image in a box is open, as its value was
+pub opened_now : {lent : Lent} {types : KeptTypes} {kept now : KeptImage} → now ≡ kept → IsOpenedOn lent types kept → IsOpenedOn lent types now
+opened_now {lent = lent} {types = types} same = subst (λ (k : KeptImage). IsOpenedOn lent types k) (sym same)
 
 -- a change of the open image leaves its memory, and its types
 pub same_memory : {old new : Home} (opened left : Image Lodged) → (segment_of opened).window.home ≡ old → ChangesBytes opened left → new ≡ (segment_of left).window.home → new ≡ old

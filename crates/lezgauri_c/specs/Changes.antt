@@ -1,5 +1,8 @@
 -- Calls from C that change the image in lent memory, by one call of `Image`.
 --     TellsDone, TellsFound   the status reports the result of a call
+--     IsOpenedOn lent types kept
+--                             the kept image has the lent memory, and is open if that is a sound
+--                             image whose types C keeps
 --     OnImage old new picture claim
 --                             the sound image was open, and then had other bytes; the claim is
 --                             true of both
@@ -17,7 +20,7 @@
 --                             the same, if both places are
 --     HasMoreTypes old new entries before     a longer table took the place of the image's
 --     RefusesTypes, RefusesTypesAs            why it didn't, and as that is reported
-use Rattle.std.specs.Prelude.{◌≡◌, ◌<◌, ◌≤◌, ℕ, List, length, Bool, true, false, None, Result, Ok, Err}
+use Rattle.std.specs.Prelude.{◌≡◌, ◌<◌, ◌≤◌, ℕ, List, length, Bool, true, false, Some, None, Result, Ok, Err}
 use Rattle.seg_spec.specs.Bytes.{ChangesOnly}
 use Rattle.seg_spec.specs.Header.{types_start, types_size, sharing_version}
 use Rattle.seg_spec.specs.Heap.{live}
@@ -32,12 +35,16 @@ use Rattle.lezgauri.specs.Place.{Place}
 use Rattle.lezgauri.specs.CellPlaces.{place_of}
 use Rattle.std_alloc.specs.declared.vec.lodged.Lodged.{Lodged}
 use Rattle.lezgauri.specs.Image.{Image}
-use Rattle.lezgauri.specs.Images.{bytes_in, IsOpen}
+use Rattle.lezgauri.specs.Images.{segment_of, bytes_in, IsOpen}
 use Rattle.lezgauri_c.specs.declared.fault.Fault.{Fault}
 use Rattle.lezgauri_c.specs.declared.place.Place as told
+use Rattle.lezgauri_c.specs.declared.lent.Lent.{Lent}
+use Rattle.lezgauri_c.specs.declared.kept_image.KeptImage.{KeptImage}
 use Rattle.lezgauri_c.specs.declared.kept_types.KeptTypes.{KeptTypes}
+use Rattle.lezgauri_c.specs.KeptImages.{table_kept}
+use Rattle.lezgauri_c.specs.Memory.{memory_of}
 use Rattle.lezgauri_c.specs.Told.{told_fault}
-use Rattle.lezgauri_c.specs.Values.{OnSound}
+use Rattle.lezgauri_c.specs.Values.{table_in, OnSound}
 pub use Rattle.lezgauri_c.specs.Places.{type_number, place_at, code_status, TellsPlace}
 
 -- ---- results
@@ -51,6 +58,12 @@ TellsFound status true = status ≡ 0
 TellsFound status false = status ≡ 113
 
 -- ---- calls
+
+pub record IsOpenedOn (lent : Lent) (types : KeptTypes) (kept : KeptImage) : Type 0 where
+  pub bytes : bytes_in kept.image ≡ lent.bytes
+  pub home : (segment_of kept.image).window.home ≡ memory_of lent
+  pub types_are : table_in types ≡ Some (table_kept kept)
+  pub opened : OnSound lent.bytes types (λ picture. IsOpen kept.image picture)
 
 -- The image with this picture was open, and had the old bytes. Then it had the new ones.
 pub record OnImage (old new : List ℕ) (picture : Picture)

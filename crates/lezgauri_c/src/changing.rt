@@ -3,8 +3,8 @@
 //! The image keeps its version. Only images of version 2 have shared types, so no call makes a frozen object in an image of version 1.
 
 ghost use Rattle.std.specs.Prelude.{◌≡◌, ◌<◌, ◌≤◌, Some, IfOk, IfErr, OnErr};
-ghost use Rattle.lezgauri.specs.Images.{segment_of, bytes_in, IsOpen};
-ghost use Rattle.lezgauri_c.specs.Changes.{TellsDone, TellsFound};
+ghost use Rattle.lezgauri.specs.Images.{segment_of, bytes_in};
+ghost use Rattle.lezgauri_c.specs.Changes.{TellsDone, TellsFound, IsOpenedOn};
 ghost use Rattle.lezgauri_c.specs.KeptImages.{table_kept};
 ghost use Rattle.lezgauri_c.specs.Memory.{memory_of};
 ghost use Rattle.lezgauri_c.specs.Values.{table_in, OnSound};
@@ -42,16 +42,10 @@ pub(crate) fn open_image(
     image: &mut Lent,
     types: &mut KeptTypes,
 ) -> Result<Box<KeptImage>, u32>
-    ensures bytes { IfOk result (λ opened. bytes_in opened.value.image ≡ image.old.bytes) }
-    ensures opened { IfOk result (λ opened. OnSound image.old.bytes types.old
-        (λ picture. IsOpen opened.value.image picture)) }
-    ensures types { IfOk result
-        (λ opened. table_in types.old ≡ Some (table_kept opened.value)) }
+    ensures opened { IfOk result (λ opened. IsOpenedOn image.old types.old opened.value) }
     ensures status { IfErr result (λ status. (0 < status) × (status ≤ 100)) }
     ensures unsound { OnErr result (OnSound image.old.bytes types.old (λ _. ⊥)) }
     ensures kept { OnErr result (image.new.bytes ≡ image.old.bytes) }
-    ensures home { IfOk result
-        (λ opened. (segment_of opened.value.image).window.home ≡ memory_of image.old) }
     ensures kept_home { OnErr result (memory_of image.new ≡ memory_of image.old) }
     ensures same { OnErr result (table_in types.new ≡ table_in types.old) }
 {

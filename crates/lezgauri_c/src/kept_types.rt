@@ -1,6 +1,5 @@
 ghost use Rattle.std.specs.Prelude.{◌≡◌, Some, None, MatchOption, is_some};
-ghost use Rattle.lezgauri_c.specs.KeptImages.{table_kept};
-ghost use Rattle.lezgauri_c.specs.Values.{table_in};
+ghost use Rattle.lezgauri_c.specs.KeptImages.{table_kept, table_of};
 
 use crate::kept_image::KeptImage;
 use crate::types_box::TypesBox;
@@ -18,9 +17,9 @@ pub struct KeptTypes {
 impl KeptTypes {
     /// Takes the types out, if there are any.
     pub(crate) fn take(&mut self, alloc: Global) -> Option<Box<KeptImage>>
-        ensures types { MatchOption result (table_in self.old ≡ None)
-            (λ types. table_in self.old ≡ Some (table_kept types.value)) }
-        ensures none { table_in self.new ≡ None }
+        ensures types { MatchOption result (table_of self.old.kept.image ≡ None)
+            (λ types. table_of self.old.kept.image ≡ Some (table_kept types.value)) }
+        ensures none { table_of self.new.kept.image ≡ None }
     {
         let KeptTypes { kept, is_there } = replace(self, none());
         if is_there {
@@ -33,7 +32,7 @@ impl KeptTypes {
 
     /// Keeps types. Types that were kept before are freed.
     pub(crate) fn keep(&mut self, alloc: Global, types: Box<KeptImage>)
-        ensures { table_in self.new ≡ Some (table_kept types.value) }
+        ensures { table_of self.new.kept.image ≡ Some (table_kept types.value) }
     {
         self.close(alloc);
         let made = KeptTypes {
@@ -46,14 +45,14 @@ impl KeptTypes {
 
     /// Frees the types, if there are any.
     pub(crate) fn close(&mut self, alloc: Global)
-        ensures { table_in self.new ≡ None }
+        ensures { table_of self.new.kept.image ≡ None }
     {
         drop(self.take(alloc));
     }
 }
 
 fn none() -> KeptTypes
-    ensures { table_in result ≡ None }
+    ensures { table_of result.kept.image ≡ None }
 {
     KeptTypes {
         kept: TypesBox::none(),
