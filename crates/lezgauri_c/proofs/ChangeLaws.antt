@@ -1,7 +1,6 @@
 -- What an export that changes an image promises, from what is known of the call of `Image`.
 use Rattle.std.proofs.Common.{◌≡◌, ◌<◌, ℕ, List, [], Some, sym, ap, ◌∙◌, subst, arith}
 use Rattle.seg_spec.specs.Sound.{Picture}
-use Rattle.seg_spec.specs.Images.{IsSound}
 use Rattle.seg_spec.specs.Window.{Placement, Home}
 use Rattle.seg_value.specs.Stored.{Stored}
 use Rattle.seg_manager.specs.Segments.{Becomes}
