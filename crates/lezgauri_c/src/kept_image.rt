@@ -1,14 +1,12 @@
 ghost use Rattle.std.specs.Prelude.{◌≡◌, ◌≤◌};
 ghost use Rattle.seg_spec.specs.Bytes.{word};
 ghost use Rattle.seg_spec.specs.Header.{allocator_word};
-ghost use Rattle.seg_spec.specs.Types.{form_at};
-ghost use Rattle.seg_cells.specs.Contents.{ContentOf};
 ghost use Rattle.lezgauri.specs.Images.{segment_of, allocator_of, types_of};
 ghost use Rattle.lezgauri_c.specs.KeptImages.{table_kept};
 
-use lezgauri::{BestFit, Fit, Image, Segment, SegmentRead, SeqFit, TypeTable, Window};
+use lezgauri::{BestFit, Fit, Image, Segment, SeqFit, TypeTable, Window};
 use seg_raw::Region;
-use seg_value::{Content, TypeId, header};
+use seg_value::header;
 use std::mem::replace;
 use std_alloc::vec::Lodged;
 
@@ -32,13 +30,6 @@ impl KeptImage {
         ensures { result.now ≡ table_kept self.now }
     {
         self.image.types()
-    }
-
-    /// The layout of what the cell of a type points to.
-    pub(crate) fn content(&self, t: TypeId) -> Option<Content>
-        ensures { ContentOf (table_kept self.now) t (form_at (table_kept self.now) t) result }
-    {
-        self.image.content(t)
     }
 
     /// Puts the image in a window, on the allocator that the window's header selects.

@@ -30,7 +30,7 @@ impl<'a> SegmentRead for Reader<'a> {
     }
 
     fn content(&self, t: TypeId) -> Option<Content> {
-        self.kept.content(t)
+        self.kept.image.content(t)
     }
 
     fn count(&self, cell: CellAt) -> u32 {

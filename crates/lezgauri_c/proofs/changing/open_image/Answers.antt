@@ -21,11 +21,11 @@ returns-in-Ok-clause-opened c =
       home = ap (λ (w : Placement). w.home) c.enter.ensures.window ∙ c.in-Ok.ensures.home ∙ c.take-bytes.ensures.home;
       types_are = kept;
       opened = λ sound same.
-        let both : Some (types_of image) ≡ Some sound.picture.table = sym kept ∙ same in
-        let table : types_of image ≡ sound.picture.table = cc in
-        opened_on image c.args.image.now.bytes sound.picture sound.held sound.counted here table
-        (λ few. let same_word : word (bytes_in image) allocator_word ≡ word c.in-Ok.window.bytes allocator_word = ap (λ (b : List ℕ). word b allocator_word) window in
-        c.enter.ensures.allocator (subst (λ n. n ≤ 1) same_word few) ∙ sym same_word);
+          let both : Some (types_of image) ≡ Some sound.picture.table = sym kept ∙ same in
+          let table : types_of image ≡ sound.picture.table = cc in
+          opened_on image c.args.image.now.bytes sound.picture sound.held sound.counted here table
+          (λ few. let same_word : word (bytes_in image) allocator_word ≡ word c.in-Ok.window.bytes allocator_word = ap (λ (b : List ℕ). word b allocator_word) window in
+          c.enter.ensures.allocator (subst (λ n. n ≤ 1) same_word few) ∙ sym same_word);
     }
 
 pub returns-in-Err-clause-unsound : goal.returns-in-Err-clause-unsound
