@@ -24,8 +24,8 @@ typedef struct kept {
     bool is_there;
 } kept;
 
-/* The types of a segment as reading calls need them, or none. It is `KeptTypes` of the crate lezgauri_c. Only the library reads and writes
- * what `at` points to. */
+/* The types of a segment as calls on values need them, or none. It is `KeptTypes` of the crate lezgauri_c. Only the library reads and
+ * writes what `at` points to. */
 typedef struct kept_types {
     void *at;
     bool is_there;
@@ -103,32 +103,33 @@ uint32_t lezgauri_raw_previous_key(const uint8_t *image, size_t len, kept_types 
 uint32_t lezgauri_raw_content(const uint8_t *image, size_t len, kept_types *types, uint32_t at, uint32_t type,
                               lezgauri_place *content);
 
-/* The exports that change values of an image. Only lezgauri_raw_store takes the types; the others read them from the image. */
+/* The exports that change an image. Those that change values take the types that lezgauri_raw_open_types read from it. */
 uint32_t lezgauri_raw_add_types(lent *image, const uint8_t *entries, size_t len, lezgauri_fault *fault);
 uint32_t lezgauri_raw_upgrade(lent *image);
-uint32_t lezgauri_raw_construct(lent *image, const uint8_t *name, size_t name_len, uint32_t type, uint32_t count,
+uint32_t lezgauri_raw_construct(lent *image, kept_types *types, const uint8_t *name, size_t name_len, uint32_t type, uint32_t count,
                                 lezgauri_place *place);
-uint32_t lezgauri_raw_find_or_construct(lent *image, const uint8_t *name, size_t name_len, uint32_t type, lezgauri_place *place);
-uint32_t lezgauri_raw_destroy(lent *image, const uint8_t *name, size_t name_len, uint32_t type);
-uint32_t lezgauri_raw_construct_unique(lent *image, uint32_t type, lezgauri_place *place);
-uint32_t lezgauri_raw_find_or_construct_unique(lent *image, uint32_t type, lezgauri_place *place);
-uint32_t lezgauri_raw_destroy_unique(lent *image, uint32_t type);
-uint32_t lezgauri_raw_construct_anonymous(lent *image, uint32_t type, lezgauri_place *place);
-uint32_t lezgauri_raw_destroy_anonymous(lent *image, uint32_t at);
+uint32_t lezgauri_raw_find_or_construct(lent *image, kept_types *types, const uint8_t *name, size_t name_len, uint32_t type,
+                                        lezgauri_place *place);
+uint32_t lezgauri_raw_destroy(lent *image, kept_types *types, const uint8_t *name, size_t name_len, uint32_t type);
+uint32_t lezgauri_raw_construct_unique(lent *image, kept_types *types, uint32_t type, lezgauri_place *place);
+uint32_t lezgauri_raw_find_or_construct_unique(lent *image, kept_types *types, uint32_t type, lezgauri_place *place);
+uint32_t lezgauri_raw_destroy_unique(lent *image, kept_types *types, uint32_t type);
+uint32_t lezgauri_raw_construct_anonymous(lent *image, kept_types *types, uint32_t type, lezgauri_place *place);
+uint32_t lezgauri_raw_destroy_anonymous(lent *image, kept_types *types, uint32_t at);
 uint32_t lezgauri_raw_store(uint8_t *image, size_t len, kept_types *types, uint32_t at, uint32_t type, int64_t number);
-uint32_t lezgauri_raw_assign(lent *image, uint32_t at, uint32_t type, const uint8_t *bytes, size_t len);
-uint32_t lezgauri_raw_append(lent *image, uint32_t at, uint32_t type, const uint8_t *bytes, size_t len);
-uint32_t lezgauri_raw_push_back(lent *image, uint32_t at, uint32_t type, lezgauri_place *item);
-uint32_t lezgauri_raw_push_front(lent *image, uint32_t at, uint32_t type, lezgauri_place *item);
-uint32_t lezgauri_raw_pop_back(lent *image, uint32_t at, uint32_t type);
-uint32_t lezgauri_raw_pop_front(lent *image, uint32_t at, uint32_t type);
-uint32_t lezgauri_raw_put(lent *image, uint32_t at, uint32_t type, int64_t key, lezgauri_place *value);
-uint32_t lezgauri_raw_remove(lent *image, uint32_t at, uint32_t type, int64_t key);
-uint32_t lezgauri_raw_put_content(lent *image, uint32_t at, uint32_t type, lezgauri_place *content);
-uint32_t lezgauri_raw_clear(lent *image, uint32_t at, uint32_t type);
-uint32_t lezgauri_raw_shrink_to_fit(lent *image, uint32_t at, uint32_t type);
-uint32_t lezgauri_raw_freeze(lent *image, uint32_t at, uint32_t type, uint32_t to_at, uint32_t to_type);
-uint32_t lezgauri_raw_share(lent *image, uint32_t at, uint32_t type, uint32_t to_at, uint32_t to_type);
+uint32_t lezgauri_raw_assign(lent *image, kept_types *types, uint32_t at, uint32_t type, const uint8_t *bytes, size_t len);
+uint32_t lezgauri_raw_append(lent *image, kept_types *types, uint32_t at, uint32_t type, const uint8_t *bytes, size_t len);
+uint32_t lezgauri_raw_push_back(lent *image, kept_types *types, uint32_t at, uint32_t type, lezgauri_place *item);
+uint32_t lezgauri_raw_push_front(lent *image, kept_types *types, uint32_t at, uint32_t type, lezgauri_place *item);
+uint32_t lezgauri_raw_pop_back(lent *image, kept_types *types, uint32_t at, uint32_t type);
+uint32_t lezgauri_raw_pop_front(lent *image, kept_types *types, uint32_t at, uint32_t type);
+uint32_t lezgauri_raw_put(lent *image, kept_types *types, uint32_t at, uint32_t type, int64_t key, lezgauri_place *value);
+uint32_t lezgauri_raw_remove(lent *image, kept_types *types, uint32_t at, uint32_t type, int64_t key);
+uint32_t lezgauri_raw_put_content(lent *image, kept_types *types, uint32_t at, uint32_t type, lezgauri_place *content);
+uint32_t lezgauri_raw_clear(lent *image, kept_types *types, uint32_t at, uint32_t type);
+uint32_t lezgauri_raw_shrink_to_fit(lent *image, kept_types *types, uint32_t at, uint32_t type);
+uint32_t lezgauri_raw_freeze(lent *image, kept_types *types, uint32_t at, uint32_t type, uint32_t to_at, uint32_t to_type);
+uint32_t lezgauri_raw_share(lent *image, kept_types *types, uint32_t at, uint32_t type, uint32_t to_at, uint32_t to_type);
 
 /* The most bytes of an image. */
 #define MOST_IMAGE ((size_t)1 << 30)
@@ -376,7 +377,7 @@ struct lezgauri_handle {
     atomic_size_t room; /* the bytes from `image` on that the segment may grow into */
     memory_kind kind;
     atomic_flag busy;         /* while a call uses the segment */
-    kept_types types;         /* none before the first call that reads values, unless the segment is open only for reading */
+    kept_types types;         /* none before the first call on values, unless the segment is open only for reading */
     size_t table_len;         /* the bytes of `table` to the end of its first unused entry */
     uint8_t table[TABLE_LEN]; /* the image's type table when `types` were read */
 };
@@ -444,7 +445,7 @@ static lezgauri_handle *new_handle(uint8_t *place, size_t len, size_t room, memo
     return made;
 }
 
-/* Reads the types of a segment for the calls that read values. */
+/* Reads the types of a segment for the calls on values. */
 static uint32_t read_types(lezgauri_handle *handle)
 {
     const uint8_t *image = handle->image;
@@ -1221,7 +1222,10 @@ static uint32_t begin_values(lezgauri_handle *handle, bool is_allowed, lent *ima
     if (!is_allowed) {
         return LEZGAURI_BAD_ARGUMENT;
     }
-    uint32_t status = begin_change(handle);
+    if (handle->kind == LENT_TO_READ) {
+        return LEZGAURI_READ_ONLY;
+    }
+    uint32_t status = begin_with_types(handle);
     *image = image_of(handle);
     return status;
 }
@@ -1254,9 +1258,12 @@ uint32_t lezgauri_add_types(lezgauri_handle *handle, const lezgauri_type *types,
 
 uint32_t lezgauri_upgrade(lezgauri_handle *handle)
 {
-    lent image;
-    uint32_t status = begin_values(handle, handle != NULL, &image);
-    return status != LEZGAURI_OK ? status : end(handle, lezgauri_raw_upgrade(&image));
+    uint32_t status = handle != NULL ? begin_change(handle) : LEZGAURI_BAD_ARGUMENT;
+    if (status != LEZGAURI_OK) {
+        return status;
+    }
+    lent image = image_of(handle);
+    return end(handle, lezgauri_raw_upgrade(&image));
 }
 
 uint32_t lezgauri_construct(lezgauri_handle *handle, const char *name, uint32_t type, uint32_t count, lezgauri_place *place)
@@ -1265,7 +1272,10 @@ uint32_t lezgauri_construct(lezgauri_handle *handle, const char *name, uint32_t 
     lent image;
     bool is_allowed = may_take_name(handle, name, bytes) && may_return_by_name(handle, name, bytes, place);
     uint32_t status = begin_values(handle, is_allowed, &image);
-    return status != LEZGAURI_OK ? status : end(handle, lezgauri_raw_construct(&image, bytes.bytes, bytes.len, type, count, place));
+    if (status != LEZGAURI_OK) {
+        return status;
+    }
+    return end(handle, lezgauri_raw_construct(&image, &handle->types, bytes.bytes, bytes.len, type, count, place));
 }
 
 uint32_t lezgauri_find_or_construct(lezgauri_handle *handle, const char *name, uint32_t type, lezgauri_place *place)
@@ -1274,7 +1284,10 @@ uint32_t lezgauri_find_or_construct(lezgauri_handle *handle, const char *name, u
     lent image;
     bool is_allowed = may_take_name(handle, name, bytes) && may_return_by_name(handle, name, bytes, place);
     uint32_t status = begin_values(handle, is_allowed, &image);
-    return status != LEZGAURI_OK ? status : end(handle, lezgauri_raw_find_or_construct(&image, bytes.bytes, bytes.len, type, place));
+    if (status != LEZGAURI_OK) {
+        return status;
+    }
+    return end(handle, lezgauri_raw_find_or_construct(&image, &handle->types, bytes.bytes, bytes.len, type, place));
 }
 
 uint32_t lezgauri_destroy(lezgauri_handle *handle, const char *name, uint32_t type)
@@ -1282,17 +1295,17 @@ uint32_t lezgauri_destroy(lezgauri_handle *handle, const char *name, uint32_t ty
     lezgauri_bytes bytes = name_at(name);
     lent image;
     uint32_t status = begin_values(handle, may_take_name(handle, name, bytes), &image);
-    return status != LEZGAURI_OK ? status : end(handle, lezgauri_raw_destroy(&image, bytes.bytes, bytes.len, type));
+    return status != LEZGAURI_OK ? status : end(handle, lezgauri_raw_destroy(&image, &handle->types, bytes.bytes, bytes.len, type));
 }
 
 /* An export that makes an object of a type, or finds it. */
-typedef uint32_t object_call(lent *image, uint32_t type, lezgauri_place *place);
+typedef uint32_t object_call(lent *image, kept_types *types, uint32_t type, lezgauri_place *place);
 
 static uint32_t make_object(lezgauri_handle *handle, uint32_t type, lezgauri_place *place, object_call *call)
 {
     lent image;
     uint32_t status = begin_values(handle, may_return_place(handle, place), &image);
-    return status != LEZGAURI_OK ? status : end(handle, call(&image, type, place));
+    return status != LEZGAURI_OK ? status : end(handle, call(&image, &handle->types, type, place));
 }
 
 uint32_t lezgauri_construct_unique(lezgauri_handle *handle, uint32_t type, lezgauri_place *place)
@@ -1314,14 +1327,14 @@ uint32_t lezgauri_destroy_unique(lezgauri_handle *handle, uint32_t type)
 {
     lent image;
     uint32_t status = begin_values(handle, handle != NULL, &image);
-    return status != LEZGAURI_OK ? status : end(handle, lezgauri_raw_destroy_unique(&image, type));
+    return status != LEZGAURI_OK ? status : end(handle, lezgauri_raw_destroy_unique(&image, &handle->types, type));
 }
 
 uint32_t lezgauri_destroy_anonymous(lezgauri_handle *handle, lezgauri_place object)
 {
     lent image;
     uint32_t status = begin_values(handle, handle != NULL, &image);
-    return status != LEZGAURI_OK ? status : end(handle, lezgauri_raw_destroy_anonymous(&image, object.at));
+    return status != LEZGAURI_OK ? status : end(handle, lezgauri_raw_destroy_anonymous(&image, &handle->types, object.at));
 }
 
 uint32_t lezgauri_store(lezgauri_handle *handle, lezgauri_place place, int64_t number)
@@ -1337,14 +1350,14 @@ uint32_t lezgauri_store(lezgauri_handle *handle, lezgauri_place place, int64_t n
 }
 
 /* An export that changes a string by the caller's bytes. */
-typedef uint32_t bytes_call(lent *image, uint32_t at, uint32_t type, const uint8_t *bytes, size_t len);
+typedef uint32_t bytes_call(lent *image, kept_types *types, uint32_t at, uint32_t type, const uint8_t *bytes, size_t len);
 
 static uint32_t change_text(lezgauri_handle *handle, lezgauri_place string, const void *bytes, size_t len, bytes_call *call)
 {
     lent image;
     bool is_allowed = handle != NULL && may_be_bytes(bytes, len) && is_outside(handle, bytes, len);
     uint32_t status = begin_values(handle, is_allowed, &image);
-    return status != LEZGAURI_OK ? status : end(handle, call(&image, string.at, string.type, or_empty(bytes), len));
+    return status != LEZGAURI_OK ? status : end(handle, call(&image, &handle->types, string.at, string.type, or_empty(bytes), len));
 }
 
 uint32_t lezgauri_assign(lezgauri_handle *handle, lezgauri_place string, const void *bytes, size_t len)
@@ -1358,13 +1371,13 @@ uint32_t lezgauri_append(lezgauri_handle *handle, lezgauri_place string, const v
 }
 
 /* An export that makes a value in another one. */
-typedef uint32_t part_call(lent *image, uint32_t at, uint32_t type, lezgauri_place *part);
+typedef uint32_t part_call(lent *image, kept_types *types, uint32_t at, uint32_t type, lezgauri_place *part);
 
 static uint32_t make_part(lezgauri_handle *handle, lezgauri_place whole, lezgauri_place *part, part_call *call)
 {
     lent image;
     uint32_t status = begin_values(handle, may_return_place(handle, part), &image);
-    return status != LEZGAURI_OK ? status : end(handle, call(&image, whole.at, whole.type, part));
+    return status != LEZGAURI_OK ? status : end(handle, call(&image, &handle->types, whole.at, whole.type, part));
 }
 
 uint32_t lezgauri_push_back(lezgauri_handle *handle, lezgauri_place sequence, lezgauri_place *item)
@@ -1386,24 +1399,24 @@ uint32_t lezgauri_put(lezgauri_handle *handle, lezgauri_place map, int64_t key, 
 {
     lent image;
     uint32_t status = begin_values(handle, may_return_place(handle, value), &image);
-    return status != LEZGAURI_OK ? status : end(handle, lezgauri_raw_put(&image, map.at, map.type, key, value));
+    return status != LEZGAURI_OK ? status : end(handle, lezgauri_raw_put(&image, &handle->types, map.at, map.type, key, value));
 }
 
 uint32_t lezgauri_remove(lezgauri_handle *handle, lezgauri_place map, int64_t key)
 {
     lent image;
     uint32_t status = begin_values(handle, handle != NULL, &image);
-    return status != LEZGAURI_OK ? status : end(handle, lezgauri_raw_remove(&image, map.at, map.type, key));
+    return status != LEZGAURI_OK ? status : end(handle, lezgauri_raw_remove(&image, &handle->types, map.at, map.type, key));
 }
 
 /* An export that changes a value. */
-typedef uint32_t value_call(lent *image, uint32_t at, uint32_t type);
+typedef uint32_t value_call(lent *image, kept_types *types, uint32_t at, uint32_t type);
 
 static uint32_t change_value(lezgauri_handle *handle, lezgauri_place place, value_call *call)
 {
     lent image;
     uint32_t status = begin_values(handle, handle != NULL, &image);
-    return status != LEZGAURI_OK ? status : end(handle, call(&image, place.at, place.type));
+    return status != LEZGAURI_OK ? status : end(handle, call(&image, &handle->types, place.at, place.type));
 }
 
 uint32_t lezgauri_pop_back(lezgauri_handle *handle, lezgauri_place sequence)
@@ -1430,14 +1443,17 @@ uint32_t lezgauri_freeze(lezgauri_handle *handle, lezgauri_place own, lezgauri_p
 {
     lent image;
     uint32_t status = begin_values(handle, handle != NULL, &image);
-    return status != LEZGAURI_OK ? status : end(handle, lezgauri_raw_freeze(&image, own.at, own.type, shared.at, shared.type));
+    if (status != LEZGAURI_OK) {
+        return status;
+    }
+    return end(handle, lezgauri_raw_freeze(&image, &handle->types, own.at, own.type, shared.at, shared.type));
 }
 
 uint32_t lezgauri_share(lezgauri_handle *handle, lezgauri_place to, lezgauri_place from)
 {
     lent image;
     uint32_t status = begin_values(handle, handle != NULL, &image);
-    return status != LEZGAURI_OK ? status : end(handle, lezgauri_raw_share(&image, from.at, from.type, to.at, to.type));
+    return status != LEZGAURI_OK ? status : end(handle, lezgauri_raw_share(&image, &handle->types, from.at, from.type, to.at, to.type));
 }
 
 /* ---- texts of clients */

@@ -8,7 +8,7 @@ use Rattle.std.specs.contracts.impls.GlobalAllocator.TheImpl.{ghosts, dict}
 use Rattle.std.proofs.alloc.Global.TheLaws as heap-laws
 use Rattle.std_alloc.proofs.BoxSteps.Form.{Bx}
 use Rattle.lezgauri_c.specs.contracts.box_parts.BoxParts as parts
-use Rattle.seg_value.proofs.contents.Layouts.TheLaws as layouts
+use Rattle.lezgauri_c.proofs.kept_image.KeptImage.TheLaws as kept_image
 use Rattle.client_vm.proofs.ready.Ready.TheLaws as ready
 use Rattle.lezgauri_c.specs.Kept.{kept_row, types_row}
 use Rattle.lezgauri_c.specs.contracts.kept.Kept as kept
@@ -18,7 +18,7 @@ abbrev pub E : Bx
 E = record { row = kept_row; laws = ready.the_row_laws static_lft heap.the_row ghosts heap-laws.the_row_laws; al = record { row = heap.the_row; laws = heap-laws.the_row_laws; g = ghosts; d = dict; drops = impl [] tnil dnil } }
 
 abbrev pub Types : Bx
-Types = record { row = types_row; laws = layouts.the_row_laws; al = record { row = heap.the_row; laws = heap-laws.the_row_laws; g = ghosts; d = dict; drops = impl [] tnil dnil } }
+Types = record { row = types_row; laws = kept_image.the_row_laws; al = record { row = heap.the_row; laws = heap-laws.the_row_laws; g = ghosts; d = dict; drops = impl [] tnil dnil } }
 
 abbrev pub FromParts : Slot 0
 FromParts = plain (λ _. parts.the_row kept_row heap.the_row ghosts)

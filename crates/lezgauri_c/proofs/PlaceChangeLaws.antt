@@ -40,7 +40,9 @@ use Rattle.lezgauri.specs.Owners.{PutsNew, AreShared}
 use Rattle.lezgauri.specs.Places.{found_position, object_type}
 use Rattle.lezgauri.specs.Image.{Image}
 use Rattle.lezgauri.specs.Images.{segment_of, allocator_of, bytes_in, types_of, IsOpen}
+use Rattle.lezgauri_c.specs.declared.kept_types.KeptTypes.{KeptTypes}
 use Rattle.lezgauri_c.specs.Changes.{Calls, IsStillSound, StaysSound, StaysSoundFrom}
+use Rattle.lezgauri_c.specs.Values.{table_in}
 use Rattle.lezgauri_c.specs.ImageChanges.{Assigns, Appends, PushesItem, PushesItemFront, PopsItem, PopsItemFront, Puts, Removes, PutsContent, Shares, Clears, ShrinksBuffer}
 
 -- ---- from a call on an open image to the bytes in lent memory
@@ -58,11 +60,11 @@ none_loose [] ys same none = refl
 none_loose (x ∷ xs) [] same none = absurd (omega (arith, same))
 none_loose (x ∷ xs) (y ∷ ys) same none = cc
 
-module _ {R : Type 0} {old new : List ℕ} {status : ℕ} {tells : R → Type 0} {claim : Image Lodged → Image Lodged → R → Type 0} (calls : Calls old new status tells claim) where
-  left_sound : (sound : IsSound old) → ((opened left : Image Lodged) (returned : R) → bytes_in opened ≡ old → IsOpen opened sound.picture → claim opened left returned → StaysHeld (bytes_in opened) (bytes_in left) sound.picture)
+module _ {R : Type 0} {old new : List ℕ} {types : KeptTypes} {status : ℕ} {tells : R → Type 0} {claim : Image Lodged → Image Lodged → R → Type 0} (calls : Calls old new types status tells claim) where
+  left_sound : (sound : IsSound old) → table_in types ≡ Some sound.picture.table → ((opened left : Image Lodged) (returned : R) → bytes_in opened ≡ old → IsOpen opened sound.picture → claim opened left returned → StaysHeld (bytes_in opened) (bytes_in left) sound.picture)
       → IsStillSound old new
-  left_sound sound stays =
-      let on = calls.on_image sound in
+  left_sound sound same stays =
+      let on = calls.on_image sound same in
       let it = stays on.opened on.left on.called.0 on.opened_is on.is_open on.called.2 in
       subst (λ (b : List ℕ). IsStillSound b new) on.opened_is
       (subst (λ (b : List ℕ). IsStillSound (bytes_in on.opened) b) on.left_is (record {
@@ -70,14 +72,14 @@ module _ {R : Type 0} {old new : List ℕ} {status : ℕ} {tells : R → Type 0}
         length_kept = it.length_kept;
       }))
 
-  pub stays_sound : (place : Place) → ((opened left : Image Lodged) (returned : R) → claim opened left returned → Stays opened left place) → StaysSound old new place
-  stays_sound place stays sound reached =
+  pub stays_sound : (place : Place) → ((opened left : Image Lodged) (returned : R) → claim opened left returned → Stays opened left place) → StaysSound old new types place
+  stays_sound place stays sound same reached =
       let at = place_of place in
-      left_sound sound (λ opened left returned is is_open it. stays opened left returned it sound.picture is_open (subst (λ (b : List ℕ). IsReached b sound.picture at) (sym is) reached))
+      left_sound sound same (λ opened left returned is is_open it. stays opened left returned it sound.picture is_open (subst (λ (b : List ℕ). IsReached b sound.picture at) (sym is) reached))
 
-  pub stays_sound_from : (from to : Place) → ((opened left : Image Lodged) (returned : R) → claim opened left returned → StaysFrom opened left from to) → StaysSoundFrom old new from to
-  stays_sound_from from to stays sound other reached =
-      left_sound sound (λ opened left returned is is_open it.
+  pub stays_sound_from : (from to : Place) → ((opened left : Image Lodged) (returned : R) → claim opened left returned → StaysFrom opened left from to) → StaysSoundFrom old new types from to
+  stays_sound_from from to stays sound same other reached =
+      left_sound sound same (λ opened left returned is is_open it.
       stays opened left returned it sound.picture is_open (subst (λ (b : List ℕ). IsReached b sound.picture (place_of from)) (sym is) other)
       (subst (λ (b : List ℕ). IsReached b sound.picture (place_of to)) (sym is) reached))
 

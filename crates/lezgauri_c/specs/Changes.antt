@@ -1,22 +1,26 @@
 -- Calls from C that change the image in lent memory, by one call of `Image`.
 --     TellsDone, TellsFound   the status reports the result of a call
+--     IsOpenedOn lent types kept
+--                             the kept image has the lent memory, and is open if that is a sound
+--                             image whose types C keeps
 --     OnImage old new picture claim
 --                             the sound image was open, and then had other bytes; the claim is
 --                             true of both
---     Calls old new status tells claim
---                             a sound image was opened for a call, whose result is reported; other
---                             bytes may be refused
+--     Calls old new types status tells claim
+--                             a sound image was opened with its types, which C keeps, for a call,
+--                             whose result is reported; other bytes may be refused
 --     GivesPlace, IsDone, IsFound, IsOver
 --                             the same, for a call that returns a place or a code, nothing or a
 --                             code, whether something was there, and nothing
 --     IsStillSound old new    a sound image of the same size is left
---     StaysSound old new place
---                             the same, if the place is in one of the sound image's objects
---     StaysSoundFrom old new from to
+--     StaysSound old new types place
+--                             the same, if C keeps the image's types, and the place is in one of the
+--                             sound image's objects
+--     StaysSoundFrom old new types from to
 --                             the same, if both places are
 --     HasMoreTypes old new entries before     a longer table took the place of the image's
 --     RefusesTypes, RefusesTypesAs            why it didn't, and as that is reported
-use Rattle.std.specs.Prelude.{◌≡◌, ◌<◌, ◌≤◌, ℕ, List, length, Bool, true, false, None, Result, Ok, Err}
+use Rattle.std.specs.Prelude.{◌≡◌, ◌<◌, ◌≤◌, ℕ, List, length, Bool, true, false, Some, None, Result, Ok, Err}
 use Rattle.seg_spec.specs.Bytes.{ChangesOnly}
 use Rattle.seg_spec.specs.Header.{types_start, types_size, sharing_version}
 use Rattle.seg_spec.specs.Heap.{live}
@@ -31,10 +35,16 @@ use Rattle.lezgauri.specs.Place.{Place}
 use Rattle.lezgauri.specs.CellPlaces.{place_of}
 use Rattle.std_alloc.specs.declared.vec.lodged.Lodged.{Lodged}
 use Rattle.lezgauri.specs.Image.{Image}
-use Rattle.lezgauri.specs.Images.{bytes_in, IsOpen}
+use Rattle.lezgauri.specs.Images.{segment_of, bytes_in, IsOpen}
 use Rattle.lezgauri_c.specs.declared.fault.Fault.{Fault}
 use Rattle.lezgauri_c.specs.declared.place.Place as told
+use Rattle.lezgauri_c.specs.declared.lent.Lent.{Lent}
+use Rattle.lezgauri_c.specs.declared.kept_image.KeptImage.{KeptImage}
+use Rattle.lezgauri_c.specs.declared.kept_types.KeptTypes.{KeptTypes}
+use Rattle.lezgauri_c.specs.KeptImages.{table_kept}
+use Rattle.lezgauri_c.specs.Memory.{memory_of}
 use Rattle.lezgauri_c.specs.Told.{told_fault}
+use Rattle.lezgauri_c.specs.Values.{table_in, OnSound}
 pub use Rattle.lezgauri_c.specs.Places.{type_number, place_at, code_status, TellsPlace}
 
 -- ---- results
@@ -49,6 +59,12 @@ TellsFound status false = status ≡ 113
 
 -- ---- calls
 
+pub record IsOpenedOn (lent : Lent) (types : KeptTypes) (kept : KeptImage) : Type 0 where
+  pub bytes : bytes_in kept.image ≡ lent.bytes
+  pub home : (segment_of kept.image).window.home ≡ memory_of lent
+  pub types_are : table_in types ≡ Some (table_kept kept)
+  pub opened : OnSound lent.bytes types (λ picture. IsOpen kept.image picture)
+
 -- The image with this picture was open, and had the old bytes. Then it had the new ones.
 pub record OnImage (old new : List ℕ) (picture : Picture)
     (claim : Image Lodged → Image Lodged → Type 0) : Type 0 where
@@ -59,31 +75,32 @@ pub record OnImage (old new : List ℕ) (picture : Picture)
   pub left_is : bytes_in left ≡ new
   pub called : claim opened left
 
--- On a sound image the call was done, and the status is 0 or a code's. Bytes that are refused for a
--- fault are unchanged.
-pub record Calls {R : Type 0} (old new : List ℕ) (status : ℕ) (tells : R → Type 0)
-    (claim : Image Lodged → Image Lodged → R → Type 0) : Type 0 where
-  pub on_image : (sound : IsSound old) → OnImage old new sound.picture
-      (λ opened left. (returned : R) × tells returned × claim opened left returned)
-  pub unsound : 0 < status → status ≤ 100 → IsSound old → ⊥
+-- On a sound image whose types C keeps the call was done, and the status is 0 or a code's. Bytes
+-- that are refused for a fault are unchanged.
+pub record Calls {R : Type 0} (old new : List ℕ) (types : KeptTypes) (status : ℕ)
+    (tells : R → Type 0) (claim : Image Lodged → Image Lodged → R → Type 0) : Type 0 where
+  pub on_image : OnSound old types (λ picture. OnImage old new picture
+      (λ opened left. (returned : R) × tells returned × claim opened left returned))
+  pub unsound : 0 < status → status ≤ 100 → OnSound old types (λ _. ⊥)
   pub kept : 0 < status → status ≤ 100 → new ≡ old
 
-abbrev pub GivesPlace : List ℕ → List ℕ → ℕ → told.Place → told.Place →
+abbrev pub GivesPlace : List ℕ → List ℕ → KeptTypes → ℕ → told.Place → told.Place →
     (Image Lodged → Image Lodged → Result Place Code → Type 0) → Type 0
-GivesPlace old new status before after claim =
-    Calls old new status (TellsPlace status before after) claim
+GivesPlace old new types status before after claim =
+    Calls old new types status (TellsPlace status before after) claim
 
-abbrev pub IsDone : List ℕ → List ℕ → ℕ →
+abbrev pub IsDone : List ℕ → List ℕ → KeptTypes → ℕ →
     (Image Lodged → Image Lodged → Result (Unit {0}) Code → Type 0) → Type 0
-IsDone old new status claim = Calls old new status (TellsDone status) claim
+IsDone old new types status claim = Calls old new types status (TellsDone status) claim
 
-abbrev pub IsFound : List ℕ → List ℕ → ℕ →
+abbrev pub IsFound : List ℕ → List ℕ → KeptTypes → ℕ →
     (Image Lodged → Image Lodged → Bool → Type 0) → Type 0
-IsFound old new status claim = Calls old new status (TellsFound status) claim
+IsFound old new types status claim = Calls old new types status (TellsFound status) claim
 
-abbrev pub IsOver : List ℕ → List ℕ → ℕ → (Image Lodged → Image Lodged → Type 0) → Type 0
-IsOver old new status claim =
-    Calls {R = Unit {0}} old new status (λ _. status ≡ 0) (λ opened left _. claim opened left)
+abbrev pub IsOver : List ℕ → List ℕ → KeptTypes → ℕ →
+    (Image Lodged → Image Lodged → Type 0) → Type 0
+IsOver old new types status claim = Calls {R = Unit {0}} old new types status
+    (λ _. status ≡ 0) (λ opened left _. claim opened left)
 
 -- the bytes are those of a sound image again, and are as many
 pub record IsStillSound (old new : List ℕ) : Type 0 where
@@ -92,14 +109,14 @@ pub record IsStillSound (old new : List ℕ) : Type 0 where
 
 -- If a path from an item of one of the sound image's objects reaches the place, a sound image is
 -- left.
-abbrev pub StaysSound : List ℕ → List ℕ → Place → Type 0
-StaysSound old new place = (sound : IsSound old) →
-    IsReached old sound.picture (place_of place) → IsStillSound old new
+abbrev pub StaysSound : List ℕ → List ℕ → KeptTypes → Place → Type 0
+StaysSound old new types place = OnSound old types
+    (λ picture. IsReached old picture (place_of place) → IsStillSound old new)
 
-abbrev pub StaysSoundFrom : List ℕ → List ℕ → Place → Place → Type 0
-StaysSoundFrom old new from to = (sound : IsSound old) →
-    IsReached old sound.picture (place_of from) → IsReached old sound.picture (place_of to) →
-    IsStillSound old new
+abbrev pub StaysSoundFrom : List ℕ → List ℕ → KeptTypes → Place → Place → Type 0
+StaysSoundFrom old new types from to = OnSound old types
+    (λ picture. IsReached old picture (place_of from) → IsReached old picture (place_of to) →
+    IsStillSound old new)
 
 -- ---- types
 

@@ -31,12 +31,13 @@ use Rattle.seg_seq.specs.Lists.{HasList}
 use Rattle.lezgauri.specs.EitherMap.{WhereMaps}
 use Rattle.lezgauri_c.specs.declared.place.Place as told
 use Rattle.lezgauri_c.specs.declared.kept_types.KeptTypes.{KeptTypes}
+use Rattle.lezgauri_c.specs.KeptImages.{table_of}
 use Rattle.lezgauri_c.specs.Places.{code_status, TellsPlace}
 
 -- ---- what C keeps and gets
 
 abbrev pub table_in : KeptTypes → Option Table
-table_in types = types.kept.table
+table_in types = table_of types.kept.image
 
 abbrev pub at_in : Option told.Place → Option ℕ
 at_in place = option_map (λ p. p.at) place

@@ -1,27 +1,32 @@
-//! What all exports that change an image have in common: the image in lent memory is opened without a check for one call of `Image`.
+//! What all exports that change an image have in common: the image in lent memory is opened for one call of `Image`, without a check and
+//! without reading its types, which C keeps.
 //! The image keeps its version. Only images of version 2 have shared types, so no call makes a frozen object in an image of version 1.
 
-ghost use Rattle.std.specs.Prelude.{◌≡◌, ◌<◌, ◌≤◌, IfOk, IfErr, OnErr};
-ghost use Rattle.seg_spec.specs.Images.{IsSound};
-ghost use Rattle.lezgauri.specs.Images.{segment_of, bytes_in, IsOpen};
-ghost use Rattle.lezgauri_c.specs.Changes.{TellsDone, TellsFound};
+ghost use Rattle.std.specs.Prelude.{◌≡◌, ◌<◌, ◌≤◌, Some, IfOk, IfErr, OnErr};
+ghost use Rattle.lezgauri.specs.Images.{segment_of, bytes_in};
+ghost use Rattle.lezgauri_c.specs.Changes.{TellsDone, TellsFound, IsOpenedOn};
+ghost use Rattle.lezgauri_c.specs.KeptImages.{table_kept};
 ghost use Rattle.lezgauri_c.specs.Memory.{memory_of};
+ghost use Rattle.lezgauri_c.specs.Values.{table_in, OnSound};
 
+use crate::kept_image::KeptImage;
+use crate::kept_types::KeptTypes;
 use crate::lent::Lent;
-use crate::run_in_place::open_window;
-use crate::status::{OK, code_status};
-use lezgauri::{Code, Image};
-use std_alloc::vec::Lodged;
+use crate::run_in_place::window_of;
+use crate::status::{BAD_ARGUMENT, OK, code_status};
+use lezgauri::Code;
+use seg_raw::Fault;
+use std::alloc::Global;
 
 /// A call on the image in lent memory, or a return of a fault's number.
 macro_rules! on_image {
-    ($lent:ident, $image:ident => $call:expr) => {{
-        let mut $image = match crate::changing::open_image($lent) {
-            Ok(image) => image,
+    ($alloc:ident, $lent:ident, $types:ident, $opened:ident => $call:expr) => {{
+        let mut $opened = match crate::changing::open_image($alloc, $lent, $types) {
+            Ok(kept) => kept,
             Err(status) => return status,
         };
         let returned = $call;
-        $lent.give_back($image.into_bytes());
+        crate::changing::close_image($alloc, $lent, $types, $opened);
         returned
     }};
 }
@@ -29,27 +34,52 @@ macro_rules! on_image {
 pub(crate) use crate::place::{give, place_at, type_number};
 pub(crate) use on_image;
 
-/// Opens an image that an earlier call found sound, or changed. Its memory is then the open image's. Other bytes may be returned with a
-/// fault's number.
+/// Opens an image that an earlier call found sound, or changed, with the types that C keeps. Its memory is then the open image's.
+/// Returns `BAD_ARGUMENT` if C keeps no types, and the number of `BadHeader` if the image is longer than any segment.
 #[tactic(auto, using(crate::proofs::Numbers::numbers))]
-pub(crate) fn open_image(image: &mut Lent) -> Result<Image<Lodged>, u32>
-    ensures bytes { IfOk result (λ opened. bytes_in opened ≡ image.old.bytes) }
-    ensures opened { IfOk result
-        (λ opened. (sound : IsSound image.old.bytes) → IsOpen opened sound.picture) }
+pub(crate) fn open_image(
+    alloc: Global,
+    image: &mut Lent,
+    types: &mut KeptTypes,
+) -> Result<Box<KeptImage>, u32>
+    ensures opened { IfOk result (λ opened. IsOpenedOn image.old types.old opened.value) }
     ensures status { IfErr result (λ status. (0 < status) × (status ≤ 100)) }
-    ensures unsound { OnErr result (IsSound image.old.bytes → ⊥) }
+    ensures unsound { OnErr result (OnSound image.old.bytes types.old (λ _. ⊥)) }
     ensures kept { OnErr result (image.new.bytes ≡ image.old.bytes) }
-    ensures home { IfOk result
-        (λ opened. (segment_of opened).window.home ≡ memory_of image.old) }
     ensures kept_home { OnErr result (memory_of image.new ≡ memory_of image.old) }
+    ensures same { OnErr result (table_in types.new ≡ table_in types.old) }
 {
-    match open_window(image.take()) {
-        Ok((window, types)) => Ok(Image::in_window(window, types)),
-        Err((fault, bytes)) => {
+    let Some(mut kept) = types.take(alloc) else {
+        return Err(BAD_ARGUMENT);
+    };
+    let bytes = image.take();
+    match window_of(bytes) {
+        Ok(window) => {
+            kept.enter(window);
+            Ok(kept)
+        }
+        Err(bytes) => {
             image.give_back(bytes);
-            Err(u32::from(fault.code()))
+            types.keep(alloc, kept);
+            Err(u32::from(Fault::BadHeader.code()))
         }
     }
+}
+
+/// Gives the memory of an open image back, and keeps its types.
+pub(crate) fn close_image(
+    alloc: Global,
+    lent: &mut Lent,
+    types: &mut KeptTypes,
+    opened: Box<KeptImage>,
+)
+    ensures bytes { lent.new.bytes ≡ bytes_in opened.value.image }
+    ensures home { memory_of lent.new ≡ (segment_of opened.value.image).window.home }
+    ensures types { table_in types.new ≡ Some (table_kept opened.value) }
+{
+    let mut kept = opened;
+    lent.give_back(kept.leave().into_bytes());
+    types.keep(alloc, kept);
 }
 
 /// `OK`, or the status for a code.

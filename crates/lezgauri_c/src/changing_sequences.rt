@@ -2,53 +2,75 @@ ghost use Rattle.std.specs.Prelude.{◌≡◌, ◌<◌};
 ghost use Rattle.lezgauri_c.specs.Changes.{place_at, GivesPlace, IsDone, StaysSound};
 ghost use Rattle.lezgauri_c.specs.ImageChanges.{Assigns, Appends, PushesItem, PushesItemFront, PopsItem, PopsItemFront};
 ghost use Rattle.lezgauri_c.specs.Memory.{memory_of};
+ghost use Rattle.lezgauri_c.specs.Values.{table_in};
 
 use crate::changing::{done, give, on_image, place_at};
+use crate::kept_types::KeptTypes;
 use crate::lent::Lent;
 use crate::place::Place;
+use std::alloc::Global;
 
 /// Replaces the bytes of the string at a place of an image that an earlier call found sound, or changed. Fails as `Image::assign` does;
 /// then nothing changes.
 #[unsafe(no_mangle)]
-pub extern "C" fn lezgauri_raw_assign(image: &mut Lent, at: u32, type_id: u32, bytes: &[u8]) -> u32
-    ensures assigns { IsDone image.old.bytes image.new.bytes result
+pub extern "C" fn lezgauri_raw_assign(
+    alloc: Global,
+    image: &mut Lent,
+    types: &mut KeptTypes,
+    at: u32,
+    type_id: u32,
+    bytes: &[u8],
+) -> u32
+    ensures assigns { IsDone image.old.bytes image.new.bytes types.old result
         (Assigns (place_at at type_id) bytes.now) }
-    ensures sound { StaysSound image.old.bytes image.new.bytes (place_at at type_id) }
+    ensures sound { StaysSound image.old.bytes image.new.bytes types.old (place_at at type_id) }
     ensures home { memory_of image.new ≡ memory_of image.old }
+    ensures same { table_in types.new ≡ table_in types.old }
 {
     let string = place_at(at, type_id);
-    done(on_image!(image, opened => opened.assign(string, bytes)))
+    done(on_image!(alloc, image, types, opened => opened.image.assign(string, bytes)))
 }
 
 /// Appends bytes to the string at a place. Fails as `lezgauri_raw_assign` does.
 #[unsafe(no_mangle)]
-pub extern "C" fn lezgauri_raw_append(image: &mut Lent, at: u32, type_id: u32, bytes: &[u8]) -> u32
-    ensures appends { IsDone image.old.bytes image.new.bytes result
+pub extern "C" fn lezgauri_raw_append(
+    alloc: Global,
+    image: &mut Lent,
+    types: &mut KeptTypes,
+    at: u32,
+    type_id: u32,
+    bytes: &[u8],
+) -> u32
+    ensures appends { IsDone image.old.bytes image.new.bytes types.old result
         (Appends (place_at at type_id) bytes.now) }
-    ensures sound { StaysSound image.old.bytes image.new.bytes (place_at at type_id) }
+    ensures sound { StaysSound image.old.bytes image.new.bytes types.old (place_at at type_id) }
     ensures home { memory_of image.new ≡ memory_of image.old }
+    ensures same { table_in types.new ≡ table_in types.old }
 {
     let string = place_at(at, type_id);
-    done(on_image!(image, opened => opened.append(string, bytes)))
+    done(on_image!(alloc, image, types, opened => opened.image.append(string, bytes)))
 }
 
 /// Adds a default item at the end of the vector or list at a place, and gives the item's place. Fails as `Image::push_back` does; then
 /// nothing changes.
 #[unsafe(no_mangle)]
 pub extern "C" fn lezgauri_raw_push_back(
+    alloc: Global,
     image: &mut Lent,
+    types: &mut KeptTypes,
     at: u32,
     type_id: u32,
     item: &mut Place,
 ) -> u32
-    ensures pushes { GivesPlace image.old.bytes image.new.bytes result item.old item.new
+    ensures pushes { GivesPlace image.old.bytes image.new.bytes types.old result item.old item.new
         (PushesItem (place_at at type_id)) }
-    ensures sound { StaysSound image.old.bytes image.new.bytes (place_at at type_id) }
+    ensures sound { StaysSound image.old.bytes image.new.bytes types.old (place_at at type_id) }
     ensures unwritten { 0 < result → item.new ≡ item.old }
     ensures home { memory_of image.new ≡ memory_of image.old }
+    ensures same { table_in types.new ≡ table_in types.old }
 {
     let sequence = place_at(at, type_id);
-    let pushed = on_image!(image, opened => opened.push_back(sequence));
+    let pushed = on_image!(alloc, image, types, opened => opened.image.push_back(sequence));
     give(pushed, item)
 }
 
@@ -56,43 +78,60 @@ pub extern "C" fn lezgauri_raw_push_back(
 /// changes.
 #[unsafe(no_mangle)]
 pub extern "C" fn lezgauri_raw_push_front(
+    alloc: Global,
     image: &mut Lent,
+    types: &mut KeptTypes,
     at: u32,
     type_id: u32,
     item: &mut Place,
 ) -> u32
-    ensures pushes { GivesPlace image.old.bytes image.new.bytes result item.old item.new
+    ensures pushes { GivesPlace image.old.bytes image.new.bytes types.old result item.old item.new
         (PushesItemFront (place_at at type_id)) }
-    ensures sound { StaysSound image.old.bytes image.new.bytes (place_at at type_id) }
+    ensures sound { StaysSound image.old.bytes image.new.bytes types.old (place_at at type_id) }
     ensures unwritten { 0 < result → item.new ≡ item.old }
     ensures home { memory_of image.new ≡ memory_of image.old }
+    ensures same { table_in types.new ≡ table_in types.old }
 {
     let list = place_at(at, type_id);
-    let pushed = on_image!(image, opened => opened.push_front(list));
+    let pushed = on_image!(alloc, image, types, opened => opened.image.push_front(list));
     give(pushed, item)
 }
 
 /// Destroys the last item of the vector or list at a place, or drops the last byte of a string. Fails as `Image::pop_back` does; then
 /// nothing changes.
 #[unsafe(no_mangle)]
-pub extern "C" fn lezgauri_raw_pop_back(image: &mut Lent, at: u32, type_id: u32) -> u32
-    ensures pops { IsDone image.old.bytes image.new.bytes result
+pub extern "C" fn lezgauri_raw_pop_back(
+    alloc: Global,
+    image: &mut Lent,
+    types: &mut KeptTypes,
+    at: u32,
+    type_id: u32,
+) -> u32
+    ensures pops { IsDone image.old.bytes image.new.bytes types.old result
         (PopsItem (place_at at type_id)) }
-    ensures sound { StaysSound image.old.bytes image.new.bytes (place_at at type_id) }
+    ensures sound { StaysSound image.old.bytes image.new.bytes types.old (place_at at type_id) }
     ensures home { memory_of image.new ≡ memory_of image.old }
+    ensures same { table_in types.new ≡ table_in types.old }
 {
     let sequence = place_at(at, type_id);
-    done(on_image!(image, opened => opened.pop_back(sequence)))
+    done(on_image!(alloc, image, types, opened => opened.image.pop_back(sequence)))
 }
 
 /// Destroys the first item of the list at a place. Fails as `Image::pop_front` does; then nothing changes.
 #[unsafe(no_mangle)]
-pub extern "C" fn lezgauri_raw_pop_front(image: &mut Lent, at: u32, type_id: u32) -> u32
-    ensures pops { IsDone image.old.bytes image.new.bytes result
+pub extern "C" fn lezgauri_raw_pop_front(
+    alloc: Global,
+    image: &mut Lent,
+    types: &mut KeptTypes,
+    at: u32,
+    type_id: u32,
+) -> u32
+    ensures pops { IsDone image.old.bytes image.new.bytes types.old result
         (PopsItemFront (place_at at type_id)) }
-    ensures sound { StaysSound image.old.bytes image.new.bytes (place_at at type_id) }
+    ensures sound { StaysSound image.old.bytes image.new.bytes types.old (place_at at type_id) }
     ensures home { memory_of image.new ≡ memory_of image.old }
+    ensures same { table_in types.new ≡ table_in types.old }
 {
     let list = place_at(at, type_id);
-    done(on_image!(image, opened => opened.pop_front(list)))
+    done(on_image!(alloc, image, types, opened => opened.image.pop_front(list)))
 }

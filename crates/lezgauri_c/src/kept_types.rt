@@ -1,24 +1,25 @@
 ghost use Rattle.std.specs.Prelude.{◌≡◌, Some, None, MatchOption, is_some};
+ghost use Rattle.lezgauri_c.specs.KeptImages.{table_kept, table_of};
 
+use crate::kept_image::KeptImage;
 use crate::types_box::TypesBox;
-use seg_value::Layouts;
 use std::alloc::Global;
 use std::mem::replace;
 
-/// The types of a segment that C keeps, and whether there are any.
+/// The types of a segment that C keeps, in an image without bytes, and whether there are any.
 #[repr(C)]
 pub struct KeptTypes {
     kept: TypesBox,
     is_there: bool,
-    ghost told: { is_some kept.table ≡ is_there },
+    ghost told: { is_some kept.image ≡ is_there },
 }
 
 impl KeptTypes {
     /// Takes the types out, if there are any.
-    pub(crate) fn take(&mut self, alloc: Global) -> Option<Box<Layouts>>
-        ensures types { MatchOption result (self.old.kept.table ≡ None)
-            (λ types. self.old.kept.table ≡ Some types.value) }
-        ensures none { self.new.kept.table ≡ None }
+    pub(crate) fn take(&mut self, alloc: Global) -> Option<Box<KeptImage>>
+        ensures types { MatchOption result (table_of self.old.kept.image ≡ None)
+            (λ types. table_of self.old.kept.image ≡ Some (table_kept types.value)) }
+        ensures none { table_of self.new.kept.image ≡ None }
     {
         let KeptTypes { kept, is_there } = replace(self, none());
         if is_there {
@@ -30,8 +31,8 @@ impl KeptTypes {
     }
 
     /// Keeps types. Types that were kept before are freed.
-    pub(crate) fn keep(&mut self, alloc: Global, types: Box<Layouts>)
-        ensures { self.new.kept.table ≡ Some types.value }
+    pub(crate) fn keep(&mut self, alloc: Global, types: Box<KeptImage>)
+        ensures { table_of self.new.kept.image ≡ Some (table_kept types.value) }
     {
         self.close(alloc);
         let made = KeptTypes {
@@ -44,14 +45,14 @@ impl KeptTypes {
 
     /// Frees the types, if there are any.
     pub(crate) fn close(&mut self, alloc: Global)
-        ensures { self.new.kept.table ≡ None }
+        ensures { table_of self.new.kept.image ≡ None }
     {
         drop(self.take(alloc));
     }
 }
 
 fn none() -> KeptTypes
-    ensures { result.kept.table ≡ None }
+    ensures { table_of result.kept.image ≡ None }
 {
     KeptTypes {
         kept: TypesBox::none(),

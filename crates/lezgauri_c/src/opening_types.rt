@@ -1,12 +1,14 @@
 ghost use Rattle.std.specs.Prelude.{◌≡◌, ◌⊎◌, ◌<◌, Some, None, Ok, IsSome};
 ghost use Rattle.seg_spec.specs.Images.{IsSound};
+ghost use Rattle.lezgauri_c.specs.KeptImages.{table_kept};
 ghost use Rattle.lezgauri_c.specs.Values.{table_in};
 
+use crate::kept_image::KeptImage;
 use crate::kept_types::KeptTypes;
 use crate::status::OK;
 use lezgauri::{TypeTable, read_types};
 use seg_raw::Fault;
-use seg_value::{Layouts, MAX_LEN, View};
+use seg_value::{MAX_LEN, View};
 use std::alloc::Global;
 
 /// Reads the types of an image that an earlier call found sound, or changed, and keeps them instead of the types that were kept before.
@@ -21,7 +23,7 @@ pub extern "C" fn lezgauri_raw_open_types(alloc: Global, image: &[u8], types: &m
     ensures kept { 0 < result → table_in types.new ≡ table_in types.old }
 {
     match table_of(image) {
-        Ok(table) => keep(alloc, types, Layouts::of(table)),
+        Ok(table) => keep(alloc, types, KeptImage::of(table)),
         Err(fault) => u32::from(fault.code()),
     }
 }
@@ -35,18 +37,18 @@ pub extern "C" fn lezgauri_raw_close_types(alloc: Global, types: &mut KeptTypes)
 }
 
 /// Keeps types, in the memory of those that were kept before, if there are any.
-fn keep(alloc: Global, types: &mut KeptTypes, layouts: Layouts) -> u32
-    ensures types { result ≡ 0 → table_in types.new ≡ Some layouts }
+fn keep(alloc: Global, types: &mut KeptTypes, image: KeptImage) -> u32
+    ensures types { result ≡ 0 → table_in types.new ≡ Some (table_kept image) }
     ensures status { (result ≡ 0) ⊎ (result ≡ 1) }
     ensures again { IsSome (table_in types.old) → result ≡ 0 }
     ensures kept { 0 < result → table_in types.new ≡ table_in types.old }
 {
     let boxed = match types.take(alloc) {
         Some(mut kept) => {
-            *kept = layouts;
+            *kept = image;
             kept
         }
-        None => match Box::new(alloc, layouts) {
+        None => match Box::new(alloc, image) {
             Ok(made) => made,
             Err(_) => return u32::from(Fault::Memory.code()),
         },

@@ -2,12 +2,15 @@
 
 ghost use Rattle.std.specs.Prelude.{◌≡◌, ◌⊎◌, ◌+◌, ◌<◌, ◌≤◌, length, Some, None, IfOk, IfErr, OnErr};
 ghost use Rattle.seg_spec.specs.Header.{max_length};
+ghost use Rattle.lezgauri_c.specs.KeptImages.{table_kept, types_in};
 ghost use Rattle.lezgauri_c.specs.Values.{table_in, Tells};
 
+use crate::kept_image::KeptImage;
 use crate::kept_types::KeptTypes;
+use crate::reader::Reader;
 use crate::status::{BAD_ARGUMENT, OK, code_status};
 use seg_raw::{Code, Fault};
-use seg_value::{Layouts, MAX_LEN, Reader, View};
+use seg_value::{MAX_LEN, View};
 use std::alloc::Global;
 
 /// A call on a reader of the image, with the types that C keeps, or a return of a status if there can't be one.
@@ -31,7 +34,7 @@ pub(crate) use on_reader;
 /// It isn't `Drop`, so the compiler refuses code that loses the types.
 pub(crate) struct Opened<'a> {
     view: View<'a>,
-    types: Box<Layouts>,
+    types: Box<KeptImage>,
 }
 
 impl<'a> Opened<'a> {
@@ -43,7 +46,8 @@ impl<'a> Opened<'a> {
         types: &mut KeptTypes,
     ) -> Result<Opened<'a>, u32>
         ensures image { IfOk result (λ opened. opened.view.bytes.now ≡ image.now) }
-        ensures types { IfOk result (λ opened. table_in types.old ≡ Some opened.types.value) }
+        ensures types { IfOk result
+            (λ opened. table_in types.old ≡ Some (table_kept opened.types.value)) }
         ensures status { IfErr result (λ status.
             ((status ≡ 100) × (table_in types.old ≡ None))
             ⊎ ((status ≡ 10) × (max_length < length image.now))) }
@@ -64,17 +68,17 @@ impl<'a> Opened<'a> {
 
     pub(crate) fn reader(&self) -> Reader<'_>
         ensures image { result.view.bytes.now ≡ self.now.view.bytes.now }
-        ensures types { result.layouts.now ≡ self.now.types.value }
+        ensures types { types_in result ≡ table_kept self.now.types.value }
     {
         Reader {
             view: self.view,
-            layouts: &self.types,
+            kept: &self.types,
         }
     }
 
     /// Puts the types back.
     pub(crate) fn give_back(self, alloc: Global, types: &mut KeptTypes)
-        ensures { table_in types.new ≡ Some self.entry.types.value }
+        ensures { table_in types.new ≡ Some (table_kept self.entry.types.value) }
     {
         let Opened {
             view: _,

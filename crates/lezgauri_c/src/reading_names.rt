@@ -8,16 +8,17 @@ ghost use Rattle.seg_manager.specs.Segments.{IsSegment, unique_at};
 ghost use Rattle.lezgauri.specs.Places.{item_place};
 ghost use Rattle.lezgauri_c.specs.Names.{ReportsRoot};
 ghost use Rattle.lezgauri_c.specs.Places.{type_number, TellsPlace};
+ghost use Rattle.lezgauri_c.specs.KeptImages.{types_in};
 ghost use Rattle.lezgauri_c.specs.Values.{table_in, at_in, stored_in, allocator_in, TellsOption, IsReadStatus, OnSound};
 
 use crate::byte_range::{ByteRange, range_in};
 use crate::kept_types::KeptTypes;
 use crate::place::{Place, give, type_number};
+use crate::reader::Reader;
 use crate::reading::{on_reader, tell};
 use lezgauri::ImageRead;
 use seg_entry::NameEntry;
 use seg_raw::Code;
-use seg_value::Reader;
 use std::alloc::Global;
 
 /// A named object of an image.
@@ -124,7 +125,7 @@ pub extern "C" fn lezgauri_raw_next_name(
 
 fn named_object(reader: Reader<'_>, name: &[u8]) -> Option<Named>
     ensures named { (picture : Picture) → IsSegment (allocator_in reader.entry.view.bytes.now)
-        (stored_in reader.entry.view.bytes.now reader.entry.layouts.now) picture →
+        (stored_in reader.entry.view.bytes.now (types_in reader.entry)) picture →
         ReportsRoot reader.entry.view.bytes.now (root_named picture.names name.now) result }
     ensures inside { IfSome result
         (λ it. it.name.at + it.name.len ≤ length reader.entry.view.bytes.now) }
@@ -134,7 +135,7 @@ fn named_object(reader: Reader<'_>, name: &[u8]) -> Option<Named>
 
 fn next_named(reader: Reader<'_>, after: &[u8]) -> Option<Named>
     ensures next { (picture : Picture) → IsSegment (allocator_in reader.entry.view.bytes.now)
-        (stored_in reader.entry.view.bytes.now reader.entry.layouts.now) picture →
+        (stored_in reader.entry.view.bytes.now (types_in reader.entry)) picture →
         ReportsRoot reader.entry.view.bytes.now (root_after picture.names after.now) result }
     ensures inside { IfSome result
         (λ it. it.name.at + it.name.len ≤ length reader.entry.view.bytes.now) }
@@ -145,7 +146,7 @@ fn next_named(reader: Reader<'_>, after: &[u8]) -> Option<Named>
 /// The object of an entry of the index. Its name follows its values.
 fn named_of(reader: Reader<'_>, entry: NameEntry) -> Option<Named>
     ensures named { (root : Root) →
-        IsNamed reader.entry.view.bytes.now reader.entry.layouts.now root →
+        IsNamed reader.entry.view.bytes.now (types_in reader.entry) root →
         root.type < 32 → entry ≡ entry_of root →
         IsSomeAnd result (λ it. DescribesRoot
         (slice reader.entry.view.bytes.now it.name.at it.name.len) it.type_id it.count root) }
@@ -154,7 +155,7 @@ fn named_of(reader: Reader<'_>, entry: NameEntry) -> Option<Named>
 {
     let object = entry.object?;
     let type_id = entry.type_in(reader.view)?;
-    let values = entry.values_len(reader.layouts.types().size(type_id));
+    let values = entry.values_len(reader.kept.types().size(type_id));
     Some(Named {
         name: range_in(
             reader.view,

@@ -7,14 +7,16 @@ ghost use Rattle.seg_seq.specs.Sequences.{item_type, IsPast, ShowsItem};
 ghost use Rattle.lezgauri.specs.Places.{found_position};
 ghost use Rattle.lezgauri_c.specs.Places as places;
 ghost use Rattle.lezgauri_c.specs.Places.{type_number};
+ghost use Rattle.lezgauri_c.specs.KeptImages.{types_in};
 ghost use Rattle.lezgauri_c.specs.Values.{table_in, stored_in, allocator_in, ShowsNext, ShowsPrevious, ReturnsPlace, IsReadStatus, OnSound, WhereVector, WhereList};
 
 use crate::kept_types::KeptTypes;
 use crate::place::{Place, give, place_at};
+use crate::reader::Reader;
 use crate::reading::on_reader;
 use lezgauri::{ImageRead, Type};
 use seg_raw::Code;
-use seg_value::{Place as ValuePlace, Reader, ValueAt};
+use seg_value::{Place as ValuePlace, ValueAt};
 use std::alloc::Global;
 
 /// The place of an item of a vector or a list of an image that an earlier call found sound, or changed, by its index from 0. Fails as
@@ -120,14 +122,14 @@ pub extern "C" fn lezgauri_raw_previous_item(
 fn next_item(reader: Reader<'_>, list: ValuePlace, item: ValueAt) -> Result<ValuePlace, Code>
     ensures next { (U i : ℕ) (vs : Values) (blocks : List ℕ) →
         HasList (allocator_in reader.entry.view.bytes.now)
-        (stored_in reader.entry.view.bytes.now reader.entry.layouts.now) (place_of list) U vs
+        (stored_in reader.entry.view.bytes.now (types_in reader.entry)) (place_of list) U vs
         blocks →
-        ShowsItem (stored_in reader.entry.view.bytes.now reader.entry.layouts.now) (place_of list)
-        U i item → ShowsNext (stored_in reader.entry.view.bytes.now reader.entry.layouts.now)
+        ShowsItem (stored_in reader.entry.view.bytes.now (types_in reader.entry)) (place_of list)
+        U i item → ShowsNext (stored_in reader.entry.view.bytes.now (types_in reader.entry))
         (place_of list) U (count vs) i (found_position result) }
     ensures of_type { IfOk result (λ found.
-        item_type (form_at reader.entry.layouts.now list.type_id) ≡ Some found.type_id) }
-    ensures other { IsNoList reader.entry.layouts.now list.type_id → result ≡ Err Code.OtherType }
+        item_type (form_at (types_in reader.entry) list.type_id) ≡ Some found.type_id) }
+    ensures other { IsNoList (types_in reader.entry) list.type_id → result ≡ Err Code.OtherType }
 {
     let first = first_item(reader, list)?;
     let at = seg_seq::next(&reader, item);
@@ -144,14 +146,14 @@ fn next_item(reader: Reader<'_>, list: ValuePlace, item: ValueAt) -> Result<Valu
 fn previous_item(reader: Reader<'_>, list: ValuePlace, item: ValueAt) -> Result<ValuePlace, Code>
     ensures previous { (U i : ℕ) (vs : Values) (blocks : List ℕ) →
         HasList (allocator_in reader.entry.view.bytes.now)
-        (stored_in reader.entry.view.bytes.now reader.entry.layouts.now) (place_of list) U vs
+        (stored_in reader.entry.view.bytes.now (types_in reader.entry)) (place_of list) U vs
         blocks →
-        ShowsItem (stored_in reader.entry.view.bytes.now reader.entry.layouts.now) (place_of list)
-        U i item → ShowsPrevious (stored_in reader.entry.view.bytes.now reader.entry.layouts.now)
+        ShowsItem (stored_in reader.entry.view.bytes.now (types_in reader.entry)) (place_of list)
+        U i item → ShowsPrevious (stored_in reader.entry.view.bytes.now (types_in reader.entry))
         (place_of list) U i (found_position result) }
     ensures of_type { IfOk result (λ found.
-        item_type (form_at reader.entry.layouts.now list.type_id) ≡ Some found.type_id) }
-    ensures other { IsNoList reader.entry.layouts.now list.type_id → result ≡ Err Code.OtherType }
+        item_type (form_at (types_in reader.entry) list.type_id) ≡ Some found.type_id) }
+    ensures other { IsNoList (types_in reader.entry) list.type_id → result ≡ Err Code.OtherType }
 {
     let first = first_item(reader, list)?;
     if item == first.at {
@@ -167,17 +169,17 @@ fn previous_item(reader: Reader<'_>, list: ValuePlace, item: ValueAt) -> Result<
 fn first_item(reader: Reader<'_>, list: ValuePlace) -> Result<ValuePlace, Code>
     ensures first { (U : ℕ) (vs : Values) (blocks : List ℕ) →
         HasList (allocator_in reader.entry.view.bytes.now)
-        (stored_in reader.entry.view.bytes.now reader.entry.layouts.now) (place_of list) U vs
+        (stored_in reader.entry.view.bytes.now (types_in reader.entry)) (place_of list) U vs
         blocks →
         MatchResult (found_position result)
-        (ShowsItem (stored_in reader.entry.view.bytes.now reader.entry.layouts.now)
+        (ShowsItem (stored_in reader.entry.view.bytes.now (types_in reader.entry))
         (place_of list) U 0)
         (λ code. (code ≡ Code.Null) × (count vs ≡ 0)) }
     ensures of_type { IfOk result (λ first.
-        item_type (form_at reader.entry.layouts.now list.type_id) ≡ Some first.type_id) }
-    ensures other { IsNoList reader.entry.layouts.now list.type_id → result ≡ Err Code.OtherType }
+        item_type (form_at (types_in reader.entry) list.type_id) ≡ Some first.type_id) }
+    ensures other { IsNoList (types_in reader.entry) list.type_id → result ≡ Err Code.OtherType }
 {
-    let Some(Type::List(_)) = reader.layouts.types().kind(list.type_id) else {
+    let Some(Type::List(_)) = reader.kept.types().kind(list.type_id) else {
         return Err(Code::OtherType);
     };
     let Ok(first) = reader.item(list, 0) else {

@@ -8,15 +8,17 @@ ghost use Rattle.seg_seq.specs.Kinds.{HasNumbers};
 ghost use Rattle.lezgauri.specs.Places.{object_type, shared_type, content_place, frozen_place, is_counted, FieldPlace};
 ghost use Rattle.lezgauri_c.specs.Places as places;
 ghost use Rattle.lezgauri_c.specs.Places.{type_number, TellsPlace};
+ghost use Rattle.lezgauri_c.specs.KeptImages.{types_in};
 ghost use Rattle.lezgauri_c.specs.Values.{table_in, ReturnsPlace, IsReadStatus, OnSound, WhereText, WhereVector, WhereList, WhereMap};
 
 use crate::byte_range::{ByteRange, range_in};
 use crate::kept_types::KeptTypes;
 use crate::place::{Place, give, place_at};
+use crate::reader::Reader;
 use crate::reading::{on_reader, tell};
 use lezgauri::ImageRead;
 use seg_raw::Code;
-use seg_value::{Place as ValuePlace, Reader, count_in, start_in};
+use seg_value::{Place as ValuePlace, count_in, start_in};
 use std::alloc::Global;
 
 /// The size of a number in bytes.
@@ -189,12 +191,12 @@ pub extern "C" fn lezgauri_raw_content(
 
 /// The range of a string's bytes.
 fn text_range(reader: Reader<'_>, place: ValuePlace) -> Result<ByteRange, Code>
-    ensures text { form_at reader.entry.layouts.now place.type_id ≡ Some Form.str →
+    ensures text { form_at (types_in reader.entry) place.type_id ≡ Some Form.str →
         IfOk result (λ text. slice reader.entry.view.bytes.now text.at text.len
         ≡ slice reader.entry.view.bytes.now (start reader.entry.view.bytes.now place.at)
         (count_at reader.entry.view.bytes.now place.at)) }
-    ensures done { form_at reader.entry.layouts.now place.type_id ≡ Some Form.str → IsOk result }
-    ensures other { form_at reader.entry.layouts.now place.type_id ≢ Some Form.str →
+    ensures done { form_at (types_in reader.entry) place.type_id ≡ Some Form.str → IsOk result }
+    ensures other { form_at (types_in reader.entry) place.type_id ≢ Some Form.str →
         result ≡ Err Code.OtherType }
     ensures inside { IfOk result
         (λ text. text.at + text.len ≤ length reader.entry.view.bytes.now) }
@@ -209,12 +211,12 @@ fn text_range(reader: Reader<'_>, place: ValuePlace) -> Result<ByteRange, Code>
 
 /// The range of the bytes of a vector's numbers.
 fn numbers_range(reader: Reader<'_>, vector: ValuePlace) -> Result<ByteRange, Code>
-    ensures numbers { HasNumbers reader.entry.layouts.now vector.type_id →
+    ensures numbers { HasNumbers (types_in reader.entry) vector.type_id →
         IfOk result (λ numbers. slice reader.entry.view.bytes.now numbers.at numbers.len
         ≡ slice reader.entry.view.bytes.now (start reader.entry.view.bytes.now vector.at)
         (count_at reader.entry.view.bytes.now vector.at * 8)) }
-    ensures done { HasNumbers reader.entry.layouts.now vector.type_id → IsOk result }
-    ensures other { ¬ HasNumbers reader.entry.layouts.now vector.type_id →
+    ensures done { HasNumbers (types_in reader.entry) vector.type_id → IsOk result }
+    ensures other { ¬ HasNumbers (types_in reader.entry) vector.type_id →
         result ≡ Err Code.OtherType }
     ensures inside { IfOk result
         (λ numbers. numbers.at + numbers.len ≤ length reader.entry.view.bytes.now) }
@@ -229,13 +231,13 @@ fn numbers_range(reader: Reader<'_>, vector: ValuePlace) -> Result<ByteRange, Co
 
 /// The object that an own has, or the frozen object of a shared cell.
 fn content_of(reader: Reader<'_>, place: ValuePlace) -> Result<ValuePlace, Code>
-    ensures own { (U : ℕ) → object_type (form_at reader.entry.layouts.now place.type_id) ≡ Some U →
+    ensures own { (U : ℕ) → object_type (form_at (types_in reader.entry) place.type_id) ≡ Some U →
         result ≡ content_place (Some U) (target reader.entry.view.bytes.now place.at) }
     ensures shared { (U : ℕ) →
-        shared_type (form_at reader.entry.layouts.now place.type_id) ≡ Some U →
+        shared_type (form_at (types_in reader.entry) place.type_id) ≡ Some U →
         result ≡ frozen_place (Some U) (target reader.entry.view.bytes.now place.at) }
-    ensures other { object_type (form_at reader.entry.layouts.now place.type_id) ≡ None →
-        shared_type (form_at reader.entry.layouts.now place.type_id) ≡ None →
+    ensures other { object_type (form_at (types_in reader.entry) place.type_id) ≡ None →
+        shared_type (form_at (types_in reader.entry) place.type_id) ≡ None →
         result ≡ Err Code.OtherType }
 {
     match reader.content(place) {

@@ -121,7 +121,7 @@ pub(crate) fn open_window<A: Allocator>(
 }
 
 /// A window on an image, in the image's own memory. Bytes that are too many for a segment are returned.
-fn window_of<A: Allocator>(image: Vec<u8, A>) -> Result<Window<A>, Vec<u8, A>>
+pub(crate) fn window_of<A: Allocator>(image: Vec<u8, A>) -> Result<Window<A>, Vec<u8, A>>
     ensures bytes { IfOk result (λ window. window.bytes ≡ image.items) }
     ensures region { IfOk result (λ window. region_of window ≡ image.items) }
     ensures base { IfOk result (λ window. length window.before ≡ 0) }

@@ -1,28 +1,33 @@
-use Rattle.std.proofs.Common.{◌≡◌, ◌≤◌, List, ℕ, sym, ap, ◌∙◌, subst}
+use Rattle.std.proofs.Common.{◌≡◌, ◌≤◌, Some, List, ℕ, sym, ap, ◌∙◌, subst}
 use Rattle.seg_spec.specs.Bytes.{word}
 use Rattle.seg_spec.specs.Header.{allocator_word}
 use Rattle.seg_spec.specs.Window.{Placement}
-use Rattle.seg_spec.specs.Images.{IsSound}
-use Rattle.lezgauri.specs.Faults.{IsImageOf}
+use Rattle.seg_spec.specs.Sound.{HasHeader}
 use Rattle.lezgauri.specs.Images.{bytes_in, types_of}
-use Rattle.lezgauri_c.proofs.OneClient.{image_of}
+use Rattle.lezgauri_c.specs.KeptImages.{table_kept}
+use Rattle.lezgauri_c.specs.Values.{table_in}
 use Rattle.lezgauri_c.proofs.OpenLaws.{opened_on}
 use Rattle.lezgauri_c.proofs.changing.open_image.Goals as goal
 
--- the memory that was taken has an image with the table
-taken : (bytes taken_bytes : List ℕ) → taken_bytes ≡ bytes → (sound : IsSound bytes) → IsImageOf taken_bytes sound.picture.table
-taken bytes taken_bytes same sound = subst (λ (b : List ℕ). IsImageOf b sound.picture.table) (sym same) (image_of bytes sound)
-
 pub returns-in-Ok-clause-opened : goal.returns-in-Ok-clause-opened
-returns-in-Ok-clause-opened c sound =
-    let image = c.in_window.result in
-    let window : bytes_in image ≡ c.in-Ok.window.bytes = ap (λ (w : Placement). w.bytes) c.in_window.ensures.window in
-    let here : bytes_in image ≡ c.args.image.now.bytes = window ∙ c.in-Ok.ensures.bytes ∙ c.take.ensures.bytes in
-    let types : types_of image ≡ sound.picture.table =
-    c.in_window.ensures.types ∙ c.in-Ok.ensures.types sound.picture.table (taken c.args.image.now.bytes c.take.result.items c.take.ensures.bytes sound) in
-    opened_on image c.args.image.now.bytes sound.picture sound.held sound.counted here types
-    (λ few. let same : word (bytes_in image) allocator_word ≡ word c.in-Ok.window.bytes allocator_word = ap (λ (b : List ℕ). word b allocator_word) window in
-    c.in_window.ensures.allocator (subst (λ n. n ≤ 1) same few) ∙ sym same)
+returns-in-Ok-clause-opened c =
+    let image = c.enter.new.self.image in
+    let window : bytes_in image ≡ c.in-Ok.window.bytes = ap (λ (w : Placement). w.bytes) c.enter.ensures.window in
+    let here : bytes_in image ≡ c.args.image.now.bytes = window ∙ c.in-Ok.ensures.bytes ∙ c.take-bytes.ensures.bytes in
+    let types : types_of image ≡ table_kept c.in-Some.kept.value = c.enter.ensures.types ∙ ap table_kept c.deref_mut.ensures.value in
+    let kept : table_in c.args.types.now ≡ Some (types_of image) = c.in-Some.ensures.types ∙ ap Some (sym types) in
+    record {
+      bytes = here;
+      home = ap (λ (w : Placement). w.home) c.enter.ensures.window ∙ c.in-Ok.ensures.home ∙ c.take-bytes.ensures.home;
+      types_are = kept;
+      opened = λ sound same.
+          let both : Some (types_of image) ≡ Some sound.picture.table = sym kept ∙ same in
+          let table : types_of image ≡ sound.picture.table = cc in
+          opened_on image c.args.image.now.bytes sound.picture sound.held sound.counted here table
+          (λ few. let same_word : word (bytes_in image) allocator_word ≡ word c.in-Ok.window.bytes allocator_word = ap (λ (b : List ℕ). word b allocator_word) window in
+          c.enter.ensures.allocator (subst (λ n. n ≤ 1) same_word few) ∙ sym same_word);
+    }
 
 pub returns-in-Err-clause-unsound : goal.returns-in-Err-clause-unsound
-returns-in-Err-clause-unsound c sound = c.in-Err.ensures.fault sound.picture.table (taken c.args.image.now.bytes c.take.result.items c.take.ensures.bytes sound)
+returns-in-Err-clause-unsound c sound same =
+    c.in-Err.ensures.fault (subst (λ (b : List ℕ). HasHeader b) (sym c.take-bytes.ensures.bytes) sound.held.laid_out.header)

@@ -1,30 +1,34 @@
-use Rattle.std.proofs.Common.{◌≡◌, sym, ◌∙◌, subst, ℤ, w64}
+use Rattle.std.proofs.Common.{◌≡◌, sym, subst, ℤ, w64}
 use Rattle.std.proofs.lemmas.Int.{to_z-of_z}
 use Rattle.lezgauri.specs.Place.{Place}
 use Rattle.lezgauri.specs.Images.{bytes_in}
 use Rattle.lezgauri_c.specs.Changes.{place_at, IsFound}
 use Rattle.lezgauri_c.specs.ImageChanges.{Removes}
-use Rattle.lezgauri_c.proofs.ChangeLaws.{calls, same_memory}
+use Rattle.lezgauri_c.proofs.ChangeLaws.{calls, same_memory, same_types, opened_now}
 use Rattle.lezgauri_c.proofs.PlaceChangeLaws.{stays_sound, remove_stays}
 use Rattle.lezgauri_c.proofs.changing_maps.lezgauri_raw_remove.Goals as goal
 
 pub returns-clause-removes : goal.returns-clause-removes
 returns-clause-removes c =
-    let opened = c.in-Ok.image in
+    let opened = c.deref_mut.result.now.image in
+    let on = opened_now c.deref_mut.ensures.value c.in-Ok.ensures.opened in
     let left = c.remove-returned.new.self in
-    let left_is : bytes_in left ≡ c.give_back.new.self.bytes = sym (c.give_back.ensures.bytes ∙ c.into_bytes.ensures.bytes) in
-    subst (λ (p : Place). IsFound c.args.image.now.bytes c.give_back.new.self.bytes c.found.result (Removes p c.args.key)) c.place_at-map.ensures
-    (subst (λ (z : ℤ). IsFound c.args.image.now.bytes c.give_back.new.self.bytes c.found.result (Removes c.place_at-map.result z)) (to_z-of_z w64 c.args.key c.ranges.key)
-    (calls opened left c.in-Ok.ensures.bytes left_is c.in-Ok.ensures.opened c.remove-returned.result c.found.ensures.number c.found.ensures.told (record {
+    let left_is : bytes_in left ≡ c.close_image.new.lent.bytes = sym c.close_image.ensures.bytes in
+    subst (λ (p : Place). IsFound c.args.image.now.bytes c.close_image.new.lent.bytes c.args.types.now c.found.result (Removes p c.args.key)) c.place_at-map.ensures
+    (subst (λ (z : ℤ). IsFound c.args.image.now.bytes c.close_image.new.lent.bytes c.args.types.now c.found.result (Removes c.place_at-map.result z)) (to_z-of_z w64 c.args.key c.ranges.key)
+    (calls c.args.types.now opened left on.bytes left_is on.opened c.remove-returned.result c.found.ensures.number c.found.ensures.told (record {
       bytes = c.remove-returned.ensures.bytes;
       other = c.remove-returned.ensures.other;
       removes = c.remove-returned.ensures.removes;
     })))
 
 pub returns-clause-home : goal.returns-clause-home
-returns-clause-home c = same_memory c.in-Ok.image c.remove-returned.new.self c.in-Ok.ensures.home c.remove-returned.ensures.bytes c.into_bytes.ensures.home c.give_back.ensures.home
+returns-clause-home c = same_memory c.deref_mut.result.now.image c.remove-returned.new.self (opened_now c.deref_mut.ensures.value c.in-Ok.ensures.opened).home c.remove-returned.ensures.bytes c.close_image.ensures.home
 
 pub returns-clause-sound : goal.returns-clause-sound
 returns-clause-sound c =
     let place = place_at c.args.at c.args.type_id in
     stays_sound (returns-clause-removes c) place (λ opened left result it picture is_open reached. remove_stays opened left place picture is_open reached c.args.key result it)
+
+pub returns-clause-same : goal.returns-clause-same
+returns-clause-same c = same_types c.args.types.now c.close_image.new.types c.deref_mut.result.now.image c.remove-returned.new.self (opened_now c.deref_mut.ensures.value c.in-Ok.ensures.opened).types_are c.remove-returned.ensures.bytes c.close_image.ensures.types

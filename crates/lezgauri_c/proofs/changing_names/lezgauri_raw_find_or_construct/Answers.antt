@@ -1,18 +1,19 @@
-use Rattle.std.proofs.Common.{◌≡◌, sym, ◌∙◌, subst, ℕ}
+use Rattle.std.proofs.Common.{◌≡◌, sym, subst, ℕ}
 use Rattle.lezgauri.specs.Images.{bytes_in}
 use Rattle.lezgauri_c.specs.Changes.{GivesPlace}
 use Rattle.lezgauri_c.specs.ImageChanges.{FindsOrConstructs}
-use Rattle.lezgauri_c.proofs.ChangeLaws.{calls, still_sound, still_same, same_memory}
+use Rattle.lezgauri_c.proofs.ChangeLaws.{calls, still_sound, still_same, same_memory, same_types, opened_now}
 use Rattle.lezgauri_c.proofs.NamedChangeLaws.{find_sound, find_kept}
 use Rattle.lezgauri_c.proofs.changing_names.lezgauri_raw_find_or_construct.Goals as goal
 
 pub returns-clause-finds : goal.returns-clause-finds
 returns-clause-finds c =
-    let opened = c.in-Ok.image in
+    let opened = c.deref_mut.result.now.image in
+    let on = opened_now c.deref_mut.ensures.value c.in-Ok.ensures.opened in
     let left = c.find_or_construct-returned.new.self in
-    let left_is : bytes_in left ≡ c.give_back.new.self.bytes = sym (c.give_back.ensures.bytes ∙ c.into_bytes.ensures.bytes) in
-    subst (λ (T : ℕ). GivesPlace c.args.image.now.bytes c.give_back.new.self.bytes c.give.result c.args.place.now c.give.new.place (FindsOrConstructs c.args.name.now T)) c.type_number-t.ensures
-    (calls opened left c.in-Ok.ensures.bytes left_is c.in-Ok.ensures.opened c.find_or_construct-returned.result c.give.ensures.number c.give.ensures.told (record {
+    let left_is : bytes_in left ≡ c.close_image.new.lent.bytes = sym c.close_image.ensures.bytes in
+    subst (λ (T : ℕ). GivesPlace c.args.image.now.bytes c.close_image.new.lent.bytes c.args.types.now c.give.result c.args.place.now c.give.new.place (FindsOrConstructs c.args.name.now T)) c.type_number-t.ensures
+    (calls c.args.types.now opened left on.bytes left_is on.opened c.find_or_construct-returned.result c.give.ensures.number c.give.ensures.told (record {
       bytes = c.find_or_construct-returned.ensures.bytes;
       of_type = c.find_or_construct-returned.ensures.of_type;
       unknown = c.find_or_construct-returned.ensures.unknown;
@@ -23,9 +24,10 @@ returns-clause-finds c =
 
 pub returns-clause-sound : goal.returns-clause-sound
 returns-clause-sound c =
-    let opened = c.in-Ok.image in
+    let opened = c.deref_mut.result.now.image in
+    let on = opened_now c.deref_mut.ensures.value c.in-Ok.ensures.opened in
     let left = c.find_or_construct-returned.new.self in
-    let left_is : bytes_in left ≡ c.give_back.new.self.bytes = sym (c.give_back.ensures.bytes ∙ c.into_bytes.ensures.bytes) in
+    let left_is : bytes_in left ≡ c.close_image.new.lent.bytes = sym c.close_image.ensures.bytes in
     let it : FindsOrConstructs c.args.name.now c.type_number-t.result opened left c.find_or_construct-returned.result = record {
       bytes = c.find_or_construct-returned.ensures.bytes;
       of_type = c.find_or_construct-returned.ensures.of_type;
@@ -34,14 +36,15 @@ returns-clause-sound c =
       makes = c.find_or_construct-returned.ensures.makes;
       no_room = c.find_or_construct-returned.ensures.no_room;
     } in
-    still_sound opened left c.in-Ok.ensures.bytes left_is c.in-Ok.ensures.opened
+    still_sound c.args.types.now opened left on.bytes left_is on.opened
     (λ picture held none. find_sound opened left picture held c.args.name.now c.type_number-t.result c.find_or_construct-returned.result it none)
 
 pub returns-clause-kept : goal.returns-clause-kept
-returns-clause-kept c some other sound =
-    let opened = c.in-Ok.image in
+returns-clause-kept c some other sound same =
+    let opened = c.deref_mut.result.now.image in
+    let on = opened_now c.deref_mut.ensures.value c.in-Ok.ensures.opened in
     let left = c.find_or_construct-returned.new.self in
-    let left_is : bytes_in left ≡ c.give_back.new.self.bytes = sym (c.give_back.ensures.bytes ∙ c.into_bytes.ensures.bytes) in
+    let left_is : bytes_in left ≡ c.close_image.new.lent.bytes = sym c.close_image.ensures.bytes in
     let it : FindsOrConstructs c.args.name.now c.type_number-t.result opened left c.find_or_construct-returned.result = record {
       bytes = c.find_or_construct-returned.ensures.bytes;
       of_type = c.find_or_construct-returned.ensures.of_type;
@@ -50,8 +53,11 @@ returns-clause-kept c some other sound =
       makes = c.find_or_construct-returned.ensures.makes;
       no_room = c.find_or_construct-returned.ensures.no_room;
     } in
-    still_same opened left c.in-Ok.ensures.bytes left_is c.in-Ok.ensures.opened
-    (λ picture held. find_kept opened left picture held c.args.name.now c.type_number-t.result c.give.result c.args.place.now c.give.new.place c.find_or_construct-returned.result c.give.ensures.told some other it) sound
+    still_same c.args.types.now opened left on.bytes left_is on.opened
+    (λ picture held. find_kept opened left picture held c.args.name.now c.type_number-t.result c.give.result c.args.place.now c.give.new.place c.find_or_construct-returned.result c.give.ensures.told some other it) sound same
 
 pub returns-clause-home : goal.returns-clause-home
-returns-clause-home c = same_memory c.in-Ok.image c.find_or_construct-returned.new.self c.in-Ok.ensures.home c.find_or_construct-returned.ensures.bytes c.into_bytes.ensures.home c.give_back.ensures.home
+returns-clause-home c = same_memory c.deref_mut.result.now.image c.find_or_construct-returned.new.self (opened_now c.deref_mut.ensures.value c.in-Ok.ensures.opened).home c.find_or_construct-returned.ensures.bytes c.close_image.ensures.home
+
+pub returns-clause-same : goal.returns-clause-same
+returns-clause-same c = same_types c.args.types.now c.close_image.new.types c.deref_mut.result.now.image c.find_or_construct-returned.new.self (opened_now c.deref_mut.ensures.value c.in-Ok.ensures.opened).types_are c.find_or_construct-returned.ensures.bytes c.close_image.ensures.types

@@ -8,6 +8,7 @@ use Rattle.lezgauri.specs.EitherMap.{has_keys}
 use Rattle.lezgauri.specs.Maps.{first_of}
 use Rattle.lezgauri_c.specs.Values.{TellsOption, WhereMap}
 use Rattle.lezgauri_c.proofs.ReadLaws.{on_image, tells_option, map_keys}
+use Rattle.lezgauri_c.specs.KeptImages.{types_in}
 use Rattle.lezgauri_c.proofs.reading_maps.lezgauri_raw_first_key.Goals as goal
 
 pub returns-clause-first : goal.returns-clause-first
@@ -18,9 +19,9 @@ returns-clause-first c sound same =
     let map = c.place_at-map.result in
     let table = sound.picture.table in
     let found = c.first_key-returned.result in
-    let is = on_image c.args.image.now reader.view.bytes.now c.args.types.now reader.layouts.now bytes_is table_is
+    let is = on_image c.args.image.now reader.view.bytes.now c.args.types.now (types_in reader) bytes_is table_is
     (λ b t p. WhereMap b t map (λ U keys vs blocks. result_ok found ≡ first_of keys)) (λ p. c.first_key-returned.ensures.first) sound same in
-    let only = on_image c.args.image.now reader.view.bytes.now c.args.types.now reader.layouts.now bytes_is table_is
+    let only = on_image c.args.image.now reader.view.bytes.now c.args.types.now (types_in reader) bytes_is table_is
     (λ b t p. has_keys (form_at t map.type_id) ≡ true → IsOkUnless found code.Null) (λ p. c.first_key-returned.ensures.code) sound same in
     subst (λ (place : Place). WhereMap c.args.image.now table place (λ U keys vs blocks. TellsOption c.tell.result 116 c.tell.new.value (λ key. key ≡ first_of keys))) c.place_at-map.ensures
     (λ U keys vs blocks form stands.

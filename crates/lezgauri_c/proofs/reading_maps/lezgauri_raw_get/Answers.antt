@@ -13,6 +13,7 @@ use Rattle.lezgauri.specs.Maps.{FindsValue}
 use Rattle.lezgauri.specs.Places.{found_position}
 use Rattle.lezgauri_c.specs.Values.{at_in, TellsOption, WhereMap}
 use Rattle.lezgauri_c.proofs.ReadLaws.{on_image, tells_place, map_keys}
+use Rattle.lezgauri_c.specs.KeptImages.{types_in}
 use Rattle.lezgauri_c.proofs.reading_maps.lezgauri_raw_get.Goals as goal
 
 pub returns-clause-finds : goal.returns-clause-finds
@@ -25,9 +26,9 @@ returns-clause-finds c sound same =
     let table = sound.picture.table in
     let found = c.get-returned.result in
     let is = subst (λ (k : ℤ). WhereMap image table map (λ U keys vs blocks. FindsValue image table (place_of map) U keys k (result_ok (found_position found)))) (to_z-of_z w64 c.args.key c.ranges.key)
-    (on_image image reader.view.bytes.now c.args.types.now reader.layouts.now bytes_is table_is
+    (on_image image reader.view.bytes.now c.args.types.now (types_in reader) bytes_is table_is
     (λ b t p. WhereMap b t map (λ U keys vs blocks. FindsValue b t (place_of map) U keys (to_z w64 (of_z w64 c.args.key)) (result_ok (found_position found)))) (λ p. c.get-returned.ensures.finds) sound same) in
-    let only = on_image image reader.view.bytes.now c.args.types.now reader.layouts.now bytes_is table_is
+    let only = on_image image reader.view.bytes.now c.args.types.now (types_in reader) bytes_is table_is
     (λ b t p. has_keys (form_at t map.type_id) ≡ true → IsOkUnless (found_position found) code.Absent) (λ p. c.get-returned.ensures.code) sound same in
     subst (λ (place : Place). WhereMap image table place (λ U keys vs blocks. TellsOption c.give.result 113 c.give.new.place (λ value. FindsValue image table (place_of place) U keys c.args.key (at_in value)))) c.place_at-map.ensures
     (λ U keys vs blocks form stands. tells_place code.Absent c.give.result c.args.value.now c.give.new.place found (FindsValue image table (place_of map) U keys c.args.key) c.give.ensures.told

@@ -11,6 +11,7 @@ use Rattle.lezgauri.specs.EitherMap.{has_keys}
 use Rattle.lezgauri.specs.Maps.{first_of, keys_above}
 use Rattle.lezgauri_c.specs.Values.{TellsOption, WhereMap}
 use Rattle.lezgauri_c.proofs.ReadLaws.{on_image, tells_option, map_keys}
+use Rattle.lezgauri_c.specs.KeptImages.{types_in}
 use Rattle.lezgauri_c.proofs.reading_maps.lezgauri_raw_next_key.Goals as goal
 
 pub returns-clause-next : goal.returns-clause-next
@@ -22,9 +23,9 @@ returns-clause-next c sound same =
     let table = sound.picture.table in
     let found = c.next_key-returned.result in
     let is = subst (λ (k : ℤ). WhereMap c.args.image.now table map (λ U keys vs blocks. result_ok found ≡ first_of (keys_above keys k))) (to_z-of_z w64 c.args.after c.ranges.after)
-    (on_image c.args.image.now reader.view.bytes.now c.args.types.now reader.layouts.now bytes_is table_is
+    (on_image c.args.image.now reader.view.bytes.now c.args.types.now (types_in reader) bytes_is table_is
     (λ b t p. WhereMap b t map (λ U keys vs blocks. result_ok found ≡ first_of (keys_above keys (to_z w64 (of_z w64 c.args.after))))) (λ p. c.next_key-returned.ensures.next) sound same) in
-    let only = on_image c.args.image.now reader.view.bytes.now c.args.types.now reader.layouts.now bytes_is table_is
+    let only = on_image c.args.image.now reader.view.bytes.now c.args.types.now (types_in reader) bytes_is table_is
     (λ b t p. has_keys (form_at t map.type_id) ≡ true → IsOkUnless found code.Null) (λ p. c.next_key-returned.ensures.code) sound same in
     subst (λ (place : Place). WhereMap c.args.image.now table place (λ U keys vs blocks. TellsOption c.tell.result 116 c.tell.new.value (λ key. key ≡ first_of (keys_above keys c.args.after)))) c.place_at-map.ensures
     (λ U keys vs blocks form stands.

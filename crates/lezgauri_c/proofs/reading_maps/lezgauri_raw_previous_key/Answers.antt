@@ -11,6 +11,7 @@ use Rattle.lezgauri.specs.EitherMap.{has_keys}
 use Rattle.lezgauri.specs.Maps.{last_of, lower_keys}
 use Rattle.lezgauri_c.specs.Values.{TellsOption, WhereMap}
 use Rattle.lezgauri_c.proofs.ReadLaws.{on_image, tells_option, map_keys}
+use Rattle.lezgauri_c.specs.KeptImages.{types_in}
 use Rattle.lezgauri_c.proofs.reading_maps.lezgauri_raw_previous_key.Goals as goal
 
 pub returns-clause-previous : goal.returns-clause-previous
@@ -22,9 +23,9 @@ returns-clause-previous c sound same =
     let table = sound.picture.table in
     let found = c.previous_key-returned.result in
     let is = subst (λ (k : ℤ). WhereMap c.args.image.now table map (λ U keys vs blocks. result_ok found ≡ last_of (lower_keys keys k))) (to_z-of_z w64 c.args.before c.ranges.before)
-    (on_image c.args.image.now reader.view.bytes.now c.args.types.now reader.layouts.now bytes_is table_is
+    (on_image c.args.image.now reader.view.bytes.now c.args.types.now (types_in reader) bytes_is table_is
     (λ b t p. WhereMap b t map (λ U keys vs blocks. result_ok found ≡ last_of (lower_keys keys (to_z w64 (of_z w64 c.args.before))))) (λ p. c.previous_key-returned.ensures.previous) sound same) in
-    let only = on_image c.args.image.now reader.view.bytes.now c.args.types.now reader.layouts.now bytes_is table_is
+    let only = on_image c.args.image.now reader.view.bytes.now c.args.types.now (types_in reader) bytes_is table_is
     (λ b t p. has_keys (form_at t map.type_id) ≡ true → IsOkUnless found code.Null) (λ p. c.previous_key-returned.ensures.code) sound same in
     subst (λ (place : Place). WhereMap c.args.image.now table place (λ U keys vs blocks. TellsOption c.tell.result 116 c.tell.new.value (λ key. key ≡ last_of (lower_keys keys c.args.before)))) c.place_at-map.ensures
     (λ U keys vs blocks form stands.

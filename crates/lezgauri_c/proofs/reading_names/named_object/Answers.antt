@@ -4,19 +4,20 @@ use Rattle.seg_manager.proofs.NamedReads.{told, told_none, said, unsaid, names_f
 use Rattle.seg_spec.specs.Index.{root_named}
 use Rattle.lezgauri_c.specs.declared.reading_names.Named.{Named}
 use Rattle.lezgauri_c.specs.Values.{allocator_in, stored_in}
+use Rattle.lezgauri_c.specs.KeptImages.{types_in}
 use Rattle.lezgauri_c.proofs.reading_names.named_object.Goals as goal
 
 pub returns-in_err-find-clause-named : goal.returns-in_err-find-clause-named
 returns-in_err-find-clause-named c picture is =
     let bytes = c.args.reader.view.bytes.now in
     let o = root_named picture.names c.args.name.now in
-    let read = c.find.ensures picture.names is.held.index_blocks (names_found (allocator_in bytes) (stored_in bytes c.args.reader.layouts.now) picture is) in
+    let read = c.find.ensures picture.names is.held.index_blocks (names_found (allocator_in bytes) (stored_in bytes (types_in c.args.reader)) picture is) in
     unsaid (λ (it : Named) root. DescribesRoot (slice bytes it.name.at it.name.len) it.type_id it.count root) c.from_residual.result o c.from_residual.ensures (told_none o c.find.result read c.in_err-find.was)
 
 pub returns-clause-named : goal.returns-clause-named
 returns-clause-named c picture is =
     let bytes = c.args.reader.view.bytes.now in
-    let segment = stored_in bytes c.args.reader.layouts.now in
+    let segment = stored_in bytes (types_in c.args.reader) in
     let o = root_named picture.names c.args.name.now in
     let read = c.find.ensures picture.names is.held.index_blocks (names_found (allocator_in bytes) segment picture is) in
     let it = told o c.find.result c.in_ok-find.field-0 read c.in_ok-find.was in

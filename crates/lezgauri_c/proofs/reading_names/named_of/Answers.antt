@@ -4,6 +4,7 @@ use Rattle.seg_spec.specs.Types.{Table, size}
 use Rattle.seg_spec.specs.Value.{count}
 use Rattle.seg_entry.specs.declared.entry.NameEntry.{NameEntry}
 use Rattle.seg_manager.proofs.NamedReads.{entry_type, entry_count}
+use Rattle.lezgauri_c.specs.KeptImages.{types_in}
 use Rattle.lezgauri_c.proofs.reading_names.named_of.Goals as goal
 
 not_none : (o : Option ℕ) (a : ℕ) → o ≡ None → o ≡ Some a → ⊥
@@ -14,13 +15,13 @@ same_some a b e = cc
 
 pub returns-in_err-type_id-clause-named : goal.returns-in_err-type_id-clause-named
 returns-in_err-type_id-clause-named c root named small is =
-    let type_is = c.type_in.ensures ∙ entry_type c.args.reader.view.bytes.now c.args.reader.layouts.now root c.args.entry named small is in
+    let type_is = c.type_in.ensures ∙ entry_type c.args.reader.view.bytes.now (types_in c.args.reader) root c.args.entry named small is in
     absurd (not_none c.type_in.result root.type c.in_err-type_id.was type_is)
 
 pub returns-clause-named : goal.returns-clause-named
 returns-clause-named c root named small is =
     let bytes = c.args.reader.view.bytes.now in
-    let table = c.args.reader.layouts.now in
+    let table = (types_in c.args.reader) in
     let type_is = same_some c.in_ok-type_id.type_id root.type (sym c.in_ok-type_id.was ∙ c.type_in.ensures ∙ entry_type bytes table root c.args.entry named small is) in
     let count_is = entry_count bytes table root c.args.entry named small is in
     let object_is : c.in_ok-object.object ≡ root.at = same_some c.in_ok-object.object root.at (sym c.in_ok-object.was ∙ ap (λ (e : NameEntry). e.object) is) in

@@ -7,6 +7,7 @@ use Rattle.seg_seq.specs.Sequences.{IsPast, ShowsItem}
 use Rattle.lezgauri.specs.Places.{found_position}
 use Rattle.lezgauri_c.specs.Values.{stored_in, ReturnsPlace, WhereVector, WhereList}
 use Rattle.lezgauri_c.proofs.ReadLaws.{on_image}
+use Rattle.lezgauri_c.specs.KeptImages.{types_in}
 use Rattle.lezgauri_c.proofs.reading_sequences.lezgauri_raw_item.Goals as goal
 
 pub returns-clause-vector : goal.returns-clause-vector
@@ -18,7 +19,7 @@ returns-clause-vector c sound same =
     let image = c.args.image.now in
     let table = sound.picture.table in
     let found = c.item-returned.result in
-    let is = on_image image reader.view.bytes.now c.args.types.now reader.layouts.now bytes_is table_is
+    let is = on_image image reader.view.bytes.now c.args.types.now (types_in reader) bytes_is table_is
     (λ b t p. WhereVector b t sequence (λ U vs blocks. MatchResult (found_position found) (ShowsItem (stored_in b t) (place_of sequence) U c.args.index) (IsPast c.args.index (count vs)))) (λ p. c.item-returned.ensures.vector) sound same in
     subst (λ (place : Place). WhereVector image table place (λ U vs blocks. ReturnsPlace c.give.result c.args.item.now c.give.new.place
     (λ r. MatchResult (found_position r) (ShowsItem (stored_in image table) (place_of place) U c.args.index) (IsPast c.args.index (count vs))))) c.place_at-sequence.ensures
@@ -33,7 +34,7 @@ returns-clause-list c sound same =
     let image = c.args.image.now in
     let table = sound.picture.table in
     let found = c.item-returned.result in
-    let is = on_image image reader.view.bytes.now c.args.types.now reader.layouts.now bytes_is table_is
+    let is = on_image image reader.view.bytes.now c.args.types.now (types_in reader) bytes_is table_is
     (λ b t p. WhereList b t sequence (λ U vs blocks. MatchResult (found_position found) (ShowsItem (stored_in b t) (place_of sequence) U c.args.index) (IsPast c.args.index (count vs)))) (λ p. c.item-returned.ensures.list) sound same in
     subst (λ (place : Place). WhereList image table place (λ U vs blocks. ReturnsPlace c.give.result c.args.item.now c.give.new.place
     (λ r. MatchResult (found_position r) (ShowsItem (stored_in image table) (place_of place) U c.args.index) (IsPast c.args.index (count vs))))) c.place_at-sequence.ensures

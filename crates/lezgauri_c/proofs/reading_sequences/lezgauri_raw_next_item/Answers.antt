@@ -6,6 +6,7 @@ use Rattle.seg_seq.specs.Sequences.{ShowsItem}
 use Rattle.lezgauri.specs.Places.{found_position}
 use Rattle.lezgauri_c.specs.Values.{stored_in, ReturnsPlace, WhereList, ShowsNext}
 use Rattle.lezgauri_c.proofs.ReadLaws.{on_image}
+use Rattle.lezgauri_c.specs.KeptImages.{types_in}
 use Rattle.lezgauri_c.proofs.reading_sequences.lezgauri_raw_next_item.Goals as goal
 
 pub returns-clause-next : goal.returns-clause-next
@@ -17,7 +18,7 @@ returns-clause-next c sound same =
     let image = c.args.image.now in
     let table = sound.picture.table in
     let found = c.next_item-returned.result in
-    let is = on_image image reader.view.bytes.now c.args.types.now reader.layouts.now bytes_is table_is
+    let is = on_image image reader.view.bytes.now c.args.types.now (types_in reader) bytes_is table_is
     (λ b t p. WhereList b t list (λ U vs blocks. (i : ℕ) → ShowsItem (stored_in b t) (place_of list) U i c.args.item → ShowsNext (stored_in b t) (place_of list) U (count vs) i (found_position found)))
     (λ p U vs blocks has i shows. c.next_item-returned.ensures.next U i vs blocks has shows) sound same in
     subst (λ (place : Place). WhereList image table place (λ U vs blocks. (i : ℕ) → ShowsItem (stored_in image table) (place_of place) U i c.args.item →

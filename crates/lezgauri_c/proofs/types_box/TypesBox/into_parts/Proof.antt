@@ -50,8 +50,8 @@ module _ {M : Type 1} {𝓤 : Ura M} (𝓛 : Logic 𝓤) (at_mem : Memory → SP
       let v = z.0.3.0 in
       let a = z.0.3.1.0 in
       let To = type_at (F.signature).result tt in
-      qed 𝓛 ((‵ ftrue ⊛ ‵ (owns (types_at (F.signature).params z.0.0) z.0.3 z.0.4)) ∷ raw (fact 𝓤 (is_some v.table ≡ true)) ∷ []) ∵
-      move ! (1 ∷ []) $ heard ! (is_some v.table ≡ true) (λ there. let one = one_there v.table there in let x = one.0 in split ! $ drop ! $
+      qed 𝓛 ((‵ ftrue ⊛ ‵ (owns (types_at (F.signature).params z.0.0) z.0.3 z.0.4)) ∷ raw (fact 𝓤 (is_some v.image ≡ true)) ∷ []) ∵
+      move ! (1 ∷ []) $ heard ! (is_some v.image ≡ true) (λ there. let one = one_there v.image there in let x = one.0 in split ! $ drop ! $
       fsplit ! $ fsplit ! $ fpick ! (λ vss. fsplit ! $ feq_l ! (λ ev. fsplit ! $ feq_l ! (λ ep. drop ! $
       rewrite ! 0 (λ (k : Option types_row.Denot). ‵ (may_own types_row v.at k)) one.1 refl $
       in_a_block ! v.at (λ p. may_own types_row p (Some x)) (fst∗ 𝓤 (never 𝓤) (sem 𝓛 (ghosts.dealloc_token c_heap (bare (τ E)) null_ptr))) (λ b o at.

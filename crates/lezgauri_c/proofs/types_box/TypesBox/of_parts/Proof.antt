@@ -50,7 +50,7 @@ module _ {M : Type 1} {𝓤 : Ura M} (𝓛 : Logic 𝓤) (at_mem : Memory → SP
       let v : D E = record { ptr = z.0.3.0.at; alloc = z.0.3.0.alloc; value = z.0.3.0.value } in
       qed 𝓛 ((‵ ftrue ⊛ ‵ (fsep ((B E).own_val v z.0.4.0) ftrue)) ∷ raw (emp 𝓤) ∷ []) ∵ split ! $ drop ! $ fsplit ! $
       box_out E ! v z.0.4.0 (λ b o hv e ws fa. fjoin ! $ move ! (1 ∷ 2 ∷ 3 ∷ []) $ drop ! $ drop ! $ drop ! $
-      let made : the_row.Denot = record { at = block_ptr b o; table = Some v.value } in
+      let made : the_row.Denot = record { at = block_ptr b o; image = Some v.value } in
       let had = word E hv b o in
       let w : Val = vstruct (vcons (vptr b o) vnil) in
       let Γ : List (Item 𝓤) = ‵ (may_own types_row (block_ptr b o) (Some v.value)) ∷ [] in
