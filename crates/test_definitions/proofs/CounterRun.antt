@@ -1,15 +1,15 @@
 -- The increment client runs on an image in which x is the number 41.
-use Rattle.std.proofs.Common.{◌≡◌, ℕ, ◌+◌, true, false, List, [], ◌∷◌, length, replicate, codes, pos, Bool, Some, None, inl, refl, sym, ◌∙◌, ap, lit<, lit≤}
+use Rattle.std.proofs.Common.{◌≡◌, ℕ, ◌+◌, true, false, List, [], ◌∷◌, length, replicate, codes, pos, Bool, Some, None, inl, inr, refl, sym, ◌∙◌, ap, lit<, lit≤}
 use Rattle.std.specs.Prelude.{ℤ, option_map, slice_index_or, if◌then◌else◌}
 use Rattle.std.specs.Fmt.{digits}
-use Rattle.seg_spec.specs.Bytes.{slice, put, number, number_of, word, set_number, set_long, signed, IsSame}
-use Rattle.seg_spec.specs.Types.{size}
+use Rattle.seg_spec.specs.Bytes.{ChangesOnly, spelling, slice, put, number, number_of, word, set_number, set_long, signed, IsSame}
+use Rattle.seg_spec.specs.Types.{Form, size}
 use Rattle.seg_spec.specs.Window.{IsPlace}
 use Rattle.seg_spec.specs.Value.{Value, Int, nil, cons}
 use Rattle.seg_spec.specs.Heap.{live}
-use Rattle.seg_spec.specs.Reads.{here}
+use Rattle.seg_spec.specs.Reads.{Place, here}
 use Rattle.seg_spec.specs.Index.{Root, plain_root, same_name}
-use Rattle.seg_spec.specs.Header.{next_word}
+use Rattle.seg_spec.specs.Header.{allocator_word, next_word}
 use Rattle.seg_spec.specs.Shared.{names_in, names_each, replaced}
 use Rattle.seg_spec.specs.Counting.{AreCounted}
 use Rattle.seg_spec.specs.Images.{upgraded}
@@ -22,6 +22,8 @@ use Rattle.test_definitions.proofs.SoundImages.{counter_tiles, counter_fill, cou
 use Rattle.seg_spec.proofs.Images.UpgradeLaws.{upgraded_held, upgraded_counted, upgraded_live}
 use Rattle.seg_spec.proofs.Images.RootWriteLaws.{stored}
 use Rattle.seg_spec.proofs.Values.PlaceFrameLaws.{word-same}
+use Rattle.seg_spec.proofs.Values.PlaceWriteLaws.{around_then}
+use Rattle.seg_spec.proofs.SliceLaws.{put-changes}
 use Rattle.client_spec.specs.declared.table.Operation.{Operation}
 use Rattle.client_spec.specs.Syntax.{Instruction}
 use Rattle.client_spec.specs.Grammar.{client_bytes}
@@ -35,12 +37,15 @@ use Rattle.client_spec.specs.Pictures.{Pictures, AreOwned, names_in as names_of_
 use Rattle.client_spec.proofs.TypedStates.ValueLaws.{Some_inj}
 use Rattle.client_spec.proofs.TypedStates.PictureLaws.{owned_one}
 use Rattle.client_spec.proofs.Unfolded.PictureTreeLaws.{own_trees}
+use Rattle.client_spec.specs.Asks.{LedTo}
+use Rattle.client_spec.specs.Ties.{spot_of, Changes}
 use Rattle.client_spec.specs.OnImages.{Situation, image_machine, RowOn, Given, Left, IsFirst, IsLeftAfter, RunsClient}
 use Rattle.client_spec.specs.Clients.{AreAccepted}
 use Rattle.client_spec.specs.Outcome.{given_first, IsOutcome}
 use Rattle.client_spec.specs.Fixtures.{at, increment, counted, x}
 use Rattle.client_sim.specs.Shows.{ChangesImage}
 use Rattle.client_sim.proofs.ImageChangeLaws.{unchanged}
+use Rattle.client_sim.proofs.Places.PathPlaceLaws.{PlaceFound, place_found}
 use Rattle.test_definitions.proofs.IncrementLaws.{increment_spelled, same_x}
 
 -- ---- the states and the image
@@ -189,6 +194,35 @@ same_length : length image ≡ length start
 unfolding counter put set_number
 same_length = refl
 
+-- only the number of x changes
+abbrev store_x : Instruction
+store_x = at Operation.Store 0 0 1 (pos 0)
+
+abbrev x_place : Place
+x_place = record { at = 720; type = 0 }
+
+before_store : Pictures [] added start
+before_store = plain_pictured added.registers tt
+
+led_to_x : LedTo increment.constants store_x before_store x_place Form.i64
+unfolding size before_store
+led_to_x = record { path = x; path_is = refl; stands = record { root = root; item = 0; begins = refl; leads = here }; form_is = refl }
+
+x_found : PlaceFound before_store led_to_x.stands (Int (pos 41))
+x_found = place_found before_store led_to_x.stands (Int (pos 41)) refl
+
+x_alone : ChangesOnly start image 720 (size added.types 0)
+unfolding size set_number
+x_alone = put-changes start 720 (spelling 8 42)
+
+stores_x : Changes increment.constants store_x before_store image
+stores_x = record {
+  spot = spot_of added.types x_place;
+  own = x_found.blocks;
+  touches = record { place = x_place; form = Form.i64; led_to = led_to_x; spot_is = refl; value = Int (pos 41); holds = x_found.holds_it };
+  kept = λ b some away. around_then (word start allocator_word) start counter_picture.table x_place (Int (pos 41)) x_found.blocks x_found.stands image x_alone b some;
+}
+
 module _ (h : List ℕ) where
   abbrev h1 : List ℕ
   h1 = again h start
@@ -231,7 +265,7 @@ module _ (h : List ℕ) where
     before = pictured added.registers tt;
     after = pictured_then [];
     blocks = record { asks = []; asked = refl; gives = []; returned = refl; blocks = live start; granted = refl; left = same_live };
-    ties = record { next_is = word-same start image next_word next_same; image_kept = λ e. cc; idle_kept = tt };
+    ties = record { next_is = word-same start image next_word next_same; image_kept = λ e. cc; idle_kept = tt; changes = inr stores_x };
     length_kept = same_length;
     header_kept = header_kept;
     moved = record { steps = refl; base = refl; host = refl };
@@ -244,7 +278,7 @@ module _ (h : List ℕ) where
     before = pictured_then [];
     after = pictured_then (codes "42\n");
     blocks = record { asks = []; asked = refl; gives = []; returned = refl; blocks = live image; granted = refl; left = refl };
-    ties = record { next_is = refl; image_kept = λ e. refl; idle_kept = tt };
+    ties = record { next_is = refl; image_kept = λ e. refl; idle_kept = tt; changes = inl refl };
     length_kept = refl;
     header_kept = refl;
     moved = record { steps = refl; base = refl; host = refl };
