@@ -1,5 +1,5 @@
 -- The increment client runs on an image in which x is the number 41.
-use Rattle.std.proofs.Common.{◌≡◌, ℕ, ◌+◌, true, false, List, [], ◌∷◌, length, replicate, codes, pos, Bool, Some, None, inl, inr, refl, sym, ◌∙◌, ap, lit<, lit≤}
+use Rattle.std.proofs.Common.{◌≡◌, ℕ, ◌+◌, true, false, List, [], ◌∷◌, length, replicate, codes, pos, Bool, Some, None, inl, inr, refl, sym, ◌∙◌, ap, arith, lit<, lit≤}
 use Rattle.std.specs.Prelude.{ℤ, option_map, slice_index_or, if◌then◌else◌}
 use Rattle.std.specs.Fmt.{digits}
 use Rattle.seg_spec.specs.Bytes.{ChangesOnly, spelling, slice, put, number, number_of, word, set_number, set_long, signed, IsSame}
@@ -44,7 +44,7 @@ use Rattle.client_spec.specs.Clients.{AreAccepted}
 use Rattle.client_spec.specs.Outcome.{given_first, IsOutcome}
 use Rattle.client_spec.specs.Fixtures.{at, increment, counted, x}
 use Rattle.client_sim.specs.Shows.{ChangesImage}
-use Rattle.client_sim.proofs.ImageChangeLaws.{unchanged}
+use Rattle.client_sim.proofs.ImageChangeLaws.{kept_nowhere, unchanged}
 use Rattle.client_sim.proofs.Places.PathPlaceLaws.{PlaceFound, place_found}
 use Rattle.test_definitions.proofs.IncrementLaws.{increment_spelled, same_x}
 
@@ -363,6 +363,9 @@ is_left = record {
   length_kept = refl;
   header_kept = refl;
   next_kept = refl;
+  image_kept = λ e. refl;
+  kept = kept_nowhere [] held.laid_out.heap (λ b some away. record { live = refl; has_tag = refl; room = omega arith; payload = refl });
+  frozen_kept = tt;
   picture = picture;
   held = held;
   counted = image_counted;
