@@ -64,6 +64,7 @@ use Rattle.client_spec.specs.Effect.{outcome, effect}
 use Rattle.client_spec.specs.Plain.{UsesUp}
 use Rattle.client_spec.specs.OnImages.{RowWith}
 use Rattle.client_spec.specs.Trees.{unfolded_register}
+use Rattle.client_sim.proofs.Objects.OwnedPlaceLaws.{owning}
 use Rattle.client_sim.specs.Shows.{World, place_in, owns_in, KeepsRegister, Shows, ChangesImage}
 use Rattle.client_sim.specs.Seeing.{Anchored, Sees, SeenActs}
 use Rattle.client_sim.specs.Sharing.{CellClaim, OnCell, FreezesObject, RefusesToFreeze}
@@ -295,6 +296,7 @@ module _ (allocator : ℕ) (constants : List Constant) (role : Role) (a b c : �
             changes = changes;
             length_kept = refl;
             header_kept = refl;
+            owning = owning h.shows g.shows (λ r had has. refl);
             sees = g;
             same_input = refl;
           })
@@ -540,6 +542,7 @@ module _ (allocator : ℕ) (constants : List Constant) (role : Role) (a b c : �
               changes = changes;
               length_kept = z.length_kept;
               header_kept = z.front_kept;
+              owning = owning h.shows g.shows (λ r had has. refl);
               sees = g;
               same_input = refl;
             })

@@ -226,7 +226,7 @@ module _ {others : List Root} {types : Table} {constants : List Constant} {first
       → Frame (ended (sharing class) ks) w (with_image w new) h.pictured (all_but_class one class Ends ending none s' new later keeps front as_known registers besides).pictured
   unfolding all_but_class
   frame_but_class one class Ends ending none s' new later keeps front as_known registers besides stays =
-      frame_rooted h (ended (sharing class) ks) s' (with_image w new) later Ends keeps front _ _ _ _ _ stays (unknown_same (ended (sharing class) ks) s s' w new registers)
+      frame_rooted h (ended (sharing class) ks) s' (with_image w new) later Ends keeps front _ _ _ _ _ stays (unknown_same (ended (sharing class) ks) s s' w new registers) (λ r had has. refl)
 
 -- ---- a new object, or none
 
@@ -283,7 +283,7 @@ module _ {others : List Root} {types : Table} {constants : List Constant} {first
       (shows_reference others types constants first allocator ks (state_then n) (with_image w new) shows.0 a (Class.Name k) T path place within free by typed_so refl
       (subst (λ p. LeadsInImage p path place) (sym shows.1) led))
       (frame_reference others types constants first allocator ks (state_then n) (with_image w new) shows.0 a _ _ _ _ _ _ _ _ _ _
-      (subst (λ p. Frame ks w (with_image w new) h.pictured p) (sym shows.1) (record { frozen = comes.stays; unknown = unknown_same ks s (state_then n) w new refl })))
+      (subst (λ p. Frame ks w (with_image w new) h.pictured p) (sym shows.1) (record { frozen = comes.stays; unknown = unknown_same ks s (state_then n) w new refl; owners = λ r had has. refl })))
 
   pub not_made : (n code : ℕ) → code ≡ answer_number bad_alloc → IsDenied allocator w.image s.types bytes T h.pictured.picture h.pictured.held.index_blocks new n
       → outcome constants i false s ≡ fail a bad_alloc s → ChangesImage constants i h.pictured bad_alloc new
@@ -299,7 +299,7 @@ module _ {others : List Root} {types : Table} {constants : List Constant} {first
       (row ∙ answer_is types constants ks s h.as_known bad_alloc a x free) changes d.long d.front refl
       (shows_number others types constants first allocator ks s (with_image w new) shows.0 a (pos 2) within free)
       (frame_number others types constants first allocator ks s (with_image w new) shows.0 a _ _ _
-      (subst (λ p. Frame ks w (with_image w new) h.pictured p) (sym shows.1) (record { frozen = stays.stays; unknown = unknown_same ks s s w new refl }))))
+      (subst (λ p. Frame ks w (with_image w new) h.pictured p) (sym shows.1) (record { frozen = stays.stays; unknown = unknown_same ks s s w new refl; owners = λ r had has. refl }))))
 
   -- register a gets an error code, and nothing else changes
   pub refused : (answer : Answer) (code : ℕ) → code ≡ answer_number answer → new ≡ w.image → outcome constants i true s ≡ fail a answer s → ChangesImage constants i h.pictured answer w.image

@@ -41,6 +41,7 @@ use Rattle.client_spec.proofs.TypedStates.DefaultLaws.{default_has}
 use Rattle.client_spec.proofs.Rows.RuleRowLaws.{bind_ok, Ok_inj, opens_ok, answer_is}
 use Rattle.client_spec.proofs.Rows.RowPartLaws.{owner_found}
 use Rattle.client_spec.proofs.Spelling.ConstantNameLaws.{one_each}
+use Rattle.client_sim.proofs.Objects.OwnedPlaceLaws.{keeps_beside}
 use Rattle.client_sim.specs.Shows.{World, place_in, owns_in, Shown, KeepsFrozenPaths, Shows, Acts}
 use Rattle.client_sim.proofs.ImageChangeLaws.{kept_nowhere, changed, unchanged}
 use Rattle.client_sim.proofs.Frozen.FrozenPathLaws.{frozen_left}
@@ -130,7 +131,7 @@ module _ {others : List Root} {types : Table} {constants : List Constant} (one :
           register_is = set_beside s.registers a r (Register.Owner v place.type) Register.Undefined far;
           place_is = (place_one others types constants first allocator ks s w h a place).places_kept r far;
           owns_is = set_beside w.owns a r true false far;
-        })
+        }) (λ r had has. ap (λ (p : Place). p.at) ((place_one others types constants first allocator ks s w h a place).places_kept r (keeps_beside h a free r had)))
 
   -- ---- it no longer owns it
 
@@ -166,7 +167,7 @@ module _ {others : List Root} {types : Table} {constants : List Constant} (one :
     unfolding shows_released
     frame_released T is = frame_rooted h ks_released (set_register s b Register.Undefined) released c.later (λ o. o ≡ Origin.Owned b) c.keeps front _ _ _ _ _ c.stays (λ r e o.
         let far = owner_apart h b T r is o in
-        record { register_is = set_beside s.registers b r Register.Undefined Register.Undefined far; place_is = refl; owns_is = set_beside w.owns b r false false far })
+        record { register_is = set_beside s.registers b r Register.Undefined Register.Undefined far; place_is = refl; owns_is = set_beside w.owns b r false false far }) (λ r had has. refl)
 
   -- an empty path from a register's object refers to its root
   pub owned_root : (b : ℕ) (place : Place) → LeadsInImage h.pictured (path_from (Origin.Owned b)) place → (root : Root) × (root_of_register s.registers h.pictured.owned b ≡ Some root) × (root.at ≡ place.at)

@@ -44,6 +44,7 @@ use Rattle.client_spec.proofs.Unfolded.PictureTreeLaws.{all_named, trees_one, pi
 use Rattle.client_spec.proofs.Spelling.ConstantNameLaws.{one_each}
 use Rattle.client_spec.proofs.Unfolded.UnfoldedStateLaws.{register_same, value_same, type_same, put_same}
 use Rattle.client_spec.proofs.TypedStates.ValueLaws.{bind_some}
+use Rattle.client_sim.proofs.Objects.OwnedPlaceLaws.{owning}
 use Rattle.client_sim.specs.Shows.{World, place_in, Shows, ChangesImage}
 use Rattle.client_sim.specs.Seeing.{Anchored, Sees, SeenActs}
 use Rattle.client_sim.specs.Sharing.{SharesCell}
@@ -384,6 +385,7 @@ module _ (allocator : ℕ) (constants : List Constant) (role : Role) (a b c : �
         changes = changes;
         length_kept = s.clears.changes.length_kept;
         header_kept = s.clears.changes.front_kept;
+        owning = owning h.shows shows (λ r had has. refl);
         sees = sees;
         same_input = refl;
       }

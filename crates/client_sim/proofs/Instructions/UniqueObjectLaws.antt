@@ -104,7 +104,7 @@ module _ {others : List Root} {types : Table} {constants : List Constant} (one :
 
     pub frame_more : Frame ks w (with_image w new) h.pictured shows_more.pictured
     unfolding shows_more
-    frame_more = frame_rooted h ks s_more (with_image w new) c.later (λ o. ⊥) c.keeps front _ _ _ _ _ c.stays (unknown_same ks s s_more w new refl)
+    frame_more = frame_rooted h ks s_more (with_image w new) c.later (λ o. ⊥) c.keeps front _ _ _ _ _ c.stays (unknown_same ks s s_more w new refl) (λ r had has. refl)
 
     pub more_there : begins_unique shows_more.pictured.picture T ≡ Some root.at
     unfolding shows_more
@@ -131,7 +131,7 @@ module _ {others : List Root} {types : Table} {constants : List Constant} (one :
 
     pub frame_less : Frame ks_less w (with_image w new) h.pictured shows_less.pictured
     unfolding shows_less
-    frame_less = frame_rooted h ks_less s_less (with_image w new) c.later (λ o. o ≡ Origin.Unique T) c.keeps front _ _ _ _ _ c.stays (unknown_same ks_less s s_less w new refl)
+    frame_less = frame_rooted h ks_less s_less (with_image w new) c.later (λ o. o ≡ Origin.Unique T) c.keeps front _ _ _ _ _ c.stays (unknown_same ks_less s s_less w new refl) (λ r had has. refl)
 
   -- ---- references of a class end, and nothing else changes
 
@@ -145,7 +145,7 @@ module _ {others : List Root} {types : Table} {constants : List Constant} (one :
   pub frame_ended : (class : Class) → Frame (ended (sharing class) ks) w w h.pictured (shows_ended class).pictured
   unfolding shows_ended
   frame_ended class = frame_rooted h (ended (sharing class) ks) s w h.pictured (λ o. ⊥) _ refl _ _ _ _ _ (frozen_same_image w.image h.pictured.picture.table h.pictured.picture.frozen)
-      (unknown_same (ended (sharing class) ks) s s w w.image refl)
+      (unknown_same (ended (sharing class) ks) s s w w.image refl) (λ r had has. refl)
 
 none_begins : (o : Option Root) → option_map {T = Root} {U = ℕ} (λ r. r.at) o ≡ None → o ≡ None
 none_begins None e = refl
