@@ -277,19 +277,44 @@ module _ (h : List ℕ) where
 
   finds : Row (at Operation.Find 0 16 16 (pos 0)) (situation counted start h 0) (situation found start h1 1)
   unfolding effect
-  finds = kept_row _ counted found h 0 refl (pictured counted.registers tt) (pictured found.registers tt) (none_here counted.registers tt) (none_here found.registers tt) (unchanged refl (record { asks = []; asked = refl; gives = []; returned = refl; blocks = live start; granted = refl; left = refl }))
+  finds = kept_row _ counted found h 0 refl (pictured counted.registers tt) (pictured found.registers tt) (none_here counted.registers tt) (none_here found.registers tt) (unchanged refl (record {
+    asks = [];
+    asked = refl;
+    gives = [];
+    returned = refl;
+    blocks = live start;
+    granted = refl;
+    left = refl;
+  }))
 
   loads : Row (at Operation.Load 1 0 0 (pos 0)) (situation found start h1 1) (situation loaded start h2 2)
   unfolding effect
-  loads = kept_row _ found loaded h1 1 refl (pictured found.registers tt) (pictured loaded.registers tt) (none_here found.registers tt) (none_here loaded.registers tt) (unchanged refl (record { asks = []; asked = refl; gives = []; returned = refl; blocks = live start; granted = refl; left = refl }))
+  loads = kept_row _ found loaded h1 1 refl (pictured found.registers tt) (pictured loaded.registers tt) (none_here found.registers tt) (none_here loaded.registers tt) (unchanged refl (record {
+    asks = [];
+    asked = refl;
+    gives = [];
+    returned = refl;
+    blocks = live start;
+    granted = refl;
+    left = refl;
+  }))
 
   sets_one : Row (at Operation.Const 2 0 0 (pos 1)) (situation loaded start h2 2) (situation with_one start h3 3)
   unfolding effect
-  sets_one = kept_row _ loaded with_one h2 2 refl (pictured loaded.registers tt) (pictured with_one.registers tt) (none_here loaded.registers tt) (none_here with_one.registers tt) (unchanged refl (record { asks = []; asked = refl; gives = []; returned = refl; blocks = live start; granted = refl; left = refl }))
+  sets_one = kept_row _ loaded with_one h2 2 refl (pictured loaded.registers tt) (pictured with_one.registers tt) (none_here loaded.registers tt) (none_here with_one.registers tt) (unchanged refl
+      (record { asks = []; asked = refl; gives = []; returned = refl; blocks = live start; granted = refl; left = refl }))
 
   adds : Row (at Operation.Add 1 1 2 (pos 0)) (situation with_one start h3 3) (situation added start h4 4)
   unfolding effect
-  adds = kept_row _ with_one added h3 3 refl (pictured with_one.registers tt) (pictured added.registers tt) (none_here with_one.registers tt) (none_here added.registers tt) (unchanged refl (record { asks = []; asked = refl; gives = []; returned = refl; blocks = live start; granted = refl; left = refl }))
+  adds = kept_row _ with_one added h3 3 refl (pictured with_one.registers tt) (pictured added.registers tt) (none_here with_one.registers tt) (none_here added.registers tt) (unchanged refl (record {
+    asks = [];
+    asked = refl;
+    gives = [];
+    returned = refl;
+    blocks = live start;
+    granted = refl;
+    left = refl;
+  }))
 
   stores : Row (at Operation.Store 0 0 1 (pos 0)) (situation added start h4 4) (situation (more []) image h5 5)
   unfolding effect

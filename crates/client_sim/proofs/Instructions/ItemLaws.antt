@@ -414,7 +414,8 @@ module _ (allocator : ℕ) (constants : List Constant) (role : Role) (a b c : �
             (led_put h b r.class r.type r.its new (Text new_text) p.others (names_same (ap names_in v.1 ∙ names_text v.0 ∙ sym (names_text new_text))) p.succeeds.changes) p.succeeds.changes.length_kept p.succeeds.changes.front_kept
             (pos n) valid.a o.0 is_row
             (let alone = place_alone h.pictured (place_touched one h i r) (kept_at_place s.types h.table_is p.succeeds.changes) in
-            changed_at_place p.succeeds.changes.back_kept refl refl tt (record { spot = spot_of s.types place; own = alone.0; touches = alone.1; kept = alone.2 }) (grants_asks constants i h.pictured allocator h.allocator_is [] refl new w.table place (Text new_text) [] r.its.found.blocks p.others
+            changed_at_place p.succeeds.changes.back_kept refl refl tt (record { spot = spot_of s.types place; own = alone.0; touches = alone.1; kept = alone.2 })
+            (grants_asks constants i h.pictured allocator h.allocator_is [] refl new w.table place (Text new_text) [] r.its.found.blocks p.others
             (place, r.form, led_to one h i r, subst (λ k. PopGoes constants i h.pictured place k (count_at w.image place.at - 1) []) (sym same) refl) p.succeeds))
         | inr is ↦
             let v = items_value s.types r.form r.its.value is.0 is.1 r.fits in
@@ -494,7 +495,8 @@ module _ (allocator : ℕ) (constants : List Constant) (role : Role) (a b c : �
       ∙ ap (λ vs. pop_first a r.its.path vs s) q.2 ∙ ap (λ m. give_count a m (put_at s r.its.path (Seq left))) n_is in
       subst (λ k. Acts others types constants first allocator i success k s w (with_number (with_image w new) a (pos n))) (sym o.1)
       (number_acts one h i r (Seq left) fits new t.put t.long t.front (pos n) valid.a o.0 row
-      (changed_at_place t.back refl refl tt (record { spot = spot_of s.types place; own = t.own; touches = t.touches; kept = t.kept }) (gives_back constants i h.pictured new refl t.gives (place, r.form, led_to one h i r, part_goes one h i r.form r.what place 0 t.gives is t.goes) t.left_is))))
+      (changed_at_place t.back refl refl tt (record { spot = spot_of s.types place; own = t.own; touches = t.touches; kept = t.kept }) (gives_back constants i h.pictured new refl t.gives
+      (place, r.form, led_to one h i r, part_goes one h i r.form r.what place 0 t.gives is t.goes) t.left_is))))
 
   pub pop_front_refused : (new : List ℕ) (n : ℕ) → EachList (λ U vs blocks. (count vs ≡ 0) × (new ≡ w.image) × (n ≡ 6)) → IsRefusedAs allocator constants role (of Operation.PopFront) w (with_number (with_image w new) a (pos n))
   unfolding rule effect
@@ -564,7 +566,8 @@ module _ (allocator : ℕ) (constants : List Constant) (role : Role) (a b c : �
       (names_same (ap names_in v.1 ∙ names_seq v.0 ∙ sym (back_named v.0 d (default_names s.types r.what)) ∙ sym (names_seq more))) pushed.succeeds.changes)
       pushed.succeeds.changes.length_kept pushed.succeeds.changes.front_kept x r.what d target valid.a o.0 (item_part r.form r.what (count v.0) r.is) (last_item v.0 d) refl pushed.leads row
       (changed_at_place pushed.succeeds.changes.back_kept refl refl tt
-      (record { spot = spot_of s.types place; own = r.its.found.blocks; touches = place_touched one h i r; kept = kept_at_place s.types h.table_is pushed.succeeds.changes }) (grants_asks constants i h.pictured allocator h.allocator_is (item_asks r.form r.what) (place, r.form, led_to one h i r, back_asks h r.form r.what r.is) new w.table place (Seq more) [] r.its.found.blocks pushed.others
+      (record { spot = spot_of s.types place; own = r.its.found.blocks; touches = place_touched one h i r; kept = kept_at_place s.types h.table_is pushed.succeeds.changes })
+      (grants_asks constants i h.pictured allocator h.allocator_is (item_asks r.form r.what) (place, r.form, led_to one h i r, back_asks h r.form r.what r.is) new w.table place (Seq more) [] r.its.found.blocks pushed.others
       refl pushed.succeeds)))))
 
   -- PUSHB fails if there is no room
@@ -615,7 +618,8 @@ module _ (allocator : ℕ) (constants : List Constant) (role : Role) (a b c : �
       (names_same (ap names_in v.1 ∙ names_seq v.0 ∙ sym (front_named d v.0 (default_names s.types r.what)) ∙ sym (names_seq more))) pushed.succeeds.changes)
       pushed.succeeds.changes.length_kept pushed.succeeds.changes.front_kept (Selector.item 0) r.what d target valid.a o.0 part refl refl pushed.leads row
       (changed_at_place pushed.succeeds.changes.back_kept refl refl tt
-      (record { spot = spot_of s.types place; own = r.its.found.blocks; touches = place_touched one h i r; kept = kept_at_place s.types h.table_is pushed.succeeds.changes }) (grants_asks constants i h.pictured allocator h.allocator_is asks (place, r.form, led_to one h i r, front_asks h r.form r.what r.is) new w.table place (Seq more) [] r.its.found.blocks pushed.others
+      (record { spot = spot_of s.types place; own = r.its.found.blocks; touches = place_touched one h i r; kept = kept_at_place s.types h.table_is pushed.succeeds.changes })
+      (grants_asks constants i h.pictured allocator h.allocator_is asks (place, r.form, led_to one h i r, front_asks h r.form r.what r.is) new w.table place (Seq more) [] r.its.found.blocks pushed.others
       refl pushed.succeeds)))))
 
   pub push_front_refused : (new : List ℕ) (n : ℕ) → EachList (λ U vs blocks. (n ≡ 2) × Refuses allocator w.image new (block_for (8 + size w.table U) ∷ []))

@@ -129,7 +129,12 @@ module _ (allocator : ℕ) (constants : List Constant) (role : Role) (a b c : �
         (names_then (names_same (names_map keys vs)) (names_then (remove_named vs j item.0 item.1) (names_same (ap (λ xs. names_in item.0 ++ xs) (sym (names_map (remove keys j) (remove_nth vs j))))))) stands (d.1 item.0 item.1) in
         subst (λ t. Acts others types constants first allocator i success (slice_set (others_ended r.class b ks) a RegisterType.Int) s w (with_number (with_image w new) a (truth t))) (sym d.0)
         (number_acts one h i r later (fits (remove keys j) (remove_nth vs j) (all_remove s.types U vs j all) (remove_length keys vs j long)) new t.put t.long t.front (pos 1) within free (row (Some j) e)
-        (changed_at_place t.back refl refl (λ none. absurd (let some : None ≡ Some j = sym none ∙ found_is i s r.its.path key keys vs r.path_is key_is there ∙ e in cc)) (record { spot = spot_of s.types place; own = t.own; touches = t.touches; kept = t.kept }) (gives_back constants i h.pictured new refl t.gives (place, r.form, led_to one h i r, goes_by (Some j) e t.gives t.goes) t.left_is)))
+        (changed_at_place t.back refl refl (λ none. absurd (let some : None ≡ Some j = sym none ∙ found_is i s r.its.path key keys vs r.path_is key_is there ∙ e in cc)) (record {
+          spot = spot_of s.types place;
+          own = t.own;
+          touches = t.touches;
+          kept = t.kept;
+        }) (gives_back constants i h.pictured new refl t.gives (place, r.form, led_to one h i r, goes_by (Some j) e t.gives t.goes) t.left_is)))
 
   pub delete_key_acts : (new : List ℕ) (gone : Bool) → ((form : Form) (U : ℕ) (keys : List ℤ) (vs : Values) (blocks : List ℕ) → form_at w.table place.type ≡ Some form → map_value form ≡ Some U
       → (stands : Stands allocator w.image w.table place (Map keys vs) blocks) → length keys ≡ count vs → Deletes new gone keys vs stands.home blocks (key_place keys key))
@@ -222,7 +227,8 @@ module _ (allocator : ℕ) (constants : List Constant) (role : Role) (a b c : �
         (names_same (ap names_in value_is ∙ names_map keys vs ∙ sym (insert_named vs m v (default_names s.types r.what)) ∙ sym (names_map new_keys new_items))) succeeds.changes) succeeds.changes.length_kept succeeds.changes.front_kept
         (Selector.key key) r.what part.0 (record { at = p; type = r.what }) within free (key_part r.form r.what key r.is) part.1 refl d.leads (put_is true None e)
         (changed_at_place succeeds.changes.back_kept refl refl (λ j some. absurd (let none : Some j ≡ None = sym some ∙ found_is i s r.its.path key keys vs r.path_is key_is there_put ∙ e in cc))
-        (record { spot = spot_of s.types place; own = r.its.found.blocks; touches = place_touched one h i r; kept = kept_at_place s.types h.table_is succeeds.changes }) (grants_asks constants i h.pictured allocator h.allocator_is (entry_asks r.form r.what) (place, r.form, led_to one h i r, asks_by None e) new w.table place later [] r.its.found.blocks d.others refl succeeds))
+        (record { spot = spot_of s.types place; own = r.its.found.blocks; touches = place_touched one h i r; kept = kept_at_place s.types h.table_is succeeds.changes })
+        (grants_asks constants i h.pictured allocator h.allocator_is (entry_asks r.form r.what) (place, r.form, led_to one h i r, asks_by None e) new w.table place later [] r.its.found.blocks d.others refl succeeds))
 
     put_denied : (new : List ℕ) (n : ℕ) → n ≡ 2 → key_place keys key ≡ None → Refuses allocator w.image new (entry_asks r.form r.what)
         → Acts others types constants first allocator (of Operation.PutKey) bad_alloc (slice_set (others_ended r.class b ks) a RegisterType.Int) s w (with_number (with_image w new) a (pos n))

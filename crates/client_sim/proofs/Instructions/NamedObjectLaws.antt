@@ -447,7 +447,12 @@ module _ (allocator : ℕ) (constants : List Constant) (role : Role) (a b c : �
       let asked = asks_are Operation.Make s m.values n.name_is (ap (λ (o : Option ℤ). o >>= object_count) index ∙ count_is) none n.type_is in
       let blocks = grants_spent constants i h.pictured allocator h.allocator_is (object_asks w.image s.types T m.values bytes) asked new [] refl (live new) its.left refl in
       subst (λ z. Acts others types constants first allocator i success z s w (with_place (with_image w new) a (record { at = at; type = T }))) (sym (g.1 ∙ ap (λ n. slice_set ks a (RegisterType.Reference (Class.Name k) n)) n.type_is))
-      (made right h a k T bytes n.by n.below valid.a g.0 i new m.values at m.some m.missing its row (changed its.next refl tt (record { spot = nowhere; own = h.pictured.held.index_blocks; touches = (refl, refl); kept = kept_nowhere _ h.pictured.held.laid_out.heap its.kept }) blocks)))
+      (made right h a k T bytes n.by n.below valid.a g.0 i new m.values at m.some m.missing its row (changed its.next refl tt (record {
+        spot = nowhere;
+        own = h.pictured.held.index_blocks;
+        touches = (refl, refl);
+        kept = kept_nowhere _ h.pictured.held.laid_out.heap its.kept;
+      }) blocks)))
 
   -- the count was wrong, there was such an object, or there was no room
   abbrev pub RefusesToMake : (code : ℕ) (picture : Picture) (index_blocks new : List ℕ) → Type 0

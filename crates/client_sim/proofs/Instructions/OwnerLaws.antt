@@ -41,7 +41,7 @@ use Rattle.client_spec.proofs.TypedStates.DefaultLaws.{default_has}
 use Rattle.client_spec.proofs.Rows.RuleRowLaws.{bind_ok, Ok_inj, opens_ok, answer_is}
 use Rattle.client_spec.proofs.Rows.RowPartLaws.{owner_found}
 use Rattle.client_spec.proofs.Spelling.ConstantNameLaws.{one_each}
-use Rattle.client_sim.proofs.Objects.OwnedPlaceLaws.{keeps_beside}
+use Rattle.client_sim.proofs.Objects.OwnedPlaceLaws.{owner_elsewhere}
 use Rattle.client_sim.specs.Shows.{World, place_in, owns_in, Shown, KeepsFrozenPaths, Shows, Acts}
 use Rattle.client_sim.proofs.ImageChangeLaws.{kept_nowhere, changed, unchanged}
 use Rattle.client_sim.proofs.Frozen.FrozenPathLaws.{frozen_left}
@@ -131,7 +131,7 @@ module _ {others : List Root} {types : Table} {constants : List Constant} (one :
           register_is = set_beside s.registers a r (Register.Owner v place.type) Register.Undefined far;
           place_is = (place_one others types constants first allocator ks s w h a place).places_kept r far;
           owns_is = set_beside w.owns a r true false far;
-        }) (λ r had has. ap (λ (p : Place). p.at) ((place_one others types constants first allocator ks s w h a place).places_kept r (keeps_beside h a free r had)))
+        }) (λ r had has. ap (λ (p : Place). p.at) ((place_one others types constants first allocator ks s w h a place).places_kept r (owner_elsewhere h a free r had)))
 
   -- ---- it no longer owns it
 
@@ -245,7 +245,7 @@ module _ {others : List Root} {types : Table} {constants : List Constant} {first
     blocks_are = ap (λ fs. blocks_by c.theirs (freed (names_each root.values) fs)) same;
   }
 
-  -- its blocks, and those of all frozen objects
+  -- its blocks, and the blocks of all frozen objects
   pub root_touched : {other : Picture} (new : List ℕ) (root : Root) → other.frozen ≡ h.pictured.picture.frozen → (c : LeavesWithout w.image new w.table root other) → (o : Option Root) → o ≡ Some root
       → Both (OfRoot h.pictured o) (OfFrozen h.pictured) (c.blocks ++ blocks_by c.theirs other.frozen)
   root_touched {other = other} new root same c o is = (
@@ -289,7 +289,8 @@ module _ (allocator : ℕ) (constants : List Constant) (role : Role) (a b c : �
       let asked : (block_for (size w.table T) ∷ []) ≡ (block_for (size s.types (nat_abs number)) ∷ []) = ap (λ (z : Table). block_for (size z T) ∷ []) h.table_is ∙ ap (λ u. block_for (size s.types u) ∷ []) (sym t.0) in
       let blocks : GrantsAsks constants i h.pictured new = grants_spent constants i h.pictured allocator h.allocator_is (block_for (size w.table T) ∷ []) asked new [] refl (live new) call.spends refl in
       subst (λ k. Acts others types constants first allocator i success k s w (with_owner w new a place)) (sym good_is)
-      (acts_so others types constants first allocator ks s w h i success true (slice_set ks a (RegisterType.Owner T)) (set_register s a (Register.Owner d T)) (with_owner w new a place) row (changed alone.next_kept refl tt (record { spot = nowhere; own = []; touches = (refl, refl); kept = kept_nowhere [] h.pictured.held.laid_out.heap alone.kept }) blocks)
+      (acts_so others types constants first allocator ks s w h i success true (slice_set ks a (RegisterType.Owner T)) (set_register s a (Register.Owner d T)) (with_owner w new a place) row
+      (changed alone.next_kept refl tt (record { spot = nowhere; own = []; touches = (refl, refl); kept = kept_nowhere [] h.pictured.held.laid_out.heap alone.kept }) blocks)
       alone.length_kept alone.front_kept refl shows (frame_owning one h a within g.0 d place fits root refl refl new come alone.front_kept)))
 
   -- NEW fails if there is no room

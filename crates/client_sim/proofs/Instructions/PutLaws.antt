@@ -157,7 +157,12 @@ module _ (allocator : ℕ) (constants : List Constant) (role : Role) (a b c : �
       let blocks = gives_back constants put h.pictured new refl (l.found.blocks ++ given) (place_in w b, r.form, led_to one h put r, goes) (given_back gone picture.frozen l.found.blocks (λ n. refl) clears) in
       subst (λ k. Acts others types constants first allocator put success k s w (with_owning w new c false w.positions w.type_ids)) (ap (λ (k : RegisterTypes × RegisterTypes). k.0) pair)
       (acts_so others types constants first allocator ks s w h put success true (slice_set ks' c RegisterType.Undefined) (set_register (put_at s l.path (Full o.value)) c Register.Undefined)
-      (with_owning w new c false w.positions w.type_ids) row (changed_at_place changes.back_kept refl refl tt (record { spot = spot_of s.types (place_in w b); own = _; touches = touches; kept = kept_at_place s.types h.pictured.types changes }) blocks) changes.length_kept changes.front_kept refl shows
+      (with_owning w new c false w.positions w.type_ids) row (changed_at_place changes.back_kept refl refl tt (record {
+        spot = spot_of s.types (place_in w b);
+        own = _;
+        touches = touches;
+        kept = kept_at_place s.types h.pictured.types changes;
+      }) blocks) changes.length_kept changes.front_kept refl shows
       (frame_moved one h b r.class r.type r.known_as l (Full o.value) fits new c Register.Undefined (λ o. o ≡ Origin.Owned c) moved.to _ _ _ _ _ _ _ _ _ _ _ _ _ _
       (λ n e free. owner_apart h c r.what n (owner ∙ ap RegisterType.Owner (sym same)) free) moved.stays (λ n had has. refl)))
 

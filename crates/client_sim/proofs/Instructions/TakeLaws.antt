@@ -33,7 +33,7 @@ use Rattle.client_spec.proofs.TypedStates.ShapeLaws.{value_of_form}
 use Rattle.client_spec.proofs.Spelling.ConstantNameLaws.{one_each}
 use Rattle.client_spec.proofs.TypedStates.StateLaws.{not_owner}
 use Rattle.client_spec.proofs.TypedStates.ValueLaws.{length_set}
-use Rattle.client_sim.proofs.Objects.OwnedPlaceLaws.{keeps_beside}
+use Rattle.client_sim.proofs.Objects.OwnedPlaceLaws.{owner_elsewhere}
 use Rattle.client_sim.specs.Shows.{World, place_in, owns_in, Acts}
 use Rattle.client_sim.specs.Acting.{ActsAs, IsRefusedAs, ActsPlainly}
 use Rattle.client_sim.proofs.ImageChangeLaws.{kept_at_place, changed_at_place, unchanged}
@@ -168,7 +168,7 @@ module _ (allocator : ℕ) (constants : List Constant) (role : Role) (a b c : �
             (record { spot = spot_of s.types (place_in w b); own = l.found.blocks; touches = place_touched one h take r; kept = kept_at_place s.types h.table_is t.4 }) blocks) changes.length_kept changes.front_kept refl shows
             (frame_moved one h b r.class r.type r.known_as l Empty fits new a owner (λ o. ⊥) moved.0.to _ _ _ _ _ _ _ _ _ _ _ _ _ _
             (λ n e free. not_given after a n (RegisterType.Owner U) (let m = valid.a in omega (arith, sixteen, m)) (λ f. cc) e) moved.0.stays
-            (λ n had has. ap (λ (q : Place). q.at) (others_placed w at U n (keeps_beside (shows_ended one h r.class b) a o.0 n had)))))
+            (λ n had has. ap (λ (q : Place). q.at) (others_placed w at U n (owner_elsewhere (shows_ended one h r.class b) a o.0 n had)))))
       ])
 
   pub take_acts : (at T : ℕ) → TakesFrom at T w.table → ActsAs allocator constants role take w (owner_then at T)

@@ -202,7 +202,8 @@ module _ (allocator : ℕ) (constants : List Constant) (role : Role) (a b c : �
         let blocks : GrantsAsks constants i h.pictured new = grants_spent constants i h.pictured allocator h.allocator_is (asks_one w.table) asked new [] returned (live new) call.spends refl in
         subst (λ k. Acts others types constants first allocator i success k s w (with_place (with_image w new) a place)) (sym good_is)
         (acts_so others types constants first allocator ks s w h i success true (ks_then ks) (set_register s' a (Register.Reference path_is)) (with_place (with_image w new) a place)
-        (row ∙ answer_is types constants ks s' more.as_known success a (Register.Reference path_is) its.0) (changes blocks call.becomes.next_kept (kept_nowhere [] h.pictured.held.laid_out.heap call.becomes.kept)) call.becomes.length_kept call.becomes.front_kept refl shows
+        (row ∙ answer_is types constants ks s' more.as_known success a (Register.Reference path_is) its.0) (changes blocks call.becomes.next_kept
+        (kept_nowhere [] h.pictured.held.laid_out.heap call.becomes.kept)) call.becomes.length_kept call.becomes.front_kept refl shows
         (frame_reference others types constants first allocator ks s' (with_image w new) more a _ _ _ _ _ _ _ _ _ _ (frame_more one h T d fits none root new come call.becomes.front_kept)))
 
     -- the machine does a row that finds the unique object
@@ -300,7 +301,8 @@ module _ (allocator : ℕ) (constants : List Constant) (role : Role) (a b c : �
         | inr call ↦
             let none = none_at right valid.number valid.a e h call.none in
             made right valid.number valid.a e h Operation.FindOrMakeUnique at call (asks_some right valid.number valid.a e h none) refl
-            (λ g next kept. changed next refl (λ root some. absurd (let f : Some root ≡ None = sym some ∙ ap (root_of_type h.pictured.picture.uniques) (known_type right valid.number valid.a e h).0 ∙ call.none in cc)) (record { spot = nowhere; own = []; touches = (refl, refl); kept = kept }) g)
+            (λ g next kept. changed next refl (λ root some. absurd (let f : Some root ≡ None = sym some ∙ ap (root_of_type h.pictured.picture.uniques)
+            (known_type right valid.number valid.a e h).0 ∙ call.none in cc)) (record { spot = nowhere; own = []; touches = (refl, refl); kept = kept }) g)
             (row_none right valid.number valid.a e h (λ n. refer a (path_from (Origin.Unique n)) s) (λ n. add_unique a n true s) none)
       ])
 
@@ -363,7 +365,8 @@ module _ (allocator : ℕ) (constants : List Constant) (role : Role) (a b c : �
           (c.blocks, subst (λ (t : Table). HoldsRoot w.image t call.root c.blocks) h.table_is c.holds_it, (shared, gone_with h new call.root refl c, refl)) in
           let blocks : GrantsAsks constants i h.pictured new = record { asks = []; asked = refl; gives = c.blocks ++ shared; returned = returned; blocks = live w.image; granted = refl; left = c.live_is } in
           acts_so others types constants first allocator ks s w h i success true (slice_set (ended (Class.Unique T) ks) a RegisterType.Int) (set_register s' a (Register.Int (pos 1))) (with_number (with_image w new) a (pos 1))
-          (row (Some u.plain.value) u.there ∙ answer_is types constants (ended (Class.Unique T) ks) s' less.as_known success a (Register.Int (pos 1)) free) (changed c.becomes.next_kept refl (λ none. absurd (let f : None ≡ Some call.root = sym none ∙ ap (root_of_type picture.uniques) operand ∙ call.root_is in cc)) (record {
+          (row (Some u.plain.value) u.there ∙ answer_is types constants (ended (Class.Unique T) ks) s' less.as_known success a (Register.Int (pos 1)) free) (changed c.becomes.next_kept refl (λ none. absurd
+          (let f : None ≡ Some call.root = sym none ∙ ap (root_of_type picture.uniques) operand ∙ call.root_is in cc)) (record {
             spot = nowhere;
             own = c.blocks ++ blocks_by c.theirs picture.frozen;
             touches = (refl, root_touched h new call.root refl c (root_of_type picture.uniques (nat_abs number)) (ap (root_of_type picture.uniques) operand ∙ call.root_is));
