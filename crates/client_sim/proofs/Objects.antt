@@ -1,4 +1,5 @@
 -- Objects of registers, of names and of types: they come, go, move or become frozen.
+pub mod OwnedPlaceLaws
 pub mod FirstRootLaws
 pub mod OwnedRootLaws
 pub mod PictureLaws

@@ -14,7 +14,7 @@ use Rattle.client_spec.specs.Clients.{given_next, GoesOn, RunClients, StayWithin
 
 -- the situation with the image at a base of a host
 abbrev at : Situation → List ℕ → ℕ → Situation
-at x host base = record { state = x.state; image = x.image; host = host; base = base; steps = x.steps }
+at x host base = record { state = x.state; image = x.image; host = host; base = base; steps = x.steps; owned = x.owned }
 
 -- `other` has the same runs as `way`, from any host and base
 record Follows (way other : Way Situation) : Type 0 where
@@ -50,7 +50,7 @@ module _ (constants : List Constant) (others : List Root) (moves other : List Mo
     each = λ x y n end w host base. (
       host_at y host base,
       base_at y base,
-      record { ticks = record { state = w.ticks.state; image = w.ticks.image; moved = moved_there x y w.ticks.moved host base }; steps = w.steps; ends = w.ends },
+      record { ticks = record { state = w.ticks.state; image = w.ticks.image; moved = moved_there x y w.ticks.moved host base; owned = w.ticks.owned }; steps = w.steps; ends = w.ends },
     );
   }
 
@@ -65,6 +65,9 @@ module _ (constants : List Constant) (others : List Root) (moves other : List Mo
     length_kept = w.length_kept;
     header_kept = w.header_kept;
     moved = moved_there x y w.moved host base;
+    owned_before = w.owned_before;
+    owned_after = w.owned_after;
+    owners_stay = w.owners_stay;
   }
 
   picked_follows : (a b c d : Way Situation) → Follows a c → Follows b d → (answer : Answer) → Follows (picked answer a b) (picked answer c d)
@@ -90,7 +93,7 @@ module _ (constants : List Constant) (others : List Root) (moves other : List Mo
       by x y n end (inr (inl w)) host base = (
         host_at y host base,
         base_at y base,
-        inr (inl (record { cut = w.0.cut; image = w.0.image; moved = moved_there x y w.0.moved host base }, w.1, w.2)),
+        inr (inl (record { cut = w.0.cut; image = w.0.image; moved = moved_there x y w.0.moved host base; owned = w.0.owned }, w.1, w.2)),
       )
       by x y n end (inr (inr w)) host base = absurd w.0
 
@@ -157,11 +160,13 @@ client_anywhere client given left r moves host base =
           host = refl;
           base = refl;
           steps = f.steps;
+          owned = f.owned;
         };
         last = at r.last on.0 on.1;
         run = on.2;
         is_left = record {
           trees = l.trees;
+          owned_are = l.owned_are;
           owned_blocks = l.owned_blocks;
           owned = l.owned;
           shared_blocks = l.shared_blocks;
@@ -170,6 +175,9 @@ client_anywhere client given left r moves host base =
           length_kept = l.length_kept;
           header_kept = l.header_kept;
           next_kept = l.next_kept;
+          image_kept = l.image_kept;
+          kept = l.kept;
+          frozen_kept = l.frozen_kept;
           picture = l.picture;
           held = l.held;
           counted = l.counted;

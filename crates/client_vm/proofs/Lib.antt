@@ -7,6 +7,7 @@ mod PartLaws
 mod ObjectLaws
 mod SharedObjectLaws
 mod NamedObjectLaws
+mod FreedBlockLaws
 mod OwnerLaws
 mod ItemLaws
 mod NamedLaws

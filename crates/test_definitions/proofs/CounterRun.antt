@@ -1,15 +1,15 @@
 -- The increment client runs on an image in which x is the number 41.
-use Rattle.std.proofs.Common.{◌≡◌, ℕ, ◌+◌, true, false, List, [], ◌∷◌, length, replicate, codes, pos, Bool, Some, None, inl, refl, sym, ◌∙◌, ap, lit<, lit≤}
+use Rattle.std.proofs.Common.{◌≡◌, ℕ, zero, suc, ◌+◌, true, false, List, [], ◌∷◌, length, replicate, codes, pos, Bool, Some, None, inl, inr, refl, sym, ◌∙◌, ap, arith, lit<, lit≤}
 use Rattle.std.specs.Prelude.{ℤ, option_map, slice_index_or, if◌then◌else◌}
 use Rattle.std.specs.Fmt.{digits}
-use Rattle.seg_spec.specs.Bytes.{slice, put, number, number_of, word, set_number, set_long, signed, IsSame}
-use Rattle.seg_spec.specs.Types.{size}
+use Rattle.seg_spec.specs.Bytes.{ChangesOnly, spelling, slice, put, number, number_of, word, set_number, set_long, signed, IsSame}
+use Rattle.seg_spec.specs.Types.{Form, size}
 use Rattle.seg_spec.specs.Window.{IsPlace}
 use Rattle.seg_spec.specs.Value.{Value, Int, nil, cons}
 use Rattle.seg_spec.specs.Heap.{live}
-use Rattle.seg_spec.specs.Reads.{here}
+use Rattle.seg_spec.specs.Reads.{Place, here}
 use Rattle.seg_spec.specs.Index.{Root, plain_root, same_name}
-use Rattle.seg_spec.specs.Header.{next_word}
+use Rattle.seg_spec.specs.Header.{allocator_word, next_word}
 use Rattle.seg_spec.specs.Shared.{names_in, names_each, replaced}
 use Rattle.seg_spec.specs.Counting.{AreCounted}
 use Rattle.seg_spec.specs.Images.{upgraded}
@@ -22,6 +22,8 @@ use Rattle.test_definitions.proofs.SoundImages.{counter_tiles, counter_fill, cou
 use Rattle.seg_spec.proofs.Images.UpgradeLaws.{upgraded_held, upgraded_counted, upgraded_live}
 use Rattle.seg_spec.proofs.Images.RootWriteLaws.{stored}
 use Rattle.seg_spec.proofs.Values.PlaceFrameLaws.{word-same}
+use Rattle.seg_spec.proofs.Values.PlaceWriteLaws.{around_then}
+use Rattle.seg_spec.proofs.SliceLaws.{put-changes}
 use Rattle.client_spec.specs.declared.table.Operation.{Operation}
 use Rattle.client_spec.specs.Syntax.{Instruction}
 use Rattle.client_spec.specs.Grammar.{client_bytes}
@@ -31,16 +33,19 @@ use Rattle.client_spec.specs.Effect.{outcome, effect}
 use Rattle.client_spec.specs.Typed.{RegisterType, rule, sharing_rule, types_by}
 use Rattle.client_spec.specs.Run.{Run, Nothing, finished}
 use Rattle.client_spec.specs.Trees.{unfolded_object, AreTrees}
-use Rattle.client_spec.specs.Pictures.{Pictures, AreOwned, names_in as names_of_picture, object_of, meaning_in, PicturesTrees}
+use Rattle.client_spec.specs.Pictures.{Pictures, root_of_register, AreOwned, names_in as names_of_picture, object_of, meaning_in, PicturesTrees}
 use Rattle.client_spec.proofs.TypedStates.ValueLaws.{Some_inj}
 use Rattle.client_spec.proofs.TypedStates.PictureLaws.{owned_one}
 use Rattle.client_spec.proofs.Unfolded.PictureTreeLaws.{own_trees}
+use Rattle.client_spec.specs.Asks.{LedTo}
+use Rattle.client_spec.specs.Ties.{places_of, OwnersStay, spot_of, Changes}
 use Rattle.client_spec.specs.OnImages.{Situation, image_machine, RowOn, Given, Left, IsFirst, IsLeftAfter, RunsClient}
 use Rattle.client_spec.specs.Clients.{AreAccepted}
 use Rattle.client_spec.specs.Outcome.{given_first, IsOutcome}
 use Rattle.client_spec.specs.Fixtures.{at, increment, counted, x}
 use Rattle.client_sim.specs.Shows.{ChangesImage}
-use Rattle.client_sim.proofs.ImageChangeLaws.{unchanged}
+use Rattle.client_sim.proofs.ImageChangeLaws.{kept_nowhere, unchanged}
+use Rattle.client_sim.proofs.Places.PathPlaceLaws.{PlaceFound, place_found}
 use Rattle.test_definitions.proofs.IncrementLaws.{increment_spelled, same_x}
 
 -- ---- the states and the image
@@ -151,6 +156,34 @@ trees_then output = record {
 pictured_then : (output : List ℕ) → PicturesTrees [] (more output) image
 pictured_then output = own_trees (trees_then output) (plain_pictured_then output)
 
+-- ---- registers own nothing
+
+no_places : (roots : List Root) → places_of roots ≡ [] → roots ≡ []
+no_places [] e = refl
+no_places (root ∷ roots) e = cc
+
+root_of_none : (rs : List Register) (r : ℕ) → root_of_register rs [] r ≡ None
+root_of_none [] r = refl
+root_of_none (Register.Owner v t ∷ rs) r = refl
+root_of_none (Register.Undefined ∷ rs) zero = refl
+root_of_none (Register.Undefined ∷ rs) (suc r) = root_of_none rs r
+root_of_none (Register.Int k ∷ rs) zero = refl
+root_of_none (Register.Int k ∷ rs) (suc r) = root_of_none rs r
+root_of_none (Register.Reference q ∷ rs) zero = refl
+root_of_none (Register.Reference q ∷ rs) (suc r) = root_of_none rs r
+
+none_stay : {s s' : State} {old new : List ℕ} (before : Pictures [] s old) (after : Pictures [] s' new) → places_of before.owned ≡ [] → OwnersStay before after
+none_stay {s = s} before after none = λ r a b had has.
+    absurd (let e : None ≡ Some a = sym (root_of_none s.registers r) ∙ ap (λ roots. root_of_register s.registers roots r) (sym (no_places before.owned none)) ∙ had in cc)
+
+none_here : (rs : List Register) (a : AreOwned rs []) → places_of (pictured rs a).pictured.owned ≡ []
+unfolding pictured own_trees plain_pictured
+none_here rs a = refl
+
+none_then : (output : List ℕ) → places_of (pictured_then output).pictured.owned ≡ []
+unfolding pictured_then own_trees plain_pictured_then
+none_then output = refl
+
 -- ---- the places in the run
 
 -- the host after an image is written at base 0
@@ -158,15 +191,15 @@ abbrev again : List ℕ → List ℕ → List ℕ
 again host bytes = put host 0 bytes
 
 abbrev situation : State → List ℕ → List ℕ → ℕ → Situation
-situation s bytes host n = record { state = s; image = bytes; host = host; base = 0; steps = n }
+situation s bytes host n = record { state = s; image = bytes; host = host; base = 0; steps = n; owned = [] }
 
 abbrev Row : Instruction → Situation → Situation → Type 0
 Row i a b = RowOn increment.constants [] [] i a success b
 
-kept_row : (i : Instruction) (s t : State) (host : List ℕ) (n : ℕ) → outcome increment.constants i true s ≡ Some (success, t) → (before : PicturesTrees [] s start) → PicturesTrees [] t start
-    → ChangesImage increment.constants i before.pictured success start
+kept_row : (i : Instruction) (s t : State) (host : List ℕ) (n : ℕ) → outcome increment.constants i true s ≡ Some (success, t) → (before : PicturesTrees [] s start) (after : PicturesTrees [] t start)
+    → places_of before.pictured.owned ≡ [] → places_of after.pictured.owned ≡ [] → ChangesImage increment.constants i before.pictured success start
     → Row i (situation s start host n) (situation t start (again host start) (n + 1))
-kept_row i s t host n row before after changes = record {
+kept_row i s t host n row before after none_before none_after changes = record {
   row = inl (true, row);
   before = before;
   after = after;
@@ -175,6 +208,9 @@ kept_row i s t host n row before after changes = record {
   length_kept = refl;
   header_kept = refl;
   moved = record { steps = refl; base = refl; host = refl };
+  owned_before = none_before;
+  owned_after = none_after;
+  owners_stay = none_stay before.pictured after.pictured none_before;
 }
 
 header_kept : IsSame start image 0 24
@@ -188,6 +224,37 @@ next_same = refl
 same_length : length image ≡ length start
 unfolding counter put set_number
 same_length = refl
+
+-- only the number of x changes
+abbrev store_x : Instruction
+store_x = at Operation.Store 0 0 1 (pos 0)
+
+abbrev x_place : Place
+x_place = record { at = 720; type = 0 }
+
+abbrev before_store : Pictures [] (pictured added.registers tt).plain start
+before_store = (pictured added.registers tt).pictured
+
+led_to_x : LedTo increment.constants store_x before_store x_place Form.i64
+unfolding size pictured own_trees plain_pictured
+led_to_x = record { path = x; path_is = refl; stands = record { root = root; item = 0; begins = refl; leads = here }; form_is = refl }
+
+x_found : PlaceFound before_store led_to_x.stands (Int (pos 41))
+unfolding led_to_x pictured own_trees plain_pictured
+x_found = place_found before_store led_to_x.stands (Int (pos 41)) refl
+
+x_alone : ChangesOnly start image 720 (size added.types 0)
+unfolding size set_number
+x_alone = put-changes start 720 (spelling 8 42)
+
+stores_x : Changes increment.constants store_x before_store image
+unfolding pictured own_trees plain_pictured
+stores_x = record {
+  spot = spot_of added.types x_place;
+  own = x_found.blocks;
+  touches = record { place = x_place; form = Form.i64; led_to = led_to_x; spot_is = refl; value = Int (pos 41); holds = x_found.holds_it };
+  kept = λ b some away. around_then (word start allocator_word) start counter_picture.table x_place (Int (pos 41)) x_found.blocks x_found.stands image x_alone b some;
+}
 
 module _ (h : List ℕ) where
   abbrev h1 : List ℕ
@@ -210,20 +277,44 @@ module _ (h : List ℕ) where
 
   finds : Row (at Operation.Find 0 16 16 (pos 0)) (situation counted start h 0) (situation found start h1 1)
   unfolding effect
-  finds = kept_row _ counted found h 0 refl (pictured counted.registers tt) (pictured found.registers tt) (unchanged refl (record { asks = []; asked = refl; gives = []; returned = refl; blocks = live start; granted = refl; left = refl }))
+  finds = kept_row _ counted found h 0 refl (pictured counted.registers tt) (pictured found.registers tt) (none_here counted.registers tt) (none_here found.registers tt) (unchanged refl (record {
+    asks = [];
+    asked = refl;
+    gives = [];
+    returned = refl;
+    blocks = live start;
+    granted = refl;
+    left = refl;
+  }))
 
   loads : Row (at Operation.Load 1 0 0 (pos 0)) (situation found start h1 1) (situation loaded start h2 2)
   unfolding effect
-  loads = kept_row _ found loaded h1 1 refl (pictured found.registers tt) (pictured loaded.registers tt) (unchanged refl (record { asks = []; asked = refl; gives = []; returned = refl; blocks = live start; granted = refl; left = refl }))
+  loads = kept_row _ found loaded h1 1 refl (pictured found.registers tt) (pictured loaded.registers tt) (none_here found.registers tt) (none_here loaded.registers tt) (unchanged refl (record {
+    asks = [];
+    asked = refl;
+    gives = [];
+    returned = refl;
+    blocks = live start;
+    granted = refl;
+    left = refl;
+  }))
 
   sets_one : Row (at Operation.Const 2 0 0 (pos 1)) (situation loaded start h2 2) (situation with_one start h3 3)
   unfolding effect
-  sets_one = kept_row _ loaded with_one h2 2 refl (pictured loaded.registers tt) (pictured with_one.registers tt)
-      (unchanged refl (record { asks = []; asked = refl; gives = []; returned = refl; blocks = live start; granted = refl; left = refl }))
+  sets_one = kept_row _ loaded with_one h2 2 refl (pictured loaded.registers tt) (pictured with_one.registers tt) (none_here loaded.registers tt) (none_here with_one.registers tt) (unchanged refl
+      (record { asks = []; asked = refl; gives = []; returned = refl; blocks = live start; granted = refl; left = refl }))
 
   adds : Row (at Operation.Add 1 1 2 (pos 0)) (situation with_one start h3 3) (situation added start h4 4)
   unfolding effect
-  adds = kept_row _ with_one added h3 3 refl (pictured with_one.registers tt) (pictured added.registers tt) (unchanged refl (record { asks = []; asked = refl; gives = []; returned = refl; blocks = live start; granted = refl; left = refl }))
+  adds = kept_row _ with_one added h3 3 refl (pictured with_one.registers tt) (pictured added.registers tt) (none_here with_one.registers tt) (none_here added.registers tt) (unchanged refl (record {
+    asks = [];
+    asked = refl;
+    gives = [];
+    returned = refl;
+    blocks = live start;
+    granted = refl;
+    left = refl;
+  }))
 
   stores : Row (at Operation.Store 0 0 1 (pos 0)) (situation added start h4 4) (situation (more []) image h5 5)
   unfolding effect
@@ -232,10 +323,13 @@ module _ (h : List ℕ) where
     before = pictured added.registers tt;
     after = pictured_then [];
     blocks = record { asks = []; asked = refl; gives = []; returned = refl; blocks = live start; granted = refl; left = same_live };
-    ties = record { next_is = word-same start image next_word next_same; image_kept = λ e. cc; idle_kept = tt };
+    ties = record { next_is = word-same start image next_word next_same; image_kept = λ e. cc; idle_kept = tt; changes = inr stores_x };
     length_kept = same_length;
     header_kept = header_kept;
     moved = record { steps = refl; base = refl; host = refl };
+    owned_before = none_here added.registers tt;
+    owned_after = none_then [];
+    owners_stay = none_stay (pictured added.registers tt).pictured (pictured_then []).pictured (none_here added.registers tt);
   }
 
   prints : Row (at Operation.OutInt 0 1 0 (pos 0)) (situation (more []) image h5 5) (situation (more (codes "42\n")) image h6 6)
@@ -245,10 +339,13 @@ module _ (h : List ℕ) where
     before = pictured_then [];
     after = pictured_then (codes "42\n");
     blocks = record { asks = []; asked = refl; gives = []; returned = refl; blocks = live image; granted = refl; left = refl };
-    ties = record { next_is = refl; image_kept = λ e. refl; idle_kept = tt };
+    ties = record { next_is = refl; image_kept = λ e. refl; idle_kept = tt; changes = inl refl };
     length_kept = refl;
     header_kept = refl;
     moved = record { steps = refl; base = refl; host = refl };
+    owned_before = none_then [];
+    owned_after = none_then (codes "42\n");
+    owners_stay = none_stay (pictured_then []).pictured (pictured_then (codes "42\n")).pictured (none_then []);
   }
 
   none : (s : Situation) → Nothing Situation s s 0 finished
@@ -316,12 +413,14 @@ is_first = record {
   host = refl;
   base = refl;
   steps = refl;
+  owned = refl;
 }
 
 is_left : IsLeftAfter given (situation (more (codes "42\n")) image (h6 first_host) 6) left
 unfolding pictured_then own_trees plain_pictured_then
 is_left = record {
   trees = pictured_then (codes "42\n");
+  owned_are = refl;
   owned_blocks = [];
   owned = holds_no_root;
   shared_blocks = [];
@@ -330,6 +429,9 @@ is_left = record {
   length_kept = refl;
   header_kept = refl;
   next_kept = refl;
+  image_kept = λ e. refl;
+  kept = kept_nowhere [] held.laid_out.heap (λ b some away. record { live = refl; has_tag = refl; room = omega arith; payload = refl });
+  frozen_kept = tt;
   picture = picture;
   held = held;
   counted = image_counted;

@@ -33,6 +33,8 @@ use Rattle.seg_spec.proofs.Frozen.OneMoreObjectLaws.{not_there}
 use Rattle.client_spec.specs.Machine.{◌>>=◌, Origin, Path, Register, State, register, set_register, owned_by, path_value, put_at}
 use Rattle.client_spec.specs.Grammar.{IsInstruction}
 use Rattle.client_spec.specs.Asks.{LedTo, Asks, Refreezes}
+use Rattle.client_spec.specs.Ties.{spot_of, OfRoot, OfOwner, Changes}
+use Rattle.seg_spec.specs.Apart.{KeepsBlockAround}
 use Rattle.client_spec.specs.Bare.{bare, bare_one}
 use Rattle.client_spec.specs.Pictures.{Pictures, meaning_in, trees_of}
 use Rattle.client_spec.specs.Shape.{HasShape}
@@ -62,13 +64,14 @@ use Rattle.client_spec.specs.Effect.{outcome, effect}
 use Rattle.client_spec.specs.Plain.{UsesUp}
 use Rattle.client_spec.specs.OnImages.{RowWith}
 use Rattle.client_spec.specs.Trees.{unfolded_register}
+use Rattle.client_sim.proofs.Objects.OwnedPlaceLaws.{owning}
 use Rattle.client_sim.specs.Shows.{World, place_in, owns_in, KeepsRegister, Shows, ChangesImage}
 use Rattle.client_sim.specs.Seeing.{Anchored, Sees, SeenActs}
 use Rattle.client_sim.specs.Sharing.{CellClaim, OnCell, FreezesObject, RefusesToFreeze}
 use Rattle.client_sim.specs.Acting.{AreDeclarationsRight, ActsAs, IsRefusedAs}
-use Rattle.client_sim.proofs.ImageChangeLaws.{changed, unchanged}
+use Rattle.client_sim.proofs.ImageChangeLaws.{of_frozen, changed, unchanged}
 use Rattle.client_sim.proofs.Places.LeafPutLaws.{with_image}
-use Rattle.client_sim.proofs.Places.ReferencePlaceLaws.{Led}
+use Rattle.client_sim.proofs.Places.ReferencePlaceLaws.{Led, touched}
 use Rattle.client_sim.proofs.Frozen.UnfoldedOperationLaws.{changeable_bare}
 use Rattle.client_sim.proofs.Objects.FrozenMoveLaws.{MovedFrozen, frozen_beside, freeze_moves}
 use Rattle.client_sim.proofs.Objects.OwnedObjectLaws.{OwnsHere, owns_here, owns_apart}
@@ -293,6 +296,7 @@ module _ (allocator : ℕ) (constants : List Constant) (role : Role) (a b c : �
             changes = changes;
             length_kept = refl;
             header_kept = refl;
+            owning = owning h.shows g.shows (λ r had has. refl);
             sees = g;
             same_input = refl;
           })
@@ -476,8 +480,36 @@ module _ (allocator : ℕ) (constants : List Constant) (role : Role) (a b c : �
             by (Some (heap.same ys)) = refl
             by (Some (heap.fresh at ys)) = refl
 
+        abbrev its : List ℕ
+        its = block_of object ∷ x.inside
+
+        object_there : OfOwner pictured c its
+        object_there = subst (λ (r : Option Root). OfRoot pictured r its) (sym o.root_is) (subst (λ (ts : Table). HoldsRoot w.image ts o.root its) pictured.types x.holds)
+
+        -- only the cell, the object and frozen objects change
+        touches : Changes constants freeze pictured new
+        touches = record {
+          spot = spot_of h.plain.types (place_in w b);
+          own = (l.found.blocks ++ its) ++ blocks_by x.theirs frozen;
+          touches = (
+            l.found.blocks ++ its,
+            blocks_by x.theirs frozen,
+            (l.found.blocks, its, touched h.shows b f.class f.type l freeze (Form.shared f.held) led_to, object_there, refl),
+            of_frozen pictured x.theirs x.shared,
+            refl,
+          );
+          kept = λ n there away. subst (λ (ts : Table). KeepsBlockAround w.image new (place_in w b).at (size ts (place_in w b).type) n) pictured.types (z.kept n there (omega (
+            arith,
+            away,
+            times-append n (l.found.blocks ++ its) (blocks_by x.theirs frozen),
+            times-append n l.found.blocks its,
+            times-append n its (l.found.blocks ++ blocks_by x.theirs frozen),
+            times-append n l.found.blocks (blocks_by x.theirs frozen),
+          )));
+        }
+
         changes : ChangesImage constants freeze pictured success new
-        changes = changed z.next_is refl tt (record {
+        changes = changed z.next_is refl tt touches (record {
           asks = block_for (frozen_words + size table f.held) ∷ [];
           asked = asked some;
           gives = gives;
@@ -510,6 +542,7 @@ module _ (allocator : ℕ) (constants : List Constant) (role : Role) (a b c : �
               changes = changes;
               length_kept = z.length_kept;
               header_kept = z.front_kept;
+              owning = owning h.shows g.shows (λ r had has. refl);
               sees = g;
               same_input = refl;
             })

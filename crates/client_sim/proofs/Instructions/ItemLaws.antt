@@ -27,6 +27,7 @@ use Rattle.client_spec.specs.Answer.{Answer, success, bad_alloc, null_or_none, a
 use Rattle.client_spec.specs.Effect.{outcome, effect, pop_bytes, pop_last, pop_first}
 use Rattle.client_spec.specs.Shape.{HasShape, AllHaveShape}
 use Rattle.client_spec.specs.Asks.{LedTo, PartGoes, PopGoes, cell_asks}
+use Rattle.client_spec.specs.Ties.{spot_of, KeepsBut, Both, OfFrozen, OfPlace}
 use Rattle.client_spec.specs.Meaning.{LeadsToType}
 use Rattle.client_spec.specs.Pictures.{LeadsInImage}
 use Rattle.client_spec.specs.Typed.{Class, RegisterType, RegisterTypes, Rule, known, is_owner, sharing, reference_needed, form_needed, is_str, can_pop, without_class, others_ended, opens, rule}
@@ -41,14 +42,14 @@ use Rattle.client_spec.proofs.TypedStates.ValueFormLaws.{reference_is, text_valu
 use Rattle.client_spec.proofs.Spelling.ConstantNameLaws.{one_each}
 use Rattle.client_sim.specs.Shows.{World, place_in, Shown, Shows, Acts, ChangesImage}
 use Rattle.client_sim.specs.Acting.{ActsAs, IsRefusedAs, ActsPlainly}
-use Rattle.client_sim.proofs.ImageChangeLaws.{changed_at_place, unchanged}
+use Rattle.client_sim.proofs.ImageChangeLaws.{kept_at_place, of_frozen, place_alone, changed_at_place, unchanged}
 use Rattle.client_sim.proofs.Frozen.UnfoldedOperationLaws.{lifted_acts, lifted_refused}
 use Rattle.seg_spec.proofs.Frozen.CountDecreaseLaws.{named_positions}
 use Rattle.seg_spec.proofs.Frozen.PartCountLaws.{SameNames, names_same, names_then, names_cons, default_names}
 use Rattle.client_sim.proofs.Places.PathPlaceLaws.{PlacePut}
 use Rattle.seg_spec.proofs.Frozen.ValueCellLaws.{names_text, names_seq, front_named, back_named, last_named, count_without_last, part_value}
 use Rattle.client_sim.proofs.Instructions.LengthLaws.{items_held}
-use Rattle.client_sim.proofs.Places.ReferencePlaceLaws.{Led, led, led_put, led_shared, led_cleared}
+use Rattle.client_sim.proofs.Places.ReferencePlaceLaws.{Led, led, touched, led_put, led_shared, led_cleared}
 use Rattle.client_sim.proofs.Places.LeafPutLaws.{with_image}
 use Rattle.client_sim.proofs.Instructions.NumberLaws.{with_number}
 use Rattle.client_sim.proofs.EffectLaws.{with_place, leads_part, acts_so, shows_number, shows_reference, refuses_with, frame_number, frame_reference}
@@ -133,6 +134,10 @@ module _ {others : List Root} {types : Table} {constants : List Constant} (one :
 
     pub led_to : LedTo constants i h.pictured (place_in w i.b) r.form
     led_to = record { path = r.its.path; path_is = r.path_is; stands = r.its.in_image; form_is = ap (form_at s.types) r.its.type_is ∙ r.machine_form }
+
+    -- the bytes and the blocks of the value there
+    pub place_touched : OfPlace constants i h.pictured (spot_of s.types (place_in w i.b)) r.its.found.blocks
+    place_touched = touched h i.b r.class r.type r.its i r.form led_to
 
     -- register a gets an error code, and nothing else changes
     pub code_acts : (code : Answer) (room : Bool) (new : List ℕ) (n : ℕ) → new ≡ w.image → n ≡ answer_number code → i.a < 16 → is_owner (known known_then i.a) ≡ false
@@ -223,6 +228,9 @@ module _ {others : List Root} {types : Table} {constants : List Constant} (one :
       pub long : length new ≡ length w.image
       pub front : KeepsFront w.image new
       pub back : KeepsBack w.image new
+      pub own : List ℕ
+      pub touches : Both (OfPlace constants i h.pictured (spot_of s.types (place_in w i.b))) (OfFrozen h.pictured) own
+      pub kept : KeepsBut w.image new (spot_of s.types (place_in w i.b)) own
       pub its : List ℕ
       pub holds_then : Holds new w.table (place_in w i.b) v its
       pub gives : List ℕ
@@ -247,6 +255,9 @@ module _ {others : List Root} {types : Table} {constants : List Constant} (one :
           long = c.changes.length_kept;
           front = c.changes.front_kept;
           back = c.changes.back_kept;
+          own = r.its.found.blocks ++ blocks_by shared.theirs frozen;
+          touches = (r.its.found.blocks, blocks_by shared.theirs frozen, place_touched, of_frozen h.pictured shared.theirs shared.holds, refl);
+          kept = kept_at_place s.types h.table_is c.changes;
           its = l.others;
           holds_then = c.changes.holds_it;
           gives = l.lost ++ given;
@@ -402,7 +413,9 @@ module _ (allocator : ℕ) (constants : List Constant) (role : Role) (a b c : �
             number_acts one h i r (Text new_text) (text_fits s.types r.form tt new_text is) new
             (led_put h b r.class r.type r.its new (Text new_text) p.others (names_same (ap names_in v.1 ∙ names_text v.0 ∙ sym (names_text new_text))) p.succeeds.changes) p.succeeds.changes.length_kept p.succeeds.changes.front_kept
             (pos n) valid.a o.0 is_row
-            (changed_at_place p.succeeds.changes.back_kept refl refl tt (grants_asks constants i h.pictured allocator h.allocator_is [] refl new w.table place (Text new_text) [] r.its.found.blocks p.others
+            (let alone = place_alone h.pictured (place_touched one h i r) (kept_at_place s.types h.table_is p.succeeds.changes) in
+            changed_at_place p.succeeds.changes.back_kept refl refl tt (record { spot = spot_of s.types place; own = alone.0; touches = alone.1; kept = alone.2 })
+            (grants_asks constants i h.pictured allocator h.allocator_is [] refl new w.table place (Text new_text) [] r.its.found.blocks p.others
             (place, r.form, led_to one h i r, subst (λ k. PopGoes constants i h.pictured place k (count_at w.image place.at - 1) []) (sym same) refl) p.succeeds))
         | inr is ↦
             let v = items_value s.types r.form r.its.value is.0 is.1 r.fits in
@@ -416,7 +429,7 @@ module _ (allocator : ℕ) (constants : List Constant) (role : Role) (a b c : �
             let at : count v.0 - 1 ≡ count_at w.image place.at - 1 = ap (λ k. k - 1) (items_held w.image w.table place r.form is.0 v.0 r.its.found.blocks r.form_is is.1 stands.holds_it) in
             let is_row = row ∙ ap f v.1 ∙ last_popped a r.its.path v.0 s p.some ∙ ap (λ m. give_count a m (put_at s r.its.path (Seq left))) n_is in
             number_acts one h i r (Seq left) (v.3 left (all_without_last s.types is.0 v.0 v.2)) new t.put t.long t.front (pos n) valid.a o.0 is_row
-            (changed_at_place t.back refl refl tt (gives_back constants i h.pictured new refl t.gives
+            (changed_at_place t.back refl refl tt (record { spot = spot_of s.types place; own = t.own; touches = t.touches; kept = t.kept }) (gives_back constants i h.pictured new refl t.gives
             (place, r.form, led_to one h i r, part_goes one h i r.form is.0 place (count_at w.image place.at - 1) t.gives is.1 (subst (λ k. PartGoes constants i h.pictured place k t.gives) at t.goes)) t.left_is))
       ])
 
@@ -482,7 +495,8 @@ module _ (allocator : ℕ) (constants : List Constant) (role : Role) (a b c : �
       ∙ ap (λ vs. pop_first a r.its.path vs s) q.2 ∙ ap (λ m. give_count a m (put_at s r.its.path (Seq left))) n_is in
       subst (λ k. Acts others types constants first allocator i success k s w (with_number (with_image w new) a (pos n))) (sym o.1)
       (number_acts one h i r (Seq left) fits new t.put t.long t.front (pos n) valid.a o.0 row
-      (changed_at_place t.back refl refl tt (gives_back constants i h.pictured new refl t.gives (place, r.form, led_to one h i r, part_goes one h i r.form r.what place 0 t.gives is t.goes) t.left_is))))
+      (changed_at_place t.back refl refl tt (record { spot = spot_of s.types place; own = t.own; touches = t.touches; kept = t.kept }) (gives_back constants i h.pictured new refl t.gives
+      (place, r.form, led_to one h i r, part_goes one h i r.form r.what place 0 t.gives is t.goes) t.left_is))))
 
   pub pop_front_refused : (new : List ℕ) (n : ℕ) → EachList (λ U vs blocks. (count vs ≡ 0) × (new ≡ w.image) × (n ≡ 6)) → IsRefusedAs allocator constants role (of Operation.PopFront) w (with_number (with_image w new) a (pos n))
   unfolding rule effect
@@ -551,7 +565,9 @@ module _ (allocator : ℕ) (constants : List Constant) (role : Role) (a b c : �
       (led_put h b r.class r.type r.its new (Seq more) pushed.others
       (names_same (ap names_in v.1 ∙ names_seq v.0 ∙ sym (back_named v.0 d (default_names s.types r.what)) ∙ sym (names_seq more))) pushed.succeeds.changes)
       pushed.succeeds.changes.length_kept pushed.succeeds.changes.front_kept x r.what d target valid.a o.0 (item_part r.form r.what (count v.0) r.is) (last_item v.0 d) refl pushed.leads row
-      (changed_at_place pushed.succeeds.changes.back_kept refl refl tt (grants_asks constants i h.pictured allocator h.allocator_is (item_asks r.form r.what) (place, r.form, led_to one h i r, back_asks h r.form r.what r.is) new w.table place (Seq more) [] r.its.found.blocks pushed.others
+      (changed_at_place pushed.succeeds.changes.back_kept refl refl tt
+      (record { spot = spot_of s.types place; own = r.its.found.blocks; touches = place_touched one h i r; kept = kept_at_place s.types h.table_is pushed.succeeds.changes })
+      (grants_asks constants i h.pictured allocator h.allocator_is (item_asks r.form r.what) (place, r.form, led_to one h i r, back_asks h r.form r.what r.is) new w.table place (Seq more) [] r.its.found.blocks pushed.others
       refl pushed.succeeds)))))
 
   -- PUSHB fails if there is no room
@@ -601,7 +617,9 @@ module _ (allocator : ℕ) (constants : List Constant) (role : Role) (a b c : �
       (led_put h b r.class r.type r.its new (Seq more) pushed.others
       (names_same (ap names_in v.1 ∙ names_seq v.0 ∙ sym (front_named d v.0 (default_names s.types r.what)) ∙ sym (names_seq more))) pushed.succeeds.changes)
       pushed.succeeds.changes.length_kept pushed.succeeds.changes.front_kept (Selector.item 0) r.what d target valid.a o.0 part refl refl pushed.leads row
-      (changed_at_place pushed.succeeds.changes.back_kept refl refl tt (grants_asks constants i h.pictured allocator h.allocator_is asks (place, r.form, led_to one h i r, front_asks h r.form r.what r.is) new w.table place (Seq more) [] r.its.found.blocks pushed.others
+      (changed_at_place pushed.succeeds.changes.back_kept refl refl tt
+      (record { spot = spot_of s.types place; own = r.its.found.blocks; touches = place_touched one h i r; kept = kept_at_place s.types h.table_is pushed.succeeds.changes })
+      (grants_asks constants i h.pictured allocator h.allocator_is asks (place, r.form, led_to one h i r, front_asks h r.form r.what r.is) new w.table place (Seq more) [] r.its.found.blocks pushed.others
       refl pushed.succeeds)))))
 
   pub push_front_refused : (new : List ℕ) (n : ℕ) → EachList (λ U vs blocks. (n ≡ 2) × Refuses allocator w.image new (block_for (8 + size w.table U) ∷ []))

@@ -22,6 +22,7 @@ use Rattle.client_spec.specs.Machine.{◌>>=◌, Path, extend, State, path_value
 use Rattle.client_spec.specs.Answer.{success, bad_alloc, path_of, path_form, integer_at, give_count, refer, entries_in, map_value, with_room}
 use Rattle.client_spec.specs.Effect.{effect, truth}
 use Rattle.client_spec.specs.Shape.{HasShape, AllHaveShape}
+use Rattle.client_spec.specs.Ties.{spot_of}
 use Rattle.client_spec.specs.Asks.{KeyGoes, cell_asks, found_key, if_absent}
 use Rattle.client_spec.specs.Typed.{Class, RegisterType, RegisterTypes, Rule, known, is_owner, integer_needed, is_map, others_ended, gives, opens, rule}
 use Rattle.client_spec.specs.Typed as typed
@@ -34,7 +35,7 @@ use Rattle.client_spec.proofs.TypedStates.ValueFormLaws.{entries_value, place_be
 use Rattle.client_spec.proofs.Spelling.ConstantNameLaws.{one_each}
 use Rattle.client_sim.specs.Shows.{World, number_in, place_in, Shows, Acts}
 use Rattle.client_sim.specs.Acting.{ActsAs, IsRefusedAs}
-use Rattle.client_sim.proofs.ImageChangeLaws.{changed_at_place, unchanged}
+use Rattle.client_sim.proofs.ImageChangeLaws.{kept_at_place, changed_at_place, unchanged}
 use Rattle.client_sim.proofs.Frozen.UnfoldedOperationLaws.{lifted_acts, lifted_refused}
 use Rattle.client_sim.proofs.Places.LeafPutLaws.{with_image}
 use Rattle.client_sim.proofs.Instructions.NumberLaws.{with_number, quiet, gives_both, number_shown}
@@ -42,7 +43,7 @@ use Rattle.client_sim.proofs.EffectLaws.{with_place}
 use Rattle.client_sim.proofs.GrantLaws.{grants_asks, gives_back, denies}
 use Rattle.client_sim.proofs.Places.ReferencePlaceLaws.{led_put}
 use Rattle.seg_spec.proofs.Frozen.ValueCellLaws.{names_map, insert_named, remove_named}
-use Rattle.client_sim.proofs.Instructions.ItemLaws.{Reaches, reaches, led_to, code_acts, kept_number, kept_reference, part_lost, number_acts, reference_acts, opens_then}
+use Rattle.client_sim.proofs.Instructions.ItemLaws.{Reaches, reaches, led_to, code_acts, kept_number, kept_reference, part_lost, number_acts, reference_acts, opens_then, place_touched}
 
 -- DELK and PUTK have these rows
 delete_row : (constants : List Constant) (a b c : ℕ) (number : ℤ) (room : Bool) (s : State) (path : Path) (key : ℤ) (keys : List ℤ) (vs : Values) → path_of s b ≡ Some path → integer_at s c ≡ Some key
@@ -128,7 +129,12 @@ module _ (allocator : ℕ) (constants : List Constant) (role : Role) (a b c : �
         (names_then (names_same (names_map keys vs)) (names_then (remove_named vs j item.0 item.1) (names_same (ap (λ xs. names_in item.0 ++ xs) (sym (names_map (remove keys j) (remove_nth vs j))))))) stands (d.1 item.0 item.1) in
         subst (λ t. Acts others types constants first allocator i success (slice_set (others_ended r.class b ks) a RegisterType.Int) s w (with_number (with_image w new) a (truth t))) (sym d.0)
         (number_acts one h i r later (fits (remove keys j) (remove_nth vs j) (all_remove s.types U vs j all) (remove_length keys vs j long)) new t.put t.long t.front (pos 1) within free (row (Some j) e)
-        (changed_at_place t.back refl refl (λ none. absurd (let some : None ≡ Some j = sym none ∙ found_is i s r.its.path key keys vs r.path_is key_is there ∙ e in cc)) (gives_back constants i h.pictured new refl t.gives (place, r.form, led_to one h i r, goes_by (Some j) e t.gives t.goes) t.left_is)))
+        (changed_at_place t.back refl refl (λ none. absurd (let some : None ≡ Some j = sym none ∙ found_is i s r.its.path key keys vs r.path_is key_is there ∙ e in cc)) (record {
+          spot = spot_of s.types place;
+          own = t.own;
+          touches = t.touches;
+          kept = t.kept;
+        }) (gives_back constants i h.pictured new refl t.gives (place, r.form, led_to one h i r, goes_by (Some j) e t.gives t.goes) t.left_is)))
 
   pub delete_key_acts : (new : List ℕ) (gone : Bool) → ((form : Form) (U : ℕ) (keys : List ℤ) (vs : Values) (blocks : List ℕ) → form_at w.table place.type ≡ Some form → map_value form ≡ Some U
       → (stands : Stands allocator w.image w.table place (Map keys vs) blocks) → length keys ≡ count vs → Deletes new gone keys vs stands.home blocks (key_place keys key))
@@ -220,7 +226,9 @@ module _ (allocator : ℕ) (constants : List Constant) (role : Role) (a b c : �
         (led_put h b r.class r.type r.its new later d.others
         (names_same (ap names_in value_is ∙ names_map keys vs ∙ sym (insert_named vs m v (default_names s.types r.what)) ∙ sym (names_map new_keys new_items))) succeeds.changes) succeeds.changes.length_kept succeeds.changes.front_kept
         (Selector.key key) r.what part.0 (record { at = p; type = r.what }) within free (key_part r.form r.what key r.is) part.1 refl d.leads (put_is true None e)
-        (changed_at_place succeeds.changes.back_kept refl refl (λ j some. absurd (let none : Some j ≡ None = sym some ∙ found_is i s r.its.path key keys vs r.path_is key_is there_put ∙ e in cc)) (grants_asks constants i h.pictured allocator h.allocator_is (entry_asks r.form r.what) (place, r.form, led_to one h i r, asks_by None e) new w.table place later [] r.its.found.blocks d.others refl succeeds))
+        (changed_at_place succeeds.changes.back_kept refl refl (λ j some. absurd (let none : Some j ≡ None = sym some ∙ found_is i s r.its.path key keys vs r.path_is key_is there_put ∙ e in cc))
+        (record { spot = spot_of s.types place; own = r.its.found.blocks; touches = place_touched one h i r; kept = kept_at_place s.types h.table_is succeeds.changes })
+        (grants_asks constants i h.pictured allocator h.allocator_is (entry_asks r.form r.what) (place, r.form, led_to one h i r, asks_by None e) new w.table place later [] r.its.found.blocks d.others refl succeeds))
 
     put_denied : (new : List ℕ) (n : ℕ) → n ≡ 2 → key_place keys key ≡ None → Refuses allocator w.image new (entry_asks r.form r.what)
         → Acts others types constants first allocator (of Operation.PutKey) bad_alloc (slice_set (others_ended r.class b ks) a RegisterType.Int) s w (with_number (with_image w new) a (pos n))

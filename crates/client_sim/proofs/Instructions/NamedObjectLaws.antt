@@ -33,6 +33,7 @@ use Rattle.client_spec.specs.Typed.{Class, RegisterType, RegisterTypes, known, i
 use Rattle.client_spec.specs.Typed as typed
 use Rattle.client_spec.specs.Meaning.{IsNamedBy, InClass, LeadsToType, IsAsKnown}
 use Rattle.client_spec.specs.Pictures.{Pictures, LeadsInImage, object_of}
+use Rattle.client_spec.specs.Ties.{nowhere, OfRoot, Changes}
 use Rattle.client_spec.specs.Asks.{NamedGoes, GrantsAsks, Denies, named_asks, name_operand, new_count, if_absent}
 use Rattle.client_spec.proofs.TypedStates.ValueFormLaws.{first_of_many}
 use Rattle.client_spec.proofs.TypedStates.KnowledgeChangeLaws.{agrees_make, agrees_kill}
@@ -44,7 +45,7 @@ use Rattle.client_spec.proofs.Spelling.ConstantNameLaws.{one_each}
 use Rattle.client_spec.proofs.TypedStates.StateLaws.{name_there}
 use Rattle.client_sim.specs.Shows.{World, number_in, HasRegisters, Shown, Shows, Acts, ChangesImage}
 use Rattle.client_sim.specs.Acting.{AreDeclarationsRight, ActsAs, IsRefusedAs}
-use Rattle.client_sim.proofs.ImageChangeLaws.{changed, unchanged}
+use Rattle.client_sim.proofs.ImageChangeLaws.{kept_nowhere, changed, unchanged}
 use Rattle.client_sim.proofs.Frozen.UnfoldedOperationLaws.{lifted_acts, lifted_refused}
 use Rattle.client_sim.proofs.EffectLaws.{with_place, acts_so, shows_reference, shows_number, refuses_with, frame_number, frame_reference}
 use Rattle.client_sim.proofs.FrameLaws.{Frame, frame_same, unknown_same}
@@ -225,7 +226,7 @@ module _ {others : List Root} {types : Table} {constants : List Constant} {first
       → Frame (ended (sharing class) ks) w (with_image w new) h.pictured (all_but_class one class Ends ending none s' new later keeps front as_known registers besides).pictured
   unfolding all_but_class
   frame_but_class one class Ends ending none s' new later keeps front as_known registers besides stays =
-      frame_rooted h (ended (sharing class) ks) s' (with_image w new) later Ends keeps front _ _ _ _ _ stays (unknown_same (ended (sharing class) ks) s s' w new registers)
+      frame_rooted h (ended (sharing class) ks) s' (with_image w new) later Ends keeps front _ _ _ _ _ stays (unknown_same (ended (sharing class) ks) s s' w new registers) (λ r had has. refl)
 
 -- ---- a new object, or none
 
@@ -282,7 +283,7 @@ module _ {others : List Root} {types : Table} {constants : List Constant} {first
       (shows_reference others types constants first allocator ks (state_then n) (with_image w new) shows.0 a (Class.Name k) T path place within free by typed_so refl
       (subst (λ p. LeadsInImage p path place) (sym shows.1) led))
       (frame_reference others types constants first allocator ks (state_then n) (with_image w new) shows.0 a _ _ _ _ _ _ _ _ _ _
-      (subst (λ p. Frame ks w (with_image w new) h.pictured p) (sym shows.1) (record { frozen = comes.stays; unknown = unknown_same ks s (state_then n) w new refl })))
+      (subst (λ p. Frame ks w (with_image w new) h.pictured p) (sym shows.1) (record { frozen = comes.stays; unknown = unknown_same ks s (state_then n) w new refl; owners = λ r had has. refl })))
 
   pub not_made : (n code : ℕ) → code ≡ answer_number bad_alloc → IsDenied allocator w.image s.types bytes T h.pictured.picture h.pictured.held.index_blocks new n
       → outcome constants i false s ≡ fail a bad_alloc s → ChangesImage constants i h.pictured bad_alloc new
@@ -298,7 +299,7 @@ module _ {others : List Root} {types : Table} {constants : List Constant} {first
       (row ∙ answer_is types constants ks s h.as_known bad_alloc a x free) changes d.long d.front refl
       (shows_number others types constants first allocator ks s (with_image w new) shows.0 a (pos 2) within free)
       (frame_number others types constants first allocator ks s (with_image w new) shows.0 a _ _ _
-      (subst (λ p. Frame ks w (with_image w new) h.pictured p) (sym shows.1) (record { frozen = stays.stays; unknown = unknown_same ks s s w new refl }))))
+      (subst (λ p. Frame ks w (with_image w new) h.pictured p) (sym shows.1) (record { frozen = stays.stays; unknown = unknown_same ks s s w new refl; owners = λ r had has. refl }))))
 
   -- register a gets an error code, and nothing else changes
   pub refused : (answer : Answer) (code : ℕ) → code ≡ answer_number answer → new ≡ w.image → outcome constants i true s ≡ fail a answer s → ChangesImage constants i h.pictured answer w.image
@@ -446,7 +447,12 @@ module _ (allocator : ℕ) (constants : List Constant) (role : Role) (a b c : �
       let asked = asks_are Operation.Make s m.values n.name_is (ap (λ (o : Option ℤ). o >>= object_count) index ∙ count_is) none n.type_is in
       let blocks = grants_spent constants i h.pictured allocator h.allocator_is (object_asks w.image s.types T m.values bytes) asked new [] refl (live new) its.left refl in
       subst (λ z. Acts others types constants first allocator i success z s w (with_place (with_image w new) a (record { at = at; type = T }))) (sym (g.1 ∙ ap (λ n. slice_set ks a (RegisterType.Reference (Class.Name k) n)) n.type_is))
-      (made right h a k T bytes n.by n.below valid.a g.0 i new m.values at m.some m.missing its row (changed its.next refl tt blocks)))
+      (made right h a k T bytes n.by n.below valid.a g.0 i new m.values at m.some m.missing its row (changed its.next refl tt (record {
+        spot = nowhere;
+        own = h.pictured.held.index_blocks;
+        touches = (refl, refl);
+        kept = kept_nowhere _ h.pictured.held.laid_out.heap its.kept;
+      }) blocks)))
 
   -- the count was wrong, there was such an object, or there was no room
   abbrev pub RefusesToMake : (code : ℕ) (picture : Picture) (index_blocks new : List ℕ) → Type 0
@@ -499,7 +505,8 @@ module _ (allocator : ℕ) (constants : List Constant) (role : Role) (a b c : �
               bad_alloc,
               (λ q. cc),
               bad_is bad_alloc (not_made right h a k T bytes n.by n.below valid.a g.0 i new f.0 code f.4 its
-                  (row false ∙ ap (λ o. after o false) count_is ∙ ap (λ (o : Option Object). add_object a bytes T o f.0 false s) none) (changed its.next refl tt blocks)),
+                  (row false ∙ ap (λ o. after o false) count_is ∙ ap (λ (o : Option Object). add_object a bytes T o f.0 false s) none)
+                  (changed its.next refl tt (record { spot = nowhere; own = h.pictured.held.index_blocks; touches = (refl, refl); kept = kept_nowhere _ h.pictured.held.laid_out.heap (λ x some away. its.kept x some) }) blocks)),
             )
       ])
 
@@ -565,7 +572,8 @@ module _ (allocator : ℕ) (constants : List Constant) (role : Role) (a b c : �
             let blocks = grants_spent constants i h.pictured allocator h.allocator_is (object_asks w.image s.types T 1 bytes) asked new [] refl (live new) its.left refl in
             subst (λ z. Acts others types constants first allocator i success z s w (with_place (with_image w new) a place)) (sym good_is)
             (made right h a k T bytes n.by n.below valid.a g.0 i new 1 at (omega arith) f.0 its (row ∙ ap (λ (o : Option Object). find_or_add a bytes T o true s) none)
-            (changed its.next refl (λ root some. absurd (let g : Some root ≡ None = sym some ∙ named_here Operation.FindOrMake h.pictured n.name_is ∙ f.0 in cc)) blocks))
+            (changed its.next refl (λ root some. absurd (let g : Some root ≡ None = sym some ∙ named_here Operation.FindOrMake h.pictured n.name_is ∙ f.0 in cc))
+            (record { spot = nowhere; own = h.pictured.held.index_blocks; touches = (refl, refl); kept = kept_nowhere _ h.pictured.held.laid_out.heap its.kept }) blocks))
       ])
 
   -- it has another type, there was no room, or the bytes are no name
@@ -608,7 +616,8 @@ module _ (allocator : ℕ) (constants : List Constant) (role : Role) (a b c : �
               bad_alloc,
               (λ q. cc),
               bad_is bad_alloc (not_made right h a k T bytes n.by n.below valid.a g.0 i new 1 code f.0 its (row false ∙ ap (λ (o : Option Object). find_or_add a bytes T o false s) none)
-                  (changed its.next refl (λ root some. absurd (let g : Some root ≡ None = sym some ∙ named_here Operation.FindOrMake h.pictured n.name_is ∙ f.1 in cc)) blocks)),
+                  (changed its.next refl (λ root some. absurd (let g : Some root ≡ None = sym some ∙ named_here Operation.FindOrMake h.pictured n.name_is ∙ f.1 in cc))
+                  (record { spot = nowhere; own = h.pictured.held.index_blocks; touches = (refl, refl); kept = kept_nowhere _ h.pictured.held.laid_out.heap (λ x some away. its.kept x some) }) blocks)),
             )
       ])
 
@@ -649,6 +658,18 @@ module _ (allocator : ℕ) (constants : List Constant) (role : Role) (a b c : �
         holds = subst (λ (t : Table). HoldFrozen w.image t m.theirs h.pictured.picture.frozen) (sym h.pictured.types) m.holds_shared;
         blocks_are = refl;
       } in
+      let all = blocks_by m.theirs h.pictured.picture.frozen in
+      let index = h.pictured.held.index_blocks in
+      let killed_is = killed_here Operation.Kill h.pictured n.name_is n.type_is ∙ m.root_is in
+      let touches : Changes constants i h.pictured new = record {
+        spot = nowhere;
+        own = (m.objects ++ index) ++ all;
+        touches = (
+          refl,
+          (m.objects ++ index, all, (m.objects, index, subst (λ (o : Option Root). OfRoot h.pictured o m.objects) (sym killed_is) m.holds, refl, refl), record { theirs = m.theirs; holds = gone.holds; own_is = refl }, refl),
+        );
+        kept = kept_nowhere ((m.objects ++ index) ++ all) h.pictured.held.laid_out.heap m.kept;
+      } in
       let gives = (m.objects ++ m.entries) ++ shared in
       let blocks : GrantsAsks constants i h.pictured new = record {
         asks = [];
@@ -660,7 +681,7 @@ module _ (allocator : ℕ) (constants : List Constant) (role : Role) (a b c : �
         left = m.left;
       } in
       subst (λ z. Acts others types constants first allocator i success z s w (with_number (with_image w new) a (pos 1))) (sym g.1) (lost right h a k T bytes n.by valid.a g.0 i new m row
-      (changed m.next refl (λ none. absurd (let f : None ≡ Some m.root = sym none ∙ killed_here Operation.Kill h.pictured n.name_is n.type_is ∙ m.root_is in cc)) blocks)))
+      (changed m.next refl (λ none. absurd (let f : None ≡ Some m.root = sym none ∙ killed_here Operation.Kill h.pictured n.name_is n.type_is ∙ m.root_is in cc)) touches blocks)))
 
   -- if no object of the name has the type, KILL gives 0
   pub kill_none_acts : OfHeld allocator w (λ p held. killed (root_named p.names bytes) T ≡ None) → ActsAs allocator constants role (on Operation.Kill) w (with_number w a (pos 0))

@@ -28,6 +28,7 @@ use Rattle.client_spec.specs.Machine.{◌>>=◌, Origin, Register, State, regist
 use Rattle.client_spec.specs.Answer.{success, bad_alloc, answer_number, path_from, fail, give, proceed}
 use Rattle.client_spec.specs.Effect.{outcome, effect}
 use Rattle.client_spec.specs.Asks.{GrantsAsks, RootGoes}
+use Rattle.client_spec.specs.Ties.{nowhere, Both, OfFrozen, OfRoot}
 use Rattle.client_spec.specs.Shape.{HasShape}
 use Rattle.client_spec.specs.Typed.{Class, RegisterType, RegisterTypes, known, is_owner, owner_needed, known_after, ended, without_class, rule}
 use Rattle.client_spec.specs.Meaning.{InClass}
@@ -40,8 +41,9 @@ use Rattle.client_spec.proofs.TypedStates.DefaultLaws.{default_has}
 use Rattle.client_spec.proofs.Rows.RuleRowLaws.{bind_ok, Ok_inj, opens_ok, answer_is}
 use Rattle.client_spec.proofs.Rows.RowPartLaws.{owner_found}
 use Rattle.client_spec.proofs.Spelling.ConstantNameLaws.{one_each}
+use Rattle.client_sim.proofs.Objects.OwnedPlaceLaws.{owner_elsewhere}
 use Rattle.client_sim.specs.Shows.{World, place_in, owns_in, Shown, KeepsFrozenPaths, Shows, Acts}
-use Rattle.client_sim.proofs.ImageChangeLaws.{changed, unchanged}
+use Rattle.client_sim.proofs.ImageChangeLaws.{kept_nowhere, changed, unchanged}
 use Rattle.client_sim.proofs.Frozen.FrozenPathLaws.{frozen_left}
 use Rattle.client_sim.proofs.FrameLaws.{Frame, owner_apart}
 use Rattle.client_sim.proofs.UnchangedImageLaws.{set_beside, not_given}
@@ -129,7 +131,7 @@ module _ {others : List Root} {types : Table} {constants : List Constant} (one :
           register_is = set_beside s.registers a r (Register.Owner v place.type) Register.Undefined far;
           place_is = (place_one others types constants first allocator ks s w h a place).places_kept r far;
           owns_is = set_beside w.owns a r true false far;
-        })
+        }) (λ r had has. ap (λ (p : Place). p.at) ((place_one others types constants first allocator ks s w h a place).places_kept r (owner_elsewhere h a free r had)))
 
   -- ---- it no longer owns it
 
@@ -165,7 +167,7 @@ module _ {others : List Root} {types : Table} {constants : List Constant} (one :
     unfolding shows_released
     frame_released T is = frame_rooted h ks_released (set_register s b Register.Undefined) released c.later (λ o. o ≡ Origin.Owned b) c.keeps front _ _ _ _ _ c.stays (λ r e o.
         let far = owner_apart h b T r is o in
-        record { register_is = set_beside s.registers b r Register.Undefined Register.Undefined far; place_is = refl; owns_is = set_beside w.owns b r false false far })
+        record { register_is = set_beside s.registers b r Register.Undefined Register.Undefined far; place_is = refl; owns_is = set_beside w.owns b r false false far }) (λ r had has. refl)
 
   -- an empty path from a register's object refers to its root
   pub owned_root : (b : ℕ) (place : Place) → LeadsInImage h.pictured (path_from (Origin.Owned b)) place → (root : Root) × (root_of_register s.registers h.pictured.owned b ≡ Some root) × (root.at ≡ place.at)
@@ -243,6 +245,17 @@ module _ {others : List Root} {types : Table} {constants : List Constant} {first
     blocks_are = ap (λ fs. blocks_by c.theirs (freed (names_each root.values) fs)) same;
   }
 
+  -- its blocks, and the blocks of all frozen objects
+  pub root_touched : {other : Picture} (new : List ℕ) (root : Root) → other.frozen ≡ h.pictured.picture.frozen → (c : LeavesWithout w.image new w.table root other) → (o : Option Root) → o ≡ Some root
+      → Both (OfRoot h.pictured o) (OfFrozen h.pictured) (c.blocks ++ blocks_by c.theirs other.frozen)
+  root_touched {other = other} new root same c o is = (
+    c.blocks,
+    blocks_by c.theirs other.frozen,
+    subst (λ (o : Option Root). OfRoot h.pictured o c.blocks) (sym is) (subst (λ (t : Table). HoldsRoot w.image t root c.blocks) h.table_is c.holds_it),
+    record { theirs = c.theirs; holds = shared_same c.theirs other.frozen same c.holds_shared; own_is = ap (blocks_by c.theirs) same },
+    refl,
+  )
+
 module _ (allocator : ℕ) (constants : List Constant) (role : Role) (a b c : ℕ) (number : ℤ) (w : World) (new : List ℕ) where
   abbrev of : Operation → Instruction
   of operation = record { operation = operation; a = a; b = b; c = c; number = number }
@@ -276,7 +289,8 @@ module _ (allocator : ℕ) (constants : List Constant) (role : Role) (a b c : �
       let asked : (block_for (size w.table T) ∷ []) ≡ (block_for (size s.types (nat_abs number)) ∷ []) = ap (λ (z : Table). block_for (size z T) ∷ []) h.table_is ∙ ap (λ u. block_for (size s.types u) ∷ []) (sym t.0) in
       let blocks : GrantsAsks constants i h.pictured new = grants_spent constants i h.pictured allocator h.allocator_is (block_for (size w.table T) ∷ []) asked new [] refl (live new) call.spends refl in
       subst (λ k. Acts others types constants first allocator i success k s w (with_owner w new a place)) (sym good_is)
-      (acts_so others types constants first allocator ks s w h i success true (slice_set ks a (RegisterType.Owner T)) (set_register s a (Register.Owner d T)) (with_owner w new a place) row (changed alone.next_kept refl tt blocks)
+      (acts_so others types constants first allocator ks s w h i success true (slice_set ks a (RegisterType.Owner T)) (set_register s a (Register.Owner d T)) (with_owner w new a place) row
+      (changed alone.next_kept refl tt (record { spot = nowhere; own = []; touches = (refl, refl); kept = kept_nowhere [] h.pictured.held.laid_out.heap alone.kept }) blocks)
       alone.length_kept alone.front_kept refl shows (frame_owning one h a within g.0 d place fits root refl refl new come alone.front_kept)))
 
   -- NEW fails if there is no room
@@ -326,5 +340,10 @@ module _ (allocator : ℕ) (constants : List Constant) (role : Role) (a b c : �
       (call.blocks, subst (λ (t : Table). HoldsRoot w.image t r.0 call.blocks) h.table_is call.holds_it, (shared, gone_with h new r.0 refl call, refl)) in
       let blocks : GrantsAsks constants i h.pictured new = record { asks = []; asked = refl; gives = call.blocks ++ shared; returned = returned; blocks = live w.image; granted = refl; left = call.live_is } in
       subst (λ k. Acts others types constants first allocator i success k s w (without_owner w new b)) (ap (λ (r : RegisterTypes × RegisterTypes). r.0) pair)
-      (acts_so others types constants first allocator ks s w h i success true after (set_register s b Register.Undefined) (without_owner w new b) row (changed call.becomes.next_kept refl tt blocks) call.becomes.length_kept call.becomes.front_kept refl shows
+      (acts_so others types constants first allocator ks s w h i success true after (set_register s b Register.Undefined) (without_owner w new b) row (changed call.becomes.next_kept refl tt (record {
+        spot = nowhere;
+        own = call.blocks ++ blocks_by call.theirs h.pictured.picture.frozen;
+        touches = (refl, root_touched h new r.0 refl call (root_of_register s.registers h.pictured.owned b) r.1);
+        kept = kept_nowhere _ h.pictured.held.laid_out.heap call.becomes.kept;
+      }) blocks) call.becomes.length_kept call.becomes.front_kept refl shows
       (frame_released one h b valid.b new goes call.becomes.front_kept p.0 owner.0)))

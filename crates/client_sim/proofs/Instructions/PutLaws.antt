@@ -7,6 +7,8 @@ use Rattle.seg_spec.specs.Types.{Form, Table, form_at}
 use Rattle.seg_spec.specs.Value.{Value, Full}
 use Rattle.seg_spec.specs.Block.{block_of}
 use Rattle.seg_spec.specs.Reads.{Holds}
+use Rattle.seg_spec.specs.Index.{Root}
+use Rattle.seg_spec.specs.Sound.{HoldsRoot}
 use Rattle.seg_spec.specs.Owning.{Stands}
 use Rattle.seg_spec.specs.Calls.{IsLoose}
 use Rattle.seg_spec.specs.Frozen.{blocks_by}
@@ -22,6 +24,7 @@ use Rattle.client_spec.specs.Answer.{success, path_of, path_form, content_in, ow
 use Rattle.client_spec.specs.Effect.{outcome, effect}
 use Rattle.client_spec.specs.Shape.{HasShape}
 use Rattle.client_spec.specs.Asks.{PlaceGoes}
+use Rattle.client_spec.specs.Ties.{spot_of, Both, OfFrozen, OfRoot, OfOwner, OfPlace}
 use Rattle.client_spec.specs.Typed.{Class, RegisterType, Reason, RegisterTypes, known, same_class, sharing, owner_needed, required, known_after, without_class, ended, others_ended, rule}
 use Rattle.client_spec.specs.Typed as typed
 use Rattle.client_spec.proofs.TypedStates.ValueFormLaws.{own_value, own_fits, not_is, required_is}
@@ -34,7 +37,7 @@ use Rattle.client_spec.proofs.Spelling.ConstantNameLaws.{one_each}
 use Rattle.client_spec.proofs.TypedStates.ValueLaws.{length_set}
 use Rattle.client_sim.specs.Shows.{World, place_in, owns_in, Acts}
 use Rattle.client_sim.specs.Acting.{ActsAs, ActsPlainly}
-use Rattle.client_sim.proofs.ImageChangeLaws.{changed_at_place}
+use Rattle.client_sim.proofs.ImageChangeLaws.{kept_at_place, of_frozen, changed_at_place}
 use Rattle.client_sim.proofs.Frozen.UnfoldedOperationLaws.{lifted_acts}
 use Rattle.client_sim.proofs.FrameLaws.{owner_apart}
 use Rattle.client_sim.proofs.UnchangedImageLaws.{set_there}
@@ -42,7 +45,7 @@ use Rattle.client_sim.proofs.Places.PathPlaceLaws.{shared_here}
 use Rattle.seg_spec.proofs.Frozen.ValueCellLaws.{names_full, names_one}
 use Rattle.client_sim.proofs.GrantLaws.{given_back, gives_back}
 use Rattle.client_sim.proofs.EffectLaws.{acts_so}
-use Rattle.client_sim.proofs.Instructions.ItemLaws.{reaches, led_to}
+use Rattle.client_sim.proofs.Instructions.ItemLaws.{reaches, led_to, place_touched}
 use Rattle.client_sim.proofs.Objects.OwnedMoveLaws.{put_moves}
 use Rattle.client_sim.proofs.Objects.MoveWorldLaws.{with_owning, shows_moved, put_known, stays_released, frame_moved}
 use Rattle.client_sim.proofs.Objects.OwnedObjectLaws.{owns_here, owns_apart}
@@ -148,12 +151,20 @@ module _ (allocator : ℕ) (constants : List Constant) (role : Role) (a b c : �
         holds = held;
         gives_are = (given, record { theirs = all.theirs; holds = all.beside.holds; blocks_are = refl }, refl);
       } in
+      let object : OfOwner h.pictured c its = subst (λ (o : Option Root). OfRoot h.pictured o its) (sym o.root_is) (subst (λ (t : Table). HoldsRoot w.image t o.root its) h.pictured.types apart.1) in
+      let touches : Both (Both (OfPlace constants put h.pictured (spot_of s.types (place_in w b))) (OfOwner h.pictured c)) (OfFrozen h.pictured) ((l.found.blocks ++ its) ++ blocks_by all.theirs picture.frozen) =
+      (l.found.blocks ++ its, blocks_by all.theirs picture.frozen, (l.found.blocks, its, place_touched one h put r, object, refl), of_frozen h.pictured all.theirs all.beside.holds, refl) in
       let blocks = gives_back constants put h.pictured new refl (l.found.blocks ++ given) (place_in w b, r.form, led_to one h put r, goes) (given_back gone picture.frozen l.found.blocks (λ n. refl) clears) in
       subst (λ k. Acts others types constants first allocator put success k s w (with_owning w new c false w.positions w.type_ids)) (ap (λ (k : RegisterTypes × RegisterTypes). k.0) pair)
       (acts_so others types constants first allocator ks s w h put success true (slice_set ks' c RegisterType.Undefined) (set_register (put_at s l.path (Full o.value)) c Register.Undefined)
-      (with_owning w new c false w.positions w.type_ids) row (changed_at_place changes.back_kept refl refl tt blocks) changes.length_kept changes.front_kept refl shows
+      (with_owning w new c false w.positions w.type_ids) row (changed_at_place changes.back_kept refl refl tt (record {
+        spot = spot_of s.types (place_in w b);
+        own = _;
+        touches = touches;
+        kept = kept_at_place s.types h.pictured.types changes;
+      }) blocks) changes.length_kept changes.front_kept refl shows
       (frame_moved one h b r.class r.type r.known_as l (Full o.value) fits new c Register.Undefined (λ o. o ≡ Origin.Owned c) moved.to _ _ _ _ _ _ _ _ _ _ _ _ _ _
-      (λ n e free. owner_apart h c r.what n (owner ∙ ap RegisterType.Owner (sym same)) free) moved.stays))
+      (λ n e free. owner_apart h c r.what n (owner ∙ ap RegisterType.Owner (sym same)) free) moved.stays (λ n had has. refl)))
 
   pub put_acts : PutsOwn w.table
       → ActsAs allocator constants role put w (with_owning w new c false w.positions w.type_ids)

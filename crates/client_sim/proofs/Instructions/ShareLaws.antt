@@ -24,6 +24,7 @@ use Rattle.client_spec.specs.Answer.{success, path_in, path_of, path_form, share
 use Rattle.client_spec.specs.Effect.{outcome, effect}
 use Rattle.client_spec.specs.Grammar.{IsInstruction}
 use Rattle.client_spec.specs.Asks.{LedTo, Renames}
+use Rattle.client_spec.specs.Ties.{spot_of}
 use Rattle.client_spec.specs.Bare.{bare, bare_one}
 use Rattle.client_spec.specs.Meaning.{IsAsKnown}
 use Rattle.client_spec.specs.Pictures.{Pictures, meaning_in, value_through, PicturesTrees, trees_of}
@@ -43,18 +44,19 @@ use Rattle.client_spec.proofs.Unfolded.PictureTreeLaws.{all_named, trees_one, pi
 use Rattle.client_spec.proofs.Spelling.ConstantNameLaws.{one_each}
 use Rattle.client_spec.proofs.Unfolded.UnfoldedStateLaws.{register_same, value_same, type_same, put_same}
 use Rattle.client_spec.proofs.TypedStates.ValueLaws.{bind_some}
+use Rattle.client_sim.proofs.Objects.OwnedPlaceLaws.{owning}
 use Rattle.client_sim.specs.Shows.{World, place_in, Shows, ChangesImage}
 use Rattle.client_sim.specs.Seeing.{Anchored, Sees, SeenActs}
 use Rattle.client_sim.specs.Sharing.{SharesCell}
 use Rattle.client_sim.specs.Acting.{AreDeclarationsRight, ActsAs}
-use Rattle.client_sim.proofs.ImageChangeLaws.{changed_at_place}
+use Rattle.client_sim.proofs.ImageChangeLaws.{kept_at_place, of_frozen, changed_at_place}
 use Rattle.client_sim.proofs.Places.ValueChangeLaws.{shows_changed, frame_changed}
 use Rattle.client_sim.proofs.FrameLaws.{Frame}
 use Rattle.client_sim.proofs.Frozen.FrozenFrameLaws.{stay_named}
 use Rattle.client_sim.proofs.Frozen.FrozenValueLaws.{through_so}
 use Rattle.client_sim.proofs.GrantLaws.{given_back_shared, gives_back}
 use Rattle.client_sim.proofs.Places.LeafPutLaws.{with_image}
-use Rattle.client_sim.proofs.Places.ReferencePlaceLaws.{Led, led}
+use Rattle.client_sim.proofs.Places.ReferencePlaceLaws.{Led, led, touched}
 use Rattle.client_sim.proofs.Frozen.UnfoldedOperationLaws.{changeable_bare, bare_or_read}
 use Rattle.client_sim.proofs.Frozen.UnfoldedRowLaws.{later_trees}
 use Rattle.client_sim.proofs.Places.PathPlaceLaws.{PlacePut, frozen_beside, place_shared}
@@ -365,7 +367,13 @@ module _ (allocator : â„•) (constants : List Constant) (role : Role) (a b c : â„
       }
 
       changes : ChangesImage constants share pictured success new
-      changes = changed_at_place s.clears.changes.back_kept refl refl tt (gives_back constants share pictured new refl gives (place_in w b, Form.shared f.held, led_to, renames)
+      changes = changed_at_place s.clears.changes.back_kept refl refl tt
+          (record {
+            spot = spot_of h.plain.types (place_in w b);
+            own = l.found.blocks ++ blocks_by s.theirs (frozen h);
+            touches = (l.found.blocks, blocks_by s.theirs (frozen h), touched h.shows b f.class f.type l share (Form.shared f.held) led_to, of_frozen pictured s.theirs s.holds, refl);
+            kept = kept_at_place h.plain.types pictured.types s.clears.changes;
+          }) (gives_back constants share pictured new refl gives (place_in w b, Form.shared f.held, led_to, renames)
           (given_back_shared (names_in l.value) (names_in value) (frozen h) s.clears))
 
       acts : SeenActs others types constants first allocator share success after t w world
@@ -377,6 +385,7 @@ module _ (allocator : â„•) (constants : List Constant) (role : Role) (a b c : â„
         changes = changes;
         length_kept = s.clears.changes.length_kept;
         header_kept = s.clears.changes.front_kept;
+        owning = owning h.shows shows (Î» r had has. refl);
         sees = sees;
         same_input = refl;
       }

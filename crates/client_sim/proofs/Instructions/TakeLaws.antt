@@ -21,6 +21,7 @@ use Rattle.client_spec.specs.Effect.{outcome, effect}
 use Rattle.client_spec.specs.Effect as effects
 use Rattle.client_spec.specs.Shape.{HasShape}
 use Rattle.client_spec.specs.Asks.{GrantsAsks}
+use Rattle.client_spec.specs.Ties.{spot_of}
 use Rattle.client_spec.specs.Meaning.{LeadsToType, IsAsKnown}
 use Rattle.client_spec.specs.Pictures.{LeadsInImage}
 use Rattle.client_spec.specs.Typed.{Class, RegisterType, known, sharing, without_class, ended, others_ended, opens, rule}
@@ -32,14 +33,15 @@ use Rattle.client_spec.proofs.TypedStates.ShapeLaws.{value_of_form}
 use Rattle.client_spec.proofs.Spelling.ConstantNameLaws.{one_each}
 use Rattle.client_spec.proofs.TypedStates.StateLaws.{not_owner}
 use Rattle.client_spec.proofs.TypedStates.ValueLaws.{length_set}
+use Rattle.client_sim.proofs.Objects.OwnedPlaceLaws.{owner_elsewhere}
 use Rattle.client_sim.specs.Shows.{World, place_in, owns_in, Acts}
 use Rattle.client_sim.specs.Acting.{ActsAs, IsRefusedAs, ActsPlainly}
-use Rattle.client_sim.proofs.ImageChangeLaws.{changed_at_place, unchanged}
+use Rattle.client_sim.proofs.ImageChangeLaws.{kept_at_place, changed_at_place, unchanged}
 use Rattle.client_sim.proofs.Frozen.UnfoldedOperationLaws.{lifted_acts, lifted_refused}
 use Rattle.client_sim.proofs.UnchangedImageLaws.{set_there, set_beside, not_given}
 use Rattle.client_sim.proofs.Instructions.NumberLaws.{unowned}
 use Rattle.client_sim.proofs.EffectLaws.{acts_so}
-use Rattle.client_sim.proofs.Instructions.ItemLaws.{reaches, opens_then, shows_ended, code_acts}
+use Rattle.client_sim.proofs.Instructions.ItemLaws.{reaches, place_touched, opens_then, shows_ended, code_acts}
 use Rattle.seg_spec.specs.Shared.{names_in, names_each}
 use Rattle.seg_spec.proofs.Frozen.PartCountLaws.{names_same}
 use Rattle.seg_spec.proofs.Frozen.ValueCellLaws.{names_empty, names_full, names_one}
@@ -162,9 +164,11 @@ module _ (allocator : ℕ) (constants : List Constant) (role : Role) (a b c : �
             take_row s l.path r.form U l.value (Some v) r.path_is r.path_form_is r.is l.there (ap content_in some.1) ∙ answer_is types constants after after_put known_then success a owner o.0 in
             let blocks : GrantsAsks constants take h.pictured new = record { asks = []; asked = refl; gives = []; returned = refl; blocks = live w.image; granted = refl; left = changes.live_is } in
             subst (λ n. Acts others types constants first allocator take success (slice_set after a (RegisterType.Owner U)) s w (owner_then at n)) (sym t.0)
-            (acts_so others types constants first allocator ks s w h take success true (slice_set after a (RegisterType.Owner U)) state w' row (changed_at_place changes.back_kept refl refl tt blocks) changes.length_kept changes.front_kept refl shows
+            (acts_so others types constants first allocator ks s w h take success true (slice_set after a (RegisterType.Owner U)) state w' row (changed_at_place changes.back_kept refl refl tt
+            (record { spot = spot_of s.types (place_in w b); own = l.found.blocks; touches = place_touched one h take r; kept = kept_at_place s.types h.table_is t.4 }) blocks) changes.length_kept changes.front_kept refl shows
             (frame_moved one h b r.class r.type r.known_as l Empty fits new a owner (λ o. ⊥) moved.0.to _ _ _ _ _ _ _ _ _ _ _ _ _ _
-            (λ n e free. not_given after a n (RegisterType.Owner U) (let m = valid.a in omega (arith, sixteen, m)) (λ f. cc) e) moved.0.stays))
+            (λ n e free. not_given after a n (RegisterType.Owner U) (let m = valid.a in omega (arith, sixteen, m)) (λ f. cc) e) moved.0.stays
+            (λ n had has. ap (λ (q : Place). q.at) (others_placed w at U n (owner_elsewhere (shows_ended one h r.class b) a o.0 n had)))))
       ])
 
   pub take_acts : (at T : ℕ) → TakesFrom at T w.table → ActsAs allocator constants role take w (owner_then at T)

@@ -24,6 +24,7 @@ use Rattle.client_spec.specs.Machine.{Origin, Path, Register, State, with_unique
 use Rattle.client_spec.specs.Answer.{Answer, Outcome, success, bad_alloc, already_exists, answer_number, path_from, refer, fail, give_count}
 use Rattle.client_spec.specs.Effect.{outcome, effect, add_unique, truth}
 use Rattle.client_spec.specs.Asks.{GrantsAsks, Denies, Asks, Returns, RootGoes, if_absent}
+use Rattle.client_spec.specs.Ties.{nowhere, KeepsBut}
 use Rattle.client_spec.specs.Grammar.{IsNumber, IsInstruction}
 use Rattle.client_spec.specs.Shape.{HasShape}
 use Rattle.client_spec.specs.Typed.{Class, RegisterType, RegisterTypes, known, is_owner, sharing, ended, without_class, opens, rule}
@@ -36,7 +37,7 @@ use Rattle.client_spec.proofs.Rows.RuleRowLaws.{opens_ok, answer_is}
 use Rattle.client_spec.proofs.Spelling.ConstantNameLaws.{one_each}
 use Rattle.client_sim.specs.Shows.{World, Shows, Acts, ChangesImage}
 use Rattle.client_sim.specs.Acting.{AreDeclarationsRight, ActsAs, IsRefusedAs}
-use Rattle.client_sim.proofs.ImageChangeLaws.{changed, unchanged}
+use Rattle.client_sim.proofs.ImageChangeLaws.{kept_nowhere, changed, unchanged}
 use Rattle.client_sim.proofs.Frozen.UnfoldedOperationLaws.{lifted_acts, lifted_refused}
 use Rattle.client_sim.proofs.Places.LeafPutLaws.{with_image}
 use Rattle.client_sim.proofs.Instructions.NumberLaws.{with_number, quiet, gives_both}
@@ -47,7 +48,7 @@ use Rattle.client_sim.proofs.GrantLaws.{grants_spent, denies}
 use Rattle.client_sim.proofs.Objects.ObjectChangeLaws.{shows_rooted, pictured_rooted, frame_rooted}
 use Rattle.client_sim.proofs.Instructions.FindLaws.{OfPicture, of_picture, begins_unique, type_number, unique_found, none_unique, leads_unique, unique_typed}
 use Rattle.client_sim.proofs.EndedReferenceLaws.{LeavesPicture, type_known, ended_shown}
-use Rattle.client_sim.proofs.Instructions.OwnerLaws.{new_object, LeavesWithout, paths_with, frozen_with, paths_without, frozen_without, gone_with}
+use Rattle.client_sim.proofs.Instructions.OwnerLaws.{new_object, LeavesWithout, root_touched, paths_with, frozen_with, paths_without, frozen_without, gone_with}
 use Rattle.client_sim.proofs.Objects.UniqueChangeLaws.{UniqueComes, unique_comes, UniqueGoes, unique_goes}
 
 -- the type has no unique object, and a new one is added
@@ -103,7 +104,7 @@ module _ {others : List Root} {types : Table} {constants : List Constant} (one :
 
     pub frame_more : Frame ks w (with_image w new) h.pictured shows_more.pictured
     unfolding shows_more
-    frame_more = frame_rooted h ks s_more (with_image w new) c.later (λ o. ⊥) c.keeps front _ _ _ _ _ c.stays (unknown_same ks s s_more w new refl)
+    frame_more = frame_rooted h ks s_more (with_image w new) c.later (λ o. ⊥) c.keeps front _ _ _ _ _ c.stays (unknown_same ks s s_more w new refl) (λ r had has. refl)
 
     pub more_there : begins_unique shows_more.pictured.picture T ≡ Some root.at
     unfolding shows_more
@@ -130,7 +131,7 @@ module _ {others : List Root} {types : Table} {constants : List Constant} (one :
 
     pub frame_less : Frame ks_less w (with_image w new) h.pictured shows_less.pictured
     unfolding shows_less
-    frame_less = frame_rooted h ks_less s_less (with_image w new) c.later (λ o. o ≡ Origin.Unique T) c.keeps front _ _ _ _ _ c.stays (unknown_same ks_less s s_less w new refl)
+    frame_less = frame_rooted h ks_less s_less (with_image w new) c.later (λ o. o ≡ Origin.Unique T) c.keeps front _ _ _ _ _ c.stays (unknown_same ks_less s s_less w new refl) (λ r had has. refl)
 
   -- ---- references of a class end, and nothing else changes
 
@@ -144,7 +145,7 @@ module _ {others : List Root} {types : Table} {constants : List Constant} (one :
   pub frame_ended : (class : Class) → Frame (ended (sharing class) ks) w w h.pictured (shows_ended class).pictured
   unfolding shows_ended
   frame_ended class = frame_rooted h (ended (sharing class) ks) s w h.pictured (λ o. ⊥) _ refl _ _ _ _ _ (frozen_same_image w.image h.pictured.picture.table h.pictured.picture.frozen)
-      (unknown_same (ended (sharing class) ks) s s w w.image refl)
+      (unknown_same (ended (sharing class) ks) s s w w.image refl) (λ r had has. refl)
 
 none_begins : (o : Option Root) → option_map {T = Root} {U = ℕ} (λ r. r.at) o ≡ None → o ≡ None
 none_begins None e = refl
@@ -180,7 +181,7 @@ module _ (allocator : ℕ) (constants : List Constant) (role : Role) (a b c : �
 
     -- the machine does a row that makes a unique object
     made : (operation : Operation) (at : ℕ) → JoinsUniques allocator w.image new w.table h.pictured.picture T at → (asked : Asks constants (of operation) h.pictured (asks_one w.table)) → Returns constants (of operation) h.pictured []
-        → (GrantsAsks constants (of operation) h.pictured new → word new next_word ≡ word w.image next_word → ChangesImage constants (of operation) h.pictured success new)
+        → (GrantsAsks constants (of operation) h.pictured new → word new next_word ≡ word w.image next_word → KeepsBut w.image new nowhere [] → ChangesImage constants (of operation) h.pictured success new)
         → outcome constants (of operation) true s ≡ add_unique a T true s
         → Acts others types constants first allocator (of operation) success good s w (with_place (with_image w new) a (record { at = at; type = T }))
     made operation at call asked returned changes row =
@@ -201,7 +202,8 @@ module _ (allocator : ℕ) (constants : List Constant) (role : Role) (a b c : �
         let blocks : GrantsAsks constants i h.pictured new = grants_spent constants i h.pictured allocator h.allocator_is (asks_one w.table) asked new [] returned (live new) call.spends refl in
         subst (λ k. Acts others types constants first allocator i success k s w (with_place (with_image w new) a place)) (sym good_is)
         (acts_so others types constants first allocator ks s w h i success true (ks_then ks) (set_register s' a (Register.Reference path_is)) (with_place (with_image w new) a place)
-        (row ∙ answer_is types constants ks s' more.as_known success a (Register.Reference path_is) its.0) (changes blocks call.becomes.next_kept) call.becomes.length_kept call.becomes.front_kept refl shows
+        (row ∙ answer_is types constants ks s' more.as_known success a (Register.Reference path_is) its.0) (changes blocks call.becomes.next_kept
+        (kept_nowhere [] h.pictured.held.laid_out.heap call.becomes.kept)) call.becomes.length_kept call.becomes.front_kept refl shows
         (frame_reference others types constants first allocator ks s' (with_image w new) more a _ _ _ _ _ _ _ _ _ _ (frame_more one h T d fits none root new come call.becomes.front_kept)))
 
     -- the machine does a row that finds the unique object
@@ -262,7 +264,7 @@ module _ (allocator : ℕ) (constants : List Constant) (role : Role) (a b c : �
   make_unique_acts at says = lifted_acts refl (λ types others first ks good bad s right valid e h.
       let call = said right valid.number valid.a e h {P = λ p. JoinsUniques allocator w.image new w.table p T at} says in
       let none = none_at right valid.number valid.a e h call.none in
-      made right valid.number valid.a e h Operation.MakeUnique at call (asks_some right valid.number valid.a e h none) refl (λ g next. changed next refl tt g)
+      made right valid.number valid.a e h Operation.MakeUnique at call (asks_some right valid.number valid.a e h none) refl (λ g next kept. changed next refl tt (record { spot = nowhere; own = []; touches = (refl, refl); kept = kept }) g)
       (row_none right valid.number valid.a e h (λ n. fail a already_exists s) (λ n. add_unique a n true s) none))
 
   -- UMAKE fails if there is one, or no room
@@ -299,7 +301,8 @@ module _ (allocator : ℕ) (constants : List Constant) (role : Role) (a b c : �
         | inr call ↦
             let none = none_at right valid.number valid.a e h call.none in
             made right valid.number valid.a e h Operation.FindOrMakeUnique at call (asks_some right valid.number valid.a e h none) refl
-            (λ g next. changed next refl (λ root some. absurd (let f : Some root ≡ None = sym some ∙ ap (root_of_type h.pictured.picture.uniques) (known_type right valid.number valid.a e h).0 ∙ call.none in cc)) g)
+            (λ g next kept. changed next refl (λ root some. absurd (let f : Some root ≡ None = sym some ∙ ap (root_of_type h.pictured.picture.uniques)
+            (known_type right valid.number valid.a e h).0 ∙ call.none in cc)) (record { spot = nowhere; own = []; touches = (refl, refl); kept = kept }) g)
             (row_none right valid.number valid.a e h (λ n. refer a (path_from (Origin.Unique n)) s) (λ n. add_unique a n true s) none)
       ])
 
@@ -362,7 +365,13 @@ module _ (allocator : ℕ) (constants : List Constant) (role : Role) (a b c : �
           (c.blocks, subst (λ (t : Table). HoldsRoot w.image t call.root c.blocks) h.table_is c.holds_it, (shared, gone_with h new call.root refl c, refl)) in
           let blocks : GrantsAsks constants i h.pictured new = record { asks = []; asked = refl; gives = c.blocks ++ shared; returned = returned; blocks = live w.image; granted = refl; left = c.live_is } in
           acts_so others types constants first allocator ks s w h i success true (slice_set (ended (Class.Unique T) ks) a RegisterType.Int) (set_register s' a (Register.Int (pos 1))) (with_number (with_image w new) a (pos 1))
-          (row (Some u.plain.value) u.there ∙ answer_is types constants (ended (Class.Unique T) ks) s' less.as_known success a (Register.Int (pos 1)) free) (changed c.becomes.next_kept refl (λ none. absurd (let f : None ≡ Some call.root = sym none ∙ ap (root_of_type picture.uniques) operand ∙ call.root_is in cc)) blocks) c.becomes.length_kept c.becomes.front_kept refl
+          (row (Some u.plain.value) u.there ∙ answer_is types constants (ended (Class.Unique T) ks) s' less.as_known success a (Register.Int (pos 1)) free) (changed c.becomes.next_kept refl (λ none. absurd
+          (let f : None ≡ Some call.root = sym none ∙ ap (root_of_type picture.uniques) operand ∙ call.root_is in cc)) (record {
+            spot = nowhere;
+            own = c.blocks ++ blocks_by c.theirs picture.frozen;
+            touches = (refl, root_touched h new call.root refl c (root_of_type picture.uniques (nat_abs number)) (ap (root_of_type picture.uniques) operand ∙ call.root_is));
+            kept = kept_nowhere _ h.pictured.held.laid_out.heap c.becomes.kept;
+          }) blocks) c.becomes.length_kept c.becomes.front_kept refl
           (shows_number others types constants first allocator (ended (Class.Unique T) ks) s' (with_image w new) less a (pos 1) within free)
           (frame_number others types constants first allocator _ s' (with_image w new) less a _ _ _ (frame_less one h T new goes c.becomes.front_kept))
       by types others first ks s right within h one operand free row false call =

@@ -23,6 +23,7 @@ use Rattle.client_spec.proofs.TypedStates.ClassLaws.{OneEach, known_ended, known
 use Rattle.client_spec.proofs.TypedStates.ValueLaws.{length_set}
 use Rattle.client_spec.proofs.TypedStates.KnowledgeChangeLaws.{agrees_put_others}
 use Rattle.client_spec.proofs.TypedStates.PutLaws.{put_types, put_length, put_register, put_at_is}
+use Rattle.client_sim.proofs.Objects.OwnedPlaceLaws.{KeepsOwners}
 use Rattle.client_sim.specs.Writes.{Took}
 use Rattle.client_sim.specs.Shows.{World, number_in, place_in, owns_in, Shown, Shows}
 use Rattle.client_sim.proofs.FrameLaws.{Frame, with_owned_none, owns_nothing}
@@ -165,11 +166,12 @@ module _ {others : List Root} {types : Table} {constants : List Constant} (one :
       (places : (r : ℕ) → a ≢ r → place_in (with_owning w new a owns positions type_ids) r ≡ place_in w r) (front : KeepsFront w.image new) (as_known : IsAsKnown types constants (slice_set ks' a k) moved_then)
       (rest : (r : ℕ) → a ≢ r → Stays r (known ks r) (known ks' r)) (here : Shown m.later (with_owning w new a owns positions type_ids) a k y)
       → ((r : ℕ) → known (slice_set ks' a k) r ≡ RegisterType.Undefined → owns_in w r ≡ false → a ≢ r)
-      → KeepsFrozen w.image new h.pictured.picture.table h.pictured.picture.frozen m.later.picture.frozen
+      → KeepsFrozen w.image new h.pictured.picture.table h.pictured.picture.frozen m.later.picture.frozen → KeepsOwners w (with_owning w new a owns positions type_ids)
       → Frame (slice_set ks' a k) w (with_owning w new a owns positions type_ids) h.pictured (shows_moved k ks' owns positions type_ids within sixteen at_length id_length places front as_known rest here).pictured
   unfolding shows_moved
-  frame_moved k ks' owns positions type_ids within sixteen at_length id_length places front as_known rest here apart frozen = record {
+  frame_moved k ks' owns positions type_ids within sixteen at_length id_length places front as_known rest here apart frozen owners = record {
     frozen = frozen;
+    owners = owners;
     unknown = λ r e o.
         let far = apart r e o in
         record { register_is = stays r far (register s r) refl (owns_nothing h r o); place_is = places r far; owns_is = set_beside w.owns a r owns false far };

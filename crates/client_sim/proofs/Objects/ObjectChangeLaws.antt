@@ -33,6 +33,7 @@ use Rattle.client_spec.specs.Answer.{path_from}
 use Rattle.client_spec.specs.Meaning.{InClass, IsAsKnown, Meets}
 use Rattle.client_spec.specs.Pictures.{Pictures, LeadsInImage, root_at}
 use Rattle.client_spec.specs.Typed.{RegisterType, RegisterTypes, known}
+use Rattle.client_sim.proofs.Objects.OwnedPlaceLaws.{KeepsOwners}
 use Rattle.client_sim.specs.Writes.{Took}
 use Rattle.client_sim.specs.Shows.{World, number_in, place_in, owns_in, HasRegisters, Shown, KeepsFrozenPaths, Shows}
 use Rattle.client_sim.proofs.Frozen.FrozenPathLaws.{KeepsFrozen, frozen_of_roots}
@@ -175,7 +176,7 @@ module _ {others : List Root} {types : Table} {constants : List Constant} {first
 
   pub frame_rooted : {s₀ : State} {w₀ : World} {before : Pictures others s₀ w₀.image} (front : KeepsFront w.image w'.image) (as_known : IsAsKnown types constants ks' s') (sixteen : length ks' ≡ 16) (registers : HasRegisters w')
       (besides : SameBesides w w' s s') (each : (r : ℕ) → Remains constants Ends ks ks' s s' w w' r ⊎ Shown later w' r (known ks' r) (register s' r))
-      → KeepsFrozen w₀.image w'.image before.picture.table before.picture.frozen later.picture.frozen → KeepsUnknown ks' s₀ s' w₀ w'
+      → KeepsFrozen w₀.image w'.image before.picture.table before.picture.frozen later.picture.frozen → KeepsUnknown ks' s₀ s' w₀ w' → KeepsOwners w₀ w'
       → Frame ks' w₀ w' before (shows_rooted front as_known sixteen registers besides each).pictured
   unfolding shows_rooted
-  frame_rooted front as_known sixteen registers besides each stays kept = record { frozen = stays; unknown = kept }
+  frame_rooted front as_known sixteen registers besides each stays kept owners = record { frozen = stays; unknown = kept; owners = owners }

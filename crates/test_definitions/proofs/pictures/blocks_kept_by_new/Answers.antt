@@ -1,0 +1,5 @@
+use Rattle.test_definitions.proofs.KeptImageLaws.{new_keeps, new_moves_nothing}
+use Rattle.test_definitions.proofs.pictures.blocks_kept_by_new.Goals as goal
+
+pub returns : goal.returns
+returns c = record { kept = new_keeps; refused = new_moves_nothing }

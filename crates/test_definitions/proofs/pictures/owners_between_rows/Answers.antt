@@ -1,0 +1,5 @@
+use Rattle.test_definitions.proofs.OwnerTieLaws.{next_owners, exchanged}
+use Rattle.test_definitions.proofs.pictures.owners_between_rows.Goals as goal
+
+pub returns : goal.returns
+returns c = record { same = next_owners; refused = exchanged }
