@@ -36,8 +36,6 @@ pub(crate) struct Claims<A: Allocator> {
     counts: Vec<Option<u32>, A>,
     /// Whether a cell points to a frozen object so far.
     has_named: bool,
-    /// The marks that were read ahead last. Nothing depends on them.
-    ahead: [Mark; 2],
     /// While the values of a frozen object are checked, its number: objects that they point to have lower ones.
     below: Option<u32>,
 }
@@ -79,7 +77,6 @@ impl<A: Allocator> Claims<A> {
             taken: 0,
             counts: Vec::from_elem(alloc, None, slots)?,
             has_named: false,
-            ahead: [Mark::Inside; 2],
             below: None,
         })
     }
@@ -185,24 +182,6 @@ impl<A: Allocator> Claims<A> {
             }
             Mark::Claimed | Mark::Named => Err(ContentFault::DoubleOwner(block)),
             Mark::Inside | Mark::Free => Err(bad),
-        }
-    }
-
-    /// Reads the marks of the blocks that two pointers point to, so that they are in the processor's cache when the
-    /// blocks are claimed.
-    #[inline(always)]
-    pub(crate) fn read_ahead(&mut self, bytes: View, pointers: [u32; 2])
-        ensures { self.new ≡ self.old }
-    {
-        let [first, second] = pointers;
-        self.ahead = [self.mark_at(bytes, first), self.mark_at(bytes, second)];
-    }
-
-    /// The mark of the block that a pointer points to.
-    fn mark_at(&self, bytes: View, pointer: u32) -> Mark {
-        match bytes.target(pointer as usize) {
-            Some(start) => self.mark(block_of(start)),
-            None => Mark::Inside,
         }
     }
 

@@ -8,7 +8,7 @@ ghost use Rattle.seg_check.specs.Cells.{CellsPointTo};
 use crate::claims::Claims;
 use crate::fault::ContentFault;
 use crate::image::TypedImage;
-use crate::walk::{Tree, Visit, child_pointers};
+use crate::walk::{Tree, Visit};
 use seg_cells::{CellAt, Content, KEY, ValueAt};
 use std::alloc::Allocator;
 
@@ -64,8 +64,7 @@ impl TypedImage<'_> {
         while let Some(visit) = walk.next().map_err(ContentFault::BadValue)? {
             match visit {
                 Visit::Enter(pointer) => {
-                    let node = owner.claim(claims, pointer, 1)?;
-                    claims.read_ahead(self.bytes, child_pointers(node));
+                    owner.claim(claims, pointer, 1)?;
                 }
                 Visit::Pass(node) => keys.add(self.key(content.entry.value_at(node, 0))),
             }

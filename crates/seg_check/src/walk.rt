@@ -310,14 +310,6 @@ fn colour_at(bytes: View, pointer: u32) -> Option<Colour>
     }
 }
 
-/// The positions of the pointers to the children of a node that lies in the segment.
-pub(crate) fn child_pointers(node: NodeAt) -> [u32; 2] {
-    [
-        child_pointer(node, Side::Left),
-        child_pointer(node, Side::Right),
-    ]
-}
-
 /// The position of the pointer to a child of a node that lies in the segment.
 fn child_pointer(node: NodeAt, side: Side) -> u32
     ensures { side_word node side < 2 ^ 32 → result ≡ side_word node side }
