@@ -61,7 +61,9 @@ none_loose (x ∷ xs) [] same none = absurd (omega (arith, same))
 none_loose (x ∷ xs) (y ∷ ys) same none = cc
 
 module _ {R : Type 0} {old new : List ℕ} {types : KeptTypes} {status : ℕ} {tells : R → Type 0} {claim : Image Lodged → Image Lodged → R → Type 0} (calls : Calls old new types status tells claim) where
-  left_sound : (sound : IsSound old) → table_in types ≡ Some sound.picture.table → ((opened left : Image Lodged) (returned : R) → bytes_in opened ≡ old → IsOpen opened sound.picture → claim opened left returned → StaysHeld (bytes_in opened) (bytes_in left) sound.picture)
+  left_sound : (sound : IsSound old) → table_in types ≡ Some sound.picture.table
+      → ((opened left : Image Lodged) (returned : R) → bytes_in opened ≡ old → IsOpen opened sound.picture
+      → claim opened left returned → StaysHeld (bytes_in opened) (bytes_in left) sound.picture)
       → IsStillSound old new
   left_sound sound same stays =
       let on = calls.on_image sound same in

@@ -244,7 +244,8 @@ module _ (allocator : ℕ) (constants : List Constant) (role : Role) (a b c : �
             ∙ ap (λ (o : Option ℕ). option_map_or (λ i. refer a (extend (read_path h good bad x V known_is l) (Selector.item i)) t) o (fail a out_of_range t)) there in
             let leads = on_part h b x V known_is (Selector.item f.0) to f.2 in
             subst (λ k. SeenActs others types constants first allocator at_of success k t w (with_place w a to)) (sym g.1)
-            (part_read h b x V known_is (item_known (Class.Frozen x)) l.what l.its at_of a (Selector.item f.0) v.0 to valid.a g.0 (item_part l.its.form v.0 f.0 v.4) f.3 leads given (unchanged refl (quiet constants at_of h.shows.pictured refl refl)))
+            (part_read h b x V known_is (item_known (Class.Frozen x)) l.what l.its at_of a (Selector.item f.0) v.0 to valid.a g.0
+            (item_part l.its.form v.0 f.0 v.4) f.3 leads given (unchanged refl (quiet constants at_of h.shows.pictured refl refl)))
       ]
 
   at_refused_on_read : (code : ℕ) → OfText allocator b w (λ xs. HasNoneAt code (length xs)) → OfItems allocator b w (λ U vs. HasNoneAt code (count vs)) → IsRefusedOnRead allocator constants role at_of w (with_number w a (pos code))

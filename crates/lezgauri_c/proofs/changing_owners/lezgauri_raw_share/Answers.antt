@@ -32,4 +32,6 @@ returns-clause-sound c =
     stays_sound_from (returns-clause-shares c) from to (λ opened left result it picture is_open other reached. share_stays opened left from to picture is_open other reached result it)
 
 pub returns-clause-same : goal.returns-clause-same
-returns-clause-same c = same_types c.args.types.now c.close_image.new.types c.deref_mut.result.now.image c.share-returned.new.self (opened_now c.deref_mut.ensures.value c.in-Ok.ensures.opened).types_are c.share-returned.ensures.bytes c.close_image.ensures.types
+returns-clause-same c =
+    same_types c.args.types.now c.close_image.new.types c.deref_mut.result.now.image c.share-returned.new.self
+        (opened_now c.deref_mut.ensures.value c.in-Ok.ensures.opened).types_are c.share-returned.ensures.bytes c.close_image.ensures.types

@@ -29,4 +29,6 @@ returns-clause-sound c =
     stays_sound (returns-clause-assigns c) place (λ opened left result it picture is_open reached. assign_stays opened left place picture is_open reached c.args.bytes.now result it)
 
 pub returns-clause-same : goal.returns-clause-same
-returns-clause-same c = same_types c.args.types.now c.close_image.new.types c.deref_mut.result.now.image c.assign-returned.new.self (opened_now c.deref_mut.ensures.value c.in-Ok.ensures.opened).types_are c.assign-returned.ensures.bytes c.close_image.ensures.types
+returns-clause-same c =
+    same_types c.args.types.now c.close_image.new.types c.deref_mut.result.now.image c.assign-returned.new.self
+        (opened_now c.deref_mut.ensures.value c.in-Ok.ensures.opened).types_are c.assign-returned.ensures.bytes c.close_image.ensures.types

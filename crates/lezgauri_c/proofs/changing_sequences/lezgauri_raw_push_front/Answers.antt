@@ -31,4 +31,6 @@ returns-clause-sound c =
     stays_sound (returns-clause-pushes c) place (λ opened left result it picture is_open reached. push_front_stays opened left place picture is_open reached result it)
 
 pub returns-clause-same : goal.returns-clause-same
-returns-clause-same c = same_types c.args.types.now c.close_image.new.types c.deref_mut.result.now.image c.push_front-returned.new.self (opened_now c.deref_mut.ensures.value c.in-Ok.ensures.opened).types_are c.push_front-returned.ensures.bytes c.close_image.ensures.types
+returns-clause-same c =
+    same_types c.args.types.now c.close_image.new.types c.deref_mut.result.now.image c.push_front-returned.new.self
+        (opened_now c.deref_mut.ensures.value c.in-Ok.ensures.opened).types_are c.push_front-returned.ensures.bytes c.close_image.ensures.types

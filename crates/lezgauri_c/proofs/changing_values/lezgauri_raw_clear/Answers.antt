@@ -30,4 +30,6 @@ returns-clause-sound c =
     stays_sound (returns-clause-clears c) place (λ opened left result it picture is_open reached. clear_stays opened left place picture is_open reached result it)
 
 pub returns-clause-same : goal.returns-clause-same
-returns-clause-same c = same_types c.args.types.now c.close_image.new.types c.deref_mut.result.now.image c.clear-returned.new.self (opened_now c.deref_mut.ensures.value c.in-Ok.ensures.opened).types_are c.clear-returned.ensures.bytes c.close_image.ensures.types
+returns-clause-same c =
+    same_types c.args.types.now c.close_image.new.types c.deref_mut.result.now.image c.clear-returned.new.self
+        (opened_now c.deref_mut.ensures.value c.in-Ok.ensures.opened).types_are c.clear-returned.ensures.bytes c.close_image.ensures.types
