@@ -18,7 +18,7 @@ use lezgauri::Code;
 use seg_raw::Fault;
 use std::alloc::Global;
 
-/// A call on the image in lent memory, or a return of a fault's number.
+/// A call on the image in lent memory, with the types that C keeps, or a return of a status if it can't be opened.
 macro_rules! on_image {
     ($alloc:ident, $lent:ident, $types:ident, $opened:ident => $call:expr) => {{
         let mut $opened = match crate::changing::open_image($alloc, $lent, $types) {
