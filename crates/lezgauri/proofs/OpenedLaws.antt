@@ -6,7 +6,11 @@ use Rattle.seg_spec.specs.Sound.{Picture, IsHeld}
 use Rattle.seg_spec.specs.Counting.{AreCounted}
 use Rattle.seg_spec.specs.Images.{IsSound, upgraded}
 use Rattle.seg_spec.proofs.Images.UpgradeLaws.{same_word, upgraded_version, upgraded_held, upgraded_counted}
-use Rattle.seg_image.specs.Faults.{IsImageOf}
+use Rattle.seg_spec.specs.Faulty.{Failure}
+use Rattle.seg_spec.proofs.Images.UnsoundImageLaws.{unsound}
+use Rattle.seg_raw.specs.declared.fault.Fault.{Fault}
+use Rattle.seg_raw.specs.declared.fault.Fault.TheVariants as fault
+use Rattle.seg_image.specs.Faults.{IsImageOf, IsFaultOf}
 use Rattle.seg_image.specs.declared.image.Image.{Image}
 use Rattle.seg_image.specs.Images.{segment_of, allocator_of, bytes_in, types_of, IsOpen}
 use Rattle.client_vm.specs.Runs.{IsReadyToRun}
@@ -14,6 +18,28 @@ use Rattle.client_vm.specs.Runs.{IsReadyToRun}
 -- a sound image with these types is sound
 pub image_sound : (bytes : List ℕ) (table : _) → IsImageOf bytes table → IsSound bytes
 image_sound bytes table is = record { picture = is.picture; held = is.held; counted = is.counted; none_loose = is.none_loose }
+
+-- a sound image has no fault, so opening it fails only if host memory is refused
+pub no_fault : (bytes : List ℕ) (f : Fault) → IsSound bytes → IsFaultOf bytes f → f ≡ fault.Memory
+no_fault bytes fault.Memory s l = refl
+no_fault bytes fault.BadHeader s l = absurd (unsound bytes Failure.bad_header l s)
+no_fault bytes (fault.BadType k) s l = absurd (unsound bytes (Failure.bad_type k) l s)
+no_fault bytes (fault.BadBlock at) s l = absurd (unsound bytes Failure.bad_tiles l s)
+no_fault bytes (fault.BadFree at) s l = absurd (unsound bytes Failure.bad_gaps l s)
+no_fault bytes (fault.BadIndex at) s l = absurd (unsound bytes Failure.bad_content l s)
+no_fault bytes (fault.BadPointer at) s l = absurd (unsound bytes Failure.bad_content l s)
+no_fault bytes (fault.DoubleOwner at) s l = absurd (unsound bytes Failure.bad_content l s)
+no_fault bytes (fault.BadValue at) s l = absurd (unsound bytes Failure.bad_content l s)
+no_fault bytes (fault.Unowned at) s l = absurd (l.1 s)
+no_fault bytes fault.Misplaced s l = absurd l
+no_fault bytes (fault.TypeMismatch k) s l = absurd l
+no_fault bytes fault.BadSize s l = absurd l
+no_fault bytes fault.NoHostRoom s l = absurd l
+no_fault bytes (fault.BadCode at) s l = absurd l
+no_fault bytes (fault.BadLine line) s l = absurd l
+no_fault bytes (fault.Rejected instruction reason) s l = absurd l
+no_fault bytes fault.TooLong s l = absurd l
+no_fault bytes (fault.BadMove i) s l = absurd l
 
 -- the bytes of an open image without loose objects are sound
 pub open_sound : {A : Type 0} (image : Image A) (picture : Picture) → IsOpen image picture → picture.loose ≡ [] → IsSound (bytes_in image)

@@ -46,6 +46,10 @@ pub use Rattle.client_verify.specs.Texts
 pub use Rattle.client_verify.specs.declared.verified.Verified
 pub use Rattle.client_verify.specs.declared.verified.TheConstants as VerifierConstants
 pub use Rattle.client_vm.specs.ReadyClients
+-- why a call failed
+pub use Rattle.seg_raw.specs.declared.fault.Fault
+pub use Rattle.seg_raw.specs.declared.code.Code
+pub use Rattle.seg_image.specs.declared.error.Error
 -- runs: `run`, and `run_bytes` with `run_image`
 pub use Rattle.client_vm.specs.Runs
 pub use Rattle.client_vm.specs.Jobs

@@ -1,5 +1,6 @@
-ghost use Rattle.std.specs.Prelude.{◌≡◌, false, IfOk};
+ghost use Rattle.std.specs.Prelude.{◌≡◌, false, IfOk, IfErr, OnErr};
 ghost use Rattle.lezgauri.specs.SoundImages.{IsSound};
+ghost use Rattle.lezgauri_uses.specs.Counts.{HasCounted, RefusesToCount};
 
 use lezgauri::{AllocatorKind, Error, Image, IndexKind, Sink, prepare, run, verify};
 use std::alloc::Global;
@@ -22,6 +23,11 @@ pub fn count<W: Sink>(
     out: &mut W,
 ) -> Result<Vec<u8>, Error>
     requires works { W.has_failed out.old ≡ false }
+    ensures sound { IfOk result (λ saved. IsSound saved.items) }
+    ensures counts { IfOk result (λ saved. HasCounted image.items client.now times
+        (W.taken out.old) (W.taken out.new) (W.has_failed out.new) saved.items) }
+    ensures refused { IfErr result (RefusesToCount image.items client.now) }
+    ensures nothing_written { OnErr result (out.new ≡ out.old) }
 {
     let mut image = Image::open(alloc, image)?;
     let client = prepare(alloc, verify(&image, client)?)?;

@@ -1,5 +1,11 @@
+ghost use Rattle.std.specs.Prelude.{◌≡◌, ℕ, ℤ, List, [], Some, Ok, IfOk, OnOk, MatchResult};
+ghost use Rattle.seg_spec.specs.Value.{Values, Int, nil};
+ghost use Rattle.lezgauri_uses.specs.Tables.{types, number_at, after_set, ContainsTable, numbers_at, greeting_at};
+ghost use Rattle.lezgauri_uses.specs.Settings.{entries_of, Keeps, AreSame};
+
 use lezgauri::{
-    AllocatorKind, Error, Fields, Image, ImageRead, IndexKind, Type, TypeId, type_table,
+    AllocatorKind, Code, Error, Fault, Fields, Image, ImageRead, IndexKind, Place, Type, TypeId,
+    TypeTable, type_table,
 };
 use std::alloc::Global;
 
@@ -25,35 +31,90 @@ pub struct Settings {
     pub greeting: Vec<u8>,
 }
 
-/// The image of a table of settings, as small as possible.
-pub fn write_settings(alloc: Global, settings: &Settings) -> Result<Vec<u8>, Error> {
-    let mut image = Image::create(alloc, 8192, AllocatorKind::Best, IndexKind::Flat)?;
-    let mut types = [Type::I64, Type::Str, Type::FlatMap(NUMBER), Type::I64];
-    if let Some(fields) = Fields::new(&[NUMBERS, TEXT]) {
-        types[TABLE as usize] = Type::Struct(fields);
-    }
-    image.add_types(&type_table(&types)?)?;
-    let table = image.construct(b"settings", TABLE, 1)?;
-    let numbers = image.field(table, 0)?;
-    for (key, number) in [(LIMIT, settings.limit), (PORT, settings.port)] {
-        let place = image.put(numbers, key)?;
-        image.store(place, number)?;
-    }
-    let greeting = image.field(table, 1)?;
+/// The image of a table of settings, as small as possible. Fails with `BadAlloc` if the greeting doesn't fit in 8 KiB.
+pub fn write_settings(alloc: Global, settings: &Settings) -> Result<Vec<u8>, Error>
+    ensures { IfOk result (λ image. Keeps image.items settings.now) }
+{
+    let mut image = new_table(alloc)?;
+    let (numbers, greeting) = parts_of(&image)?;
+    set(&mut image, numbers, LIMIT, settings.limit)?;
+    set(&mut image, numbers, PORT, settings.port)?;
     image.assign(greeting, settings.greeting.as_slice())?;
     image.shrink();
     Ok(image.into_bytes())
 }
 
-/// The settings that an image has.
-pub fn read_settings(alloc: Global, image: Vec<u8>) -> Result<Settings, Error> {
-    let image = Image::open(alloc, image)?;
-    let table = image.find(b"settings", TABLE)?;
-    let numbers = image.field(table, 0)?;
-    let greeting = image.text(image.field(table, 1)?)?;
+/// The settings that an image has. If [`write_settings`] returned it, this fails only if host memory is refused.
+pub fn read_settings(alloc: Global, image: Vec<u8>) -> Result<Settings, Error>
+    ensures { (settings : Settings) → Keeps image.items settings →
+        MatchResult result (λ read. AreSame read settings)
+        (λ error. error ≡ Error.Fault Fault.Memory) }
+{
+    settings_in(alloc, &Image::open(alloc, image)?)
+}
+
+/// The settings in an open image.
+fn settings_in(alloc: Global, image: &Image<Global>) -> Result<Settings, Error>
+    ensures { (settings : Settings) (at : ℕ) →
+        ContainsTable image.now at (entries_of settings) settings.greeting.items →
+        MatchResult result (λ read. AreSame read settings)
+        (λ error. error ≡ Error.Fault Fault.Memory) }
+{
+    let (numbers, greeting) = parts_of(image)?;
     Ok(Settings {
-        limit: image.load(image.get(numbers, LIMIT)?)?,
-        port: image.load(image.get(numbers, PORT)?)?,
-        greeting: Vec::from_slice(alloc, greeting)?,
+        limit: number_of(image, numbers, LIMIT)?,
+        port: number_of(image, numbers, PORT)?,
+        greeting: Vec::from_slice(alloc, image.text(greeting)?)?,
     })
+}
+
+/// An image with an empty table.
+fn new_table(alloc: Global) -> Result<Image<Global>, Error>
+    ensures { IfOk result (λ image. (at : ℕ) × ContainsTable image at ([], nil) []) }
+{
+    let mut image = Image::create(alloc, 8192, AllocatorKind::Best, IndexKind::Flat)?;
+    image.add_types(&table_types()?)?;
+    image.construct(b"settings", TABLE, 1)?;
+    Ok(image)
+}
+
+fn table_types() -> Result<TypeTable, Fault>
+    ensures { IfOk result (λ table. table ≡ types) }
+{
+    let fields = Fields::new(&[NUMBERS, TEXT]).unwrap();
+    type_table(&[
+        Type::I64,
+        Type::Str,
+        Type::FlatMap(NUMBER),
+        Type::Struct(fields),
+    ])
+}
+
+/// The places of the table's map and of its text.
+fn parts_of(image: &Image<Global>) -> Result<(Place, Place), Code>
+    ensures { (at : ℕ) (entries : List ℤ × Values) (greeting : List ℕ) →
+        ContainsTable image.now at entries greeting →
+        result ≡ Ok (numbers_at at, greeting_at at) }
+{
+    let table = image.find(b"settings", TABLE)?;
+    Ok((image.field(table, 0)?, image.field(table, 1)?))
+}
+
+/// Sets the number of a key of the table's map.
+fn set(image: &mut Image<Global>, numbers: Place, key: i64, number: i64) -> Result<(), Code>
+    ensures { (at : ℕ) (entries : List ℤ × Values) (greeting : List ℕ) →
+        ContainsTable image.old at entries greeting → numbers ≡ numbers_at at →
+        OnOk result (ContainsTable image.new at (after_set entries key number) greeting) }
+{
+    let place = image.put(numbers, key)?;
+    image.store(place, number)
+}
+
+/// The number of a key of the table's map.
+fn number_of(image: &Image<Global>, numbers: Place, key: i64) -> Result<i64, Code>
+    ensures { (at : ℕ) (entries : List ℤ × Values) (greeting : List ℕ) (number : ℤ) →
+        ContainsTable image.now at entries greeting → numbers ≡ numbers_at at →
+        number_at entries key ≡ Some (Int number) → result ≡ Ok number }
+{
+    image.load(image.get(numbers, key)?)
 }

@@ -1,0 +1,5 @@
+pub mod Counts
+pub mod Tables
+pub mod Settings
+pub mod Caches
+pub mod CacheModel
