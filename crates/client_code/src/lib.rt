@@ -11,7 +11,9 @@ mod typed;
 mod types;
 
 pub use client::{Client, Constants};
-pub use client_spec::table::{Ends, Gives, Kinds, Need, Number, Operand, Operation, Role, Row};
+pub use client_spec::table::{
+    Ends, Gives, Kinds, Need, Number, OPERATIONS, Operand, Operation, Role, Row,
+};
 pub use constant::{Constant, ConstantKind, LONGEST};
 pub use header::{
     FIRST_VERSION, FileHeader, MAGIC, MOST_CONSTANTS, MOST_INSTRUCTIONS, SHARING_VERSION,

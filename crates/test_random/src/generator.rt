@@ -1,8 +1,7 @@
 //! Random clients. Most are accepted, because the generator knows which references are still valid.
 
 use crate::model::{Shape, shape_of};
-use client_code::{Ends, Gives, Need, Number, Operand, Operation, Role, Row};
-use client_spec::table::OPERATIONS;
+use client_code::{Ends, Gives, Need, Number, OPERATIONS, Operand, Operation, Role, Row};
 use std::alloc::{AllocError, Global};
 use std::fmt::Write;
 use support_data::Random;

@@ -1,6 +1,5 @@
 use crate::tests::every;
-use client_code::{Fault, Instruction, Operation, parse};
-use client_spec::table::OPERATIONS;
+use client_code::{Fault, Instruction, OPERATIONS, Operation, parse};
 use client_text::{assemble, print};
 use std::alloc::{AllocError, Global};
 use std::process::Abort;

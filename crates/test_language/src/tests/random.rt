@@ -1,5 +1,4 @@
-use client_code::{Number, Operand, Operation, Role, parse};
-use client_spec::table::OPERATIONS;
+use client_code::{Number, OPERATIONS, Operand, Operation, Role, parse};
 use client_text::{assemble, print};
 use std::alloc::AllocError;
 use std::process::Abort;
