@@ -12,8 +12,8 @@ loop-name-preserved g c =
       ap length items ∙ length-append c.loop-name.all.items (c.in_ok-bytes.bytes ∷ []) ∙ ap (λ n. n + 1) h.0,
       subst (λ them. Adds (g.F.Files.was_read c.args.files.now) (g.F.Files.was_read c.read_file.new.files) (accesses_of (map (λ name. name.now) (take (i + 1) c.args.names.now)) (map (λ bytes. bytes.items) them))) (sym items)
           (read_more (λ name. name.now) (λ bytes. bytes.items) c.args.names.now i (record { ref_ptr = (0, 0); now = [] })
-              c.loop-name.all.items c.in_ok-bytes.bytes (g.F.Files.was_read c.args.files.now)
-              (g.F.Files.was_read c.loop-name.files) (g.F.Files.was_read c.read_file.new.files)
-              c.loop-name-test.true h.0 h.1 c.in_ok-bytes.ensures.read),
+          c.loop-name.all.items c.in_ok-bytes.bytes (g.F.Files.was_read c.args.files.now)
+          (g.F.Files.was_read c.loop-name.files) (g.F.Files.was_read c.read_file.new.files)
+          c.loop-name-test.true h.0 h.1 c.in_ok-bytes.ensures.read),
       c.in_ok-bytes.ensures.nothing_written ∙ h.2,
     )

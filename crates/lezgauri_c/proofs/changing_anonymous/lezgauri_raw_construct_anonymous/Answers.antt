@@ -23,9 +23,9 @@ returns-clause-constructs c =
 pub returns-clause-home : goal.returns-clause-home
 returns-clause-home c =
     same_memory c.deref_mut.result.now.image c.construct_anonymous-returned.new.self
-        (opened_now c.deref_mut.ensures.value c.in-Ok.ensures.opened).home c.construct_anonymous-returned.ensures.bytes c.close_image.ensures.home
+    (opened_now c.deref_mut.ensures.value c.in-Ok.ensures.opened).home c.construct_anonymous-returned.ensures.bytes c.close_image.ensures.home
 
 pub returns-clause-same : goal.returns-clause-same
 returns-clause-same c =
     same_types c.args.types.now c.close_image.new.types c.deref_mut.result.now.image c.construct_anonymous-returned.new.self
-        (opened_now c.deref_mut.ensures.value c.in-Ok.ensures.opened).types_are c.construct_anonymous-returned.ensures.bytes c.close_image.ensures.types
+    (opened_now c.deref_mut.ensures.value c.in-Ok.ensures.opened).types_are c.construct_anonymous-returned.ensures.bytes c.close_image.ensures.types

@@ -62,4 +62,4 @@ returns-clause-home c = same_memory c.deref_mut.result.now.image c.find_or_const
 pub returns-clause-same : goal.returns-clause-same
 returns-clause-same c =
     same_types c.args.types.now c.close_image.new.types c.deref_mut.result.now.image c.find_or_construct-returned.new.self
-        (opened_now c.deref_mut.ensures.value c.in-Ok.ensures.opened).types_are c.find_or_construct-returned.ensures.bytes c.close_image.ensures.types
+    (opened_now c.deref_mut.ensures.value c.in-Ok.ensures.opened).types_are c.find_or_construct-returned.ensures.bytes c.close_image.ensures.types

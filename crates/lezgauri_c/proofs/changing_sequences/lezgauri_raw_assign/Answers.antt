@@ -31,4 +31,4 @@ returns-clause-sound c =
 pub returns-clause-same : goal.returns-clause-same
 returns-clause-same c =
     same_types c.args.types.now c.close_image.new.types c.deref_mut.result.now.image c.assign-returned.new.self
-        (opened_now c.deref_mut.ensures.value c.in-Ok.ensures.opened).types_are c.assign-returned.ensures.bytes c.close_image.ensures.types
+    (opened_now c.deref_mut.ensures.value c.in-Ok.ensures.opened).types_are c.assign-returned.ensures.bytes c.close_image.ensures.types
