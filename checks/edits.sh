@@ -2,7 +2,8 @@
 # Tries the must-fail edits in checks/edits/CRATE/: wrong bodies of calls that only Lezgauri's own crates make. The prover must refuse
 # each. The gate leaves them out, since what these calls promise is used by the proofs of the calls above, whose edits it tries.
 #
-#   edits.sh [CRATE..]    tries the edits of these crates, or of all. Proves each of them first, unless a gate on this machine did
+#   edits.sh [CRATE..]    tries the edits of these crates, or of all, on the last commit. Proves each of them first, unless a gate on
+#                         this machine did
 #   edits.sh --apply      only tests that each edit can be applied
 set -euo pipefail
 cd "$(dirname "${BASH_SOURCE[0]}")/.."

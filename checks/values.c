@@ -341,6 +341,8 @@ static void numbers_and_structs(lezgauri_handle *handle)
     expect("store in a string", lezgauri_store(handle, string, 7), LEZGAURI_OTHER_TYPE);
     has_text("store in a string: as before", handle, string, "");
     done("assign", lezgauri_assign(handle, string, "text", 4));
+    expect("clear of no type", lezgauri_clear(handle, (lezgauri_place){pair.at, UINT32_MAX}), LEZGAURI_OTHER_TYPE);
+    has_text("clear of no type: as before", handle, string, "text");
     done("clear", lezgauri_clear(handle, pair));
     expect("clear: number", (uint64_t)number_at(handle, number), 0);
     has_text("clear: text", handle, string, "");

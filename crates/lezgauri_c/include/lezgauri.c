@@ -103,7 +103,7 @@ uint32_t lezgauri_raw_previous_key(const uint8_t *image, size_t len, kept_types 
 uint32_t lezgauri_raw_content(const uint8_t *image, size_t len, kept_types *types, uint32_t at, uint32_t type,
                               lezgauri_place *content);
 
-/* The exports that change an image. Those that change values take the types that lezgauri_raw_open_types read from it. */
+/* The exports that change an image. All but the first two take the types that lezgauri_raw_open_types read from it. */
 uint32_t lezgauri_raw_add_types(lent *image, const uint8_t *entries, size_t len, lezgauri_fault *fault);
 uint32_t lezgauri_raw_upgrade(lent *image);
 uint32_t lezgauri_raw_construct(lent *image, kept_types *types, const uint8_t *name, size_t name_len, uint32_t type, uint32_t count,
