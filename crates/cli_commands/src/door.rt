@@ -19,7 +19,7 @@ pub(crate) fn created(
 pub(crate) fn opened(alloc: Global, bytes: Vec<u8>) -> Result<Image<Global>, Fault> {
     match Image::open(alloc, bytes) {
         Ok(image) => Ok(image),
-        Err(unopened) => Err(Fault::from(unopened)),
+        Err(unopened) => Err(unopened.fault),
     }
 }
 
