@@ -21,8 +21,8 @@ pub extern "C" fn lezgauri_raw_construct_anonymous(
     type_id: u32,
     place: &mut Place,
 ) -> u32
-    ensures constructs { GivesPlace image.old.bytes image.new.bytes types.old result place.old place.new
-        (ConstructsAnonymous (type_number type_id)) }
+    ensures constructs { GivesPlace image.old.bytes image.new.bytes types.old result
+        place.old place.new (ConstructsAnonymous (type_number type_id)) }
     ensures unwritten { 0 < result → place.new ≡ place.old }
     ensures home { memory_of image.new ≡ memory_of image.old }
     ensures same { table_in types.new ≡ table_in types.old }
@@ -40,7 +40,8 @@ pub extern "C" fn lezgauri_raw_destroy_anonymous(
     types: &mut KeptTypes,
     at: u32,
 ) -> u32
-    ensures destroys { IsOver image.old.bytes image.new.bytes types.old result (DestroysAnonymous at) }
+    ensures destroys { IsOver image.old.bytes image.new.bytes types.old result
+        (DestroysAnonymous at) }
     ensures home { memory_of image.new ≡ memory_of image.old }
     ensures same { table_in types.new ≡ table_in types.old }
 {

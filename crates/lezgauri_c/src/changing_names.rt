@@ -22,8 +22,8 @@ pub extern "C" fn lezgauri_raw_construct(
     count: u32,
     place: &mut Place,
 ) -> u32
-    ensures constructs { GivesPlace image.old.bytes image.new.bytes types.old result place.old place.new
-        (Constructs name.now (type_number type_id) count) }
+    ensures constructs { GivesPlace image.old.bytes image.new.bytes types.old result
+        place.old place.new (Constructs name.now (type_number type_id) count) }
     ensures sound { OnSound image.old.bytes types.old
         (λ _. IsStillSound image.old.bytes image.new.bytes) }
     ensures kept { 0 < result → result ≢ 112 → OnSound image.old.bytes types.old

@@ -21,8 +21,8 @@ pub extern "C" fn lezgauri_raw_put_content(
     type_id: u32,
     content: &mut Place,
 ) -> u32
-    ensures puts { GivesPlace image.old.bytes image.new.bytes types.old result content.old content.new
-        (PutsContent (place_at at type_id)) }
+    ensures puts { GivesPlace image.old.bytes image.new.bytes types.old result
+        content.old content.new (PutsContent (place_at at type_id)) }
     ensures sound { StaysSound image.old.bytes image.new.bytes types.old (place_at at type_id) }
     ensures unwritten { 0 < result → content.new ≡ content.old }
     ensures home { memory_of image.new ≡ memory_of image.old }

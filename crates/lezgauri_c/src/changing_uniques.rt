@@ -20,8 +20,8 @@ pub extern "C" fn lezgauri_raw_construct_unique(
     type_id: u32,
     place: &mut Place,
 ) -> u32
-    ensures constructs { GivesPlace image.old.bytes image.new.bytes types.old result place.old place.new
-        (ConstructsUnique (type_number type_id)) }
+    ensures constructs { GivesPlace image.old.bytes image.new.bytes types.old result
+        place.old place.new (ConstructsUnique (type_number type_id)) }
     ensures sound { OnSound image.old.bytes types.old
         (λ _. IsStillSound image.old.bytes image.new.bytes) }
     ensures kept { 0 < result → OnSound image.old.bytes types.old
