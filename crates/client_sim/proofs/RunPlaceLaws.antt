@@ -62,6 +62,7 @@ module _ (constants : List Constant) (others : List Root) (moves other : List Mo
     after = w.after;
     blocks = w.blocks;
     ties = w.ties;
+    frozen_kept = w.frozen_kept;
     length_kept = w.length_kept;
     header_kept = w.header_kept;
     moved = moved_there x y w.moved host base;

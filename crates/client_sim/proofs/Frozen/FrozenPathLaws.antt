@@ -1,5 +1,5 @@
--- Paths in frozen objects end at the same places, if the objects' blocks are unchanged except for
--- the counts.
+-- Frozen objects whose blocks are unchanged except for the counts keep their types, numbers and
+-- values, and paths in them end at the same places.
 use Rattle.std.proofs.Common.{◌≡◌, ◌≢◌, ℕ, zero, suc, ◌+◌, ◌-◌, ◌*◌, ◌≤◌, inl, inr, List, [], ◌∷◌, ◌++◌, Bool, true, false, refl, sym, ◌∙◌, ap, subst, arith}
 use Rattle.std.specs.Prelude.{⊤, ◌==◌, if◌then◌else◌}
 use Rattle.std.specs.List.{AllByRecursion}
@@ -13,48 +13,34 @@ use Rattle.seg_spec.specs.Apart.{Separate, KeepsBlockAround}
 use Rattle.seg_spec.specs.Index.{Root}
 use Rattle.seg_spec.specs.Reads.{Place}
 use Rattle.seg_spec.specs.Frozen.{Frozen, root_of_frozen, blocks_by}
-use Rattle.seg_spec.specs.Shared.{names_in, times_named, kept_with, left, with_count, raised, raised_by}
+use Rattle.seg_spec.specs.Shared.{names_in, times_named, AreDistinct, kept_with, left, with_count, raised, raised_by}
 use Rattle.seg_spec.specs.Destroying.{HoldFrozen, KeepFrozen}
 use Rattle.seg_spec.specs.Sound.{words_size, payload_of, Picture, frozen_roots, HoldsRoot, HoldsRoots, IsHeld, times, positions}
 use Rattle.seg_spec.specs.Counting.{owners_in}
 use Rattle.seg_spec.specs.Roots.{item_of, KeepsPaths}
 use Rattle.seg_spec.proofs.Frozen.PictureCountLaws.{roots_held}
-use Rattle.seg_spec.proofs.Values.PlaceFrameLaws.{each_of_map, places-same, spaced-same}
+use Rattle.seg_spec.proofs.Frozen.FrozenBlockLaws.{frozen_kept}
+use Rattle.seg_spec.proofs.Frozen.ReleaseOrderLaws.{none_gone}
+use Rattle.seg_spec.proofs.Frozen.SharedLaws.{left_each}
+use Rattle.seg_spec.proofs.Values.PlaceFrameLaws.{each_both, each_weaker, places-same, spaced-same}
 use Rattle.seg_spec.proofs.Values.PathFrameLaws.{Leads-each}
 use Rattle.seg_spec.proofs.Heap.LiveBlockLaws.{OneOrApart, times-append, times-same, there, each_there, live-apart, live-once}
 use Rattle.seg_spec.proofs.Images.RootChangeLaws.{HoldsRoots_blocks-one}
 use Rattle.seg_spec.proofs.Values.PutLaws.{kept_whole}
 use Rattle.seg_spec.proofs.Images.RootLaws.{HoldsRoots-split}
 use Rattle.seg_spec.proofs.Images.RootPartLaws.{items_nth}
+use Rattle.client_spec.specs.Machine.{State}
+use Rattle.client_spec.specs.Pictures.{Pictures}
+use Rattle.client_spec.specs.Ties.{FrozenKept}
 use Rattle.client_sim.specs.Shows.{FrozenStay, all_stay, some_go, some_shared, KeepsFrozenPaths}
+use Rattle.client_sim.proofs.ImageChangeLaws.{frozen_here}
 use Rattle.client_sim.proofs.Places.RootChangeLaws.{roots_split}
 
--- the frozen objects that remain, and paths in them
+-- the frozen objects that remain, paths in them, and what is kept of them
 pub record KeepsFrozen (old new : List ℕ) (table : Table) (before after : List Frozen) : Type 0 where
   pub stays : FrozenStay before after
   pub paths : KeepsFrozenPaths old new table after
-
-pub frozen_stay : {old new : List ℕ} {table : Table} {before after : List Frozen} → after ≡ before → KeepsFrozenPaths old new table before → KeepsFrozen old new table before after
-frozen_stay {old} {new} {table} same paths = record { stays = all_stay same; paths = subst (KeepsFrozenPaths old new table) (sym same) paths }
-
-pub frozen_go : {old new : List ℕ} {table : Table} {before after : List Frozen} (gone : List Place) → after ≡ left gone before → KeepsFrozenPaths old new table (left gone before) → KeepsFrozen old new table before after
-frozen_go {old} {new} {table} gone same paths = record { stays = some_go gone same; paths = subst (KeepsFrozenPaths old new table) (sym same) paths }
-
-pub frozen_share : {old new : List ℕ} {table : Table} {before after : List Frozen} (gone names : List Place) → after ≡ left gone (raised_by names before)
-    → KeepsFrozenPaths old new table (left gone (raised_by names before)) → KeepsFrozen old new table before after
-frozen_share {old} {new} {table} gone names same paths = record { stays = some_shared gone names same; paths = subst (KeepsFrozenPaths old new table) (sym same) paths }
-
-same_paths : (bytes : List ℕ) (table : Table) (fs : List Frozen) → KeepsFrozenPaths bytes bytes table fs
-same_paths bytes table [] = tt
-same_paths bytes table (f ∷ fs) = ((λ i path target within leads. leads), same_paths bytes table fs)
-
--- the same bytes keep all paths
-pub frozen_same_image : (bytes : List ℕ) (table : Table) (fs : List Frozen) → KeepsFrozen bytes bytes table fs fs
-frozen_same_image bytes table fs = record { stays = all_stay refl; paths = same_paths bytes table fs }
-
--- paths in frozen objects are kept if paths from their roots are
-pub frozen_of_roots : (old new : List ℕ) (picture : Picture) → AllByRecursion (KeepsPaths old new picture.table) (frozen_roots picture) → KeepsFrozenPaths old new picture.table picture.frozen
-frozen_of_roots old new picture = each_of_map (KeepsPaths old new picture.table) root_of_frozen picture.frozen
+  pub kept : FrozenKept old new table before after
 
 -- ---- the same objects, with other counts
 
@@ -87,6 +73,54 @@ recounted_raised p (f ∷ fs) = (one (f.at == p), recounted_raised p fs)
 recounted_by : (names : List Place) (fs : List Frozen) → Recounted fs (raised_by names fs)
 recounted_by [] fs = recounted_same fs
 recounted_by (q ∷ names) fs = recounted_then fs (raised_by names fs) (raised q.at (raised_by names fs)) (recounted_by names fs) (recounted_raised q.at (raised_by names fs))
+
+-- f with another count, if it is at the position of f
+abbrev Recounts : Frozen → Frozen → Type 0
+Recounts f g = g.at ≡ f.at → g ≡ with_count f g.count
+
+recounts_on : (f g : Frozen) (n : ℕ) → Recounts f g → Recounts f (with_count g n)
+recounts_on f g n same e = ap (λ (x : Frozen). with_count x n) (same e)
+
+-- no two objects have the same position
+recounts_each : (fs : List Frozen) → AreDistinct fs → AllByRecursion (λ (f : Frozen). AllByRecursion (Recounts f) fs) fs
+recounts_each [] distinct = tt
+recounts_each (f ∷ fs) distinct = (
+  ((λ e. refl), each_weaker (λ (g : Frozen). g.at ≢ f.at) (Recounts f) (λ g apart e. absurd (apart e)) fs distinct.0),
+  each_both (λ (g : Frozen). g.at ≢ f.at) (λ (g : Frozen). AllByRecursion (Recounts g) fs) (λ (g : Frozen). AllByRecursion (Recounts g) (f ∷ fs)) (λ g apart rest. ((λ e. absurd (apart (sym e))), rest))
+      fs distinct.0 (recounts_each fs distinct.1),
+)
+
+recounts_after : (f : Frozen) (fs gs : List Frozen) → Recounted fs gs → AllByRecursion (Recounts f) fs → AllByRecursion (Recounts f) gs
+recounts_after f [] [] same each = tt
+recounts_after f [] (g ∷ gs) same each = absurd same
+recounts_after f (h ∷ hs) [] same each = absurd same
+recounts_after f (h ∷ hs) (g ∷ gs) same each = (subst (Recounts f) (sym same.0) (recounts_on f h g.count each.0), recounts_after f hs gs same.1 each.1)
+
+-- if g is at the position of f, only the count of f changed
+abbrev Kept : List ℕ → List ℕ → (ℕ → List ℕ) → Frozen → Frozen → Type 0
+Kept old new theirs f g = g.at ≡ f.at → (g ≡ with_count f g.count) × AllByRecursion (KeepsBlockAround old new f.at 4) (theirs f.at)
+
+-- the objects that remain of these after cells were destroyed, whatever their counts
+kept_left : (old new : List ℕ) (table : Table) (theirs : ℕ → List ℕ) (before : List Frozen) → AreDistinct before → HoldFrozen old table theirs before → (gone : List Place) (gs : List Frozen) → Recounted before gs
+    → KeepFrozen old new theirs (left gone gs) → FrozenKept old new table before (left gone gs)
+kept_left old new table theirs before distinct holds gone gs same keep = record {
+  theirs = theirs;
+  holds = holds;
+  each = each_weaker (λ (f : Frozen). AllByRecursion (Recounts f) before) (λ (f : Frozen). AllByRecursion (Kept old new theirs f) (left gone gs)) (λ f each.
+      each_both (Recounts f) (λ (g : Frozen). AllByRecursion (KeepsBlockAround old new g.at 4) (theirs g.at)) (Kept old new theirs f)
+      (λ g recounts keeps e. (recounts e, subst (λ p. AllByRecursion (KeepsBlockAround old new p 4) (theirs p)) e keeps)) (left gone gs)
+      (left_each (Recounts f) (recounts_on f) gone gs (recounts_after f before gs same each)) keep) before (recounts_each before distinct);
+}
+
+-- an object is added at another position
+pub kept_with_new : {old new : List ℕ} {table : Table} {before after : List Frozen} (object : Frozen) → AllByRecursion (λ (f : Frozen). f.at ≢ object.at) before → FrozenKept old new table before after
+    → FrozenKept old new table before (object ∷ after)
+kept_with_new {old} {new} {before = before} {after = after} object apart kept = record {
+  theirs = kept.theirs;
+  holds = kept.holds;
+  each = each_both (λ (f : Frozen). f.at ≢ object.at) (λ (f : Frozen). AllByRecursion (Kept old new kept.theirs f) after) (λ (f : Frozen). AllByRecursion (Kept old new kept.theirs f) (object ∷ after))
+      (λ f other rest. ((λ e. absurd (other (sym e))), rest)) before apart kept.each;
+}
 
 -- ---- a root whose blocks are unchanged except for its first word
 
@@ -153,24 +187,64 @@ module _ (allocator : ℕ) (old new : List ℕ) (table : Table) (valid : IsTable
       go zero without with_it k = without k
       go (suc n) without with_it k = (own_paths (with_count g (suc n)) (ap (λ (x : Frozen). with_count x (suc n)) same.0) k.0, with_it k.1)
 
--- in an image, paths in the frozen objects that remain are kept, whatever their counts
-frozen_left_of : (old new : List ℕ) (picture : Picture) → IsHeld old picture → (theirs : ℕ → List ℕ) → HoldFrozen old picture.table theirs picture.frozen → (gone : List Place) (gs : List Frozen) → Recounted picture.frozen gs
-    → KeepFrozen old new theirs (left gone gs) → KeepsFrozenPaths old new picture.table (left gone gs)
-frozen_left_of old new picture held theirs hold gone gs recounted keep =
-    let s = HoldsRoots-split old picture.table (owners_in picture) (frozen_roots picture) held.root_blocks (subst (λ rs. HoldsRoots old picture.table rs held.root_blocks) (roots_split picture) held.roots) in
-    let same : s.right ≡ blocks_by theirs picture.frozen = HoldsRoots_blocks-one old picture.table (frozen_roots picture) s.right (blocks_by theirs picture.frozen) s.rights (roots_held old picture.table theirs picture.frozen hold) in
-    left_paths (word old allocator_word) old new picture.table held.laid_out.is_table held.laid_out.heap theirs gone picture.frozen gs recounted
-    (λ h.
-    let e = ap (times h) s.blocks_are in
-    let m = ap (times h) same in
-    omega (arith, held.owners h, times-append h held.index_blocks held.root_blocks, e, times-append h s.left s.right, m)) hold keep
+-- ---- the frozen objects of an image
 
-pub frozen_left : (old new : List ℕ) (picture : Picture) → IsHeld old picture → (theirs : ℕ → List ℕ) → HoldFrozen old picture.table theirs picture.frozen → (gone : List Place) → KeepFrozen old new theirs (left gone picture.frozen)
-    → KeepsFrozenPaths old new picture.table (left gone picture.frozen)
-frozen_left old new picture held theirs hold gone keep = frozen_left_of old new picture held theirs hold gone picture.frozen (recounted_same picture.frozen) keep
+module _ {others : List Root} {s : State} {old : List ℕ} (pictured : Pictures others s old) (new : List ℕ) where
+  abbrev frozen : List Frozen
+  frozen = pictured.picture.frozen
 
--- in an image, they are kept if other cells were added before
-pub frozen_left_shared : (old new : List ℕ) (picture : Picture) → IsHeld old picture → (theirs : ℕ → List ℕ) → HoldFrozen old picture.table theirs picture.frozen → (gone names : List Place)
-    → KeepFrozen old new theirs (left gone (raised_by names picture.frozen)) → KeepsFrozenPaths old new picture.table (left gone (raised_by names picture.frozen))
-frozen_left_shared old new picture held theirs hold gone names keep =
-    frozen_left_of old new picture held theirs hold gone (raised_by names picture.frozen) (recounted_by names picture.frozen) keep
+  abbrev table : Table
+  table = pictured.picture.table
+
+  module _ (theirs : ℕ → List ℕ) (holds : HoldFrozen old table theirs frozen) where
+    -- their blocks are allocated, and aren't the index's
+    frozen_live : (h : ℕ) → times h pictured.held.index_blocks + times h (blocks_by theirs frozen) ≤ times h (positions (live old))
+    frozen_live h =
+        let picture = pictured.picture in
+        let held = pictured.held in
+        let s = HoldsRoots-split old table (owners_in picture) (frozen_roots picture) held.root_blocks (subst (λ rs. HoldsRoots old table rs held.root_blocks) (roots_split picture) held.roots) in
+        let same : s.right ≡ blocks_by theirs frozen = HoldsRoots_blocks-one old table (frozen_roots picture) s.right (blocks_by theirs frozen) s.rights (roots_held old table theirs frozen holds) in
+        let e = ap (times h) s.blocks_are in
+        let m = ap (times h) same in
+        omega (arith, held.owners h, times-append h held.index_blocks held.root_blocks, e, times-append h s.left s.right, m)
+
+    frozen_left_of : (gone : List Place) (gs : List Frozen) → Recounted frozen gs → FrozenStay frozen (left gone gs) → KeepFrozen old new theirs (left gone gs) → KeepsFrozen old new table frozen (left gone gs)
+    frozen_left_of gone gs recounted stays keep = record {
+      stays = stays;
+      paths = left_paths (word old allocator_word) old new table pictured.held.laid_out.is_table pictured.held.laid_out.heap theirs gone frozen gs recounted (λ h. let l = frozen_live h in omega arith) holds keep;
+      kept = kept_left old new table theirs frozen pictured.counted.counted.distinct holds gone gs recounted keep;
+    }
+
+    -- the objects that remain after these cells were destroyed
+    pub frozen_left : (gone : List Place) → KeepFrozen old new theirs (left gone frozen) → KeepsFrozen old new table frozen (left gone frozen)
+    frozen_left gone keep = frozen_left_of gone frozen (recounted_same frozen) (some_go gone refl) keep
+
+    -- the same if other cells were added before
+    pub frozen_left_shared : (gone names : List Place) → KeepFrozen old new theirs (left gone (raised_by names frozen)) → KeepsFrozen old new table frozen (left gone (raised_by names frozen))
+    frozen_left_shared gone names keep = frozen_left_of gone (raised_by names frozen) (recounted_by names frozen) (some_shared gone names refl) keep
+
+  -- all objects, if their blocks are kept
+  pub frozen_whole : ((theirs : ℕ → List ℕ) → HoldFrozen old table theirs frozen → (h : ℕ) → 1 ≤ times h (blocks_by theirs frozen) → KeepsBlock old new h) → KeepsFrozen old new table frozen frozen
+  frozen_whole whole =
+      let here = (frozen_here pictured).1 in
+      let none : left [] frozen ≡ frozen = none_gone frozen pictured.counted.counted.some in
+      let lives : (h : ℕ) → 1 ≤ times h (blocks_by here.theirs frozen) → 1 ≤ times h (positions (live old)) = λ h some. (let l = frozen_live here.theirs here.holds h in omega arith) in
+      let keep = frozen_kept (word old allocator_word) old new pictured.held.laid_out.heap here.theirs frozen lives (whole here.theirs here.holds) in
+      let keeps : KeepsFrozen old new table frozen frozen = subst (KeepsFrozen old new table frozen) none (frozen_left here.theirs here.holds [] (subst (KeepFrozen old new here.theirs) (sym none) keep)) in
+      record { stays = all_stay refl; paths = keeps.paths; kept = keeps.kept }
+
+  -- all objects, if all blocks are kept, except for some of the index
+  pub frozen_beside_index : (gone : List ℕ) → ((h : ℕ) → 1 ≤ times h (positions (live old)) → times h gone ≡ 0 → KeepsBlock old new h) → ((h : ℕ) → times h gone ≤ times h pictured.held.index_blocks)
+      → KeepsFrozen old new table frozen frozen
+  frozen_beside_index gone kept few = frozen_whole (λ theirs holds h some.
+      let l = frozen_live theirs holds h in
+      let once = live-once old (word old allocator_word) pictured.held.laid_out.heap h in
+      kept h (omega arith) (omega (arith, few h)))
+
+-- an image that stays as it is keeps them
+pub frozen_same_image : {others : List Root} {s : State} {bytes : List ℕ} (pictured : Pictures others s bytes) → KeepsFrozen bytes bytes pictured.picture.table pictured.picture.frozen pictured.picture.frozen
+frozen_same_image {bytes = bytes} pictured = frozen_whole pictured bytes (λ theirs holds h some. record { live = refl; has_tag = refl; room = omega arith; payload = refl })
+
+pub kept_same_image : {others : List Root} {s : State} {bytes : List ℕ} (pictured : Pictures others s bytes) {after : List Frozen} → after ≡ pictured.picture.frozen
+    → FrozenKept bytes bytes pictured.picture.table pictured.picture.frozen after
+kept_same_image {bytes = bytes} pictured same = subst (FrozenKept bytes bytes pictured.picture.table pictured.picture.frozen) (sym same) (frozen_same_image pictured).kept

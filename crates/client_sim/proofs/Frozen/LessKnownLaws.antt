@@ -107,3 +107,8 @@ module _ (others : List Root) (types : Table) (constants : List Constant) (first
     as_known = known_less types constants ks after less t h.as_known;
     anchored = λ r x T k. h.anchored r x T (read_before types constants ks after less r x T k);
   }
+
+  pub less_frozen : (ks after : RegisterTypes) (t : State) (w : World) (less : Less ks after) (h : Sees others types constants first allocator ks t w)
+      → (sees_less ks after t w less h).shows.pictured.picture.frozen ≡ h.shows.pictured.picture.frozen
+  unfolding sees_less shows_less
+  less_frozen ks after t w less h = refl

@@ -33,7 +33,7 @@ use Rattle.seg_spec.proofs.Frozen.OneMoreObjectLaws.{not_there}
 use Rattle.client_spec.specs.Machine.{◌>>=◌, Origin, Path, Register, State, register, set_register, owned_by, path_value, put_at}
 use Rattle.client_spec.specs.Grammar.{IsInstruction}
 use Rattle.client_spec.specs.Asks.{LedTo, Asks, Refreezes}
-use Rattle.client_spec.specs.Ties.{spot_of, OfRoot, OfOwner, Changes}
+use Rattle.client_spec.specs.Ties.{spot_of, OfRoot, OfOwner, FrozenKept, Changes}
 use Rattle.seg_spec.specs.Apart.{KeepsBlockAround}
 use Rattle.client_spec.specs.Bare.{bare, bare_one}
 use Rattle.client_spec.specs.Pictures.{Pictures, meaning_in, trees_of}
@@ -78,14 +78,15 @@ use Rattle.client_sim.proofs.Objects.OwnedObjectLaws.{OwnsHere, owns_here, owns_
 use Rattle.client_sim.proofs.Places.PathPlaceLaws.{shared_here, frozen_apart}
 use Rattle.client_sim.proofs.Instructions.PutLaws.{begins_elsewhere}
 use Rattle.client_sim.proofs.GrantLaws.{denies}
-use Rattle.client_sim.proofs.Frozen.ReadOnlyResultLaws.{in_words, sees_number}
+use Rattle.client_sim.proofs.Frozen.ReadOnlyResultLaws.{in_words, words_frozen, sees_number, number_frozen}
 use Rattle.client_sim.proofs.UnchangedImageLaws.{set_there, set_beside}
 use Rattle.client_sim.proofs.FrameLaws.{owns_nothing, owner_apart}
 use Rattle.client_sim.proofs.Frozen.FrozenFrameLaws.{left_value, StayNamed, paths_at}
 use Rattle.client_sim.proofs.Frozen.AnchorLaws.{still_anchored}
-use Rattle.client_sim.proofs.Frozen.LessKnownLaws.{IsLess, Less, less_then, less_without, sees_less}
+use Rattle.client_sim.proofs.Frozen.FrozenPathLaws.{kept_with_new, kept_same_image}
+use Rattle.client_sim.proofs.Frozen.LessKnownLaws.{IsLess, Less, less_then, less_without, sees_less, less_frozen}
 use Rattle.client_sim.proofs.Instructions.ShareLaws.{CellSeen, of_led, plain_led, shared_is}
-use Rattle.client_sim.proofs.Objects.MoveWorldLaws.{with_owning, shows_moved, put_known, stays, stays_released}
+use Rattle.client_sim.proofs.Objects.MoveWorldLaws.{with_owning, shows_moved, frozen_moved, put_known, stays, stays_released}
 use Rattle.client_sim.proofs.Instructions.NumberLaws.{with_number}
 
 module _ (allocator : ℕ) (constants : List Constant) (role : Role) (a b c : ℕ) (number : ℤ) (w : World) (new : List ℕ) where
@@ -252,6 +253,10 @@ module _ (allocator : ℕ) (constants : List Constant) (role : Role) (a b c : �
       seen : Sees others types constants first allocator between t w
       seen = sees_less others types constants first allocator ks between t w less h
 
+      seen_frozen : seen.shows.pictured.picture.frozen ≡ frozen
+      unfolding seen
+      seen_frozen = less_frozen others types constants first allocator ks between t w less h
+
       abbrev full : Value
       full = Full (replaced m o.value)
 
@@ -294,6 +299,7 @@ module _ (allocator : ℕ) (constants : List Constant) (role : Role) (a b c : �
             before = record { plain = h.plain; pictured = pictured; trees = h.trees };
             after = record { plain = g.plain; pictured = g.shows.pictured; trees = g.trees };
             changes = changes;
+            frozen_kept = kept_same_image pictured (number_frozen seen a valid.a freed.2 n ∙ seen_frozen);
             length_kept = refl;
             header_kept = refl;
             owning = owning h.shows g.shows (λ r had has. refl);
@@ -403,7 +409,7 @@ module _ (allocator : ℕ) (constants : List Constant) (role : Role) (a b c : �
               left_value frozen (left gone frozen) gone [] pictured.counted.counted.distinct (subst AreDistinct moved.frozen_is then_pictured.counted.counted.distinct).1 refl n y v still is_left;
           paths = λ n y there later xs target leads.
               let other : y.at ≢ z.payload = λ same. not_named n y frozen elsewhere there same in
-              paths_at w.image new table n y (left gone frozen) moved.left_paths (left_of_it n y other (subst (λ fs. IsBelow n fs y) moved.frozen_is later)) xs target leads;
+              paths_at w.image new table n y (left gone frozen) moved.keeps.paths (left_of_it n y other (subst (λ fs. IsBelow n fs y) moved.frozen_is later)) xs target leads;
         }
           where
             not_named : (n : ℕ) (y : Place) (fs : List Frozen) → AllByRecursion (λ (g : Frozen). g.at ≢ z.payload) fs → IsBelow n fs y → y.at ≡ z.payload → ⊥
@@ -449,6 +455,17 @@ module _ (allocator : ℕ) (constants : List Constant) (role : Role) (a b c : �
 
         sees_released : Sees others types constants first allocator released state world
         sees_released = record { plain = moved_state; shows = shows; trees = trees; as_known = as_known; anchored = anchored }
+
+        -- ---- frozen objects
+
+        frozen_then : FrozenKept w.image new table frozen (frozen_now z.payload f.held next o.value ∷ left gone frozen)
+        frozen_then = kept_with_new (frozen_now z.payload f.held next o.value) elsewhere moved.keeps.kept
+
+        frozen_released : sees_released.shows.pictured.picture.frozen ≡ frozen_now z.payload f.held next o.value ∷ left gone frozen
+        unfolding sees_released shows plainly plain_between
+        frozen_released =
+            words_frozen bare_is plainly ∙ frozen_moved one h.shows b f.class f.type known_before l cell fits new c Register.Undefined (λ (q : Origin). q ≡ Origin.Owned c) moved.to RegisterType.Undefined
+            (ended (Class.Register c) (others_ended f.class b (bare ks))) false w.positions w.type_ids _ _ _ _ _ _ _ _ _ ∙ moved.frozen_is
 
         -- ---- the row, and the blocks
 
@@ -540,6 +557,7 @@ module _ (allocator : ℕ) (constants : List Constant) (role : Role) (a b c : �
               before = record { plain = h.plain; pictured = pictured; trees = h.trees };
               after = record { plain = g.plain; pictured = g.shows.pictured; trees = g.trees };
               changes = changes;
+              frozen_kept = subst (FrozenKept w.image new table frozen) (sym (number_frozen sees_released a valid.a freed.0 (pos 1) ∙ frozen_released)) frozen_then;
               length_kept = z.length_kept;
               header_kept = z.front_kept;
               owning = owning h.shows g.shows (λ r had has. refl);

@@ -49,14 +49,14 @@ use Rattle.client_sim.proofs.ImageChangeLaws.{kept_nowhere, changed, unchanged}
 use Rattle.client_sim.proofs.Frozen.UnfoldedOperationLaws.{lifted_acts, lifted_refused}
 use Rattle.client_sim.proofs.EffectLaws.{with_place, acts_so, shows_reference, shows_number, refuses_with, frame_number, frame_reference}
 use Rattle.client_sim.proofs.FrameLaws.{Frame, frame_same, unknown_same}
-use Rattle.client_sim.proofs.Frozen.FrozenPathLaws.{KeepsFrozen, frozen_same_image, frozen_left}
+use Rattle.client_sim.proofs.Frozen.FrozenPathLaws.{KeepsFrozen, frozen_same_image, frozen_left, frozen_beside_index}
 use Rattle.client_sim.proofs.Instructions.FindLaws.{IsNameFor, name_at, first_place}
 use Rattle.client_sim.proofs.GrantLaws.{grants_spent}
 use Rattle.client_sim.proofs.Places.LeafPutLaws.{with_image}
 use Rattle.client_sim.proofs.Objects.NameByteLaws.{name_right}
 use Rattle.client_sim.proofs.Objects.NamedChangeLaws.{Comes, Goes, Stays, named_comes, named_goes, picture_stays}
 use Rattle.client_sim.proofs.Instructions.NumberLaws.{with_number, quiet, gives_both, number_shown, unowned}
-use Rattle.client_sim.proofs.Objects.ObjectChangeLaws.{BeginsFrom, KeepsRoots, Remains, SameBesides, all_paths, all_frozen, other_paths, shows_rooted, pictured_rooted, frame_rooted}
+use Rattle.client_sim.proofs.Objects.ObjectChangeLaws.{BeginsFrom, KeepsRoots, Remains, SameBesides, all_paths, other_paths, shows_rooted, pictured_rooted, frame_rooted}
 
 -- ---- contracts of calls
 
@@ -265,7 +265,7 @@ module _ {others : List Root} {types : Table} {constants : List Constant} {first
       let place : Place = record { at = at; type = T } in
       let paths = all_paths w.image new h.pictured.picture h.pictured.held h.pictured.held.index_blocks m.kept (λ x. omega arith) in
       let comes : Comes h.pictured new m.before root m.after m.names_are missing = named_comes h.pictured new m.before root m.after m.names_are missing m.held m.counted paths
-      (all_frozen w.image new h.pictured.picture h.pictured.held h.pictured.held.index_blocks m.kept (λ x. omega arith)) in
+      (frozen_beside_index h.pictured new h.pictured.held.index_blocks m.kept (λ x. omega arith)) in
       let known_now = known_then n some missing in
       let shows = all_stays h (state_then n) new comes.later comes.keeps m.front known_now refl (record { table = refl; input = refl; read = refl; taken = refl; types = refl; state_input = refl; state_output = refl }) in
       let some_value = first_of_many n (default_of s.types T) some in
@@ -291,7 +291,7 @@ module _ {others : List Root} {types : Table} {constants : List Constant} {first
   not_made n code code_is d row changes =
       let paths = all_paths w.image new h.pictured.picture h.pictured.held [] (λ x some gone. d.kept x some) (λ x. omega arith) in
       let stays : Stays h.pictured new = picture_stays h.pictured new d.held d.counted paths
-      (all_frozen w.image new h.pictured.picture h.pictured.held [] (λ x some gone. d.kept x some) (λ x. omega arith)) in
+      (frozen_beside_index h.pictured new [] (λ x some gone. d.kept x some) (λ x. omega arith)) in
       let shows = all_stays h s new stays.later stays.keeps d.front h.as_known refl (record { table = refl; input = refl; read = refl; taken = refl; types = refl; state_input = refl; state_output = refl }) in
       let x : Register = Register.Int (pos 2) in
       subst (λ m. Acts others types constants first allocator i bad_alloc (slice_set ks a RegisterType.Int) s w (with_number (with_image w new) a (pos m))) (sym code_is)
@@ -339,7 +339,7 @@ module _ {others : List Root} {types : Table} {constants : List Constant} {first
       let paths = other_paths w.image new picture held ((m.objects ++ held.index_blocks) ++ blocks_by m.theirs picture.frozen) m.kept Listed.by_name m.before m.root m.after m.names_are m.objects holds m.theirs shared
       (λ x. let e = times-append x m.objects held.index_blocks in let f = times-append x (m.objects ++ held.index_blocks) (blocks_by m.theirs picture.frozen) in omega (arith, e, f)) in
       let goes : Goes h.pictured new m.before m.root m.after m.names_are bytes root_is = named_goes h.pictured new m.before m.root m.after m.names_are bytes root_is m.held m.counted paths
-      (frozen_left w.image new picture held m.theirs shared (names_each m.root.values) m.shared_kept) in
+      (frozen_left h.pictured new m.theirs shared (names_each m.root.values) m.shared_kept) in
       let known_now = agrees_kill types constants one ks s k bytes by h.as_known in
       let shows = all_but_class h one class paths_end its_class (λ r z. z) state_after new goes.later goes.keeps m.front known_now refl
       (record { table = refl; input = refl; read = refl; taken = refl; types = refl; state_input = refl; state_output = refl }) in
@@ -361,7 +361,7 @@ module _ {others : List Root} {types : Table} {constants : List Constant} {first
       (row ∙ answer_is types constants (ended (sharing class) ks) s known_now success a (Register.Int (pos 0)) free) changes refl refl refl
       (shows_number others types constants first allocator (ended (sharing class) ks) s w shows a (pos 0) within free)
       (frame_number others types constants first allocator _ s w shows a _ _ _
-      (frame_but_class h one class paths_end _ _ s w.image h.pictured keeps refl known_now _ _ (frozen_same_image w.image h.pictured.picture.table h.pictured.picture.frozen)))
+      (frame_but_class h one class paths_end _ _ s w.image h.pictured keeps refl known_now _ _ (frozen_same_image h.pictured)))
 
 -- ---- the instructions
 

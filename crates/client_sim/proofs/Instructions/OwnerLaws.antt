@@ -42,9 +42,9 @@ use Rattle.client_spec.proofs.Rows.RuleRowLaws.{bind_ok, Ok_inj, opens_ok, answe
 use Rattle.client_spec.proofs.Rows.RowPartLaws.{owner_found}
 use Rattle.client_spec.proofs.Spelling.ConstantNameLaws.{one_each}
 use Rattle.client_sim.proofs.Objects.OwnedPlaceLaws.{owner_elsewhere}
-use Rattle.client_sim.specs.Shows.{World, place_in, owns_in, Shown, KeepsFrozenPaths, Shows, Acts}
+use Rattle.client_sim.specs.Shows.{World, place_in, owns_in, Shown, Shows, Acts}
 use Rattle.client_sim.proofs.ImageChangeLaws.{kept_nowhere, changed, unchanged}
-use Rattle.client_sim.proofs.Frozen.FrozenPathLaws.{frozen_left}
+use Rattle.client_sim.proofs.Frozen.FrozenPathLaws.{KeepsFrozen, frozen_left, frozen_beside_index}
 use Rattle.client_sim.proofs.FrameLaws.{Frame, owner_apart}
 use Rattle.client_sim.proofs.UnchangedImageLaws.{set_beside, not_given}
 use Rattle.client_sim.specs.Acting.{ActsAs, IsRefusedAs}
@@ -53,7 +53,7 @@ use Rattle.client_sim.proofs.Instructions.NumberLaws.{with_number, unowned}
 use Rattle.client_sim.proofs.EffectLaws.{acts_so, refuses_with, place_one, place_there}
 use Rattle.client_sim.proofs.GrantLaws.{grants_spent, denies}
 use Rattle.client_sim.proofs.Places.RootPutLaws.{root_of_pair}
-use Rattle.client_sim.proofs.Objects.ObjectChangeLaws.{shows_rooted, all_paths, all_frozen, other_paths, frame_rooted}
+use Rattle.client_sim.proofs.Objects.ObjectChangeLaws.{shows_rooted, all_paths, other_paths, frame_rooted}
 use Rattle.client_sim.proofs.Instructions.FindLaws.{OfPicture, of_picture, first_place}
 use Rattle.client_sim.proofs.Objects.OwnedChangeLaws.{OwnedComes, owned_comes, OwnedGoes, owned_goes}
 use Rattle.client_sim.proofs.EndedReferenceLaws.{LeavesPicture, type_known, ended_shown}
@@ -215,8 +215,8 @@ module _ {others : List Root} {types : Table} {constants : List Constant} {first
   pub paths_with : {other : Picture} (new : List ℕ) → LeavesPicture w.image new other [] → AllByRecursion (KeepsPaths w.image new h.pictured.picture.table) (owners_in h.pictured.picture)
   paths_with new c = all_paths w.image new h.pictured.picture h.pictured.held [] c.kept (λ n. omega arith)
 
-  pub frozen_with : {other : Picture} (new : List ℕ) → LeavesPicture w.image new other [] → KeepsFrozenPaths w.image new h.pictured.picture.table h.pictured.picture.frozen
-  frozen_with new c = all_frozen w.image new h.pictured.picture h.pictured.held [] c.kept (λ n. omega arith)
+  pub frozen_with : {other : Picture} (new : List ℕ) → LeavesPicture w.image new other [] → KeepsFrozen w.image new h.pictured.picture.table h.pictured.picture.frozen h.pictured.picture.frozen
+  frozen_with new c = frozen_beside_index h.pictured new [] c.kept (λ n. omega arith)
 
   -- after one was removed
   pub shared_same : (theirs : ℕ → List ℕ) (fs : List Frozen) → fs ≡ h.pictured.picture.frozen → HoldFrozen w.image w.table theirs fs → HoldFrozen w.image h.pictured.picture.table theirs h.pictured.picture.frozen
@@ -231,9 +231,9 @@ module _ {others : List Root} {types : Table} {constants : List Constant} {first
       (λ n. let e = times-append n c.blocks (blocks_by c.theirs other.frozen) in let f = ap (λ fs. times n (blocks_by c.theirs fs)) same in omega (arith, e, f))
 
   pub frozen_without : {other : Picture} (new : List ℕ) (root : Root) → other.frozen ≡ h.pictured.picture.frozen → LeavesWithout w.image new w.table root other
-      → KeepsFrozenPaths w.image new h.pictured.picture.table (left (names_each root.values) h.pictured.picture.frozen)
+      → KeepsFrozen w.image new h.pictured.picture.table h.pictured.picture.frozen (left (names_each root.values) h.pictured.picture.frozen)
   frozen_without {other = other} new root same c =
-      frozen_left w.image new h.pictured.picture h.pictured.held c.theirs (shared_same c.theirs other.frozen same c.holds_shared) (names_each root.values)
+      frozen_left h.pictured new c.theirs (shared_same c.theirs other.frozen same c.holds_shared) (names_each root.values)
       (subst (λ fs. KeepFrozen w.image new c.theirs (left (names_each root.values) fs)) same c.shared_kept)
 
   -- the frozen objects that are freed with it

@@ -381,11 +381,12 @@ module _ (allocator : ℕ) (constants : List Constant) (role : Role) (a b c : �
         then = put_at t l.path (replaced (m h) value);
         row = inl (true, row);
         before = record { plain = h.plain; pictured = pictured; trees = h.trees };
-        after = record { plain = state; pictured = shows.pictured; trees = trees };
+        after = record { plain = state; pictured = plainly.pictured; trees = then_is ∙ trees_one put.later plainly.pictured };
         changes = changes;
+        frozen_kept = frame.frozen.kept;
         length_kept = s.clears.changes.length_kept;
         header_kept = s.clears.changes.front_kept;
-        owning = owning h.shows shows (λ r had has. refl);
+        owning = owning h.shows plainly (λ r had has. refl);
         sees = sees;
         same_input = refl;
       }

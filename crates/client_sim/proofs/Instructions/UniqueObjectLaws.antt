@@ -144,7 +144,7 @@ module _ {others : List Root} {types : Table} {constants : List Constant} (one :
 
   pub frame_ended : (class : Class) → Frame (ended (sharing class) ks) w w h.pictured (shows_ended class).pictured
   unfolding shows_ended
-  frame_ended class = frame_rooted h (ended (sharing class) ks) s w h.pictured (λ o. ⊥) _ refl _ _ _ _ _ (frozen_same_image w.image h.pictured.picture.table h.pictured.picture.frozen)
+  frame_ended class = frame_rooted h (ended (sharing class) ks) s w h.pictured (λ o. ⊥) _ refl _ _ _ _ _ (frozen_same_image h.pictured)
       (unknown_same (ended (sharing class) ks) s s w w.image refl) (λ r had has. refl)
 
 none_begins : (o : Option Root) → option_map {T = Root} {U = ℕ} (λ r. r.at) o ≡ None → o ≡ None

@@ -30,9 +30,8 @@ use Rattle.seg_spec.proofs.Frozen.FreezeLaws.{frozen_then, theirs_then, freezes_
 use Rattle.client_spec.specs.Machine.{Origin, Path, Register, State, set_register, put_origin, put_at}
 use Rattle.client_spec.specs.Pictures.{root_of_register, Pictures, LeadsInImage}
 use Rattle.client_spec.proofs.TypedStates.PutLaws.{put_at_is}
-use Rattle.client_sim.specs.Shows.{KeepsFrozenPaths}
 use Rattle.client_sim.proofs.Objects.FirstRootLaws.{each_among}
-use Rattle.client_sim.proofs.Frozen.FrozenPathLaws.{frozen_left}
+use Rattle.client_sim.proofs.Frozen.FrozenPathLaws.{KeepsFrozen, frozen_left}
 use Rattle.client_sim.proofs.Objects.PictureLaws.{Looks, looks_with, held_by, begins_with}
 use Rattle.client_sim.proofs.Places.RootPutLaws.{all_others}
 use Rattle.client_sim.proofs.Places.PathPlaceLaws.{PlaceFound}
@@ -52,12 +51,12 @@ one_value u = append-nil (names_in u)
 
 module _ {others : List Root} {s : State} {bytes : List ℕ} (pictured : Pictures others s bytes) {path : Path} {place : Place} (led : LeadsInImage pictured path place) (old_value : Value) (f : PlaceFound pictured led old_value)
     (new : List ℕ) where
-  -- The image pictures another state, with these frozen objects. Paths in a frozen object that
-  -- remains refer to the same places.
+  -- The image pictures another state, with these frozen objects. Frozen objects that were there and
+  -- remain are kept.
   pub record MovedFrozen (s' : State) (Ends : Origin → Type 0) (frozen : List Frozen) : Type 0 where
     pub to : MovedPaths pictured led old_value f new s' Ends
     pub frozen_is : to.later.picture.frozen ≡ frozen
-    pub left_paths : KeepsFrozenPaths bytes new pictured.picture.table (left (names_in old_value) pictured.picture.frozen)
+    pub keeps : KeepsFrozen bytes new pictured.picture.table pictured.picture.frozen (left (names_in old_value) pictured.picture.frozen)
 
 -- ---- apart from a register's object
 
@@ -210,7 +209,7 @@ module _ {others : List Root} {s : State} {bytes : List ℕ} (pictured : Picture
             ]);
           };
           frozen_is = refl;
-          left_paths = frozen_left bytes new picture pictured.held theirs shared (names_in old_value) z.shared_kept;
+          keeps = frozen_left pictured new theirs shared (names_in old_value) z.shared_kept;
         })
 
 -- ---- a cell shares the object of register c

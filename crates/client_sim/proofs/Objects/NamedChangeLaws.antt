@@ -13,8 +13,7 @@ use Rattle.seg_spec.specs.Roots.{Listed, with_roots, KeepsPaths}
 use Rattle.client_spec.specs.Machine.{Origin, State, with_name}
 use Rattle.client_spec.specs.Pictures.{Pictures, object_of, root_at, root_of_register}
 use Rattle.client_spec.proofs.TypedStates.StateLaws.{same_name_is, same_name_refl}
-use Rattle.client_sim.specs.Shows.{KeepsFrozenPaths}
-use Rattle.client_sim.proofs.Frozen.FrozenPathLaws.{KeepsFrozen, frozen_stay, frozen_go}
+use Rattle.client_sim.proofs.Frozen.FrozenPathLaws.{KeepsFrozen}
 use Rattle.client_sim.proofs.Objects.FirstRootLaws.{Among, among_left, among_right, first_of, first_split, first_among, first_here, first_beside, is_named, is_of_type, named_first, typed_first, each_among}
 use Rattle.client_sim.proofs.Objects.PictureLaws.{looks_of}
 use Rattle.client_sim.proofs.Places.RootPutLaws.{root_of_pair, among_loose}
@@ -140,10 +139,10 @@ module _ {others : List Root} {s : State} {old : List ℕ} (pictured : Pictures 
   begins_same (Origin.Unique U) root item e = e
   begins_same (Origin.Owned r) root item e = e
 
-  pub picture_stays : AllByRecursion (KeepsPaths old new pictured.picture.table) (owners_in pictured.picture) → KeepsFrozenPaths old new pictured.picture.table pictured.picture.frozen → Stays pictured new
+  pub picture_stays : AllByRecursion (KeepsPaths old new pictured.picture.table) (owners_in pictured.picture) → KeepsFrozen old new pictured.picture.table pictured.picture.frozen pictured.picture.frozen → Stays pictured new
   picture_stays paths frozen = record {
     later = same_then;
-    stays = frozen_stay refl frozen;
+    stays = frozen;
     keeps = record {
       table = refl;
       begins = λ o root item e. inr (begins_same o root item e, each_among (KeepsPaths old new pictured.picture.table) (owners_in pictured.picture) root (origin_among pictured o root item e) paths);
@@ -207,10 +206,10 @@ module _ {others : List Root} {s : State} {old : List ℕ} (pictured : Pictures 
             let none : None ≡ Some r = sym free ∙ ap (root_named pictured.picture.names) (same_name_is m root.name g) ∙ p.0 in cc
         by_name false g = ap (named_place k) (others_with m g) ∙ e
 
-    pub named_comes : AllByRecursion (KeepsPaths old new pictured.picture.table) (owners_in pictured.picture) → KeepsFrozenPaths old new pictured.picture.table pictured.picture.frozen → Comes
+    pub named_comes : AllByRecursion (KeepsPaths old new pictured.picture.table) (owners_in pictured.picture) → KeepsFrozen old new pictured.picture.table pictured.picture.frozen pictured.picture.frozen → Comes
     named_comes paths frozen = record {
       later = with_then;
-      stays = frozen_stay refl frozen;
+      stays = frozen;
       keeps = record {
         table = refl;
         begins = λ o r i e. inr (begins_with o r i e, each_among (KeepsPaths old new pictured.picture.table) (owners_in pictured.picture) r (origin_among pictured o r i e) paths);
@@ -261,7 +260,7 @@ module _ {others : List Root} {s : State} {old : List ℕ} (pictured : Pictures 
   picture_left = without_cells (names_each root.values) (with_roots pictured.picture Listed.by_name (before ++ after))
 
   module _ (held : IsHeld new picture_left) (counted : AreCounted (word new next_word) picture_left) (paths : AllByRecursion (KeepsPaths old new pictured.picture.table) (before ++ (after ++ rest)))
-      (frozen : KeepsFrozenPaths old new pictured.picture.table (left (names_each root.values) pictured.picture.frozen)) where
+      (frozen : KeepsFrozen old new pictured.picture.table pictured.picture.frozen (left (names_each root.values) pictured.picture.frozen)) where
     abbrev without_then : Pictures others state_without new
     without_then = record {
       picture = picture_left;
@@ -298,4 +297,4 @@ module _ {others : List Root} {s : State} {old : List ℕ} (pictured : Pictures 
             inr (ap (named_place k) (others_without m g) ∙ e, kept r (subst (λ rs. Among rs r) (append_assoc before after rest) (among_left (before ++ after) rest r here)))
 
     pub named_goes : Goes
-    named_goes = record { later = without_then; stays = frozen_go (names_each root.values) refl frozen; keeps = record { table = refl; begins = begins_without } }
+    named_goes = record { later = without_then; stays = frozen; keeps = record { table = refl; begins = begins_without } }

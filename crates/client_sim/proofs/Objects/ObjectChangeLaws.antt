@@ -35,8 +35,8 @@ use Rattle.client_spec.specs.Pictures.{Pictures, LeadsInImage, root_at}
 use Rattle.client_spec.specs.Typed.{RegisterType, RegisterTypes, known}
 use Rattle.client_sim.proofs.Objects.OwnedPlaceLaws.{KeepsOwners}
 use Rattle.client_sim.specs.Writes.{Took}
-use Rattle.client_sim.specs.Shows.{World, number_in, place_in, owns_in, HasRegisters, Shown, KeepsFrozenPaths, Shows}
-use Rattle.client_sim.proofs.Frozen.FrozenPathLaws.{KeepsFrozen, frozen_of_roots}
+use Rattle.client_sim.specs.Shows.{World, number_in, place_in, owns_in, HasRegisters, Shown, Shows}
+use Rattle.client_sim.proofs.Frozen.FrozenPathLaws.{KeepsFrozen}
 use Rattle.client_sim.proofs.FrameLaws.{KeepsUnknown, Frame}
 use Rattle.client_sim.proofs.Places.RootPutLaws.{after_split}
 use Rattle.client_sim.proofs.Places.RootChangeLaws.{roots_split}
@@ -56,9 +56,6 @@ module _ (old new : List ℕ) (picture : Picture) (held : IsHeld old picture) (g
 
   pub all_paths : ((h : ℕ) → times h gone ≤ times h held.index_blocks) → AllByRecursion (KeepsPaths old new picture.table) (owners_in picture)
   all_paths few = each_left (KeepsPaths old new picture.table) (owners_in picture) (frozen_roots picture) (all_roots few)
-
-  pub all_frozen : ((h : ℕ) → times h gone ≤ times h held.index_blocks) → KeepsFrozenPaths old new picture.table picture.frozen
-  all_frozen few = frozen_of_roots old new picture (each_right (KeepsPaths old new picture.table) (owners_in picture) (frozen_roots picture) (all_roots few))
 
   -- all other roots keep their paths if blocks of one root and of frozen objects are in `gone` too
   pub other_paths : (which : Listed) (before : List Root) (root : Root) (after : List Root) → roots_in picture which ≡ before ++ root ∷ after → (objects : List ℕ) → HoldsRoot old picture.table root objects

@@ -16,8 +16,7 @@ use Rattle.seg_spec.specs.Roots.{Listed, with_roots, roots_before, KeepsPaths}
 use Rattle.seg_spec.proofs.Frozen.PartCountLaws.{owners_after, owners_with}
 use Rattle.client_spec.specs.Machine.{Origin, Register, State, register, set_register, owned_by}
 use Rattle.client_spec.specs.Pictures.{root_of_register, AreOwned, Pictures, root_at}
-use Rattle.client_sim.specs.Shows.{KeepsFrozenPaths}
-use Rattle.client_sim.proofs.Frozen.FrozenPathLaws.{KeepsFrozen, frozen_stay, frozen_go}
+use Rattle.client_sim.proofs.Frozen.FrozenPathLaws.{KeepsFrozen}
 use Rattle.client_sim.proofs.Objects.FirstRootLaws.{Among, each_among, among_left, among_right, first_among, is_named, is_of_type, named_first, typed_first}
 use Rattle.client_sim.proofs.Objects.OwnedRootLaws.{owned_split}
 use Rattle.client_sim.proofs.UnchangedImageLaws.{first_none, later_none}
@@ -222,7 +221,7 @@ module _ {others : List Root} {s : State} {old : List ℕ} (pictured : Pictures 
   pub owned_comes : (a : ℕ) → a < length s.registers → owned_by (register s a) ≡ None → (v : Value) (t : ℕ) (root : Root) → root.type ≡ t → root.values ≡ cons v nil → (new : List ℕ)
       → ((before after : List Root) → pictured.picture.loose ≡ before ++ after → IsHeldCounted new (with_roots pictured.picture Listed.loose (before ++ root ∷ after)))
       → AllByRecursion (KeepsPaths old new pictured.picture.table) (owners_in pictured.picture)
-      → KeepsFrozenPaths old new pictured.picture.table pictured.picture.frozen → OwnedComes a v t root new
+      → KeepsFrozen old new pictured.picture.table pictured.picture.frozen pictured.picture.frozen → OwnedComes a v t root new
   owned_comes a within none v t root type_is values_are new joins paths frozen =
       let m = free_seat s.registers pictured.owned a pictured.are_owned within none in
       let joined = joins (others ++ m.before) m.after (pictured.loose ∙ ap (λ xs. others ++ xs) m.among ∙ sym (append_assoc others m.before m.after)) in
@@ -242,7 +241,7 @@ module _ {others : List Root} {s : State} {old : List ℕ} (pictured : Pictures 
       ∙ ap (λ rs. root_of_register rs (m.before ++ m.after) q) (set-get_or s.registers a Register.Undefined) ∙ ap (λ xs. root_of_register s.registers xs q) (sym m.among) ∙ e) in
       record {
         later = later;
-        stays = frozen_stay refl frozen;
+        stays = frozen;
         keeps = keeps_all pictured later (λ o. ⊥) refl (found_again pictured later (λ o. ⊥) (λ name i r e. inr e) (λ T r e. inr e) there) paths;
         here = ap (option_map {T = Root} {U = Root × ℕ} (λ root. (root, 0))) (m.seat.here v t root);
       }
@@ -264,7 +263,7 @@ module _ {others : List Root} {s : State} {old : List ℕ} (pictured : Pictures 
     pub among : pictured.picture.loose ≡ before ++ root ∷ after
     pub goes : (new : List ℕ) → IsHeldCounted new (without_cells (names_each root.values) (with_roots pictured.picture Listed.loose (before ++ after)))
         → AllByRecursion (KeepsPaths old new pictured.picture.table) (roots_before pictured.picture Listed.loose before ++ owners_after pictured.picture Listed.loose after)
-        → KeepsFrozenPaths old new pictured.picture.table (left (names_each root.values) pictured.picture.frozen) → OwnedGoes b new
+        → KeepsFrozen old new pictured.picture.table pictured.picture.frozen (left (names_each root.values) pictured.picture.frozen) → OwnedGoes b new
 
   pub owned_goes : (b : ℕ) (root : Root) → root_of_register s.registers pictured.owned b ≡ Some root → OwnedAmong b root
   owned_goes b root e =
@@ -295,7 +294,7 @@ module _ {others : List Root} {s : State} {old : List ℕ} (pictured : Pictures 
             ] in
             record {
               later = later;
-              stays = frozen_go (names_each root.values) refl frozen;
+              stays = frozen;
               keeps = keeps_others pictured later (λ o. o ≡ Origin.Owned b) refl (found_again pictured later (λ o. o ≡ Origin.Owned b) (λ name i r f. inr f) (λ T r f. inr f) there)
                   (subst (AllByRecursion (KeepsPaths old new picture.table)) among paths);
             };

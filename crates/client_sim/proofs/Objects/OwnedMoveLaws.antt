@@ -33,10 +33,10 @@ use Rattle.client_spec.specs.Pictures.{root_of_register, Pictures, LeadsInImage,
 use Rattle.client_spec.proofs.TypedStates.PutLaws.{put_at_is, put_length}
 use Rattle.client_spec.proofs.TypedStates.StateLaws.{register_set}
 use Rattle.client_sim.proofs.Objects.FirstRootLaws.{each_among}
-use Rattle.client_sim.proofs.Frozen.FrozenPathLaws.{KeepsFrozen, frozen_stay, frozen_go, frozen_of_roots, frozen_left}
+use Rattle.client_sim.proofs.Frozen.FrozenPathLaws.{KeepsFrozen, frozen_left}
 use Rattle.client_sim.proofs.Objects.PictureLaws.{Looks, root_in, looks_of, looks_left, held_by, begins_in, begins_at, begins_left}
 use Rattle.client_sim.proofs.Places.RootPutLaws.{RootFound, root_for, all_others}
-use Rattle.client_sim.proofs.Places.PathPlaceLaws.{PlaceFound, owners_split, item_within}
+use Rattle.client_sim.proofs.Places.PathPlaceLaws.{PlaceFound, owners_split, item_within, frozen_aside}
 use Rattle.client_sim.proofs.Objects.OwnedPictureLaws.{Without, goes, comes}
 use Rattle.client_sim.proofs.Places.RootChangeLaws.{Reorders, order_same, order_then, order_under, order_first, order_back, order_exchanged, frozen_first, frozen_last, from_frozen_first, from_frozen_last}
 use Rattle.client_sim.proofs.Places.RootChangeLaws.{index_kept, beside_kept, paths_kept, moved_held, counted_moved}
@@ -215,7 +215,7 @@ module _ {others : List Root} {s : State} {bytes : List ℕ} (pictured : Picture
       let state : put_origin (set_register s c Register.Undefined) path.origin whole_then ≡ set_register (put_at s path w) c Register.Undefined =
       put_order s c Register.Undefined path.origin whole_then apart ∙ ap (λ z. set_register z c Register.Undefined) (sym (put_at_is s path f.whole w f.type f.at)) in
       subst (λ z. Moved pictured led old_value f new z (λ o. o ≡ Origin.Owned c)) state
-      (paths_then looks there counted (λ o. o ≡ Origin.Owned c) same (frozen_go gone (ap (left gone) same_frozen) (frozen_left bytes new picture held theirs shared gone clears.shared_kept)) beside
+      (paths_then looks there counted (λ o. o ≡ Origin.Owned c) same (subst (KeepsFrozen bytes new table picture.frozen) (sym (ap (left gone) same_frozen)) (frozen_left pictured new theirs shared gone clears.shared_kept)) beside
       (λ o r i e. elim (l.begins o r i e) [
         | inl g ↦ inl g
         | inr g ↦ elim (put.begins o r i g) [
@@ -255,7 +255,7 @@ module _ {others : List Root} {s : State} {bytes : List ℕ} (pictured : Picture
       let beside = beside_kept bytes picture held led.root [] (rest ++ frozen) now led.item f.within path.selectors place led.leads old_value f.blocks f.holds_it [] holds_no_root new w [] f.blocks c' in
       let all_paths = paths_kept bytes picture held led.root [] (rest ++ frozen) now led.item f.within path.selectors place led.leads old_value f.blocks f.holds_it [] holds_no_root new w [] f.blocks c' in
       let paths = each_left (KeepsPaths bytes new table) rest frozen all_paths in
-      let frozen_paths = frozen_of_roots bytes new picture (each_right (KeepsPaths bytes new table) rest frozen all_paths) in
+      let stay = subst (KeepsFrozen bytes new table picture.frozen) (sym same_frozen) (frozen_aside pictured led old_value f new changes) in
       let laid_out : IsLaidOut new other held.index_blocks = l.laid_out plain new held.index_blocks (subst (λ p. IsLaidOut new p held.index_blocks) (sym put.picture_is)
       (IsLaidOut-faced new picture held.index_blocks f.root.which f.root.before led.root changed f.root.after f.root.among (faced led.root led.item change)
       (IsLaidOut-kept bytes new picture held.index_blocks held.laid_out changes.length_kept changes.front_kept changes.back_kept changes.heap changes.ownable index))) in
@@ -267,7 +267,7 @@ module _ {others : List Root} {s : State} {bytes : List ℕ} (pictured : Picture
       let counted = counted_on bytes new other changes.back_kept
       (counted_moved led.root led.item f.whole f.root.item_is path.selectors old_value f.value_is (word bytes next_word) picture other [] (root ∷ []) rest w order owners [] cells
       (same_frozen ∙ sym (none_gone picture.frozen pictured.counted.counted.some)) pictured.counted) in
-      let moved = paths_then l.later there counted (λ o. ⊥) same (frozen_stay same_frozen frozen_paths) beside (λ o r i e. elim (put.begins o r i e) [
+      let moved = paths_then l.later there counted (λ o. ⊥) same stay beside (λ o r i e. elim (put.begins o r i e) [
         | inl p ↦ inr (inl (p.0, p.1, l.begins o changed i p.2))
         | inr p ↦ inr (inr (each_among (KeepsPaths bytes new table) rest r p.0 paths, l.begins o r i p.1))
       ]) in

@@ -14,8 +14,7 @@ use Rattle.seg_spec.proofs.Frozen.PartCountLaws.{owners_after, owners_with}
 use Rattle.seg_spec.proofs.Images.UniqueLaws.{none_below, none_root}
 use Rattle.client_spec.specs.Machine.{Origin, State, with_unique}
 use Rattle.client_spec.specs.Pictures.{Pictures}
-use Rattle.client_sim.specs.Shows.{KeepsFrozenPaths}
-use Rattle.client_sim.proofs.Frozen.FrozenPathLaws.{KeepsFrozen, frozen_stay, frozen_go}
+use Rattle.client_sim.proofs.Frozen.FrozenPathLaws.{KeepsFrozen}
 use Rattle.client_sim.proofs.Objects.FirstRootLaws.{first_of, first_split, first_here, first_beside, is_of_type, typed_first}
 use Rattle.client_sim.proofs.Objects.ObjectChangeLaws.{KeepsRoots}
 use Rattle.client_sim.proofs.Objects.OwnedChangeLaws.{IsHeldCounted, found_again, keeps_all, keeps_others}
@@ -81,7 +80,7 @@ module _ {others : List Root} {s : State} {old : List ℕ} (pictured : Pictures 
 
   pub unique_comes : (T : ℕ) (v : Value) (root : Root) → T ≡ root.type → root.values ≡ cons v nil → root_of_type pictured.picture.uniques T ≡ None → (before after : List Root) → pictured.picture.uniques ≡ before ++ after → (new : List ℕ)
       → IsHeldCounted new (with_roots pictured.picture Listed.by_type (before ++ root ∷ after)) → AllByRecursion (KeepsPaths old new pictured.picture.table) (owners_in pictured.picture)
-      → KeepsFrozenPaths old new pictured.picture.table pictured.picture.frozen → UniqueComes T v root new
+      → KeepsFrozen old new pictured.picture.table pictured.picture.frozen pictured.picture.frozen → UniqueComes T v root new
   unique_comes T v root type_is values_are none before after parts new held paths frozen =
       let roots = before ++ root ∷ after in
       let there : root_of_type roots T ≡ Some root = joined_there before root after T type_is (ap (λ xs. root_of_type xs T) (sym parts) ∙ none) in
@@ -99,7 +98,7 @@ module _ {others : List Root} {s : State} {old : List ℕ} (pictured : Pictures 
       } in
       record {
         later = later;
-        stays = frozen_stay refl frozen;
+        stays = frozen;
         keeps = keeps_all pictured later (λ o. ⊥) refl (found_again pictured later (λ o. ⊥) (λ name i r e. inr e) (λ U r e. inr (again U r e (U == T) refl)) (λ q r e. inr e)) paths;
         here = there;
       }
@@ -118,7 +117,7 @@ module _ {others : List Root} {s : State} {old : List ℕ} (pictured : Pictures 
   pub unique_goes : (T : ℕ) (root : Root) → root_of_type pictured.picture.uniques T ≡ Some root → (before after : List Root) → pictured.picture.uniques ≡ before ++ root ∷ after → (new : List ℕ)
       → IsHeldCounted new (without_cells (names_each root.values) (with_roots pictured.picture Listed.by_type (before ++ after)))
       → AllByRecursion (KeepsPaths old new pictured.picture.table) (roots_before pictured.picture Listed.by_type before ++ owners_after pictured.picture Listed.by_type after)
-      → KeepsFrozenPaths old new pictured.picture.table (left (names_each root.values) pictured.picture.frozen) → UniqueGoes T new
+      → KeepsFrozen old new pictured.picture.table pictured.picture.frozen (left (names_each root.values) pictured.picture.frozen) → UniqueGoes T new
   unique_goes T root is before after parts new held paths frozen =
       let picture = pictured.picture in
       let split = first_split (is_of_type T) picture.uniques root (sym (typed_first picture.uniques T) ∙ is) in
@@ -140,7 +139,7 @@ module _ {others : List Root} {s : State} {old : List ℕ} (pictured : Pictures 
       let among : roots_before picture Listed.by_type before ++ owners_after picture Listed.by_type after ≡ owners_in later.picture = sym (owners_with picture Listed.by_type before [] after) in
       record {
         later = later;
-        stays = frozen_go (names_each root.values) refl frozen;
+        stays = frozen;
         keeps = keeps_others pictured later (λ o. o ≡ Origin.Unique T) refl
             (found_again pictured later (λ o. o ≡ Origin.Unique T) (λ name i r e. inr e) (λ U r e. again U r e (beside U) (U == T) refl) (λ q r e. inr e)) (subst (AllByRecursion (KeepsPaths old new picture.table)) among paths);
       }

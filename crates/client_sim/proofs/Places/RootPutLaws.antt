@@ -49,12 +49,6 @@ owners_kept P picture which before after h =
     each_joined P front back (each_left P front (roots_after picture which after) h)
     (each_left P back (frozen_roots picture) (subst (AllByRecursion P) (after_split picture which after) (each_right P front (roots_after picture which after) h)))
 
--- what is true of all roots but one is true of the frozen objects
-pub frozen_kept : (P : Root → Type 0) (picture : Picture) (which : Listed) (before after : List Root) → AllByRecursion P (roots_before picture which before ++ roots_after picture which after) → AllByRecursion P (frozen_roots picture)
-frozen_kept P picture which before after h =
-    each_right P (owners_after picture which after) (frozen_roots picture)
-    (subst (AllByRecursion P) (after_split picture which after) (each_right P (roots_before picture which before) (roots_after picture which after) h))
-
 module _ {others : List Root} {s : State} (pictured : Looks others s) where
   -- The picture has the root with a changed item, and represents the state with another value at
   -- the origin. Paths from other roots have the same roots.
