@@ -1,15 +1,16 @@
 -- The increment client runs on an image in which x is the number 41.
-use Rattle.std.proofs.Common.{◌≡◌, ℕ, zero, suc, ◌+◌, true, false, List, [], ◌∷◌, length, replicate, codes, pos, Bool, Some, None, inl, inr, refl, sym, ◌∙◌, ap, arith, lit<, lit≤}
+use Rattle.std.proofs.Common.{◌≡◌, ℕ, zero, suc, ◌+◌, true, false, List, [], ◌∷◌, length, replicate, codes, pos, Bool, Some, None, inl, inr, refl, sym, ◌∙◌, ap, subst, arith, lit<, lit≤}
 use Rattle.std.specs.Prelude.{ℤ, option_map, slice_index_or, if◌then◌else◌}
 use Rattle.std.specs.Fmt.{digits}
 use Rattle.seg_spec.specs.Bytes.{ChangesOnly, spelling, slice, put, number, number_of, word, set_number, set_long, signed, IsSame}
-use Rattle.seg_spec.specs.Types.{Form, size}
+use Rattle.seg_spec.specs.Types.{Form, Table, size}
 use Rattle.seg_spec.specs.Window.{IsPlace}
 use Rattle.seg_spec.specs.Value.{Value, Int, nil, cons}
 use Rattle.seg_spec.specs.Heap.{live}
 use Rattle.seg_spec.specs.Reads.{Place, here}
 use Rattle.seg_spec.specs.Index.{Root, plain_root, same_name}
 use Rattle.seg_spec.specs.Header.{allocator_word, next_word}
+use Rattle.seg_spec.specs.Frozen.{Frozen}
 use Rattle.seg_spec.specs.Shared.{names_in, names_each, replaced}
 use Rattle.seg_spec.specs.Counting.{AreCounted}
 use Rattle.seg_spec.specs.Images.{upgraded}
@@ -38,7 +39,7 @@ use Rattle.client_spec.proofs.TypedStates.ValueLaws.{Some_inj}
 use Rattle.client_spec.proofs.TypedStates.PictureLaws.{owned_one}
 use Rattle.client_spec.proofs.Unfolded.PictureTreeLaws.{own_trees}
 use Rattle.client_spec.specs.Asks.{LedTo}
-use Rattle.client_spec.specs.Ties.{places_of, OwnersStay, spot_of, Changes}
+use Rattle.client_spec.specs.Ties.{places_of, OwnersStay, FrozenKept, spot_of, Changes}
 use Rattle.client_spec.specs.OnImages.{Situation, image_machine, RowOn, Given, Left, IsFirst, IsLeftAfter, RunsClient}
 use Rattle.client_spec.specs.Clients.{AreAccepted}
 use Rattle.client_spec.specs.Outcome.{given_first, IsOutcome}
@@ -193,18 +194,31 @@ again host bytes = put host 0 bytes
 abbrev situation : State → List ℕ → List ℕ → ℕ → Situation
 situation s bytes host n = record { state = s; image = bytes; host = host; base = 0; steps = n; owned = [] }
 
+-- there are no frozen objects
+no_frozen_here : (rs : List Register) (a : AreOwned rs []) → (pictured rs a).pictured.picture.frozen ≡ []
+unfolding pictured own_trees plain_pictured
+no_frozen_here rs a = refl
+
+no_frozen_then : (output : List ℕ) → (pictured_then output).pictured.picture.frozen ≡ []
+unfolding pictured_then own_trees plain_pictured_then
+no_frozen_then output = refl
+
+none_kept : {old new : List ℕ} {table : Table} {before after : List Frozen} → before ≡ [] → FrozenKept old new table before after
+none_kept {old} {new} {table} {after = after} none = subst (λ fs. FrozenKept old new table fs after) (sym none) (record { theirs = λ at. []; holds = tt; each = tt })
+
 abbrev Row : Instruction → Situation → Situation → Type 0
 Row i a b = RowOn increment.constants [] [] i a success b
 
 kept_row : (i : Instruction) (s t : State) (host : List ℕ) (n : ℕ) → outcome increment.constants i true s ≡ Some (success, t) → (before : PicturesTrees [] s start) (after : PicturesTrees [] t start)
-    → places_of before.pictured.owned ≡ [] → places_of after.pictured.owned ≡ [] → ChangesImage increment.constants i before.pictured success start
+    → places_of before.pictured.owned ≡ [] → places_of after.pictured.owned ≡ [] → before.pictured.picture.frozen ≡ [] → ChangesImage increment.constants i before.pictured success start
     → Row i (situation s start host n) (situation t start (again host start) (n + 1))
-kept_row i s t host n row before after none_before none_after changes = record {
+kept_row i s t host n row before after none_before none_after no_frozen changes = record {
   row = inl (true, row);
   before = before;
   after = after;
   blocks = changes.blocks;
   ties = changes.ties;
+  frozen_kept = none_kept no_frozen;
   length_kept = refl;
   header_kept = refl;
   moved = record { steps = refl; base = refl; host = refl };
@@ -277,7 +291,7 @@ module _ (h : List ℕ) where
 
   finds : Row (at Operation.Find 0 16 16 (pos 0)) (situation counted start h 0) (situation found start h1 1)
   unfolding effect
-  finds = kept_row _ counted found h 0 refl (pictured counted.registers tt) (pictured found.registers tt) (none_here counted.registers tt) (none_here found.registers tt) (unchanged refl (record {
+  finds = kept_row _ counted found h 0 refl (pictured counted.registers tt) (pictured found.registers tt) (none_here counted.registers tt) (none_here found.registers tt) (no_frozen_here counted.registers tt) (unchanged refl (record {
     asks = [];
     asked = refl;
     gives = [];
@@ -289,7 +303,7 @@ module _ (h : List ℕ) where
 
   loads : Row (at Operation.Load 1 0 0 (pos 0)) (situation found start h1 1) (situation loaded start h2 2)
   unfolding effect
-  loads = kept_row _ found loaded h1 1 refl (pictured found.registers tt) (pictured loaded.registers tt) (none_here found.registers tt) (none_here loaded.registers tt) (unchanged refl (record {
+  loads = kept_row _ found loaded h1 1 refl (pictured found.registers tt) (pictured loaded.registers tt) (none_here found.registers tt) (none_here loaded.registers tt) (no_frozen_here found.registers tt) (unchanged refl (record {
     asks = [];
     asked = refl;
     gives = [];
@@ -301,12 +315,12 @@ module _ (h : List ℕ) where
 
   sets_one : Row (at Operation.Const 2 0 0 (pos 1)) (situation loaded start h2 2) (situation with_one start h3 3)
   unfolding effect
-  sets_one = kept_row _ loaded with_one h2 2 refl (pictured loaded.registers tt) (pictured with_one.registers tt) (none_here loaded.registers tt) (none_here with_one.registers tt) (unchanged refl
+  sets_one = kept_row _ loaded with_one h2 2 refl (pictured loaded.registers tt) (pictured with_one.registers tt) (none_here loaded.registers tt) (none_here with_one.registers tt) (no_frozen_here loaded.registers tt) (unchanged refl
       (record { asks = []; asked = refl; gives = []; returned = refl; blocks = live start; granted = refl; left = refl }))
 
   adds : Row (at Operation.Add 1 1 2 (pos 0)) (situation with_one start h3 3) (situation added start h4 4)
   unfolding effect
-  adds = kept_row _ with_one added h3 3 refl (pictured with_one.registers tt) (pictured added.registers tt) (none_here with_one.registers tt) (none_here added.registers tt) (unchanged refl (record {
+  adds = kept_row _ with_one added h3 3 refl (pictured with_one.registers tt) (pictured added.registers tt) (none_here with_one.registers tt) (none_here added.registers tt) (no_frozen_here with_one.registers tt) (unchanged refl (record {
     asks = [];
     asked = refl;
     gives = [];
@@ -324,6 +338,7 @@ module _ (h : List ℕ) where
     after = pictured_then [];
     blocks = record { asks = []; asked = refl; gives = []; returned = refl; blocks = live start; granted = refl; left = same_live };
     ties = record { next_is = word-same start image next_word next_same; image_kept = λ e. cc; idle_kept = tt; changes = inr stores_x };
+    frozen_kept = none_kept (no_frozen_here added.registers tt);
     length_kept = same_length;
     header_kept = header_kept;
     moved = record { steps = refl; base = refl; host = refl };
@@ -340,6 +355,7 @@ module _ (h : List ℕ) where
     after = pictured_then (codes "42\n");
     blocks = record { asks = []; asked = refl; gives = []; returned = refl; blocks = live image; granted = refl; left = refl };
     ties = record { next_is = refl; image_kept = λ e. refl; idle_kept = tt; changes = inl refl };
+    frozen_kept = none_kept (no_frozen_then []);
     length_kept = refl;
     header_kept = refl;
     moved = record { steps = refl; base = refl; host = refl };

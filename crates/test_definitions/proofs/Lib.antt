@@ -14,6 +14,7 @@ pub mod IncrementLaws
 pub mod StoppedRunLaws
 pub mod RunNumberLaws
 pub mod KeptImageLaws
+pub mod FrozenRowLaws
 pub mod OwnerTieLaws
 pub mod Several
 pub mod Whole
