@@ -81,9 +81,10 @@ module _ (old : List ℕ) (flat : word old index_kind_word ≡ 0) (new : List �
   }
 
 -- a change of the flat index as a change of the index
-pub index_names : (old new : List ℕ) (table : Table) (spans : List Span) (blocks : List ℕ) (names : List Root) → blocks ≡ named old index_cell → ChangesIndex old new table spans → ListsNames new names (named new index_cell)
+pub index_names : (old new : List ℕ) (table : Table) (spans : List Span) (blocks : List ℕ) (names : List Root) → word old index_kind_word ≡ 0 → blocks ≡ named old index_cell → ChangesIndex old new table spans
+    → ListsNames new names (named new index_cell)
     → ChangesNames old new table spans blocks names (named new index_cell)
-index_names old new table spans blocks names is c lists = record {
+index_names old new table spans blocks names flat is c lists = record {
   length_kept = c.length_kept;
   front_kept = c.front_kept;
   middle_kept = c.middle_kept;
@@ -93,6 +94,7 @@ index_names old new table spans blocks names is c lists = record {
   live_is = c.live_is;
   live_are = subst (λ bs. (h : ℕ) → times h (positions (live new)) + times h bs ≡ times h (positions (live old)) + times h (named new index_cell)) (sym is) c.live_are;
   kept = λ h some none. c.kept h some (subst (λ bs. times h bs ≡ 0) is none);
+  nodes_kept = λ tree h own some. absurd (let e : 0 ≡ 1 = sym flat ∙ tree in cc);
   lists = lists;
 }
 
@@ -148,7 +150,7 @@ module _ (allocator : ℕ) (old : List ℕ) (table : Table) (names : List Root) 
         left = o.left;
         left_is = subst (λ kind. spent allocator (live old) (length old) (entry_asks kind old) [] ≡ Some o.left) (sym flat) o.left_is;
         others = named new index_cell;
-        changes = index_names old new table o.left blocks (s.before ++ root ∷ s.after) (flat_blocks allocator old table names blocks f flat) added.changes
+        changes = index_names old new table o.left blocks (s.before ++ root ∷ s.after) flat (flat_blocks allocator old table names blocks f flat) added.changes
             (lists_then old flat new added.changes.front_kept (s.before ++ root ∷ s.after) added.changes.room some_now long indexed
             (order_with s.before root s.after (subst InOrder s.names_are (flat_order allocator old table names blocks f flat)) s.low s.high));
       }
@@ -199,7 +201,7 @@ module _ (allocator : ℕ) (old : List ℕ) (table : Table) (names : List Root) 
           let test : (count_at old index_cell == 1) ≡ false = (let more : count_at old index_cell ≢ 1 = (λ e. some (omega (arith, closes.counted))) in grind (arith, nat_tests)) in
           subst (λ kind. EntryBlocks kind old blocks root []) (sym flat) (rw test refl);
       others = named mid index_cell;
-      changes = index_names old mid table (live old) blocks (s.before ++ s.after) blocks_are c
+      changes = index_names old mid table (live old) blocks (s.before ++ s.after) flat blocks_are c
           (lists_then old flat mid c.front_kept (s.before ++ s.after) c.room (λ e. absurd (some e)) left_long left_indexed left_order);
     }
 
@@ -276,6 +278,6 @@ module _ (allocator : ℕ) (old : List ℕ) (table : Table) (names : List Root) 
             let test : (count_at old index_cell == 1) ≡ true = (let one : count_at old index_cell ≡ 1 = omega (arith, closes.counted) in grind (arith, nat_tests)) in
             subst (λ kind. EntryBlocks kind old blocks root (named old index_cell)) (sym flat) (rw test refl);
         others = named new index_cell;
-        changes = index_names old new table (after_gives (live old) (named old index_cell)) blocks (s.before ++ s.after) blocks_are both
+        changes = index_names old new table (after_gives (live old) (named old index_cell)) blocks (s.before ++ s.after) flat blocks_are both
             (lists_then old flat new front (s.before ++ s.after) d.room (λ e'. e.names_none) (left_long ∙ none ∙ sym e.counts_none) none_now left_order);
       }

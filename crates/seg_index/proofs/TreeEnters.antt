@@ -22,7 +22,7 @@ use Rattle.seg_spec.specs.Sound.{times, positions}
 use Rattle.seg_spec.specs.Demand.{need, block_for}
 use Rattle.seg_spec.specs.Spending.{spent, entry_asks}
 use Rattle.seg_spec.proofs.SliceLaws.{IsSame-trans, IsSame-part}
-use Rattle.seg_spec.proofs.Heap.BlockFrameLaws.{kept_twice}
+use Rattle.seg_spec.proofs.Heap.BlockFrameLaws.{kept_twice, around_kept, around_twice}
 use Rattle.seg_spec.proofs.Values.PlaceFrameLaws.{each_weaker, word-same}
 use Rattle.seg_spec.proofs.Heap.LiveBlockLaws.{times-append, times-same, times-other, there, LiesIn, live-lie, live-once}
 use Rattle.seg_spec.proofs.Values.CallPlaceLaws.{each_live_at, live_at}
@@ -405,6 +405,12 @@ module _ (allocator : ℕ) (old mid wrote : List ℕ) (table : Table) (names : L
           let c = counts h in
           let d = times_cons h (block_of node) (positions (live old)) in
           kept_twice old wrote new h (kept_then h some) (made.whole h (omega arith) (omega arith));
+      nodes_kept = λ tree h own some.
+          let was : 1 ≤ times h (positions (live old)) = (let o = s.owned h in omega arith) in
+          let solid = (there (LiesIn old heap_start (length old)) h (positions (live old)) (live-lie old allocator s.heap) was).size in
+          let c = counts h in
+          let d = times_cons h (block_of node) (positions (live old)) in
+          around_twice old wrote new (h + 16) 16 h (around_kept old wrote (h + 16) 16 h (omega arith) (kept_then h was)) (made.around h (omega arith));
       lists = lists_now;
     }
 

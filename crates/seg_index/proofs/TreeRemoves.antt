@@ -9,7 +9,7 @@ use Rattle.std.specs.Cmp.Lexicographic.{slice_cmp, nat_list_cmp_total}
 use Rattle.std.specs.declared.cmp.Ordering.{Ordering}
 use Rattle.std.specs.declared.cmp.Ordering.TheVariants.{Less}
 use Rattle.seg_spec.specs.Bytes.{word, set_word, IsSame}
-use Rattle.seg_spec.specs.Header.{index_kind_word, index_cell}
+use Rattle.seg_spec.specs.Header.{index_kind_word, index_cell, heap_start}
 use Rattle.seg_spec.specs.Pointer.{target}
 use Rattle.seg_spec.specs.Types.{Table}
 use Rattle.seg_spec.specs.Heap.{live, IsHeap, IsLive, Gives, after_give}
@@ -24,9 +24,9 @@ use Rattle.seg_spec.specs.Spending.{EntryBlocks}
 use Rattle.seg_spec.proofs.SliceLaws.{IsSame-part, IsSame-trans}
 use Rattle.seg_spec.proofs.OrderLaws.{steps_up}
 use Rattle.seg_spec.proofs.Deallocation.BlockFreeLaws.{found}
-use Rattle.seg_spec.proofs.Heap.BlockFrameLaws.{kept_twice}
+use Rattle.seg_spec.proofs.Heap.BlockFrameLaws.{kept_twice, around_kept, around_twice}
 use Rattle.seg_spec.proofs.Values.PlaceFrameLaws.{each_of_map, each_weaker, each_both, word-same, target-same, cell-count, IsBlock-kept, payload-same, IsTree-same}
-use Rattle.seg_spec.proofs.Heap.LiveBlockLaws.{times-same, times-more, there, not_there, live-once}
+use Rattle.seg_spec.proofs.Heap.LiveBlockLaws.{LiesIn, live-lie, times-same, times-more, there, not_there, live-once}
 use Rattle.seg_value.proofs.Inside.{given_counts, given_linked, given_ownable, given_front}
 use Rattle.seg_rbtree.specs.declared.path.Path.{Path}
 use Rattle.seg_rbtree.specs.Ways.{LeadsTo}
@@ -253,11 +253,25 @@ module _ (allocator : ℕ) (old : List ℕ) (table : Table) (names : List Root) 
           let a = all_times h in
           let b = owned_once h in
           kept_twice old mid new h (made.whole h some (omega arith)) (kept_then h some (λ e. not_it h e none));
+      nodes_kept = λ tree h own some.
+          let was : 1 ≤ times h (positions (live old)) = (let o = s.owned h in omega arith) in
+          let solid = (there (LiesIn mid heap_start (length mid)) h (positions (live mid)) (live-lie mid allocator made.heap) (let m = mid_live h in omega arith)).size in
+          around_twice old mid new (h + 16) 16 h (made.around h was) (around_kept mid new (h + 16) 16 h (omega arith) (kept_then h was (λ e. freed h e some)));
       lists = lists_now;
     }
       where
         times_cons : (h x : ℕ) (xs : List ℕ) → times h (x ∷ xs) ≡ times h (x ∷ []) + times h xs
         times_cons h x xs = Rattle.seg_spec.proofs.Heap.LiveBlockLaws.times-append h (x ∷ []) xs
+
+        -- the node that was freed isn't allocated
+        freed : (h : ℕ) → h ≡ block_of node → 1 ≤ times h (positions (live new)) → ⊥
+        freed h e some =
+            let still : 1 ≤ times (block_of node) (positions (live new)) = subst (λ x. 1 ≤ times x (positions (live new))) e some in
+            let a = given_counts allocator mid new table (block_of node) made.heap given node_mid (block_of node) in
+            let b = times-same (block_of node) (positions (live new)) in
+            let c = mid_live (block_of node) in
+            let d = live-once old allocator s.heap (block_of node) in
+            omega arith
 
         not_it : (h : ℕ) → h ≡ block_of node → times h blocks ≡ 0 → ⊥
         not_it h e none =

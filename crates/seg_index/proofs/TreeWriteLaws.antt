@@ -7,7 +7,7 @@ use Rattle.seg_spec.specs.Pointer.{target}
 use Rattle.seg_spec.specs.Types.{Table}
 use Rattle.seg_spec.specs.Heap.{units_at, live, IsHeap}
 use Rattle.seg_spec.specs.Block.{KeepsHeader, KeepsBlock, IsOwnable, block_of}
-use Rattle.seg_spec.specs.Apart.{Separate, BlocksApart}
+use Rattle.seg_spec.specs.Apart.{Separate, BlocksApart, KeepsBlockAround}
 use Rattle.seg_spec.specs.Shapes.{Tree, nodes_of, IsTree, IsRedBlack}
 use Rattle.seg_spec.specs.Reads.{count_at}
 use Rattle.seg_spec.specs.Sound.{times, positions}
@@ -16,7 +16,7 @@ use Rattle.seg_spec.proofs.SliceLaws.{IsSame-trans}
 use Rattle.seg_spec.proofs.Images.RootWriteLaws.{set_number-changes}
 use Rattle.seg_spec.proofs.Values.PlaceFrameLaws.{each_map, each_of_map, each_weaker, each_both, word-same, target-same, IsTree-same}
 use Rattle.seg_spec.proofs.Heap.LiveBlockLaws.{LiesIn, there, each_there, live-lie, live-apart, OneOrApart, apart_once, not_there}
-use Rattle.seg_spec.proofs.Heap.SeveralWriteLaws.{Range, Beside, IsWritable, heap_same, live_same, ownable_same, header_then, part_same, whole_then}
+use Rattle.seg_spec.proofs.Heap.SeveralWriteLaws.{Range, Beside, IsWritable, heap_same, live_same, ownable_same, header_then, part_same, whole_then, around_then}
 use Rattle.seg_value.proofs.HeaderLaws.{header_fits}
 use Rattle.seg_rbtree.specs.Changes.{NodesApart, StandApart, Leaves}
 
@@ -40,6 +40,7 @@ pub record Remade (allocator : ℕ) (mid new : List ℕ) (n : ℕ) (touched now 
   pub whole : (h : ℕ) → 1 ≤ times h (positions (live mid)) → times h (map block_of touched) ≡ 0 → KeepsBlock mid new h
   -- the bytes of a node after its tree words are kept
   pub content : (q p m : ℕ) → 16 ≤ q → 1 ≤ times (block_of q) (positions (live mid)) → q + 16 ≤ p → p + m ≤ block_of q + 16 * units_at mid (block_of q) → IsSame mid new p m
+  pub around : (h : ℕ) → 1 ≤ times h (positions (live mid)) → KeepsBlockAround mid new (h + 16) 16 h
   pub tree : Tree
   pub is_tree : IsTree new (target new index_cell) tree
   pub red_black : IsRedBlack tree
@@ -156,6 +157,8 @@ module _ (allocator : ℕ) (mid three new : List ℕ) (n : ℕ) (touched now : L
     whole = λ h some none. whole_then mid new allocator heap ranges writable long root_kept beside h some (each_map (λ r. r.block ≢ h) words_of touched (not_among h touched none));
     content = λ q p m back some low high. part_same mid new allocator heap ranges writable long root_kept beside (block_of q) some p m (omega arith) high
         (each_map (λ r. r.block ≡ block_of q → Separate p m r.at r.n) words_of touched (each_weaker _ _ (λ x t e. own q p m x back t.after_header low e) touched each));
+    around = λ h some. around_then mid new allocator heap ranges writable long root_kept beside h some (h + 16) 16
+        (each_map (λ r. r.block ≡ h → (h + 16 ≤ r.at) × (r.at + r.n ≤ h + 16 + 16)) words_of touched (each_weaker _ _ (λ q t e. words_at h q t.after_header e) touched each));
     tree = l.shape;
     is_tree = rw target_is (IsTree-same three new (target three index_cell) l.shape nodes_same l.tree.is_tree);
     red_black = l.tree.red_black;
@@ -165,3 +168,6 @@ module _ (allocator : ℕ) (mid three new : List ℕ) (n : ℕ) (touched now : L
     where
       own : (q p m x : ℕ) → 16 ≤ q → 16 ≤ x → q + 16 ≤ p → x - 16 ≡ q - 16 → Separate p m x 16
       own q p m x a b low e = inr (omega arith)
+
+      words_at : (h q : ℕ) → 16 ≤ q → q - 16 ≡ h → (h + 16 ≤ q) × (q + 16 ≤ h + 16 + 16)
+      words_at h q back e = (omega arith, omega arith)

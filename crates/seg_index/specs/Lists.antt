@@ -33,6 +33,7 @@ use Rattle.seg_spec.specs.Shapes as shapes
 use Rattle.seg_spec.specs.Search.{IsSearchTree}
 use Rattle.seg_spec.specs.Index.{Root, IsName, Precedes, ListsNames, root_named}
 use Rattle.seg_spec.specs.Sound.{times, positions}
+use Rattle.seg_spec.specs.Roots.{KeepsNodes}
 use Rattle.seg_spec.specs.Calls.{Refuses}
 use Rattle.seg_spec.specs.Demand.{after_gives}
 use Rattle.seg_spec.specs.Spending.{spent, entry_asks, EntryBlocks}
@@ -166,7 +167,7 @@ pub record MayEnter (bytes : List ℕ) (table : Table) (blocks : List ℕ) (root
   pub other : times (block_of root.at) blocks ≡ 0
 
 -- Only the index changed, which owned `blocks`. It now lists these names and owns `others`, and the
--- allocated blocks are these.
+-- allocated blocks are these. Names that stay keep their nodes.
 pub record ChangesNames (old new : List ℕ) (table : Table) (spans : List Span) (blocks : List ℕ)
     (names : List Root) (others : List ℕ) : Type 0 where
   pub length_kept : length new ≡ length old
@@ -180,6 +181,7 @@ pub record ChangesNames (old new : List ℕ) (table : Table) (spans : List Span)
       ≡ times h (positions (live old)) + times h others
   pub kept : (h : ℕ) → 1 ≤ times h (positions (live old)) → times h blocks ≡ 0 →
       KeepsBlock old new h
+  pub nodes_kept : KeepsNodes old new blocks
   pub lists : ListsNames new names others
 
 -- the requests were granted, and the root was added to the index in order

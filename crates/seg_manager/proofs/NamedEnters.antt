@@ -4,23 +4,23 @@ use Rattle.std.proofs.lemmas.Bool.{cases_eq}
 use Rattle.std.specs.List.{AllByRecursion}
 use Rattle.std.specs.Prelude.{Contains}
 use Rattle.seg_spec.specs.Bytes.{word, slice, IsSame}
-use Rattle.seg_spec.specs.Header.{allocator_word, next_word, index_kind_word, index_cell, free_word, back_start, back_size, KeepsFront, KeepsBack}
+use Rattle.seg_spec.specs.Header.{allocator_word, next_word, index_kind_word, index_cell, heap_start, free_word, back_start, back_size, KeepsFront, KeepsBack}
 use Rattle.seg_spec.specs.Types.{size}
 use Rattle.seg_spec.specs.Value.{count, default_of}
 use Rattle.seg_spec.specs.Heap.{live, IsLive, Gives}
 use Rattle.seg_spec.specs.Block.{Kind, tag_of, block_of, IsBlock, KeepsBlock, IsOwnable}
 use Rattle.seg_spec.specs.Index.{Root, IsName}
 use Rattle.seg_spec.specs.Sound.{Picture, HoldsRoots, holds_no_root, IsHeld, times, positions}
-use Rattle.seg_spec.specs.Roots.{Listed, with_roots}
+use Rattle.seg_spec.specs.Roots.{Listed, with_roots, KeepsNodes}
 use Rattle.seg_spec.specs.Counting.{AreCounted}
 use Rattle.seg_spec.specs.Demand.{Ask, need, block_for, units_for, after_asks}
 use Rattle.seg_spec.specs.Spending.{entry_asks, object_asks, spent}
 use Rattle.seg_spec.specs.Owing.{KeepsLinked}
 use Rattle.seg_spec.specs.Calls.{Refuses}
 use Rattle.seg_spec.proofs.SliceLaws.{IsSame-part, IsSame-trans}
-use Rattle.seg_spec.proofs.Heap.BlockFrameLaws.{kept_twice}
+use Rattle.seg_spec.proofs.Heap.BlockFrameLaws.{kept_twice, around_kept, around_twice}
 use Rattle.seg_spec.proofs.Values.PlaceFrameLaws.{word-same}
-use Rattle.seg_spec.proofs.Heap.LiveBlockLaws.{times-append, times-other}
+use Rattle.seg_spec.proofs.Heap.LiveBlockLaws.{LiesIn, there, live-lie, times-append, times-other}
 use Rattle.seg_spec.proofs.Values.CallPlaceLaws.{each_live_at, live_at, ownable_linked}
 use Rattle.seg_spec.proofs.Heap.KeptBlockLaws.{front_kept}
 use Rattle.seg_spec.proofs.Deallocation.BlockFreeLaws.{found, given_kept}
@@ -123,6 +123,13 @@ module _ (allocator : ℕ) (old mid : List ℕ) (picture : Picture) (held : IsHe
     kept_then : (h : ℕ) → 1 ≤ times h (positions (live old)) → times h held.index_blocks ≡ 0 → KeepsBlock old new h
     kept_then h is_live none = kept_twice old mid new h (kept h is_live) (e.changes.kept h (let c = counts h in let d = times_cons h (block_of object) (positions (live old)) in omega arith) none)
 
+    nodes_then : KeepsNodes old new held.index_blocks
+    nodes_then tree h own some =
+        let was : 1 ≤ times h (positions (live old)) = (let o = finds_old.owned h in omega arith) in
+        let solid = (there (LiesIn old heap_start (length old)) h (positions (live old)) (live-lie old allocator finds_old.heap) was).size in
+        let tree_mid = word-same old mid index_kind_word (IsSame-part old mid 0 24 index_kind_word 4 (omega arith) (omega arith) g.front_kept) ∙ tree in
+        around_twice old mid new (h + 16) 16 h (around_kept old mid (h + 16) 16 h (omega arith) (kept h was)) (e.changes.nodes_kept tree_mid h own some)
+
     front_then : IsSame old new 0 24
     front_then = IsSame-trans old mid new 0 24 g.front_kept e.changes.front_kept
 
@@ -159,6 +166,7 @@ module _ (allocator : ℕ) (old mid : List ℕ) (picture : Picture) (held : IsHe
             next_kept = rw (new_is, old_is) next_then;
             kept = rw (new_is, old_is) kept_then;
           });
+          nodes_kept = rw (new_is, old_is) nodes_then;
           spends = rw (new_is, old_is, table_is) granted;
         }
 

@@ -1,9 +1,9 @@
 -- A named object is destroyed: its entry is removed from the index, then its blocks are freed.
-use Rattle.std.proofs.Common.{◌≡◌, ◌≢◌, ℕ, ◌+◌, ◌≤◌, ◌⊎◌, inl, inr, true, false, List, [], ◌∷◌, ◌++◌, map, Some, Ok, Err, eqb, refl, sym, ap, ◌∙◌, subst, append_assoc, arith}
+use Rattle.std.proofs.Common.{◌≡◌, ◌≢◌, ℕ, ◌+◌, ◌≤◌, ◌⊎◌, inl, inr, true, false, List, [], ◌∷◌, ◌++◌, length, map, Some, Ok, Err, eqb, refl, sym, ap, ◌∙◌, subst, append_assoc, arith}
 use Rattle.std.proofs.lemmas.Bool.Decides.{nat_tests}
 use Rattle.std.proofs.lemmas.Bool.{cases_eq}
 use Rattle.seg_spec.specs.Bytes.{word}
-use Rattle.seg_spec.specs.Header.{allocator_word, next_word}
+use Rattle.seg_spec.specs.Header.{allocator_word, next_word, heap_start}
 use Rattle.seg_spec.specs.Types.{Table}
 use Rattle.seg_spec.specs.Heap.{IsHeap, live}
 use Rattle.seg_spec.specs.Block.{KeepsBlock, IsOwnable}
@@ -18,11 +18,11 @@ use Rattle.seg_spec.specs.Counting.{cells_in, owners_in, without_cells}
 use Rattle.seg_spec.specs.Destroying.{HoldFrozen, KeepFrozen, Destroys}
 use Rattle.seg_spec.specs.Clearing.{SharedBeside}
 use Rattle.seg_spec.proofs.Values.PlaceFrameLaws.{word-same}
-use Rattle.seg_spec.proofs.Heap.LiveBlockLaws.{each_there, times-append, live-once}
+use Rattle.seg_spec.proofs.Heap.LiveBlockLaws.{LiesIn, there, live-lie, each_there, times-append, live-once}
 use Rattle.seg_spec.proofs.Images.RootFrameLaws.{HoldsRoot-kept}
 use Rattle.seg_spec.proofs.Images.RootLaws.{HoldsRoots-only, IsLaidOut-kept}
 use Rattle.seg_spec.proofs.Values.CallPlaceLaws.{live_at}
-use Rattle.seg_spec.proofs.Heap.BlockFrameLaws.{kept_twice}
+use Rattle.seg_spec.proofs.Heap.BlockFrameLaws.{kept_twice, around_kept, around_twice}
 use Rattle.seg_spec.proofs.Heap.FreeOrderLaws.{in_any_order}
 use Rattle.seg_spec.proofs.Frozen.FrozenBlockLaws.{hold_kept, frozen_twice, frozen_kept, left_fewer}
 use Rattle.seg_spec.proofs.Frozen.PictureCountLaws.{roots_held, OwnerBeside, owner_beside, counted_without}
@@ -179,6 +179,9 @@ module _ (allocator : ℕ) (old mid : Stored) (picture : Picture) (is : IsSegmen
     left_mid = frozen_kept allocator a b heap_old first.theirs rest (λ h some. let l = left_fewer first.theirs cells picture.frozen h in omega (arith, first.counts h))
         (λ h some. let l = left_fewer first.theirs cells picture.frozen h in kept_mid h (omega arith))
 
+    there_lies : (h : ℕ) → 1 ≤ times h (positions (live b)) → LiesIn b heap_start (length b) h
+    there_lies h some = there (LiesIn b heap_start (length b)) h (positions (live b)) (live-lie b allocator heap_mid) some
+
     next_then : word c next_word ≡ word a next_word
     next_then = next_same b c g.frees.back_kept ∙ word-same a b next_word e.changes.middle_kept
 
@@ -212,6 +215,15 @@ module _ (allocator : ℕ) (old mid : Stored) (picture : Picture) (is : IsSegmen
             let i = mid_are h in
             kept_twice a b c h (e.changes.kept h some (omega arith)) (kept_then h (omega arith) (omega arith));
       };
+      nodes_kept = λ tree h own some.
+          let n = then_are h in
+          let m = mid_are h in
+          let f = first.counts h in
+          let l = left_fewer first.theirs cells picture.frozen h in
+          let still : 1 ≤ times h (positions (live b)) = (let o = old_once h in omega arith) in
+          let solid = (there_lies h still).size in
+          around_twice a b c (h + 16) 16 h (e.changes.nodes_kept tree h own still)
+          (around_kept b c (h + 16) 16 h (omega arith) (kept_then h still (let o = old_once h in omega arith)));
       shared_kept = frozen_twice a b c first.theirs rest left_mid g.shared_kept;
       holds_left = subst (λ t. HoldFrozen c t first.theirs rest) (sym is.table_is) g.holds;
       live_is =

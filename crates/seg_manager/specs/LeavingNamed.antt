@@ -11,7 +11,7 @@ use Rattle.seg_spec.specs.Heap.{IsHeap, live}
 use Rattle.seg_spec.specs.Block.{IsOwnable}
 use Rattle.seg_spec.specs.Index.{Root, root_named}
 use Rattle.seg_spec.specs.Sound.{Picture, HoldsRoot, times, positions}
-use Rattle.seg_spec.specs.Roots.{Listed, with_roots}
+use Rattle.seg_spec.specs.Roots.{Listed, with_roots, KeepsNodes}
 use Rattle.seg_spec.specs.Counting.{without_cells}
 use Rattle.seg_spec.specs.Demand.{after_gives}
 use Rattle.seg_spec.specs.Destroying.{HoldFrozen, KeepFrozen}
@@ -35,7 +35,8 @@ pub record IsUnlisted (allocator : ℕ) (bytes : List ℕ) (table : Table) (root
 
 -- The object with this name and type was destroyed, with its blocks, the blocks of its entry, and
 -- the frozen objects that lost their last cell. The other objects didn't move. Each allocated block
--- outside the index is kept, except for the counts of frozen objects.
+-- outside the index is kept, except for the counts of frozen objects, and names that stay keep their
+-- nodes in it.
 pub record LosesNamed (allocator : ℕ) (old new : Stored) (picture : Picture)
     (index_blocks name : List ℕ) (T : ℕ) : Type 0 where
   pub before : List Root
@@ -53,6 +54,7 @@ pub record LosesNamed (allocator : ℕ) (old new : Stored) (picture : Picture)
   pub becomes : Becomes allocator old new (without_cells (names_each root.values)
       (with_roots picture Listed.by_name (before ++ after)))
       ((objects ++ index_blocks) ++ blocks_by theirs picture.frozen)
+  pub nodes_kept : KeepsNodes old.window.bytes new.window.bytes index_blocks
   pub shared_kept : KeepFrozen old.window.bytes new.window.bytes theirs
       (left (names_each root.values) picture.frozen)
   pub holds_left : HoldFrozen new.window.bytes old.types theirs

@@ -14,7 +14,7 @@ use Rattle.seg_spec.specs.Block.{block_of}
 use Rattle.seg_spec.specs.Cells.{IsWithin}
 use Rattle.seg_spec.specs.Index.{Root}
 use Rattle.seg_spec.specs.Sound.{Picture, HoldsRoot, times, positions}
-use Rattle.seg_spec.specs.Roots.{Listed, with_roots}
+use Rattle.seg_spec.specs.Roots.{Listed, with_roots, KeepsNodes}
 use Rattle.seg_spec.specs.Demand.{Ask, block_for, after_asks, NoRoom}
 use Rattle.seg_spec.specs.Spending.{object_asks}
 use Rattle.seg_spec.specs.Owing.{KeepsLinked}
@@ -49,7 +49,7 @@ pub record GivesNamed (allocator : ℕ) (old new : List ℕ) (table : Table) (ro
 
 -- The requests for a new named object of n default values and for its entry were granted. The
 -- object is at this position, and in order among the others. Each allocated block outside the index
--- is kept.
+-- is kept, and names that stay keep their nodes in it.
 pub record MakesNamed (allocator : ℕ) (old new : Stored) (picture : Picture)
     (index_blocks name : List ℕ) (T n at : ℕ) : Type 0 where
   pub before : List Root
@@ -58,6 +58,7 @@ pub record MakesNamed (allocator : ℕ) (old new : Stored) (picture : Picture)
   pub becomes : Becomes allocator old new
       (with_roots picture Listed.by_name (before ++ new_root old.types name T n at ∷ after))
       index_blocks
+  pub nodes_kept : KeepsNodes old.window.bytes new.window.bytes index_blocks
   pub spends : Spends allocator old new (object_asks old.window.bytes old.types T n name) []
 
 -- One of the requests wasn't granted. The segment has the same picture and the same allocated

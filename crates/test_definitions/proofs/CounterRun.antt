@@ -337,7 +337,7 @@ module _ (h : List ℕ) where
     before = pictured added.registers tt;
     after = pictured_then [];
     blocks = record { asks = []; asked = refl; gives = []; returned = refl; blocks = live start; granted = refl; left = same_live };
-    ties = record { next_is = word-same start image next_word next_same; image_kept = λ e. cc; idle_kept = tt; changes = inr stores_x };
+    ties = record { next_is = word-same start image next_word next_same; image_kept = λ e. cc; kept_by = tt; changes = inr stores_x };
     frozen_kept = none_kept (no_frozen_here added.registers tt);
     length_kept = same_length;
     header_kept = header_kept;
@@ -354,7 +354,7 @@ module _ (h : List ℕ) where
     before = pictured_then [];
     after = pictured_then (codes "42\n");
     blocks = record { asks = []; asked = refl; gives = []; returned = refl; blocks = live image; granted = refl; left = refl };
-    ties = record { next_is = refl; image_kept = λ e. refl; idle_kept = tt; changes = inl refl };
+    ties = record { next_is = refl; image_kept = λ e. refl; kept_by = tt; changes = inl refl };
     frozen_kept = none_kept (no_frozen_then []);
     length_kept = refl;
     header_kept = refl;

@@ -15,7 +15,7 @@ use Rattle.seg_spec.specs.Block.{KeepsBlock}
 use Rattle.seg_spec.specs.Index.{Root, plain_root, IsName, root_named}
 use Rattle.seg_spec.specs.Reads.{Place, Leads, here}
 use Rattle.seg_spec.specs.Sound.{Picture, IsHeld, HoldsRoot, times, positions}
-use Rattle.seg_spec.specs.Roots.{Listed, with_roots, item_of}
+use Rattle.seg_spec.specs.Roots.{Listed, with_roots, item_of, KeepsNodes}
 use Rattle.seg_spec.specs.Frozen.{blocks_by}
 use Rattle.seg_spec.specs.Shared.{names_each, left, freed}
 use Rattle.seg_spec.specs.Destroying.{HoldFrozen, KeepFrozen}
@@ -45,7 +45,7 @@ use Rattle.client_spec.proofs.Spelling.ConstantNameLaws.{one_each}
 use Rattle.client_spec.proofs.TypedStates.StateLaws.{name_there}
 use Rattle.client_sim.specs.Shows.{World, number_in, HasRegisters, Shown, Shows, Acts, ChangesImage}
 use Rattle.client_sim.specs.Acting.{AreDeclarationsRight, ActsAs, IsRefusedAs}
-use Rattle.client_sim.proofs.ImageChangeLaws.{kept_nowhere, changed, unchanged}
+use Rattle.client_sim.proofs.ImageChangeLaws.{kept_nowhere, nodes_kept, changed, unchanged}
 use Rattle.client_sim.proofs.Frozen.UnfoldedOperationLaws.{lifted_acts, lifted_refused}
 use Rattle.client_sim.proofs.EffectLaws.{with_place, acts_so, shows_reference, shows_number, refuses_with, frame_number, frame_reference}
 use Rattle.client_sim.proofs.FrameLaws.{Frame, frame_same, unknown_same}
@@ -81,6 +81,7 @@ module _ (allocator : ℕ) (old : List ℕ) (table : Table) (name : List ℕ) (T
     pub front : KeepsFront old new
     pub next : word new next_word ≡ word old next_word
     pub kept : (h : ℕ) → 1 ≤ times h (positions (live old)) → times h index_blocks ≡ 0 → KeepsBlock old new h
+    pub nodes : KeepsNodes old new index_blocks
     pub left : spent allocator (live old) (length old) (object_asks old table T n name) [] ≡ Some (live new)
 
   -- one of the requests had no room
@@ -114,6 +115,7 @@ module _ (allocator : ℕ) (old : List ℕ) (table : Table) (name : List ℕ) (T
     pub front : KeepsFront old new
     pub next : word new next_word ≡ word old next_word
     pub kept : (h : ℕ) → 1 ≤ times h (positions (live old)) → times h ((objects ++ index_blocks) ++ blocks_by theirs picture.frozen) ≡ 0 → KeepsBlock old new h
+    pub nodes : KeepsNodes old new index_blocks
     pub left : live new ≡ after_gives (live old) ((objects ++ entries) ++ blocks_by theirs (freed (names_each root.values) picture.frozen))
 
 -- the number in an operand
@@ -447,7 +449,7 @@ module _ (allocator : ℕ) (constants : List Constant) (role : Role) (a b c : �
       let asked = asks_are Operation.Make s m.values n.name_is (ap (λ (o : Option ℤ). o >>= object_count) index ∙ count_is) none n.type_is in
       let blocks = grants_spent constants i h.pictured allocator h.allocator_is (object_asks w.image s.types T m.values bytes) asked new [] refl (live new) its.left refl in
       subst (λ z. Acts others types constants first allocator i success z s w (with_place (with_image w new) a (record { at = at; type = T }))) (sym (g.1 ∙ ap (λ n. slice_set ks a (RegisterType.Reference (Class.Name k) n)) n.type_is))
-      (made right h a k T bytes n.by n.below valid.a g.0 i new m.values at m.some m.missing its row (changed its.next refl tt (record {
+      (made right h a k T bytes n.by n.below valid.a g.0 i new m.values at m.some m.missing its row (changed its.next refl its.nodes (record {
         spot = nowhere;
         own = h.pictured.held.index_blocks;
         touches = (refl, refl);
@@ -506,7 +508,7 @@ module _ (allocator : ℕ) (constants : List Constant) (role : Role) (a b c : �
               (λ q. cc),
               bad_is bad_alloc (not_made right h a k T bytes n.by n.below valid.a g.0 i new f.0 code f.4 its
                   (row false ∙ ap (λ o. after o false) count_is ∙ ap (λ (o : Option Object). add_object a bytes T o f.0 false s) none)
-                  (changed its.next refl tt (record { spot = nowhere; own = h.pictured.held.index_blocks; touches = (refl, refl); kept = kept_nowhere _ h.pictured.held.laid_out.heap (λ x some away. its.kept x some) }) blocks)),
+                  (changed its.next refl (nodes_kept h.pictured.held its.kept) (record { spot = nowhere; own = h.pictured.held.index_blocks; touches = (refl, refl); kept = kept_nowhere _ h.pictured.held.laid_out.heap (λ x some away. its.kept x some) }) blocks)),
             )
       ])
 
@@ -572,7 +574,7 @@ module _ (allocator : ℕ) (constants : List Constant) (role : Role) (a b c : �
             let blocks = grants_spent constants i h.pictured allocator h.allocator_is (object_asks w.image s.types T 1 bytes) asked new [] refl (live new) its.left refl in
             subst (λ z. Acts others types constants first allocator i success z s w (with_place (with_image w new) a place)) (sym good_is)
             (made right h a k T bytes n.by n.below valid.a g.0 i new 1 at (omega arith) f.0 its (row ∙ ap (λ (o : Option Object). find_or_add a bytes T o true s) none)
-            (changed its.next refl (λ root some. absurd (let g : Some root ≡ None = sym some ∙ named_here Operation.FindOrMake h.pictured n.name_is ∙ f.0 in cc))
+            (changed its.next refl ((λ root some. absurd (let g : Some root ≡ None = sym some ∙ named_here Operation.FindOrMake h.pictured n.name_is ∙ f.0 in cc)), its.nodes)
             (record { spot = nowhere; own = h.pictured.held.index_blocks; touches = (refl, refl); kept = kept_nowhere _ h.pictured.held.laid_out.heap its.kept }) blocks))
       ])
 
@@ -616,7 +618,7 @@ module _ (allocator : ℕ) (constants : List Constant) (role : Role) (a b c : �
               bad_alloc,
               (λ q. cc),
               bad_is bad_alloc (not_made right h a k T bytes n.by n.below valid.a g.0 i new 1 code f.0 its (row false ∙ ap (λ (o : Option Object). find_or_add a bytes T o false s) none)
-                  (changed its.next refl (λ root some. absurd (let g : Some root ≡ None = sym some ∙ named_here Operation.FindOrMake h.pictured n.name_is ∙ f.1 in cc))
+                  (changed its.next refl ((λ root some. absurd (let g : Some root ≡ None = sym some ∙ named_here Operation.FindOrMake h.pictured n.name_is ∙ f.1 in cc)), nodes_kept h.pictured.held its.kept)
                   (record { spot = nowhere; own = h.pictured.held.index_blocks; touches = (refl, refl); kept = kept_nowhere _ h.pictured.held.laid_out.heap (λ x some away. its.kept x some) }) blocks)),
             )
       ])
@@ -681,7 +683,7 @@ module _ (allocator : ℕ) (constants : List Constant) (role : Role) (a b c : �
         left = m.left;
       } in
       subst (λ z. Acts others types constants first allocator i success z s w (with_number (with_image w new) a (pos 1))) (sym g.1) (lost right h a k T bytes n.by valid.a g.0 i new m row
-      (changed m.next refl (λ none. absurd (let f : None ≡ Some m.root = sym none ∙ killed_here Operation.Kill h.pictured n.name_is n.type_is ∙ m.root_is in cc)) touches blocks)))
+      (changed m.next refl ((λ none. absurd (let f : None ≡ Some m.root = sym none ∙ killed_here Operation.Kill h.pictured n.name_is n.type_is ∙ m.root_is in cc)), m.nodes) touches blocks)))
 
   -- if no object of the name has the type, KILL gives 0
   pub kill_none_acts : OfHeld allocator w (λ p held. killed (root_named p.names bytes) T ≡ None) → ActsAs allocator constants role (on Operation.Kill) w (with_number w a (pos 0))
