@@ -15,7 +15,7 @@ use Rattle.seg_spec.specs.Reads.{Place}
 use Rattle.seg_spec.specs.Frozen.{Frozen, root_of_frozen, blocks_by}
 use Rattle.seg_spec.specs.Shared.{names_in, times_named, AreDistinct, kept_with, left, with_count, raised, raised_by}
 use Rattle.seg_spec.specs.Destroying.{HoldFrozen, KeepFrozen}
-use Rattle.seg_spec.specs.Sound.{words_size, payload_of, Picture, frozen_roots, HoldsRoot, HoldsRoots, IsHeld, times, positions}
+use Rattle.seg_spec.specs.Sound.{words_size, payload_of, frozen_roots, HoldsRoot, HoldsRoots, times, positions}
 use Rattle.seg_spec.specs.Counting.{owners_in}
 use Rattle.seg_spec.specs.Roots.{item_of, KeepsPaths}
 use Rattle.seg_spec.proofs.Frozen.PictureCountLaws.{roots_held}
@@ -241,10 +241,11 @@ module _ {others : List Root} {s : State} {old : List ℕ} (pictured : Pictures 
       let once = live-once old (word old allocator_word) pictured.held.laid_out.heap h in
       kept h (omega arith) (omega (arith, few h)))
 
--- an image that stays as it is keeps them
+-- all objects, if the image stays as it is
 pub frozen_same_image : {others : List Root} {s : State} {bytes : List ℕ} (pictured : Pictures others s bytes) → KeepsFrozen bytes bytes pictured.picture.table pictured.picture.frozen pictured.picture.frozen
 frozen_same_image {bytes = bytes} pictured = frozen_whole pictured bytes (λ theirs holds h some. record { live = refl; has_tag = refl; room = omega arith; payload = refl })
 
+-- the same for any picture with these frozen objects
 pub kept_same_image : {others : List Root} {s : State} {bytes : List ℕ} (pictured : Pictures others s bytes) {after : List Frozen} → after ≡ pictured.picture.frozen
     → FrozenKept bytes bytes pictured.picture.table pictured.picture.frozen after
 kept_same_image {bytes = bytes} pictured same = subst (FrozenKept bytes bytes pictured.picture.table pictured.picture.frozen) (sym same) (frozen_same_image pictured).kept

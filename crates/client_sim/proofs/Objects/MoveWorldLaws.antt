@@ -162,6 +162,7 @@ module _ {others : List Root} {types : Table} {constants : List Constant} (one :
           let long : length put_then.registers ≡ length s.registers = ap (λ (z : State). length z.registers) (put_at_is s l.path l.found.whole v l.found.type l.found.at) ∙ n in
           set_there put_then.registers a y Register.Undefined (omega (arith, long, h.as_known.count, h.sixteen, within))
 
+  -- its picture has the frozen objects that the call left
   pub frozen_moved : (k : RegisterType) (ks' : RegisterTypes) (owns : Bool) (positions type_ids : List ℕ) (within : a < 16) (sixteen : length ks' ≡ 16) (at_length : length positions ≡ 17) (id_length : length type_ids ≡ 17)
       (places : (r : ℕ) → a ≢ r → place_in (with_owning w new a owns positions type_ids) r ≡ place_in w r) (front : KeepsFront w.image new) (as_known : IsAsKnown types constants (slice_set ks' a k) moved_then)
       (rest : (r : ℕ) → a ≢ r → Stays r (known ks r) (known ks' r)) (here : Shown m.later (with_owning w new a owns positions type_ids) a k y)

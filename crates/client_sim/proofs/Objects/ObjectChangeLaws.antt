@@ -25,7 +25,7 @@ use Rattle.seg_spec.proofs.Images.RootLaws.{HoldsRoots-split, root_comes_apart}
 use Rattle.seg_spec.proofs.Images.RootChangeLaws.{HoldsRoots_blocks-one}
 use Rattle.seg_spec.proofs.Frozen.PictureCountLaws.{roots_held}
 use Rattle.seg_spec.proofs.Frozen.PartCountLaws.{owners_after}
-use Rattle.seg_spec.proofs.Values.PlaceFrameLaws.{each_left, each_right}
+use Rattle.seg_spec.proofs.Values.PlaceFrameLaws.{each_left}
 use Rattle.seg_spec.proofs.Images.RootPathLaws.{roots_paths}
 use Rattle.client_spec.specs.Syntax.{Constant}
 use Rattle.client_spec.specs.Machine.{◌>>=◌, Origin, Path, Register, State, register, owned_by, path_value}

@@ -19,7 +19,7 @@ use Rattle.seg_spec.specs.Destroying.{HoldFrozen}
 use Rattle.seg_spec.specs.Clearing.{ClearsPlace}
 use Rattle.seg_spec.specs.Counting.{cells_in, owners_in, AreCounted}
 use Rattle.seg_spec.specs.Roots.{roots_before, item_of, with_item, KeepsPaths, KeepsPathsBeside, ChangesPlace, MovesPlace}
-use Rattle.seg_spec.proofs.Values.PlaceFrameLaws.{each_left, each_right}
+use Rattle.seg_spec.proofs.Values.PlaceFrameLaws.{each_left}
 use Rattle.seg_spec.proofs.Frozen.ReleaseOrderLaws.{none_gone}
 use Rattle.seg_spec.proofs.Frozen.PictureCountLaws.{roots_held}
 use Rattle.seg_spec.proofs.Frozen.PartCountLaws.{frozen_same, owners_after, owners_are, owners_with, SameNames, names_same, names_then}
