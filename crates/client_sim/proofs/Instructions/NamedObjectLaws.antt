@@ -508,7 +508,8 @@ module _ (allocator : ℕ) (constants : List Constant) (role : Role) (a b c : �
               (λ q. cc),
               bad_is bad_alloc (not_made right h a k T bytes n.by n.below valid.a g.0 i new f.0 code f.4 its
                   (row false ∙ ap (λ o. after o false) count_is ∙ ap (λ (o : Option Object). add_object a bytes T o f.0 false s) none)
-                  (changed its.next refl (nodes_kept h.pictured.held its.kept) (record { spot = nowhere; own = h.pictured.held.index_blocks; touches = (refl, refl); kept = kept_nowhere _ h.pictured.held.laid_out.heap (λ x some away. its.kept x some) }) blocks)),
+                  (changed its.next refl (nodes_kept h.pictured.held its.kept)
+                  (record { spot = nowhere; own = h.pictured.held.index_blocks; touches = (refl, refl); kept = kept_nowhere _ h.pictured.held.laid_out.heap (λ x some away. its.kept x some) }) blocks)),
             )
       ])
 
