@@ -15,7 +15,16 @@ pub mod StoppedRunLaws
 pub mod RunNumberLaws
 pub mod KeptImageLaws
 pub mod OwnerTieLaws
+pub mod RoomRowLaws
+pub mod OneState
+pub mod OneRow
 pub mod Several
 pub mod Whole
 pub mod CounterRun
+pub mod OneClientLaws
+pub mod NoOwnerLaws
+pub mod ExchangedImage
+pub mod IncrementOutcomeLaws
+pub mod SilentRunLaws
+pub mod RoomForAllLaws
 pub mod SharedCells
