@@ -29,14 +29,14 @@ fits n h = search (arith, ints)
 
 module _ (types : Table) (constants : List Constant) where
   -- an instruction is valid if each operand is of the kind that its row requires
-  pub simple : (o : Operation) (role : Role) (a b c n : ℕ) → (row_of o).role ≡ role → (row_of o).version ≤ file_version types → IsOperand (row_of o).a a → IsOperand (row_of o).b b → IsOperand (row_of o).c c
+  pub is_instruction : (o : Operation) (role : Role) (a b c n : ℕ) → (row_of o).role ≡ role → (row_of o).version ≤ file_version types → IsOperand (row_of o).a a → IsOperand (row_of o).b b → IsOperand (row_of o).c c
       → IsNumber types constants b (row_of o).number (pos n) → n < 100 → IsInstruction types constants role (at o a b c (pos n))
-  simple o role a b c n p v x y z w l = record { role = p; version = v; a = x; b = y; c = z; number = w; range = fits n l }
+  is_instruction o role a b c n p v x y z w l = record { role = p; version = v; a = x; b = y; c = z; number = w; range = fits n l }
 
 increment_code : IsCode increment.types increment.constants increment.code
 unfolding IsCode
 increment_code =
-    let s = simple increment.types increment.constants in (
+    let s = is_instruction increment.types increment.constants in (
       (
         s Operation.Find Role.Opener 0 16 16 0 refl (lit≤ tt) (omega arith) (omega arith) (omega arith) (omega arith, refl) (omega arith),
         (

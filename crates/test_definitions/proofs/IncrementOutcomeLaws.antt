@@ -6,7 +6,7 @@ use Rattle.seg_spec.specs.Bytes.{word, slice, number, number_of, put, set_number
 use Rattle.seg_spec.specs.Header.{next_word, allocator_word}
 use Rattle.seg_spec.specs.Types.{Form, Table, form_at}
 use Rattle.seg_spec.specs.Value.{Value}
-use Rattle.seg_spec.specs.Heap.{live, tag_at}
+use Rattle.seg_spec.specs.Heap.{live, live_of, tag_at}
 use Rattle.seg_spec.specs.Reads.{Place, Holds}
 use Rattle.seg_spec.specs.Index.{Root}
 use Rattle.seg_spec.specs.Sound.{times, positions}
@@ -44,12 +44,12 @@ use Rattle.test_definitions.proofs.NoOwnerLaws.{OwnNone, set_none, no_roots, Lea
 abbrev ReadsOrStores : Instruction → Type 0
 ReadsOrStores i = (writes_image i.operation ≡ false) ⊎ (i.operation ≡ Operation.Store)
 
--- if registers own nothing, they own nothing after the instruction
-abbrev OwnsNone : List Constant → Instruction → Type 0
-OwnsNone constants i = (s : State) → OwnNone s.registers → (room : Bool) → LeavesNone (outcome constants i room s)
+-- if registers own nothing, they own nothing after it
+abbrev GivesNoOwner : List Constant → Instruction → Type 0
+GivesNoOwner constants i = (s : State) → OwnNone s.registers → (room : Bool) → LeavesNone (outcome constants i room s)
 
-abbrev IsSimple : List Constant → Instruction → Type 0
-IsSimple constants i = ReadsOrStores i × OwnsNone constants i
+abbrev IsAllowed : List Constant → Instruction → Type 0
+IsAllowed constants i = ReadsOrStores i × GivesNoOwner constants i
 
 module _ (constants : List Constant) (i : Instruction) (is : i.operation ≡ Operation.Store) {others : List Root} {s : State} {old : List ℕ} (pictured : Pictures others s old) (new : List ℕ) where
   grants : GrantsAsks constants i pictured new → live new ≡ live old
@@ -66,7 +66,7 @@ module _ (constants : List Constant) (i : Instruction) (is : i.operation ≡ Ope
   store_live bad_alloc c = c.left
   store_live answer c = c
 
-row_owns : (constants : List Constant) (i : Instruction) (bytes : List ℕ) (s : State) (answer : Answer) (s' : State) → OwnsNone constants i → RowWith constants i bytes s answer s' → OwnNone s.registers → OwnNone s'.registers
+row_owns : (constants : List Constant) (i : Instruction) (bytes : List ℕ) (s : State) (answer : Answer) (s' : State) → GivesNoOwner constants i → RowWith constants i bytes s answer s' → OwnNone s.registers → OwnNone s'.registers
 row_owns constants i bytes s answer s' owns (inl w) h = (owns s h w.0).each answer s' w.1
 row_owns constants i bytes s answer s' owns (inr u) h = subst (λ (t : State). OwnNone t.registers) (sym u.0.state) (set_none s.registers i.a _ refl h)
 
@@ -103,14 +103,14 @@ module _ (client : Client) (given : Given) (block : ℕ) (there : 1 ≤ times bl
     tag_is = ap (λ z. tag_at z block) same ∙ h.tag_is;
   }
 
-  row_keeps : (i : Instruction) (x : Situation) (answer : Answer) (y : Situation) → IsSimple client.constants i → RowOn client.constants given.others given.moves i x answer y → AsGiven x → AsGiven y
-  row_keeps i x answer y simple row h = by simple.0 row.ties.changes
+  row_keeps : (i : Instruction) (x : Situation) (answer : Answer) (y : Situation) → IsAllowed client.constants i → RowOn client.constants given.others given.moves i x answer y → AsGiven x → AsGiven y
+  row_keeps i x answer y allowed row h = by allowed.0 row.ties.changes
     where
       types : y.state.types ≡ x.state.types
       types = row_types client.constants i x.image x.state answer y.state row.row
 
       none : OwnNone y.state.registers
-      none = row_owns client.constants i x.image x.state answer y.state simple.1 row.row h.owns_none
+      none = row_owns client.constants i x.image x.state answer y.state allowed.1 row.row h.owns_none
 
       by : ReadsOrStores i → (y.image ≡ x.image) ⊎ Changes client.constants i row.before.pictured y.image → AsGiven y
       by (inl reads) c = same_image x y types none (row.ties.image_kept (reads_keep i.operation reads answer)) h
@@ -138,9 +138,9 @@ module _ (client : Client) (given : Given) (block : ℕ) (there : 1 ≤ times bl
   tick_keeps : (x y : Situation) → TickOn given.moves x y → AsGiven x → AsGiven y
   tick_keeps x y tick h = same_image x y (ap (λ (s : State). s.types) tick.state) (subst (λ (s : State). OwnNone s.registers) (sym tick.state) h.owns_none) tick.image h
 
-  last_as_given : (left : Left) (runs : RunsClient client given left) → Each (IsSimple client.constants) client.code → AsGiven runs.first → AsGiven runs.last
+  last_as_given : (left : Left) (runs : RunsClient client given left) → Each (IsAllowed client.constants) client.code → AsGiven runs.first → AsGiven runs.last
   last_as_given left runs each h =
-      let keeps = code_keeps Situation (image_machine client.constants given.others given.moves) (IsSimple client.constants) (λ k. AsGiven)
+      let keeps = code_keeps Situation (image_machine client.constants given.others given.moves) (IsAllowed client.constants) (λ k. AsGiven)
       (λ i x answer y k q r h. row_keeps i x answer y q r h) (λ i x y k q s h. stop_keeps i x y s h) (λ x y k t h. tick_keeps x y t h) client.code each in
       keeps.each runs.first runs.last left.steps left.ending 0 runs.run h
 
@@ -156,10 +156,10 @@ module _ (client : Client) (given : Given) (block : ℕ) (there : 1 ≤ times bl
 -- ---- the increment
 
 abbrev MayRun : Instruction → Type 0
-MayRun = IsSimple increment.constants
+MayRun = IsAllowed increment.constants
 
-is_simple : Each MayRun increment.code
-is_simple =
+all_allowed : Each MayRun increment.code
+all_allowed =
     let cs = increment.constants in
     let find : MayRun (at Operation.Find 0 16 16 (pos 0)) = (inl refl, λ s h room. find_none cs s h 0 16 16 (pos 0) room) in
     let load : MayRun (at Operation.Load 1 0 0 (pos 0)) = (inl refl, λ s h room. load_none cs s h 1 0 0 (pos 0) room) in
@@ -169,33 +169,43 @@ is_simple =
     let print : MayRun (at Operation.OutInt 0 1 0 (pos 0)) = (inl refl, λ s h room. print_none cs s h 0 1 0 (pos 0) room) in
     ((find, (load, (one, (add, (store, (print, tt))))), tt), tt)
 
-record KeepsCounter (left : Left) : Type 0 where
-  next_is : word left.image next_word ≡ word (upgraded counter) next_word
-  tag_is : tag_at left.image 704 ≡ tag_at (upgraded counter) 704
+abbrev start : List ℕ
+start = upgraded counter
 
-keeps_counter : (left : Left) → IsOutcomeOf increment counter left → KeepsCounter left
-keeps_counter left o =
+record KeepsCounter (block : ℕ) (left : Left) : Type 0 where
+  next_is : word left.image next_word ≡ word start next_word
+  tag_is : tag_at left.image block ≡ tag_at start block
+
+start_live : live start ≡ live_of counter_tiles
+start_live = upgraded_live counter counter_picture counter_held ∙ live_evaluated counter counter_tiles counter_fill counter_headers
+
+keeps_counter : (block : ℕ) → 1 ≤ times block (positions (live_of counter_tiles)) → (left : Left) → IsOutcomeOf increment counter left → KeepsCounter block left
+keeps_counter block among left o =
     let one = one_run counter increment left increment_spelled o in
-    let given = given_first (upgraded counter) one.0 [] 0 [] in
+    let given = given_first start one.0 [] 0 [] in
     let runs = one.1 in
     let held = upgraded_held counter counter_picture counter_held in
-    let blocks = upgraded_live counter counter_picture counter_held ∙ live_evaluated counter counter_tiles counter_fill counter_headers in
-    let there : 1 ≤ times 704 (positions (live given.image)) = subst (λ bs. 1 ≤ times 704 (positions bs)) (sym blocks) (lit≤ tt) in
+    let there : 1 ≤ times block (positions (live given.image)) = subst (λ bs. 1 ≤ times block (positions bs)) (sym start_live) among in
     let same = first_image increment given runs.first counter_picture held refl runs.is_first in
     let types = first_types increment given runs.first counter_picture held refl runs.is_first in
     let none : OwnNone runs.first.state.registers = subst OwnNone (sym runs.is_first.registers) (refl, (refl, (refl, (refl, (refl, (refl, (refl, (refl, (refl, (refl, (refl, (refl, (refl, (refl, (refl, (refl, tt)))))))))))))))) in
-    let first : AsGiven increment given 704 there runs.first = record { types = types; owns_none = none; next_is = ap (λ z. word z next_word) same; live_is = ap live same; tag_is = ap (λ z. tag_at z 704) same } in
-    let last = last_as_given increment given 704 there left runs is_simple first in
-    let end = left_as_given increment given 704 there left runs last in
-    record { next_is = ap (λ z. word z next_word) end ∙ last.next_is; tag_is = ap (λ z. tag_at z 704) end ∙ last.tag_is }
+    let first : AsGiven increment given block there runs.first = record { types = types; owns_none = none; next_is = ap (λ z. word z next_word) same; live_is = ap live same; tag_is = ap (λ z. tag_at z block) same } in
+    let last = last_as_given increment given block there left runs all_allowed first in
+    let end = left_as_given increment given block there left runs last in
+    record { next_is = ap (λ z. word z next_word) end ∙ last.next_is; tag_is = ap (λ z. tag_at z block) end ∙ last.tag_is }
 
 pub no_number : (left : Left) → IsOutcomeOf increment counter left → word left.image next_word ≡ 0
 unfolding counter put set_number slice number number_of
-no_number left o = (keeps_counter left o).next_is
+no_number left o = (keeps_counter 704 (lit≤ tt) left o).next_is
+
+-- the block of x has the tag of a named object, and the other block the tag of an index
+pub blocks_stay : (left : Left) → IsOutcomeOf increment counter left → (tag_at left.image 704 ≡ 1) × (tag_at left.image 736 ≡ 5)
+unfolding counter put set_number slice number number_of
+blocks_stay left o = ((keeps_counter 704 (lit≤ tt) left o).tag_is, (keeps_counter 736 (lit≤ tt) left o).tag_is)
 
 pub not_exchanged : (left : Left) → IsOutcomeOf increment counter left → left.image ≡ exchanged → ⊥
-unfolding counter exchanged put set_number slice number number_of
+unfolding exchanged slice number number_of
 not_exchanged left o same =
-    let kept = (keeps_counter left o).tag_is in
+    let kept = (blocks_stay left o).0 in
     let other : tag_at left.image 704 ≡ 5 = ap (λ z. tag_at z 704) same in
     absurd (omega (arith, kept, other))

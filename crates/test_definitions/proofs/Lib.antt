@@ -15,7 +15,6 @@ pub mod StoppedRunLaws
 pub mod RunNumberLaws
 pub mod KeptImageLaws
 pub mod OwnerTieLaws
-pub mod RoomRowLaws
 pub mod OneState
 pub mod OneRow
 pub mod Several

@@ -10,7 +10,9 @@ use Rattle.seg_spec.specs.Index.{Root}
 use Rattle.client_spec.specs.declared.table.Operation.{Operation}
 use Rattle.client_spec.specs.Syntax.{Constant}
 use Rattle.client_spec.specs.Machine.{◌>>=◌, Origin, Path, Register, Object, State, register, set_register, owned_by, path_value, at_origin, with_name, with_owned, replace_item, put_origin, put_at}
-use Rattle.client_spec.specs.Answer.{Answer, Outcome, success, absent, other_type, out_of_range, answer, path_of, path_from, integer_at, integer_or, constant_operand, constant_name, type_operand, index_below, int_in, fail, refer}
+use Rattle.client_spec.specs.Answer.{Answer, Outcome, success, absent, other_type, out_of_range, answer, path_of, path_from, integer_at, integer_or, constant_operand, constant_name}
+use Rattle.client_spec.specs.Answer.{type_operand, index_below, int_in, fail, refer}
+use Rattle.client_spec.proofs.TypedStates.ValueLaws.{Some_inj}
 use Rattle.client_spec.specs.Effect.{effect, item_of_object}
 use Rattle.client_spec.specs.Trees.{unfolded_register}
 use Rattle.client_spec.specs.Pictures.{AreOwned}
@@ -50,10 +52,7 @@ none : LeavesNone None
 none = record { each = λ code t e. absurd (let f : ◌≡◌ {A = Outcome} None (Some (code, t)) = e in cc) }
 
 some : (code : Answer) (s : State) → OwnNone s.registers → LeavesNone (Some (code, s))
-some code s h = record { each = λ c t e. subst (λ (u : State). OwnNone u.registers) (same c t e) h }
-  where
-    same : (c : Answer) (t : State) → ◌≡◌ {A = Outcome} (Some (code, s)) (Some (c, t)) → s ≡ t
-    same c t e = (let f : ◌≡◌ {A = Answer × State} (code, s) (c, t) = cc in ap (λ (p : Answer × State). p.1) f)
+some code s h = record { each = λ c t e. subst (λ (u : State). OwnNone u.registers) (ap (λ (p : Answer × State). p.1) (Some_inj e)) h }
 
 bound : {A : Type 0} (m : Option A) (f : A → Outcome) → ((x : A) → LeavesNone (f x)) → LeavesNone (m >>= f)
 bound None f h = none

@@ -23,9 +23,13 @@ use Rattle.client_spec.specs.Pictures.{root_of_register, Pictures, PicturesTrees
 use Rattle.client_spec.specs.Asks.{LedTo, AsksAt, AsksBy, GrantsAsks, Denies, ChangesOnSuccess, ChangesBlocks, cell_asks}
 use Rattle.client_spec.specs.Ties.{places_of}
 use Rattle.client_spec.specs.OnImages.{Move, Situation, RowWith, RowOn}
+use Rattle.client_spec.proofs.TypedStates.ValueLaws.{Some_inj}
+use Rattle.client_spec.proofs.Rows.RoomRowLaws.{same, denied, by_room}
 use Rattle.test_definitions.proofs.OnePicture.{Held-one}
 use Rattle.test_definitions.proofs.OneState.{plain_same, owned_same}
-use Rattle.test_definitions.proofs.RoomRowLaws.{same, denied, by_room}
+
+pub pair_is : {A B : Type 0} (a b : A) (s t : B) → ◌≡◌ {A = Option (A × B)} (Some (a, s)) (Some (b, t)) → (a ≡ b) × (s ≡ t)
+pair_is {A = A} {B = B} a b s t e = (ap (λ (p : A × B). p.0) (Some_inj e), ap (λ (p : A × B). p.1) (Some_inj e))
 
 -- ---- requests
 
@@ -114,7 +118,8 @@ module _ (constants : List Constant) (i : Instruction) {others : List Root} {byt
       ]
 
   -- FREEZE requests a block only if a number is left
-  numbers_left : {s : State} (p : Pictures others s bytes) (answer : Answer) (new : List ℕ) → i.operation ≡ Operation.Freeze → (answer ≡ success) ⊎ (answer ≡ bad_alloc) → ChangesBlocks constants i p answer new → suc (word bytes next_word) < 2 ^ 32
+  numbers_left : {s : State} (p : Pictures others s bytes) (answer : Answer) (new : List ℕ) → i.operation ≡ Operation.Freeze → (answer ≡ success) ⊎ (answer ≡ bad_alloc)
+      → ChangesBlocks constants i p answer new → suc (word bytes next_word) < 2 ^ 32
   numbers_left p answer new is (inl e) c =
       let d = subst (λ o. ChangesOnSuccess constants i p o new) is (subst (λ a. ChangesBlocks constants i p a new) e c) in
       (subst (λ o. AsksBy constants i p o d.asks) is d.asked).0
@@ -123,9 +128,6 @@ module _ (constants : List Constant) (i : Instruction) {others : List Root} {byt
       (subst (λ o. AsksBy constants i p o d.asks) is d.asked).0
 
 -- ---- two rows
-
-pub outcome_is : (a b : Answer) (s t : State) → ◌≡◌ {A = Outcome} (Some (a, s)) (Some (b, t)) → (a ≡ b) × (s ≡ t)
-outcome_is a b s t e = (let f : ◌≡◌ {A = Answer × State} (a, s) (b, t) = cc in (ap (λ (p : Answer × State). p.0) f, ap (λ (p : Answer × State). p.1) f))
 
 module _ (constants : List Constant) (others : List Root) (i : Instruction) (s : State) (bytes : List ℕ) (places : List ℕ) where
   -- a row, and the blocks that it asks for
@@ -144,7 +146,7 @@ module _ (constants : List Constant) (others : List Root) (i : Instruction) (s :
 
     mixed : outcome constants i true s ≡ Some (a, t) → outcome constants i false s ≡ Some (b, u) → (a ≡ b) × (t ≡ u)
     mixed e f = elim (by_room constants s i.operation i.a i.b i.c i.number) [
-      | same is ↦ outcome_is a b t u (sym e ∙ is ∙ f)
+      | same is ↦ pair_is a b t u (sym e ∙ is ∙ f)
       | denied good bad ↦ absurd (never (good a t e) (bad b u f))
     ]
 
@@ -156,9 +158,9 @@ module _ (constants : List Constant) (others : List Root) (i : Instruction) (s :
         no_number c = (let l = numbers_left constants i y.before.pictured b other w.freezes c y.blocks in omega (arith, l, full))
 
         cases : (room : Bool) → outcome constants i room s ≡ Some (b, u) → (b ≡ success) ⊎ (b ≡ bad_alloc)
-        cases false e = inr (sym (outcome_is bad_alloc b w.refused u (sym w.row ∙ e)).0)
+        cases false e = inr (sym (pair_is bad_alloc b w.refused u (sym w.row ∙ e)).0)
         cases true e = elim (by_room constants s i.operation i.a i.b i.c i.number) [
-          | same is ↦ inr (sym (outcome_is bad_alloc b w.refused u (sym w.row ∙ sym is ∙ e)).0)
+          | same is ↦ inr (sym (pair_is bad_alloc b w.refused u (sym w.row ∙ sym is ∙ e)).0)
           | denied good bad ↦ inl (good b u e)
         ]
 
@@ -166,15 +168,16 @@ module _ (constants : List Constant) (others : List Root) (i : Instruction) (s :
   one_answer a b t u new other x y = by x.row y.row
     where
       by : RowWith constants i bytes s a t → RowWith constants i bytes s b u → (a ≡ b) × (t ≡ u)
-      by (inl (true, e)) (inl (true, f)) = outcome_is a b t u (sym e ∙ f)
-      by (inl (false, e)) (inl (false, f)) = outcome_is a b t u (sym e ∙ f)
+      by (inl (true, e)) (inl (true, f)) = pair_is a b t u (sym e ∙ f)
+      by (inl (false, e)) (inl (false, f)) = pair_is a b t u (sym e ∙ f)
       by (inl (true, e)) (inl (false, f)) = mixed a b t u new other x y e f
       by (inl (false, e)) (inl (true, f)) = (let r = mixed b a u t other new y x f e in (sym r.0, sym r.1))
       by (inl w) (inr z) = absurd (used_up b a u t other new y x z.0 z.1 w.0 w.1)
       by (inr z) (inl w) = absurd (used_up a b t u new other x y z.0 z.1 w.0 w.1)
       by (inr w) (inr z) = (w.0.code ∙ sym z.0.code, w.0.state ∙ sym z.0.state)
 
-pub one_row : (constants : List Constant) (others : List Root) (moves : List Move) (i : Instruction) (x y z : Situation) (a b : Answer) → RowOn constants others moves i x a y → RowOn constants others moves i x b z → (a ≡ b) × (y.state ≡ z.state)
+pub one_row : (constants : List Constant) (others : List Root) (moves : List Move) (i : Instruction) (x y z : Situation) (a b : Answer)
+    → RowOn constants others moves i x a y → RowOn constants others moves i x b z → (a ≡ b) × (y.state ≡ z.state)
 one_row constants others moves i x y z a b r q =
     one_answer constants others i x.state x.image x.owned a b y.state z.state y.image z.image
     (record { row = r.row; before = r.before; blocks = r.blocks; owned = r.owned_before }) (record { row = q.row; before = q.before; blocks = q.blocks; owned = q.owned_before })

@@ -37,9 +37,9 @@ use Rattle.test_definitions.specs.RefusedOutcomes.{IsOutcomeOf, add_a_byte, make
 use Rattle.test_definitions.proofs.ImageEvaluationLaws.{live_evaluated, numbers-valid, texts-valid}
 use Rattle.test_definitions.proofs.SoundImages.{empty_held, empty_tiles, empty_fill, empty_headers, greeting_held}
 use Rattle.test_definitions.proofs.OnePicture.{Held-one}
-use Rattle.test_definitions.proofs.OneRow.{none_and_some}
+use Rattle.test_definitions.proofs.OneRow.{none_and_some, pair_is}
 use Rattle.test_definitions.proofs.OneClientLaws.{one_run, first_image}
-use Rattle.test_definitions.proofs.IncrementLaws.{simple}
+use Rattle.test_definitions.proofs.IncrementLaws.{is_instruction}
 use Rattle.test_definitions.proofs.SilentRunLaws.{Has, Reads, Needs, names_on, reading_first, opened_by_reading, opened_by_need}
 
 -- ---- make y
@@ -50,7 +50,7 @@ letter_y = (omega arith, omega arith, λ e. omega arith)
 make_code : IsCode make_y.types make_y.constants make_y.code
 unfolding IsCode
 make_code =
-    let s = simple make_y.types make_y.constants in (
+    let s = is_instruction make_y.types make_y.constants in (
       (
         s Operation.Make Role.Opener 0 16 16 0 refl (lit≤ tt) (omega arith) (omega arith) (omega arith) (omega arith, refl) (omega arith),
         tt,
@@ -149,7 +149,7 @@ letter_s = (omega arith, omega arith, λ e. omega arith)
 add_code : IsCode add_a_byte.types add_a_byte.constants add_a_byte.code
 unfolding IsCode
 add_code =
-    let s = simple add_a_byte.types add_a_byte.constants in (
+    let s = is_instruction add_a_byte.types add_a_byte.constants in (
       s Operation.Const Role.Plain 1 0 0 33 refl (lit≤ tt) (omega arith) refl refl tt (omega arith),
       (
         (
@@ -235,9 +235,6 @@ unfolding greeting put set_number slice number number_of target
 nothing_asked s Form.str = refl
 nothing_asked s form = refl
 
-same_root : (r q : Root) (i j : ℕ) → ◌≡◌ {A = Option (Root × ℕ)} (Some (r, i)) (Some (q, j)) → (r ≡ q) × (i ≡ j)
-same_root r q i j e = (let f : ◌≡◌ {A = Root × ℕ} (r, i) (q, j) = cc in (ap (λ (p : Root × ℕ). p.0) f, ap (λ (p : Root × ℕ). p.1) f))
-
 text_at : (table : Table) (root : Root) (item : ℕ) (place : Place) → text_root ≡ root → 0 ≡ item → place ≡ item_of table root item → place.at ≡ 720
 text_at table root item place e f g =
     let start : root.at ≡ 720 = sym (ap (λ (r : Root). r.at) e) in
@@ -259,7 +256,7 @@ add_not_denied others s p is new d =
     let first : Root → Root × ℕ = λ root. (root, 0) in
     let found : ◌≡◌ {A = Option (Root × ℕ)} (Some (text_root, 0)) (Some (led.stands.root, led.stands.item))
     = subst (λ (roots : List Root). ◌≡◌ {A = Option (Root × ℕ)} (option_map first (root_named roots (codes "s"))) (Some (led.stands.root, led.stands.item))) names begins in
-    let both = same_root text_root led.stands.root 0 led.stands.item found in
+    let both = pair_is text_root led.stands.root 0 led.stands.item found in
     let at_root = here_is text_start picture.table (item_of picture.table led.stands.root led.stands.item) place led.path.selectors (ap (λ (q : Path). q.selectors) path) led.stands.leads in
     let where_is : place.at ≡ 720 = text_at picture.table led.stands.root led.stands.item place both.0 both.1 at_root in
     let none : d.asks ≡ [] = d.asked.3 ∙ ap (λ n. cell_asks Operation.AddByte add_a_byte.constants adding p.plain text_start n d.asked.1) where_is ∙ nothing_asked p.plain d.asked.1 in

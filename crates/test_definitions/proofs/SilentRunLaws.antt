@@ -13,7 +13,7 @@ use Rattle.client_spec.specs.Ties.{writes_image}
 use Rattle.client_spec.specs.OnImages.{Situation, RowWith, image_machine, Given}
 use Rattle.client_spec.proofs.Runs.RunTripleLaws.{Triple, nothing, in_turn, success_part, performs}
 use Rattle.test_definitions.proofs.KeptImageLaws.{reads_keep}
-use Rattle.test_definitions.proofs.OneRow.{outcome_is}
+use Rattle.test_definitions.proofs.OneRow.{pair_is}
 
 -- an output that had nothing to write isn't cut short
 not_cut : (constants : List Constant) (i : Instruction) (s s' : State) (c : CutShort constants i s s') → s.output ≡ [] → c.whole.output ≡ [] → ⊥
@@ -69,14 +69,14 @@ module _ (constants : List Constant) (given : Given) (start : List ℕ) (names :
     read_row : (x : Situation) (answer : Answer) (y : Situation) → Has rs x → machine.row i x answer y → (answer ≡ success) × Has qs y
     read_row x answer y h row =
         let o = row_of_effect i x.image x.state answer y.state other row.row in
-        let e = outcome_is success answer (with_registers x.state qs) y.state (sym (reads o.0 x.state) ∙ at_registers i o.0 rs x answer y.state h o.1) in
+        let e = pair_is success answer (with_registers x.state qs) y.state (sym (reads o.0 x.state) ∙ at_registers i o.0 rs x answer y.state h o.1) in
         let same = row.ties.image_kept (reads_keep i.operation only_reads answer) ∙ h.image in
         (sym e.0, record { image = same; names_are = names_on y same row.after; registers = sym (ap (λ (z : State). z.registers) e.1); output = sym (ap (λ (z : State). z.output) e.1) })
 
     read_stop : (x y : Situation) → Has rs x → machine.stop i x y → Silent y
     read_stop x y h stop =
         let c = stop.cut in
-        let e = outcome_is success success (with_registers x.state qs) c.whole (sym (reads c.room x.state) ∙ at_registers i c.room rs x success c.whole h c.written) in
+        let e = pair_is success success (with_registers x.state qs) c.whole (sym (reads c.room x.state) ∙ at_registers i c.room rs x success c.whole h c.written) in
         absurd (not_cut constants i x.state y.state c h.output (sym (ap (λ (z : State). z.output) e.1)))
 
     read_performs : (B : Situation → Type 0) (good bad : Way Situation) → Triple Situation (Has qs) good B Silent → Triple Situation (Has rs) (Performs Situation machine i good bad) B Silent
@@ -103,10 +103,10 @@ module _ (constants : List Constant) (given : Given) (start : List ℕ) (names :
   module _ (i : Instruction) (rs : List Register) (other : i.operation ≡ Operation.Freeze → ⊥) (needs : Needs i rs) (not_denied : (x y : Situation) → Has rs x → machine.row i x bad_alloc y → ⊥) where
     made : (room : Bool) (x : Situation) (answer : Answer) (t : State) → Has rs x → (answer ≡ bad_alloc → ⊥) → outcome constants i room x.state ≡ Some (answer, t) → (answer ≡ success) × (t.output ≡ [])
     made true x answer t h had_room e =
-        let f = outcome_is success answer (needs.after x.state) t (sym (needs.succeeds x.state) ∙ at_registers i true rs x answer t h e) in
+        let f = pair_is success answer (needs.after x.state) t (sym (needs.succeeds x.state) ∙ at_registers i true rs x answer t h e) in
         (sym f.0, sym (ap (λ (z : State). z.output) f.1) ∙ needs.silent x.state)
     made false x answer t h had_room e =
-        absurd (had_room (sym (outcome_is bad_alloc answer (needs.refused x.state) t (sym (needs.fails x.state) ∙ at_registers i false rs x answer t h e)).0))
+        absurd (had_room (sym (pair_is bad_alloc answer (needs.refused x.state) t (sym (needs.fails x.state) ∙ at_registers i false rs x answer t h e)).0))
 
     need_row : (x : Situation) (answer : Answer) (y : Situation) → Has rs x → machine.row i x answer y → (answer ≡ success) × Silent y
     need_row x answer y h row =

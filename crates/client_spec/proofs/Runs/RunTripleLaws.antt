@@ -1,4 +1,4 @@
--- Triples of a run: what is true before it, where it ends, and where it is stopped.
+-- Triples: what is true before code runs, what is true if it finishes, and what if it doesn't.
 use Rattle.std.proofs.Common.{◌≡◌, ◌≢◌, ℕ, ◌⊎◌, inl, inr, refl, subst, sym, ◌∙◌}
 use Rattle.client_spec.specs.Syntax.{Instruction}
 use Rattle.client_spec.specs.Answer.{Answer, success}

@@ -9,6 +9,7 @@ use Rattle.client_spec.specs.Syntax.{Constant}
 use Rattle.client_spec.specs.Machine.{◌>>=◌, Origin, Path, extend, Register, Object, State, with_name, with_unique, register, set_register, owned_by, path_value, put_at}
 use Rattle.client_spec.specs.Answer.{Answer, Outcome, success, bad_alloc, answer, give, refer, with_room, provided, answer_number, integer_at, integer_or, object_count, path_of, path_form, path_from, byte_of}
 use Rattle.client_spec.specs.Answer.{constant_operand, constant_name, constant_text, type_operand, vec_or_list_item, list_item, map_value, shared_type, items_in, text_in, entries_in, begins_at}
+use Rattle.client_spec.proofs.TypedStates.ValueLaws.{Some_inj}
 use Rattle.client_spec.specs.Effect.{effect, add_object, find_or_add, add_unique, set_text}
 
 -- an outcome can only have this answer
@@ -24,7 +25,7 @@ has_answer : (code : Answer) (a : ℕ) (x : Register) (s : State) → HasAnswer 
 has_answer code a x s c t e = by (owned_by (register s a)) e
   where
     by : (o : Option (Value × ℕ)) → ◌≡◌ {A = Outcome} (option_map_or (λ _. None) o (Some (code, set_register s a x))) (Some (c, t)) → c ≡ code
-    by None e = (let f : ◌≡◌ {A = Answer × State} (code, set_register s a x) (c, t) = cc in sym (ap (λ (p : Answer × State). p.0) f))
+    by None e = sym (ap (λ (p : Answer × State). p.0) (Some_inj e))
     by (Some v) e = cc
 
 -- an operand that needs no room
@@ -76,7 +77,8 @@ module _ (constants : List Constant) (s : State) where
   pub by_room : (o : Operation) (a b c : ℕ) (number : ℤ) → ByRoom (effect constants o a b c number true s) (effect constants o a b c number false s)
   unfolding effect
   by_room Operation.Make a b c number =
-      after (slice_get constants (constant_operand number) >>= λ k. constant_name k (register s b)) _ _ (λ name. after (integer_or (pos 1) c s) _ _ (λ x. mapped (object_count x) _ _ _ (new_object a name (type_operand number) (s.names name))))
+      after (slice_get constants (constant_operand number) >>= λ k. constant_name k (register s b)) _ _ (λ name. after (integer_or (pos 1) c s) _ _
+      (λ x. mapped (object_count x) _ _ _ (new_object a name (type_operand number) (s.names name))))
   by_room Operation.FindOrMake a b c number =
       after (slice_get constants (constant_operand number) >>= λ k. constant_name k (register s b)) _ _ (λ name. found a name (type_operand number) (s.names name))
   by_room Operation.MakeUnique a b c number = unless (is_some (s.uniques (nat_abs number))) _ _ _ (unique a (nat_abs number))
