@@ -1,5 +1,5 @@
 -- Two rows of an instruction from one image, one state and one list of owned objects have the same
--- answer, and lead to the same state.
+-- answer and the same next state.
 use Rattle.std.proofs.Common.{◌≡◌, ℕ, suc, ◌+◌, ◌<◌, ◌^◌, ◌⊎◌, inl, inr, true, false, Bool, List, [], ◌∷◌, length, Option, Some, None, refl, sym, ap, ◌∙◌, subst, arith}
 use Rattle.std.specs.Prelude.{option_map}
 use Rattle.seg_spec.specs.Bytes.{word}
@@ -16,7 +16,7 @@ use Rattle.seg_spec.proofs.Values.OneValueLaws.{Opens-one}
 use Rattle.client_spec.specs.declared.table.Operation.{Operation}
 use Rattle.client_spec.specs.Syntax.{Constant, Instruction}
 use Rattle.client_spec.specs.Machine.{Origin, Path, State}
-use Rattle.client_spec.specs.Answer.{Answer, Outcome, success, bad_alloc}
+use Rattle.client_spec.specs.Answer.{Answer, success, bad_alloc}
 use Rattle.client_spec.specs.Effect.{outcome}
 use Rattle.client_spec.specs.Plain.{UsesUp}
 use Rattle.client_spec.specs.Pictures.{root_of_register, Pictures, PicturesTrees, root_at}
@@ -33,7 +33,7 @@ pair_is {A = A} {B = B} a b s t e = (ap (λ (p : A × B). p.0) (Some_inj e), ap 
 
 -- ---- requests
 
--- a path leads to one place
+-- a path reaches one place
 leads_one : (bytes : List ℕ) (table : Table) {a x y : Place} {path : List Selector} → Leads bytes table a path x → Leads bytes table a path y → x ≡ y
 leads_one bytes table here here = refl
 leads_one bytes table {y = y} (into {place = place} {path = path} form opened i part f o at p l) (into form' opened' j part' g o' at' p' l') =

@@ -8,7 +8,7 @@ stopped_not_finished : (end : Ending) → end ≡ stopped → end ≢ finished
 stopped_not_finished end e f = (let g : stopped ≡ finished = sym e ∙ f in cc)
 
 module _ (S : Type 0) where
-  -- after A, a way that finishes leads to B, and one that doesn't to C
+  -- if A is true before a way, B is true after it if it finishes, and C if it doesn't
   pub record Triple (A : S → Type 0) (way : Way S) (B C : S → Type 0) : Type 0 where
     pub each : (x y : S) (n : ℕ) (end : Ending) → A x → way x y n end → ((end ≡ finished) × B y) ⊎ ((end ≢ finished) × C y)
 
