@@ -8,3 +8,4 @@ pub mod BareLaws
 pub mod SharedCellLaws
 pub mod RowFrameLaws
 pub mod SharingRowLaws
+pub mod RoomRowLaws

@@ -4,4 +4,6 @@ pub mod TotalRunLaws
 pub mod TypedRunLaws
 pub mod InterpreterStepLaws
 pub mod OutsideByteLaws
+pub mod KeptByRunLaws
 pub mod RunInvariantLaws
+pub mod RunTripleLaws

@@ -24,19 +24,19 @@ letter_x = (omega arith, omega arith, λ e. omega arith)
 name_x : IsConstant (Constant.Name (codes "x"))
 name_x = (omega arith, omega arith, All-cons IsNameByte 120 [] letter_x (All-nil IsNameByte))
 
-fits : (n : ℕ) → n < 2 → FitsSigned w32 (pos n)
+fits : (n : ℕ) → n < 100 → FitsSigned w32 (pos n)
 fits n h = search (arith, ints)
 
 module _ (types : Table) (constants : List Constant) where
   -- an instruction is valid if each operand is of the kind that its row requires
-  simple : (o : Operation) (role : Role) (a b c n : ℕ) → (row_of o).role ≡ role → (row_of o).version ≤ file_version types → IsOperand (row_of o).a a → IsOperand (row_of o).b b → IsOperand (row_of o).c c
-      → IsNumber types constants b (row_of o).number (pos n) → n < 2 → IsInstruction types constants role (at o a b c (pos n))
-  simple o role a b c n p v x y z w l = record { role = p; version = v; a = x; b = y; c = z; number = w; range = fits n l }
+  pub is_instruction : (o : Operation) (role : Role) (a b c n : ℕ) → (row_of o).role ≡ role → (row_of o).version ≤ file_version types → IsOperand (row_of o).a a → IsOperand (row_of o).b b → IsOperand (row_of o).c c
+      → IsNumber types constants b (row_of o).number (pos n) → n < 100 → IsInstruction types constants role (at o a b c (pos n))
+  is_instruction o role a b c n p v x y z w l = record { role = p; version = v; a = x; b = y; c = z; number = w; range = fits n l }
 
 increment_code : IsCode increment.types increment.constants increment.code
 unfolding IsCode
 increment_code =
-    let s = simple increment.types increment.constants in (
+    let s = is_instruction increment.types increment.constants in (
       (
         s Operation.Find Role.Opener 0 16 16 0 refl (lit≤ tt) (omega arith) (omega arith) (omega arith) (omega arith, refl) (omega arith),
         (

@@ -1,5 +1,6 @@
 -- Instructions that leave the image, or its allocated blocks, as they are.
-use Rattle.std.proofs.Common.{◌≡◌, ◌≢◌, ◌⊎◌, inl, inr, ℕ, ◌+◌, ◌≤◌, List, true, refl, ap, sym, subst, arith}
+use Rattle.std.proofs.Common.{◌≡◌, ◌≢◌, ◌⊎◌, inl, inr, ℕ, ◌+◌, ◌≤◌, List, false, true, refl, ap, sym, subst, arith}
+use Rattle.std.specs.Prelude.{not}
 use Rattle.seg_spec.specs.Index.{Root}
 use Rattle.seg_spec.specs.Heap.{live}
 use Rattle.seg_spec.specs.Block.{KeepsBlock, payload_size}
@@ -9,13 +10,19 @@ use Rattle.seg_spec.specs.Apart.{KeepsBlockAround}
 use Rattle.client_spec.specs.declared.table.Operation.{Operation}
 use Rattle.client_spec.specs.Syntax.{Constant, Instruction}
 use Rattle.client_spec.specs.Answer.{Answer, success, bad_alloc}
-use Rattle.client_spec.specs.Ties.{Spot, keeps_image, TouchesBy, Changes}
+use Rattle.client_spec.specs.Ties.{Spot, writes_image, keeps_image, TouchesBy, Changes}
 use Rattle.client_spec.specs.OnImages.{Move, Situation, RowOn}
 
 keeps : (operation : Operation) (answer : Answer) → answer ≢ success → answer ≢ bad_alloc → keeps_image operation answer ≡ true
 keeps operation success fails had_room = absurd (fails refl)
 keeps operation bad_alloc fails had_room = absurd (had_room refl)
 keeps operation answer fails had_room = refl
+
+pub reads_keep : (o : Operation) → writes_image o ≡ false → (answer : Answer) → keeps_image o answer ≡ true
+reads_keep o e success = ap not e
+reads_keep Operation.Make e answer = cc
+reads_keep Operation.FindOrMake e answer = cc
+reads_keep o e answer = refl
 
 pub failed_keeps : (constants : List Constant) (others : List Root) (moves : List Move) (i : Instruction) (x y : Situation) (answer : Answer)
     → RowOn constants others moves i x answer y → answer ≢ success → answer ≢ bad_alloc → y.image ≡ x.image

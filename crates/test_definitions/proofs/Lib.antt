@@ -16,7 +16,15 @@ pub mod RunNumberLaws
 pub mod KeptImageLaws
 pub mod FrozenRowLaws
 pub mod OwnerTieLaws
+pub mod OneState
+pub mod OneRow
 pub mod Several
 pub mod Whole
 pub mod CounterRun
+pub mod OneClientLaws
+pub mod NoOwnerLaws
+pub mod ExchangedImage
+pub mod IncrementOutcomeLaws
+pub mod SilentRunLaws
+pub mod RoomForAllLaws
 pub mod SharedCells

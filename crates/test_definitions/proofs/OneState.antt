@@ -1,0 +1,106 @@
+-- The bytes of an image determine its state, except for the objects that registers own. Their
+-- positions determine these.
+use Rattle.std.proofs.Common.{◌≡◌, ℕ, List, [], ◌∷◌, ◌++◌, map, refl, sym, ap, ◌∙◌, subst}
+use Rattle.std.specs.Prelude.{option_map, option_and_then}
+use Rattle.std.specs.List.{AllByRecursion}
+use Rattle.seg_spec.specs.Bytes.{word}
+use Rattle.seg_spec.specs.Header.{next_word}
+use Rattle.seg_spec.specs.Types.{Table}
+use Rattle.seg_spec.specs.Value.{Value, nil, cons, nth}
+use Rattle.seg_spec.specs.Index.{Root, root_named, root_of_type}
+use Rattle.seg_spec.specs.Roots.{SamePicture}
+use Rattle.seg_spec.specs.Sound.{IsPlain, HoldsRoots, holds_more_roots, frozen_roots}
+use Rattle.seg_spec.proofs.Values.PlaceFrameLaws.{each_right}
+use Rattle.seg_spec.proofs.Images.RootLaws.{HoldsRoots-split}
+use Rattle.client_spec.specs.Machine.{Register, State}
+use Rattle.client_spec.specs.Trees.{unfolded_register}
+use Rattle.client_spec.specs.Pictures.{AreOwned, Pictures, PicturesTrees, meaning_in, object_of}
+use Rattle.client_spec.specs.Ties.{places_of}
+use Rattle.test_definitions.proofs.OnePicture.{plain-one, Held-one}
+
+-- roots without a name are determined by their positions
+roots_one : (bytes : List ℕ) (table : Table) (rs qs : List Root) (xs ys : List ℕ) → places_of rs ≡ places_of qs → HoldsRoots bytes table rs xs → HoldsRoots bytes table qs ys → AllByRecursion IsPlain rs → AllByRecursion IsPlain qs → rs ≡ qs
+roots_one bytes table [] [] xs ys e h k p q = refl
+roots_one bytes table [] (b ∷ qs) xs ys e h k p q = cc
+roots_one bytes table (a ∷ rs) [] xs ys e h k p q = cc
+roots_one bytes table (a ∷ rs) (b ∷ qs) xs ys e (holds_more_roots {blocks = xs1} {rest = xs2} h hs) (holds_more_roots {blocks = ys1} {rest = ys2} k ks) p q =
+    let at : a.at ≡ b.at = cc in
+    let first : a ≡ b = plain-one bytes table a b xs1 ys1 at p.0 q.0 h k in
+    let more : places_of rs ≡ places_of qs = cc in
+    let rest : rs ≡ qs = roots_one bytes table rs qs xs2 ys2 more hs ks p.1 q.1 in
+    cc
+
+-- registers are determined by the objects that they own, and by what clients see of them
+registers_one : (m n : ℕ → Value) (xs ys : List Register) (roots : List Root) → AreOwned xs roots → AreOwned ys roots → map (unfolded_register m) xs ≡ map (unfolded_register n) ys → xs ≡ ys
+registers_one m n [] [] roots a b e = refl
+registers_one m n [] (y ∷ ys) roots a b e = cc
+registers_one m n (x ∷ xs) [] roots a b e = cc
+registers_one m n (Register.Undefined ∷ xs) (Register.Undefined ∷ ys) roots a b e =
+    let more : map (unfolded_register m) xs ≡ map (unfolded_register n) ys = cc in
+    ap (λ zs. Register.Undefined ∷ zs) (registers_one m n xs ys roots a b more)
+registers_one m n (Register.Int j ∷ xs) (Register.Int k ∷ ys) roots a b e =
+    let same : j ≡ k = cc in
+    let more : map (unfolded_register m) xs ≡ map (unfolded_register n) ys = cc in
+    let rest = registers_one m n xs ys roots a b more in
+    cc
+registers_one m n (Register.Reference p ∷ xs) (Register.Reference q ∷ ys) roots a b e =
+    let same : p ≡ q = cc in
+    let more : map (unfolded_register m) xs ≡ map (unfolded_register n) ys = cc in
+    let rest = registers_one m n xs ys roots a b more in
+    cc
+registers_one m n (Register.Owner v t ∷ xs) (Register.Owner w u ∷ ys) [] a b e = absurd a
+registers_one m n (Register.Owner v t ∷ xs) (Register.Owner w u ∷ ys) (root ∷ roots) a b e =
+    let types : t ≡ u = cc in
+    let values : cons v nil ≡ cons w nil = sym a.1 ∙ b.1 in
+    let value : v ≡ w = cc in
+    let more : map (unfolded_register m) xs ≡ map (unfolded_register n) ys = cc in
+    let rest = registers_one m n xs ys roots a.2 b.2 more in
+    cc
+registers_one m n (x ∷ xs) (y ∷ ys) roots a b e = cc
+
+record HoldsOwned (bytes : List ℕ) (table : Table) (owned : List Root) : Type 0 where
+  blocks : List ℕ
+  holds : HoldsRoots bytes table owned blocks
+  plain : AllByRecursion IsPlain owned
+
+holds_owned : (others : List Root) (s : State) (bytes : List ℕ) (p : Pictures others s bytes) → HoldsOwned bytes p.picture.table p.owned
+holds_owned others s bytes p =
+    let r = p.picture in
+    let a = HoldsRoots-split bytes r.table r.names (r.uniques ++ (r.loose ++ frozen_roots r)) p.held.root_blocks p.held.roots in
+    let b = HoldsRoots-split bytes r.table r.uniques (r.loose ++ frozen_roots r) a.right a.rights in
+    let c = HoldsRoots-split bytes r.table r.loose (frozen_roots r) b.right b.rights in
+    let d = HoldsRoots-split bytes r.table others p.owned c.left (subst (λ roots. HoldsRoots bytes r.table roots c.left) p.loose c.lefts) in
+    let loose = each_right IsPlain r.uniques r.loose p.held.laid_out.plain in
+    record { blocks = d.right; holds = d.rights; plain = each_right IsPlain others p.owned (subst (AllByRecursion IsPlain) p.loose loose) }
+
+extend : {A B : Type 0} (f g : A → B) → ((x : A) → f x ≡ g x) → f ≡ g
+extend f g p = λ i x. p x i
+
+module _ (others : List Root) (s : State) (bytes : List ℕ) (p q : PicturesTrees others s bytes) (places : places_of p.pictured.owned ≡ places_of q.pictured.owned) where
+  same : SamePicture p.pictured.picture q.pictured.picture
+  same = Held-one bytes p.pictured.picture q.pictured.picture p.pictured.held q.pictured.held
+
+  pub owned_same : p.pictured.owned ≡ q.pictured.owned
+  owned_same =
+      let a = holds_owned others p.plain bytes p.pictured in
+      let b = holds_owned others q.plain bytes q.pictured in
+      roots_one bytes p.pictured.picture.table p.pictured.owned q.pictured.owned a.blocks b.blocks places
+      a.holds (subst (λ (t : Table). HoldsRoots bytes t q.pictured.owned b.blocks) (sym same.table) b.holds) a.plain b.plain
+
+  registers_same : p.plain.registers ≡ q.plain.registers
+  registers_same =
+      let m = meaning_in (word bytes next_word) p.pictured.picture in
+      let n = meaning_in (word bytes next_word) q.pictured.picture in
+      registers_one m n p.plain.registers q.plain.registers q.pictured.owned
+      (subst (AreOwned p.plain.registers) owned_same p.pictured.are_owned) q.pictured.are_owned (sym (ap (λ (z : State). z.registers) p.trees) ∙ ap (λ (z : State). z.registers) q.trees)
+
+  pub plain_same : p.plain ≡ q.plain
+  plain_same =
+      let types : p.plain.types ≡ q.plain.types = sym p.pictured.types ∙ same.table ∙ q.pictured.types in
+      let names : p.plain.names ≡ q.plain.names = extend p.plain.names q.plain.names (λ name. p.pictured.names name ∙ ap (λ rs. option_map object_of (root_named rs name)) same.names ∙ sym (q.pictured.names name)) in
+      let first = λ (root : Root). nth root.values 0 in
+      let uniques : p.plain.uniques ≡ q.plain.uniques = extend p.plain.uniques q.plain.uniques (λ T. p.pictured.uniques T ∙ ap (λ rs. option_and_then first (root_of_type rs T)) same.uniques ∙ sym (q.pictured.uniques T)) in
+      let registers = registers_same in
+      let input : p.plain.input ≡ q.plain.input = sym (ap (λ (z : State). z.input) p.trees) ∙ ap (λ (z : State). z.input) q.trees in
+      let output : p.plain.output ≡ q.plain.output = sym (ap (λ (z : State). z.output) p.trees) ∙ ap (λ (z : State). z.output) q.trees in
+      λ i. record { types = types i; names = names i; uniques = uniques i; registers = registers i; input = input i; output = output i }
