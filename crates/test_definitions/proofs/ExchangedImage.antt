@@ -21,10 +21,10 @@ use Rattle.test_definitions.proofs.SharedImages.{all_types}
 abbrev exchanged_root : Root
 exchanged_root = plain_root (120 ∷ []) 752 0 (cons (Int (pos 42)) nil)
 
-abbrev pub exchanged_picture : Picture
+abbrev exchanged_picture : Picture
 exchanged_picture = record { table = Form.i64 ∷ []; names = exchanged_root ∷ []; uniques = []; loose = []; frozen = [] }
 
-abbrev pub exchanged_tiles : List Tile
+abbrev exchanged_tiles : List Tile
 exchanged_tiles = record { at = 704; units = 2; live = true } ∷ record { at = 736; units = 3; live = true } ∷ []
 
 exchanged_x : Holds exchanged (Form.i64 ∷ []) (record { at = 752; type = 0 }) (Int (pos 42)) []
@@ -43,11 +43,11 @@ exchanged_holds = record {
   blocks_are = refl;
 }
 
-pub exchanged_fill : Fill heap_start exchanged_tiles (length exchanged)
+exchanged_fill : Fill heap_start exchanged_tiles (length exchanged)
 unfolding exchanged
 exchanged_fill = (refl, lit≤ tt, (refl, lit≤ tt, refl))
 
-pub exchanged_headers : AreHeaders exchanged 0 exchanged_tiles
+exchanged_headers : AreHeaders exchanged 0 exchanged_tiles
 unfolding exchanged slice number number_of
 exchanged_headers = (record { units_is = refl; live_is = refl; before_is = refl; tag_is = λ e. cc }, (record { units_is = refl; live_is = refl; before_is = refl; tag_is = λ e. cc }, tt))
 
@@ -98,7 +98,7 @@ exchanged_laid_out = record {
   plain = tt;
 }
 
-pub exchanged_held : IsHeld exchanged exchanged_picture
+exchanged_held : IsHeld exchanged exchanged_picture
 exchanged_held = record {
   index_blocks = 704 ∷ [];
   laid_out = exchanged_laid_out;

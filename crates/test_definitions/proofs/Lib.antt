@@ -26,5 +26,5 @@ pub mod NoOwnerLaws
 pub mod ExchangedImage
 pub mod IncrementOutcomeLaws
 pub mod SilentRunLaws
-pub mod RoomForAllLaws
+pub mod EnoughRoomLaws
 pub mod SharedCells

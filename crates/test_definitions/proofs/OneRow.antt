@@ -53,7 +53,7 @@ module _ (constants : List Constant) (i : Instruction) {others : List Root} {s :
   roots_at (Origin.Owned r) = ap (λ (rs : List Root). option_map (λ (root : Root). (root, 0)) (root_of_register s.registers rs r)) owned
 
   -- register b refers to one place
-  pub led_one : (place other : Place) (form form' : Form) → LedTo constants i p place form → LedTo constants i q other form' → (place ≡ other) × (form ≡ form')
+  led_one : (place other : Place) (form form' : Form) → LedTo constants i p place form → LedTo constants i q other form' → (place ≡ other) × (form ≡ form')
   led_one place other form form' a b =
       let paths : a.path ≡ b.path = (let e : Some a.path ≡ Some b.path = sym a.path_is ∙ b.path_is in cc) in
       let begins : ◌≡◌ {A = Option (Root × ℕ)} (Some (a.stands.root, a.stands.item)) (Some (b.stands.root, b.stands.item))
@@ -73,7 +73,7 @@ module _ (constants : List Constant) (i : Instruction) {others : List Root} {s :
       let one = led_one a.0 b.0 a.1 b.1 a.2 b.2 in
       a.3 ∙ ap (λ (z : Place). cell_asks i.operation constants i s bytes z.at a.1) one.0 ∙ ap (λ (f : Form). cell_asks i.operation constants i s bytes b.0.at f) one.1 ∙ sym b.3
 
-  pub asks_by : (o : Operation) (xs ys : List Ask) → AsksBy constants i p o xs → AsksBy constants i q o ys → xs ≡ ys
+  asks_by : (o : Operation) (xs ys : List Ask) → AsksBy constants i p o xs → AsksBy constants i q o ys → xs ≡ ys
   asks_by Operation.PushBack xs ys a b = asks_at xs ys a b
   asks_by Operation.PushFront xs ys a b = asks_at xs ys a b
   asks_by Operation.SetStr xs ys a b = asks_at xs ys a b

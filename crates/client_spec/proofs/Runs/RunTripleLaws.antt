@@ -28,11 +28,6 @@ module _ (S : Type 0) where
   pub from_nowhere : (A B C : S → Type 0) (way : Way S) → ((x : S) → A x → ⊥) → Triple A way B C
   from_nowhere A B C way none = record { each = λ x y n end a w. absurd (none x a) }
 
-  -- an instruction that continues to nothing, whatever the answer is
-  pub no_parts : (A C : S → Type 0) (answer : Answer) → Triple A (picked answer (Nothing S) (Nothing S)) A C
-  no_parts A C success = nothing A C
-  no_parts A C answer = nothing A C
-
   -- if the answer is success, only the success part runs
   pub success_part : (A B C : S → Type 0) (good bad : Way S) → Triple A good B C → (answer : Answer) → Triple (λ x. (answer ≡ success) × A x) (picked answer good bad) B C
   success_part A B C good bad t success = weaker (λ x. (success ≡ success) × A x) A B C good (λ x a. a.1) t

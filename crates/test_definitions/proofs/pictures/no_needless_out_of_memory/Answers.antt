@@ -1,4 +1,4 @@
-use Rattle.test_definitions.proofs.RoomForAllLaws.{add_silent, make_silent}
+use Rattle.test_definitions.proofs.EnoughRoomLaws.{add_silent, make_silent}
 use Rattle.test_definitions.proofs.pictures.no_needless_out_of_memory.Goals as goal
 
 pub returns : goal.returns
