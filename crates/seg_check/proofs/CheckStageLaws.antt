@@ -3,6 +3,7 @@ use Rattle.std.proofs.Common.{◌≡◌, ℕ, [], map, List, Result, Ok, Err, sy
 use Rattle.std.specs.Prelude.{MatchResult}
 use Rattle.seg_spec.specs.Types.{Table}
 use Rattle.seg_spec.specs.Images.{IsSound}
+use Rattle.seg_check.specs.Owners.{HoldsOnce}
 use Rattle.seg_check.specs.declared.fault.ContentFault.{ContentFault}
 use Rattle.seg_check.specs.Claiming.{Refutes}
 use Rattle.seg_check.specs.Marks.{Known}
@@ -13,34 +14,36 @@ use Rattle.seg_check.specs.Roots.{uniques_ahead, ResolvesIndex, CanResolveIndex,
 use Rattle.seg_check.specs.Stations.{KnowsHeap, FindsOwners}
 use Rattle.seg_check.proofs.Heap.HeapLaws.{ready_known}
 use Rattle.seg_check.proofs.Queue.QueueStepLaws.{refuses_map, ready_found}
-use Rattle.seg_check.proofs.WholeImageLaws.{sound_read, roots_can, are_waiting, sound_can, sound_end, all_owned, some_unowned, counted_last}
+use Rattle.seg_check.proofs.WholeImageLaws.{sound_once, image_read, roots_can, are_waiting, image_can, image_end, all_owned, some_unowned, first_unowned, counted_last}
 
 module _ (bytes : List ℕ) (table : Table) where
-  -- if a fault refutes a fact about sound images, the image isn't sound
-  pub finds_wrong : {A : Type 0} (new : Known) (P : Type 0) → (IsSound bytes → P) → (result : Result A ContentFault) (e : ContentFault) → Refutes e P → (x : ContentFault) × (result ≡ Err x) × (x ≡ e)
+  -- a fault that refutes a fact about images in which no block has several owners
+  pub finds_wrong : {A : Type 0} (new : Known) (P : Type 0) → (HoldsOnce bytes → P) → (result : Result A ContentFault) (e : ContentFault) → Refutes e P → (x : ContentFault) × (result ≡ Err x) × (x ≡ e)
       → FindsOwners bytes table new result
   finds_wrong {A = A} new P lead result e refused r =
-      subst (λ (x : Result A ContentFault). FindsOwners bytes table new x) (sym r.1) (subst (λ f. Refutes f (IsSound bytes)) (sym r.2) (refuses_map e P (IsSound bytes) lead refused))
+      let once = refuses_map e P (HoldsOnce bytes) lead refused in
+      subst (λ (x : Result A ContentFault). FindsOwners bytes table new x) (sym r.1)
+      (subst (λ f. Refutes f (IsSound bytes) × Refutes f (HoldsOnce bytes)) (sym r.2) (refuses_map e (HoldsOnce bytes) (IsSound bytes) (sound_once bytes) once, once))
 
   module _ (first : Known) (heap : KnowsHeap bytes table first) where
     pub first_ready : IsReady bytes table first
     first_ready = ready_known bytes table heap.front heap.tiles heap.free first heap.knows heap.room
 
-    pub first_can : IsSound bytes → CanResolveIndex bytes table first
-    first_can s =
-        let r = sound_read bytes table first heap.front heap.tiles heap.free heap.knows s in
+    pub first_can : HoldsOnce bytes → CanResolveIndex bytes table first
+    first_can (left, but) =
+        let r = image_read bytes table first heap.front heap.tiles heap.free heap.knows left but in
         record {
-          left = [];
+          left = left;
           places = map (frozen_place bytes) r.blocks;
           found = r.found;
-          resolves = subst (λ k. ResolvesIndex bytes table k first.unclaimed [] (map (frozen_place bytes) r.blocks) r.found) (sym heap.knows.no_limit) r.index;
+          resolves = subst (λ k. ResolvesIndex bytes table k first.unclaimed left (map (frozen_place bytes) r.blocks) r.found) (sym heap.knows.no_limit) r.index;
         }
 
     module _ (second : Known) (index : AdvancesIndex bytes table first second) where
       pub second_ready : IsReady bytes table second
       second_ready = ready_found bytes table first second [] first_ready index.within index.finds
 
-      pub second_can : IsSound bytes → CanResolveRoots bytes table second uniques_ahead
+      pub second_can : HoldsOnce bytes → CanResolveRoots bytes table second uniques_ahead
       second_can s = roots_can bytes table first heap.front heap.tiles heap.free heap.knows second second index s
 
       module _ (third : Known) (uniques : AdvancesUniques bytes table second third) where
@@ -50,8 +53,8 @@ module _ (bytes : List ℕ) (table : Table) where
         pub third_waits : AreWaiting bytes table third.turns
         third_waits = are_waiting bytes table first heap.front heap.tiles heap.free heap.knows second third index uniques
 
-        pub third_can : IsSound bytes → CanResolveAll bytes table third
-        third_can s = sound_can bytes table first heap.front heap.tiles heap.free heap.knows second third index uniques s
+        pub third_can : HoldsOnce bytes → CanResolveAll bytes table third
+        third_can (left, but) = image_can bytes table first heap.front heap.tiles heap.free heap.knows second third index uniques left but
 
         -- the result of the check of counts
         pub finds_counts : {A : Type 0} (last : Known) → Owned bytes table third last → (result : Result A ContentFault)
@@ -60,6 +63,8 @@ module _ (bytes : List ℕ) (table : Table) where
           counted = counted_last bytes table first heap.front heap.tiles heap.free heap.knows second third index uniques last values;
           all_owned = all_owned bytes table first heap.front heap.tiles heap.free heap.knows second third index uniques last values right;
           some_unowned = some_unowned bytes table first heap.front heap.tiles heap.free heap.knows second third index uniques last values right;
+          first_unowned = first_unowned bytes table first heap.front heap.tiles heap.free heap.knows second third index uniques last values right;
         }
-        finds_counts last values (Err f) refused = refuses_map f (AreCountsRight bytes last) (IsSound bytes)
-            (λ s. (sound_end bytes table first heap.front heap.tiles heap.free heap.knows second third index uniques last values s).right) refused
+        finds_counts last values (Err f) refused =
+            let once = refuses_map f (AreCountsRight bytes last) (HoldsOnce bytes) (λ (left, but). (image_end bytes table first heap.front heap.tiles heap.free heap.knows second third index uniques last values left but).right) refused in
+            (refuses_map f (HoldsOnce bytes) (IsSound bytes) (sound_once bytes) once, once)

@@ -1,4 +1,4 @@
--- Lists that contain each block equally often have the same length.
+-- Lists that contain each block equally often have the same length, and lists within others.
 use Rattle.std.proofs.Common.{◌≡◌, ℕ, ◌+◌, ◌≤◌, ⊎_elim, List, [], ◌∷◌, ◌++◌, length, refl, sym, ap, ◌∙◌, arith, length-append}
 use Rattle.std.proofs.lemmas.Bool.{cases_eq}
 use Rattle.seg_spec.specs.Sound.{times, SameBlocks}
@@ -57,3 +57,31 @@ within_length (x ∷ xs) ys w =
     let there : length ys ≡ length s.before + length (x ∷ s.after) = ap length s.parts ∙ length-append s.before (x ∷ s.after) in
     let apart : length (s.before ++ s.after) ≡ length s.before + length s.after = length-append s.before s.after in
     omega arith
+
+-- ---- a list within another
+
+-- the rest of a list, without another list
+pub record Remainder (xs ys : List ℕ) : Type 0 where
+  pub rest : List ℕ
+  pub same : SameBlocks ys (xs ++ rest)
+
+pub remainder : (xs ys : List ℕ) → Within xs ys → Remainder xs ys
+remainder [] ys w = record { rest = ys; same = λ h. refl }
+remainder (x ∷ xs) ys w =
+    let s = splits x ys (omega (arith, w x, times-same x xs)) in
+    let there = λ (h : ℕ). ap (times h) s.parts ∙ times-append h s.before (x ∷ s.after) in
+    let others = remainder xs (s.before ++ s.after)
+    (λ h. omega (arith, w h, there h, times-append h (x ∷ []) xs, times-append h (x ∷ []) s.after, times-append h s.before s.after)) in
+    record {
+      rest = others.rest;
+      same = λ h. omega (
+        arith,
+        others.same h,
+        there h,
+        times-append h (x ∷ []) s.after,
+        times-append h s.before s.after,
+        times-append h (x ∷ xs) others.rest,
+        times-append h (x ∷ []) xs,
+        times-append h xs others.rest,
+      );
+    }

@@ -1,11 +1,9 @@
 -- The facts about frozen objects that are kept while other blocks are claimed.
-use Rattle.std.proofs.Common.{◌≡◌, ℕ, ◌+◌, ◌%◌, ⊎_elim, Bool, true, false, cond, eqb, Option, None, List, [], ◌∷◌, ◌++◌, length, get_or, refl, sym, ap, ◌∙◌, subst, arith}
+use Rattle.std.proofs.Common.{◌≡◌, ℕ, ◌+◌, ◌%◌, ⊎_elim, Option, None, List, [], ◌∷◌, ◌++◌, length, get_or, refl, sym, ap, ◌∙◌, subst, arith}
 use Rattle.std.specs.List.{AllByRecursion}
 use Rattle.std.proofs.lemmas.Bool.{cases_eq}
-use Rattle.std.proofs.lemmas.Bool.Decides.{nat_tests}
 use Rattle.std.proofs.lemmas.List.{map-append}
 use Rattle.seg_spec.specs.Bytes.{word}
-use Rattle.seg_spec.specs.Heap.{tag_at}
 use Rattle.seg_spec.specs.Block.{Kind, kind_number, block_of, IsBlock}
 use Rattle.seg_spec.specs.Sound.{times, SameBlocks}
 use Rattle.seg_spec.proofs.Heap.LiveBlockLaws.{times-append, times-other}
@@ -37,35 +35,6 @@ module _ (bytes : List ℕ) where
       (λ other. times-other h (block_of t.start) (blocks_of (awaiting below ts)) other ∙ none_waits h below ts f a.1)
       (cases_eq (block_of t.start) h)
 
-  -- the frozen objects in a list of blocks
-  pub frozen_of : List ℕ → List ℕ
-  frozen_of [] = []
-  frozen_of (h ∷ hs) = cond (eqb (tag_at bytes h % 256) 7) (h ∷ frozen_of hs) (frozen_of hs)
-
-  is_seven : (a b : ℕ) → eqb a b ≡ true → a ≡ b
-  is_seven a b e = grind (arith, nat_tests)
-
-  not_seven : (a b : ℕ) → eqb a b ≡ false → a ≡ b → ⊥
-  not_seven a b e f = grind (arith, nat_tests)
-
-  pub are_frozen : (hs : List ℕ) → AllByRecursion (IsFrozen bytes) (frozen_of hs)
-  unfolding frozen_of
-  are_frozen [] = tt
-  are_frozen (h ∷ hs) = go (eqb (tag_at bytes h % 256) 7) refl (are_frozen hs)
-    where
-      go : (b : Bool) → eqb (tag_at bytes h % 256) 7 ≡ b → AllByRecursion (IsFrozen bytes) (frozen_of hs) → AllByRecursion (IsFrozen bytes) (cond b (h ∷ frozen_of hs) (frozen_of hs))
-      go true e rest = (is_seven (tag_at bytes h % 256) 7 e, rest)
-      go false e rest = rest
-
-  pub times_frozen : (h : ℕ) (hs : List ℕ) → IsFrozen bytes h → times h (frozen_of hs) ≡ times h hs
-  unfolding frozen_of
-  times_frozen h [] f = refl
-  times_frozen h (x ∷ xs) f = go (eqb (tag_at bytes x % 256) 7) refl (times_frozen h xs f)
-    where
-      go : (b : Bool) → eqb (tag_at bytes x % 256) 7 ≡ b → times h (frozen_of xs) ≡ times h xs → times h (cond b (x ∷ frozen_of xs) (frozen_of xs)) ≡ times h (x ∷ xs)
-      go true e rest = omega (arith, times-append h (x ∷ []) xs, times-append h (x ∷ []) (frozen_of xs), rest)
-      go false e rest = rest ∙ sym (times-other h x xs (λ same. not_seven (tag_at bytes x % 256) 7 e (subst (IsFrozen bytes) (sym same) f)))
-
   -- another block isn't in a list of frozen objects
   pub none_other : (h : ℕ) (hs : List ℕ) → (IsFrozen bytes h → ⊥) → AllByRecursion (IsFrozen bytes) hs → times h hs ≡ 0
   none_other h [] o a = refl
@@ -73,13 +42,6 @@ module _ (bytes : List ℕ) where
       (λ same. absurd (o (subst (IsFrozen bytes) same a.0)))
       (λ other. times-other h x xs other ∙ none_other h xs o a.1)
       (cases_eq x h)
-
-  -- two lists of frozen objects are permutations if they contain each frozen object equally often
-  pub all_same : (xs ys : List ℕ) → AllByRecursion (IsFrozen bytes) xs → AllByRecursion (IsFrozen bytes) ys → ((h : ℕ) → IsFrozen bytes h → times h xs ≡ times h ys) → SameBlocks xs ys
-  all_same xs ys a b same h = ⊎_elim
-      (λ frozen. same h frozen)
-      (λ other. none_other h xs other a ∙ sym (none_other h ys other b))
-      (cases_eq (tag_at bytes h % 256) 7)
 
   -- ---- counts
 

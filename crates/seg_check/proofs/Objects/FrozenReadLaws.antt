@@ -14,13 +14,16 @@ use Rattle.seg_spec.proofs.Values.PlaceFrameLaws.{each_weaker}
 use Rattle.seg_spec.proofs.Heap.LiveBlockLaws.{times-append, times-same, times-other}
 use Rattle.std.proofs.lemmas.Bool.{cases_eq}
 use Rattle.seg_spec.proofs.Images.LooseRootLaws.{each_joined}
-use Rattle.seg_spec.proofs.Values.OneValueLaws.{Holds-one}
 use Rattle.seg_spec.proofs.Frozen.ReleaseLaws.{frozen_there}
 use Rattle.seg_check.specs.Naming.{IsFrozen, CanBeTarget, frozen_number_at}
 use Rattle.seg_check.specs.Turns.{Limited, frozen_place}
 use Rattle.seg_check.specs.Resolving.{ReadsEach, reads_none, reads_more}
 use Rattle.seg_check.proofs.Queue.ReadPlaceLaws.{names_cons, names_nil, positions_of, positions_append}
 use Rattle.seg_check.proofs.Contents.SharedCellLaws.{frozen_tag, frozen_type}
+
+pub each_name : (P : Place → Type 0) (fs : List Frozen) → AllByRecursion (λ f. AllByRecursion P (names_in f.value)) fs → AllByRecursion P (names_of fs)
+each_name P [] a = tt
+each_name P (f ∷ fs) a = each_joined P (names_in f.value) (names_of fs) a.0 (each_name P fs a.1)
 
 module _ (bytes : List ℕ) (table : Table) where
   -- the blocks of the objects
@@ -98,6 +101,12 @@ module _ (bytes : List ℕ) (table : Table) where
   }
   below_named n (f ∷ fs) q all alive (inr more) = below_named n fs q all.1 (λ h some. alive h (omega (arith, some, times-append h (block_of f.at ∷ []) (blocks_in fs)))) more
 
+  -- a cell that may point to one of the objects points to it
+  pub among : (n : ℕ) (fs : List Frozen) (q : Place) → IsBelow n fs q → 1 ≤ times (block_of q.at) (blocks_in fs)
+  among n [] q b = absurd b
+  among n (f ∷ fs) q (inl (at, type_is, low)) = subst (λ p. 1 ≤ times (block_of p) (block_of f.at ∷ blocks_in fs)) at (omega (arith, times-same (block_of f.at) (blocks_in fs)))
+  among n (f ∷ fs) q (inr more) = omega (arith, among n fs q more, times-append (block_of q.at) (block_of f.at ∷ []) (blocks_in fs))
+
   pub any_limit : (n : ℕ) (q : Place) → CanBeTarget bytes table (Some n) q → CanBeTarget bytes table None q
   any_limit n q i = record { is_block = i.is_block; there = i.there; under = tt }
 
@@ -112,11 +121,6 @@ module _ (bytes : List ℕ) (table : Table) where
       own : (qs : List Place) → AllByRecursion (CanBeTarget bytes table (Some (frozen_number_at bytes (h + 16)))) qs → times p (positions_of qs) ≡ 0
       own [] a = refl
       own (q ∷ qs) a = times-other p q.at (positions_of qs) (λ same. let under = a.0.under in let low = all.0 in let e = ap (frozen_number_at bytes) same in absurd (omega arith)) ∙ own qs a.1
-
-  -- a place contains at most one value
-  pub reads_one : {ps : List Limited} {vs ws : Values} {bs cs : List ℕ} → ReadsEach bytes table ps vs bs → ReadsEach bytes table ps ws cs → vs ≡ ws
-  reads_one reads_none reads_none = refl
-  reads_one (reads_more h n r) (reads_more k m s) = let e = (Holds-one bytes table h k).0 in let f = reads_one r s in λ i. cons (e i) (f i)
 
   -- one of the references has this position and property
   pub record Found (P : Place → Type 0) (p : ℕ) : Type 0 where

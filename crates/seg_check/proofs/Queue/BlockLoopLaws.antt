@@ -1,16 +1,16 @@
 -- The entries of the queue, checked one after the other.
-use Rattle.std.proofs.Common.{◌≡◌, ℕ, ◌+◌, ◌/◌, ◌%◌, ◌≤◌, ⊎_elim, true, cond, eqb, Some, List, [], ◌∷◌, ◌++◌, length, map, refl, sym, ap, ◌∙◌, subst, arith}
+use Rattle.std.proofs.Common.{◌≡◌, ℕ, zero, suc, ◌+◌, ◌/◌, ◌%◌, ◌≤◌, ⊎_elim, true, cond, eqb, Some, List, [], ◌∷◌, ◌++◌, length, map, refl, sym, ap, ◌∙◌, subst, arith}
 use Rattle.std.specs.List.{AllByRecursion}
 use Rattle.std.proofs.lemmas.Bool.{cases_eq}
 use Rattle.std.proofs.lemmas.Bool.Decides.{nat_tests}
-use Rattle.std.proofs.lemmas.List.{append_assoc, append-nil}
+use Rattle.std.proofs.lemmas.List.{append_assoc, append-nil, map-append}
 use Rattle.seg_spec.specs.Types.{Table}
 use Rattle.seg_spec.specs.Heap.{tag_at}
 use Rattle.seg_spec.specs.Block.{Kind, tag_of, block_of}
 use Rattle.seg_spec.specs.Frozen.{frozen_words}
 use Rattle.seg_spec.specs.Sound.{times, SameBlocks}
-use Rattle.seg_spec.proofs.Heap.LiveBlockLaws.{times-append, times-other}
-use Rattle.seg_spec.proofs.Images.LooseRootLaws.{each_joined}
+use Rattle.seg_spec.specs.Shared.{names_each}
+use Rattle.seg_spec.proofs.Heap.LiveBlockLaws.{times-append, times-other, times-same}
 use Rattle.seg_check.specs.declared.marks.Turn.{Turn}
 use Rattle.seg_check.specs.declared.marks.Waiting.{Waiting}
 use Rattle.seg_check.specs.Marks.{Known, KeepsNaming, AreBlocksCounted, Within}
@@ -18,7 +18,9 @@ use Rattle.seg_check.specs.Naming.{IsFrozen, frozen_number_at, blocks_of, unseen
 use Rattle.seg_check.specs.Turns.{Limited, limited, places_in, owned_places, awaited, frozen_place, IsWaiting, AreWaiting}
 use Rattle.seg_check.specs.Resolving.{ResolvesBy, Resolves, CanResolve, Advances, IsReady}
 use Rattle.seg_check.specs.Cells.{Owned, CanResolveAll}
-use Rattle.seg_check.proofs.Blocks.FrozenClaimLaws.{frozen_of, are_frozen, times_frozen, all_same, counts_same, counts_kept}
+use Rattle.seg_check.proofs.SameLengthLaws.{remainder}
+use Rattle.seg_check.proofs.Blocks.FrozenClaimLaws.{counts_same, counts_kept}
+use Rattle.seg_check.proofs.Queue.ReadPlaceLaws.{positions_of, reads_one}
 use Rattle.seg_check.proofs.Queue.QueueStepLaws.{resolves_swap, swapped, awaited-append, waiting_both, owned_is, ready_now}
 use Rattle.seg_check.proofs.Queue.QueueOrderLaws.{in_any_order}
 use Rattle.seg_check.proofs.Heap.TagLaws.{places_tagged}
@@ -48,6 +50,7 @@ module _ (bytes : List ℕ) (table : Table) where
     pub are_frozen : AllByRecursion (IsFrozen bytes) seen
     pub unseen : (h : ℕ) → IsFrozen bytes h → unseen_at first h ≡ times h seen + unseen_at now h
     pub standing_kept : (h : ℕ) → IsFrozen bytes h → standing_at now h ≡ standing_at first h
+    pub seen_within : (all : CanResolveAll bytes table first) → Within seen all.frozen
     pub found : List ℕ
     pub counts : (before : List ℕ) → Counts bytes first before → Counts bytes now (found ++ before)
     pub forth : (l : List ℕ) (others : List Limited) → Resolves bytes table first.unclaimed l (awaited bytes table first.turns ++ (map (frozen_place bytes) seen ++ others))
@@ -65,6 +68,7 @@ module _ (bytes : List ℕ) (table : Table) where
     are_frozen = tt;
     unseen = (λ h f. omega arith);
     standing_kept = (λ h f. refl);
+    seen_within = (λ all h. omega arith);
     found = [];
     counts = (λ before c. c);
     forth = (λ l others r. r);
@@ -140,6 +144,52 @@ module _ (bytes : List ℕ) (table : Table) where
         let below : mid.naming.below ≡ Some (frozen_number_at bytes (block + 16)) = is.number_is ∙ ap (λ p. Some (frozen_number_at bytes p)) start_is in
         ap (limited mid.naming.below) (one ∙ ap (λ p. record { at = p; type = tag / 256 } ∷ []) at_is) ∙ ap (λ b. record { place = record { at = block + 16 + frozen_words; type = tag / 256 }; below = b } ∷ []) below
 
+    -- ---- what could be resolved before
+
+    -- what remains of the claim: the frozen objects that weren't checked yet
+    record Remains (all : CanResolveAll bytes table first) : Type 0 where
+      pub rest : List ℕ
+      pub same : SameBlocks all.frozen (so_far.seen ++ rest)
+      pub ahead : Resolves bytes table was.unclaimed all.left (awaited bytes table was.turns ++ map (frozen_place bytes) rest)
+      pub named : SameBlocks all.names (so_far.found ++ ahead.names)
+
+    remains : (all : CanResolveAll bytes table first) → Remains all
+    remains all =
+        let start = awaited bytes table first.turns in
+        let f = frozen_place bytes in
+        let apart = remainder so_far.seen all.frozen (so_far.seen_within all) in
+        let front = resolves_swap bytes table first.unclaimed all.left start (map f all.frozen) [] all.names
+        (subst (λ xs. ResolvesBy bytes table first.unclaimed all.left (start ++ xs) all.names) (sym (append-nil (map f all.frozen))) all.resolves) in
+        let ordered = in_any_order bytes table f first.unclaimed all.left all.frozen (so_far.seen ++ apart.rest) (start ++ []) all.names apart.same front in
+        let back = resolves_swap bytes table first.unclaimed all.left (map f (so_far.seen ++ apart.rest)) start [] all.names ordered in
+        let parts : map f (so_far.seen ++ apart.rest) ++ [] ≡ map f so_far.seen ++ map f apart.rest = append-nil (map f (so_far.seen ++ apart.rest)) ∙ map-append f so_far.seen apart.rest in
+        let v = subst (λ xs. ResolvesBy bytes table first.unclaimed all.left (start ++ xs) all.names) parts back in
+        let ahead = so_far.forth all.left (map f apart.rest) (record { names = all.names; by = v }) in
+        let again = so_far.back all.left (map f apart.rest) ahead.names ahead.by in
+        let one : v.values ≡ again.values = reads_one bytes table v.reads again.reads in
+        record {
+          rest = apart.rest;
+          same = apart.same;
+          ahead = ahead;
+          named = λ h. v.names_are h ∙ ap (λ vs. times h (positions_of (names_each vs))) one ∙ sym (again.names_are h);
+        }
+
+    block_waits : 1 ≤ times block (blocks_of was.turns)
+    block_waits = omega (arith, ap (λ ts. times block (blocks_of ts)) t.turns_are, times-same block (blocks_of mid.turns))
+
+    -- a cell points to the frozen object of the entry, so it isn't left
+    block_wanted : IsFrozen bytes block → (all : CanResolveAll bytes table first) → times block all.left ≡ 0
+    block_wanted f all = none_then (times block all.left) (λ some.
+        let r = remains all in
+        let standing = so_far.standing_kept block f in
+        let named : 1 ≤ times block was.naming.named = omega (arith, standing, so_far.unseen block f, all.none_wait block f, block_waits) in
+        let met = ((so_far.counts [] all.none_counted).each block f).named.0 named in
+        absurd (omega (arith, all.unnamed block f some, r.named (block + 16), times-append (block + 16) so_far.found [], times-append (block + 16) so_far.found r.ahead.names, met)))
+      where
+        none_then : (n : ℕ) → (1 ≤ n → ⊥) → n ≡ 0
+        none_then zero none = refl
+        none_then (suc n) none = absurd (none (omega arith))
+
     module _ (new : Known) (a : Advances bytes table mid new (places_in bytes table turn)) where
       abbrev others_wait : List Limited
       others_wait = awaited bytes table mid.turns
@@ -194,6 +244,7 @@ module _ (bytes : List ℕ) (table : Table) where
                 let no : times h (block ∷ []) ≡ 0 = times-other h block [] (λ e. other (subst (IsFrozen bytes) (sym e) f)) in
                 omega (arith, so_far.unseen h f, unseen_was h f, no));
             standing_kept = standing_then;
+            seen_within = so_far.seen_within;
             found = so_far.found ++ a.found;
             counts = counts_then;
             forth = (λ l others r.
@@ -221,6 +272,11 @@ module _ (bytes : List ℕ) (table : Table) where
             are_frozen = (f, so_far.are_frozen);
             unseen = (λ h z. omega (arith, so_far.unseen h z, unseen_was h z, times-append h (block ∷ []) so_far.seen));
             standing_kept = standing_then;
+            seen_within = (λ all h. ⊎_elim
+                (λ same. subst (λ b. times b (block ∷ so_far.seen) ≤ times b all.frozen) same
+                (omega (arith, all.unseen block f, so_far.unseen block f, block_wanted f all, block_waits, times-same block so_far.seen)))
+                (λ other. omega (arith, so_far.seen_within all h, times-other h block so_far.seen other))
+                (cases_eq block h));
             found = so_far.found ++ a.found;
             counts = counts_then;
             forth = (λ l others r.
@@ -244,77 +300,43 @@ module _ (bytes : List ℕ) (table : Table) where
 
     -- ---- what can be resolved
 
-    -- the frozen objects that weren't checked yet
-    abbrev rest : List ℕ
-    rest = frozen_of bytes (was.unclaimed ++ blocks_of was.turns)
-
-    seen_and_rest : (all : CanResolveAll bytes table first) → SameBlocks all.frozen (so_far.seen ++ rest)
-    seen_and_rest all = all_same bytes all.frozen (so_far.seen ++ rest) all.are_frozen
-        (each_joined (IsFrozen bytes) so_far.seen rest so_far.are_frozen (are_frozen bytes (was.unclaimed ++ blocks_of was.turns)))
-        (λ h f. omega (arith, all.unseen h f, so_far.unseen h f, times-append h so_far.seen rest, times_frozen bytes h (was.unclaimed ++ blocks_of was.turns) f, times-append h was.unclaimed (blocks_of was.turns)))
-
-    can_was : CanResolveAll bytes table first → (l : List ℕ) × Resolves bytes table was.unclaimed l (awaited bytes table was.turns ++ map (frozen_place bytes) rest)
-    can_was all =
-        let start = awaited bytes table first.turns in
-        let f = frozen_place bytes in
-        let r = all.resolves in
-        let front = resolves_swap bytes table first.unclaimed all.left start (map f all.frozen) [] r.names
-        (subst (λ xs. ResolvesBy bytes table first.unclaimed all.left (start ++ xs) r.names) (sym (append-nil (map f all.frozen))) r.by) in
-        let ordered = in_any_order bytes table f first.unclaimed all.left all.frozen (so_far.seen ++ rest) (start ++ []) r.names (seen_and_rest all) front in
-        let back = resolves_swap bytes table first.unclaimed all.left (map f (so_far.seen ++ rest)) start [] r.names ordered in
-        let apart : map f (so_far.seen ++ rest) ++ [] ≡ map f so_far.seen ++ map f rest = append-nil (map f (so_far.seen ++ rest)) ∙ Rattle.std.proofs.lemmas.List.map-append f so_far.seen rest in
-        (all.left, so_far.forth all.left (map f rest) (record { names = r.names; by = subst (λ xs. ResolvesBy bytes table first.unclaimed all.left (start ++ xs) r.names) apart back }))
-
-    abbrev later : List ℕ
-    later = frozen_of bytes (was.unclaimed ++ blocks_of mid.turns)
-
     pub can_next : CanResolveAll bytes table first → CanResolve bytes table mid (places_in bytes table turn)
     can_next all = ⊎_elim frozen owned (cases_eq (tag_at bytes block % 256) 7)
       where
-        f : ℕ → Limited
-        f = frozen_place bytes
-
         owned : (IsFrozen bytes block → ⊥) → CanResolve bytes table mid (places_in bytes table turn)
         owned other =
-            let r = can_was all in
+            let r = remains all in
             record {
-              left = r.0;
-              others = awaited bytes table mid.turns ++ map (frozen_place bytes) rest;
+              left = all.left;
+              others = awaited bytes table mid.turns ++ map (frozen_place bytes) r.rest;
               resolves = record {
-                names = r.1.names;
-                by = subst (λ ps. ResolvesBy bytes table mid.unclaimed r.0 (ps ++ (awaited bytes table mid.turns ++ map (frozen_place bytes) rest)) r.1.names) (owned_is bytes table next other)
-                    (was_is r.0 (map (frozen_place bytes) rest) r.1.names r.1.by);
+                names = r.ahead.names;
+                by = subst (λ ps. ResolvesBy bytes table mid.unclaimed all.left (ps ++ (awaited bytes table mid.turns ++ map (frozen_place bytes) r.rest)) r.ahead.names) (owned_is bytes table next other)
+                    (was_is all.left (map (frozen_place bytes) r.rest) r.ahead.names r.ahead.by);
               };
             }
 
         frozen : IsFrozen bytes block → CanResolve bytes table mid (places_in bytes table turn)
         frozen is =
-            let r = can_was all in
-            let fp = frozen_place bytes block ∷ [] in
+            let r = remains all in
+            let names = r.ahead.names in
             let wait = awaited bytes table mid.turns in
             let g = frozen_place bytes in
-            let same : SameBlocks rest (block ∷ later) = all_same bytes rest (block ∷ later) (are_frozen bytes (was.unclaimed ++ blocks_of was.turns)) (is, are_frozen bytes (was.unclaimed ++ blocks_of mid.turns))
-            (λ h z.
-            let waited : times h (blocks_of was.turns) ≡ times h (block ∷ []) + times h (blocks_of mid.turns) = ap (λ ts. times h (blocks_of ts)) t.turns_are ∙ times-append h (block ∷ []) (blocks_of mid.turns) in
-            omega (
-              arith,
-              waited,
-              times_frozen bytes h (was.unclaimed ++ blocks_of was.turns) z,
-              times_frozen bytes h (was.unclaimed ++ blocks_of mid.turns) z,
-              times-append h was.unclaimed (blocks_of was.turns),
-              times-append h was.unclaimed (blocks_of mid.turns),
-              times-append h (block ∷ []) later,
-            )) in
-            let here : ResolvesBy bytes table mid.unclaimed r.0 (wait ++ map g rest) r.1.names =
-            subst (λ ps. ResolvesBy bytes table mid.unclaimed r.0 (ps ++ (wait ++ map g rest)) r.1.names) (frozen_is next is) (was_is r.0 (map g rest) r.1.names r.1.by) in
-            let front = resolves_swap bytes table mid.unclaimed r.0 wait (map g rest) [] r.1.names (subst (λ xs. ResolvesBy bytes table mid.unclaimed r.0 (wait ++ xs) r.1.names) (sym (append-nil (map g rest))) here) in
-            let ordered = in_any_order bytes table g mid.unclaimed r.0 rest (block ∷ later) (wait ++ []) r.1.names same front in
+            let some : 1 ≤ times block r.rest = omega (arith, r.same block, times-append block so_far.seen r.rest, all.unseen block is, so_far.unseen block is, block_wanted is all, block_waits) in
+            let later = remainder (block ∷ []) r.rest (λ h. ⊎_elim
+            (λ same. subst (λ b. times b (block ∷ []) ≤ times b r.rest) same (omega (arith, some, times-same block [])))
+            (λ other. omega (arith, times-other h block [] other))
+            (cases_eq block h)) in
+            let here : ResolvesBy bytes table mid.unclaimed all.left (wait ++ map g r.rest) names =
+            subst (λ ps. ResolvesBy bytes table mid.unclaimed all.left (ps ++ (wait ++ map g r.rest)) names) (frozen_is next is) (was_is all.left (map g r.rest) names r.ahead.by) in
+            let front = resolves_swap bytes table mid.unclaimed all.left wait (map g r.rest) [] names (subst (λ xs. ResolvesBy bytes table mid.unclaimed all.left (wait ++ xs) names) (sym (append-nil (map g r.rest))) here) in
+            let ordered = in_any_order bytes table g mid.unclaimed all.left r.rest (block ∷ later.rest) (wait ++ []) names later.same front in
             record {
-              left = r.0;
-              others = map g later ++ (wait ++ []);
+              left = all.left;
+              others = map g later.rest ++ (wait ++ []);
               resolves = record {
-                names = r.1.names;
-                by = subst (λ ps. ResolvesBy bytes table mid.unclaimed r.0 (ps ++ (map g later ++ (wait ++ []))) r.1.names) (sym (frozen_value is)) ordered;
+                names = names;
+                by = subst (λ ps. ResolvesBy bytes table mid.unclaimed all.left (ps ++ (map g later.rest ++ (wait ++ []))) names) (sym (frozen_value is)) ordered;
               };
             }
 
@@ -330,6 +352,7 @@ module _ (bytes : List ℕ) (table : Table) where
         let empty : times h (blocks_of was.turns) ≡ 0 = ap (λ ts. times h (blocks_of ts)) none in
         omega (arith, s.unseen h f, ap (times h) same, empty));
     standing_kept = (λ h f. (λ i. times h (same i) + times h (names.named_kept i)) ∙ s.standing_kept h f);
+    seen_within = s.seen_within;
     found = s.found;
     counts = (λ before c. counts_kept bytes was last (s.found ++ before) names (s.counts before c));
     forth = (λ l others r. subst (λ u. Resolves bytes table u l others) (sym same) (subst (λ ts. Resolves bytes table was.unclaimed l (awaited bytes table ts ++ others)) none (s.forth l others r)));

@@ -7,6 +7,7 @@ use Rattle.seg_spec.specs.Value.{Label, Value, node, Values, nil, cons, append}
 use Rattle.seg_spec.specs.Reads.{Place, HoldsEach, holds_none, holds_more}
 use Rattle.seg_spec.specs.Shared.{names_in, names_each}
 use Rattle.seg_spec.proofs.Values.PlaceFrameLaws.{each_left, each_right}
+use Rattle.seg_spec.proofs.Values.OneValueLaws.{Holds-one}
 use Rattle.seg_spec.proofs.Images.LooseRootLaws.{each_joined}
 use Rattle.seg_check.specs.Naming.{CanBeTarget}
 use Rattle.seg_check.specs.Turns.{Limited, limited}
@@ -61,6 +62,11 @@ limited_append below [] qs = refl
 limited_append below (p ∷ ps) qs = ap (λ xs. record { place = p; below = below } ∷ xs) (limited_append below ps qs)
 
 module _ (bytes : List ℕ) (table : Table) where
+  -- a place contains at most one value
+  pub reads_one : {ps : List Limited} {vs ws : Values} {bs cs : List ℕ} → ReadsEach bytes table ps vs bs → ReadsEach bytes table ps ws cs → vs ≡ ws
+  reads_one reads_none reads_none = refl
+  reads_one (reads_more h n r) (reads_more k m s) = let e = (Holds-one bytes table h k).0 in let f = reads_one r s in λ i. cons (e i) (f i)
+
   pub reads_joined : {ps qs : List Limited} {vs ws : Values} {bs cs : List ℕ} → ReadsEach bytes table ps vs bs → ReadsEach bytes table qs ws cs → ReadsEach bytes table (ps ++ qs) (append vs ws) (bs ++ cs)
   reads_joined reads_none k = k
   reads_joined {cs = cs} (reads_more {blocks = mine} {owned = others} h n hs) k = rw (append_assoc mine others cs) (reads_more h n (reads_joined hs k))
