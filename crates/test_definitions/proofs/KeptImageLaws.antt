@@ -1,5 +1,5 @@
 -- Instructions that leave the image, or its allocated blocks, as they are.
-use Rattle.std.proofs.Common.{◌≡◌, ◌≢◌, ◌⊎◌, inl, inr, ℕ, ◌+◌, ◌≤◌, List, true, refl, ap, sym, ◌∙◌, subst, arith}
+use Rattle.std.proofs.Common.{◌≡◌, ◌≢◌, ◌⊎◌, inl, inr, ℕ, ◌+◌, ◌≤◌, List, true, refl, ap, sym, subst, arith}
 use Rattle.seg_spec.specs.Index.{Root}
 use Rattle.seg_spec.specs.Heap.{live}
 use Rattle.seg_spec.specs.Block.{KeepsBlock, payload_size}
@@ -9,7 +9,7 @@ use Rattle.seg_spec.specs.Apart.{KeepsBlockAround}
 use Rattle.client_spec.specs.declared.table.Operation.{Operation}
 use Rattle.client_spec.specs.Syntax.{Constant, Instruction}
 use Rattle.client_spec.specs.Answer.{Answer, success, bad_alloc}
-use Rattle.client_spec.specs.Ties.{Spot, keeps_image, nowhere, TouchesBy, Changes}
+use Rattle.client_spec.specs.Ties.{Spot, keeps_image, TouchesBy, Changes}
 use Rattle.client_spec.specs.OnImages.{Move, Situation, RowOn}
 
 keeps : (operation : Operation) (answer : Answer) → answer ≢ success → answer ≢ bad_alloc → keeps_image operation answer ≡ true
