@@ -4,5 +4,7 @@ pub mod LodgeLaws
 pub mod SliceMemory
 -- runs of clients, one after the other
 pub use Rattle.client_vm.proofs.TogetherLaws
+-- an image that is the whole region of its window
+pub use Rattle.seg_image.proofs.WholeRegionLaws
 -- an image keeps its size
 pub use Rattle.client_sim.proofs.ImageSizeLaws

@@ -1,8 +1,8 @@
 -- An image that was created or opened.
-use Rattle.std.proofs.Common.{◌≡◌, ℕ, List, [], refl, sym, ◌∙◌, subst, arith}
+use Rattle.std.proofs.Common.{◌≡◌, ℕ, List, [], length, refl, sym, ◌∙◌, subst, arith}
 use Rattle.seg_spec.specs.Bytes.{word}
 use Rattle.seg_spec.specs.Header.{allocator_word, version_word, next_word, sharing_version}
-use Rattle.seg_spec.specs.Sound.{Picture, IsHeld}
+use Rattle.seg_spec.specs.Sound.{IsHeld}
 use Rattle.seg_spec.specs.Counting.{AreCounted}
 use Rattle.seg_spec.specs.Images.{IsSound, upgraded}
 use Rattle.seg_spec.proofs.Images.UpgradeLaws.{same_word, upgraded_version, upgraded_held, upgraded_counted}
@@ -12,11 +12,12 @@ use Rattle.seg_raw.specs.declared.fault.Fault.{Fault}
 use Rattle.seg_raw.specs.declared.fault.Fault.TheVariants as fault
 use Rattle.seg_image.specs.Faults.{IsImageOf, IsFaultOf}
 use Rattle.seg_image.specs.declared.image.Image.{Image}
-use Rattle.seg_image.specs.Images.{segment_of, allocator_of, bytes_in, types_of, IsOpen}
+use Rattle.seg_image.specs.Images.{segment_of, allocator_of, bytes_in, types_of}
+use Rattle.client_spec.specs.Outcome.{CanMove}
 use Rattle.client_vm.specs.Runs.{IsReadyToRun}
 
 -- a sound image with these types is sound
-pub image_sound : (bytes : List ℕ) (table : _) → IsImageOf bytes table → IsSound bytes
+abbrev pub image_sound : (bytes : List ℕ) (table : _) → IsImageOf bytes table → IsSound bytes
 image_sound bytes table is = record { picture = is.picture; held = is.held; counted = is.counted; none_loose = is.none_loose }
 
 -- a sound image has no fault, so opening it fails only if host memory is refused
@@ -41,9 +42,19 @@ no_fault bytes (fault.Rejected instruction reason) s l = absurd l
 no_fault bytes fault.TooLong s l = absurd l
 no_fault bytes (fault.BadMove i) s l = absurd l
 
--- the bytes of an open image without loose objects are sound
-pub open_sound : {A : Type 0} (image : Image A) (picture : Picture) → IsOpen image picture → picture.loose ≡ [] → IsSound (bytes_in image)
-open_sound image picture is none = record { picture = picture; held = is.held; counted = is.counted; none_loose = none }
+-- a sound image may be the whole region
+pub can_move : (image : List ℕ) → IsSound image → CanMove image (length image) 0 []
+can_move image sound =
+    let header = sound.held.laid_out.header in
+    let large = header.not_large in
+    record {
+      lies = record {
+        size = record { not_small = header.not_small; not_large = header.not_large; whole_units = header.whole_units };
+        room_fits = omega (arith, large);
+        placed = (refl, omega arith, header.not_large);
+      };
+      fit = tt;
+    }
 
 -- clients may run on an image as `open` returns it
 module _ {A : Type 0} (image : Image A) (bytes : List ℕ) (opened : bytes_in image ≡ upgraded bytes) (is : IsImageOf bytes (types_of image)) (named : word bytes allocator_word ≡ allocator_of image) where

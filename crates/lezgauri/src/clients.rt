@@ -55,6 +55,7 @@ pub fn run<A: Allocator, B: Allocator, W: Sink>(
         (segment_of image.new).window (segment_of image.new).types (W.taken out.new)
         report)) }
     ensures allocator { allocator_of image.new ≡ allocator_of image.old }
+    ensures home { (segment_of image.new).window.home ≡ (segment_of image.old).window.home }
     ensures differs { IfErr result (λ fault. OfTree (client_in client.now)
         (λ tree. (k : ℕ) × (fault ≡ Fault.TypeMismatch k)
         × IsFirstDifference (segment_of image.old).types tree.types k)) }

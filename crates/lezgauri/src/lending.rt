@@ -1,4 +1,4 @@
-ghost use Rattle.std.specs.Prelude.{◌≡◌, ℕ, ◌-◌, ◌≤◌, ◌++◌, length, take, replicate, Vec, vec_len, vec_capacity};
+ghost use Rattle.std.specs.Prelude.{◌≡◌, ℕ, ◌-◌, ◌≤◌, ◌++◌, length, take, replicate, Vec, vec_len};
 ghost use Rattle.std_alloc.specs.declared.vec.lodged.Lodged.{Lodged as Tenant};
 ghost use Rattle.seg_raw.specs.Homes.{home_of};
 ghost use Rattle.lezgauri.specs.Loans.{IsLoan, IsWhole, IsReturned, IsFilled};

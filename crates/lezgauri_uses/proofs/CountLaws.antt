@@ -1,9 +1,9 @@
 -- A client that runs several times on an open image: what its runs so far have left.
-use Rattle.std.proofs.Common.{◌≡◌, ℕ, zero, suc, ◌+◌, ◌-◌, ◌<◌, ◌≤◌, ◌↔◌, ◌⊎◌, inl, inr, Bool, true, false, List, [], ◌∷◌, replicate, Option, refl, sym, ap, ◌∙◌, subst, arith}
+use Rattle.std.proofs.Common.{◌≡◌, ℕ, zero, suc, ◌+◌, ◌-◌, ◌<◌, ◌≤◌, ◌↔◌, ◌⊎◌, inl, inr, Bool, true, false, List, [], ◌∷◌, length, replicate, Option, refl, sym, ap, ◌∙◌, subst, arith}
 use Rattle.std.specs.Prelude.{if◌then◌else◌, Result, Ok, Err, IfErr, IsErrAnd}
 use Rattle.std.proofs.lemmas.List.{drop_all}
 use Rattle.lezgauri.specs.Types.{Table, Agree, longer}
-use Rattle.lezgauri.specs.Window.{Placement, with_bytes}
+use Rattle.lezgauri.specs.Window.{Placement, region_of, with_bytes}
 use Rattle.lezgauri.specs.SoundImages.{upgraded}
 use Rattle.lezgauri.specs.Faults.{IsImageOf}
 use Rattle.lezgauri.specs.Image.{Image}
@@ -14,8 +14,11 @@ use Rattle.lezgauri.specs.Clients.{IsVerified, AreAccepted}
 use Rattle.lezgauri.specs.Report.{Report}
 use Rattle.lezgauri.specs.Ended.TheVariants as ended
 use Rattle.lezgauri.specs.Runs.{ending_of, MayRun, HasRun, IsReadyToRun}
+use Rattle.lezgauri.specs.Jobs.{effect_at}
 use Rattle.lezgauri.specs.Together.{ending_if, HaveRun}
-use Rattle.lezgauri.proofs.TogetherLaws.{Midway, begins, next_ran, stops, ends}
+use Rattle.lezgauri.proofs.TogetherLaws.{Midway, begins, next_ran, stops, ends, has_outcome}
+use Rattle.lezgauri.proofs.OpenedLaws.{image_sound, can_move}
+use Rattle.lezgauri.proofs.WholeRegionLaws.{none_before, whole_stays}
 use Rattle.lezgauri_uses.specs.Counts.{HasCounted, ended_if}
 
 -- a call that fails with a known error
@@ -101,19 +104,20 @@ module _ {A : Type 0} (old : Image A) (tree : Client) (text : List ℕ) (times :
         ends (allocator_of old) (replicate times tree) [] [] (segment_of old).window taken (replicate (times - counter) text) [] (segment_of now).window (types_of now) taken_now h.reports failed h.midway
         (ap (λ n. replicate n text) none)
 
-    pub counted : (image : List ℕ) → bytes_in old ≡ upgraded image → IsImageOf image (types_of old) → SpellsClient text tree → IsVerified (types_of old) tree → (failed ≡ true) ⊎ (times ≤ counter)
-        → HasCounted image text times taken taken_now failed (bytes_in now)
-    counted image opened_is is spells v over = record {
-      window = with_bytes (segment_of old).window image;
-      image_is = refl;
-      reports = h.reports;
-      ran = record {
-        accepted = record {
-          sound = record { picture = is.picture; held = is.held; counted = is.counted; none_loose = is.none_loose };
-          clients = replicate times tree;
-          accepted = subst (λ (t : Table). AreAccepted t (replicate times text) (replicate times tree)) (sym is.table_is) (accepted_each times (types_of old) text tree spells v);
-        };
-        runs = λ may. subst (λ (w : Placement). HaveRun (replicate times tree) [] [] w taken (bytes_in now) taken_now h.reports (ending_of (ended_if failed))) (ap (with_bytes (segment_of old).window) opened_is)
-            (subst (HaveRun (replicate times tree) [] [] (segment_of old).window taken (bytes_in now) taken_now h.reports) (ending_so failed) (have_run over));
-      };
-    }
+    pub counted : (image : List ℕ) → bytes_in old ≡ upgraded image → region_of (segment_of old).window ≡ bytes_in old → IsImageOf image (types_of old) → SpellsClient text tree → IsVerified (types_of old) tree
+        → (failed ≡ true) ⊎ (times ≤ counter) → HasCounted image text times taken taken_now failed (bytes_in now)
+    counted image opened_is whole is spells v over =
+        let window = (segment_of old).window in
+        let sound = image_sound image (types_of old) is in
+        let accepts = λ (texts : List (List ℕ)) (clients : List Client) (them : AreAccepted (types_of old) texts clients). subst (λ (t : Table). AreAccepted t texts clients) (sym is.table_is) them in
+        record {
+          accepted = record { can_move = can_move image sound; sound = sound; clients = tree ∷ []; accepted = accepts (text ∷ []) (tree ∷ []) (spells, v, tt) };
+          reports = h.reports;
+          outcome = has_outcome (replicate times text) [] [] (with_bytes window image) (effect_at taken taken_now (bytes_in now) h.reports (ended_if failed))
+              (record {
+                accepted = record { sound = sound; clients = replicate times tree; accepted = accepts (replicate times text) (replicate times tree) (accepted_each times (types_of old) text tree spells v) };
+                runs = λ may. subst (λ (w : Placement). HaveRun (replicate times tree) [] [] w taken (bytes_in now) taken_now h.reports (ending_of (ended_if failed))) (ap (with_bytes window) opened_is)
+                    (subst (HaveRun (replicate times tree) [] [] window taken (bytes_in now) taken_now h.reports) (ending_so failed) (have_run over));
+              })
+              image (length image) 0 refl (ap length (whole_stays window image whole)) (ap length (none_before window whole)) (can_move image sound);
+        }

@@ -1,4 +1,5 @@
 pub mod GrowthLaws
+pub mod WholeRegionLaws
 pub mod NamedItems
 pub mod PutContent
 pub mod IteratorLaws

@@ -2,9 +2,10 @@ ghost use Rattle.std.specs.Prelude.{◌≡◌, ◌≤◌, IfOk, IfErr};
 ghost use Rattle.seg_spec.specs.Bytes.{word};
 ghost use Rattle.seg_spec.specs.Header.{allocator_word};
 ghost use Rattle.seg_spec.specs.Images.{upgraded};
+ghost use Rattle.seg_spec.specs.Window.{region_of};
 ghost use Rattle.seg_raw.specs.Homes.{home_of};
 ghost use Rattle.seg_check.specs.Faults.{IsImageOf, IsFaultOf};
-ghost use Rattle.seg_image.specs.Images.{segment_of, allocator_of};
+ghost use Rattle.seg_image.specs.Images.{segment_of, allocator_of, bytes_in};
 
 use crate::image::Image;
 use seg_bestfit::BestFit;
@@ -56,6 +57,8 @@ impl<A: Allocator> Image<A> {
     pub fn open<B: Allocator>(alloc: B, bytes: Vec<u8, A>) -> Result<Image<A>, Unopened<A>>
         ensures opened { IfOk result
             (λ image. (segment_of image).window.bytes ≡ upgraded bytes.items) }
+        ensures whole { IfOk result
+            (λ image. region_of (segment_of image).window ≡ bytes_in image) }
         ensures image { IfOk result
             (λ image. IsImageOf bytes.items (segment_of image).types) }
         ensures allocator { IfOk result
@@ -98,6 +101,7 @@ impl<A: Allocator> Image<A> {
 /// A window on all bytes of an image. No image has more bytes than a segment may have.
 fn window_of<A: Allocator>(bytes: Vec<u8, A>) -> Result<Window<A>, Unopened<A>>
     ensures window { IfOk result (λ window. window.bytes ≡ bytes.items) }
+    ensures whole { IfOk result (λ window. region_of window ≡ window.bytes) }
     ensures fault { IfErr result (λ unopened. IsFaultOf bytes.items unopened.fault) }
     ensures refused { IfErr result (λ unopened. unopened.bytes.items ≡ bytes.items) }
     ensures home { IfOk result (λ window. window.home ≡ home_of bytes) }

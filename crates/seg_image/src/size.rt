@@ -1,7 +1,8 @@
-ghost use Rattle.std.specs.Prelude.{◌≡◌, ◌+◌, ◌≤◌, ◌⊎◌, ◌↔◌, [], length, IsTrue, IfOk, IfErr, OnOk, OnErr, IsOkUnless};
+ghost use Rattle.std.specs.Prelude.{◌≡◌, ◌+◌, ◌-◌, ◌≤◌, ◌⊎◌, ◌↔◌, ◌++◌, [], length, replicate, vec_len, vec_capacity, IsTrue, IfOk, IfErr, OnOk, OnErr, IsOkUnless};
 ghost use Rattle.seg_spec.specs.Heap.{IsHeap, live, gaps};
 ghost use Rattle.seg_spec.specs.Sound.{Picture};
 ghost use Rattle.seg_spec.specs.Window.{region_of};
+ghost use Rattle.seg_raw.specs.Homes.{home_of};
 ghost use Rattle.seg_space.specs.Gaps.{bytes_in_gaps, largest_of, ZeroesGaps};
 ghost use Rattle.seg_manager.specs.Segments.{IsSegment};
 ghost use Rattle.seg_space.specs.Sizes.{MayGrowTo, ShrinksSegment};
@@ -11,7 +12,7 @@ ghost use Rattle.seg_image.specs.Growth.{GrowsImage};
 use crate::image::{Image, on};
 use core::mem::replace_with;
 use seg_manager::{Fit, MAX_LEN, Segment, Window};
-use seg_raw::{Fault, Region};
+use seg_raw::{Fault, Region, lengthen};
 use std::alloc::{AllocError, Allocator};
 
 /// The image's size and its free memory, in bytes.
@@ -54,7 +55,8 @@ impl<A: Allocator> Image<A> {
     /// Adds `extra` bytes at the end, and returns the new size in bytes. `BadSize` if that isn't a size of a segment or
     /// `extra` isn't a multiple of 16, `Memory` if host memory is refused; then nothing changes.
     ///
-    /// The host's memory of the image grows with it; the image is copied if it has to move there. Places stay valid.
+    /// The host's memory of the image grows with it if the new size is above the memory's capacity; the image is copied if it
+    /// has to move there. Places stay valid.
     pub fn grow(&mut self, extra: u32) -> Result<u32, Fault>
         ensures allocator { allocator_of self.new ≡ allocator_of self.old }
         ensures types { types_of self.new ≡ types_of self.old }
@@ -67,6 +69,9 @@ impl<A: Allocator> Image<A> {
             OnOk result (GrowsImage (allocator_of self.old) (bytes_in self.old)
             (segment_of self.new) picture extra) }
         ensures unchanged { OnErr result (bytes_in self.new ≡ bytes_in self.old) }
+        ensures home { let home = (segment_of self.old).window.home in
+            length (bytes_in self.old) + extra ≤ home.room →
+            (segment_of self.new).window.home ≡ home }
     {
         on!(self, segment => grow(segment, extra))
     }
@@ -98,6 +103,8 @@ fn grow<F: Fit, A: Allocator>(segment: &mut Segment<F, A>, extra: u32) -> Result
     ensures grows { (picture : Picture) → IsSegment F.allocator segment.old picture →
         OnOk result (GrowsImage F.allocator segment.old.window.bytes segment.new picture extra) }
     ensures unchanged { OnErr result (segment.new.window.bytes ≡ segment.old.window.bytes) }
+    ensures home { let home = segment.old.window.home in
+        length segment.old.window.bytes + extra ≤ home.room → segment.new.window.home ≡ home }
 {
     match seg_space::grow(segment, extra) {
         Err(Fault::NoHostRoom) => grow_memory(segment, extra),
@@ -105,7 +112,7 @@ fn grow<F: Fit, A: Allocator>(segment: &mut Segment<F, A>, extra: u32) -> Result
     }
 }
 
-/// Grows the segment in more memory.
+/// Moves the segment to the start of its memory, which gets larger if it is too small, and grows it there.
 fn grow_memory<F: Fit, A: Allocator>(segment: &mut Segment<F, A>, extra: u32) -> Result<u32, Fault>
     requires { MayGrowTo extra (length segment.old.window.bytes + extra) }
     ensures types { segment.new.types ≡ segment.old.types }
@@ -114,6 +121,8 @@ fn grow_memory<F: Fit, A: Allocator>(segment: &mut Segment<F, A>, extra: u32) ->
     ensures grows { (picture : Picture) → IsSegment F.allocator segment.old picture →
         OnOk result (GrowsImage F.allocator segment.old.window.bytes segment.new picture extra) }
     ensures unchanged { OnErr result (segment.new.window.bytes ≡ segment.old.window.bytes) }
+    ensures home { let home = segment.old.window.home in
+        length segment.old.window.bytes + extra ≤ home.room → segment.new.window.home ≡ home }
 {
     let size = segment.window().len() + extra;
     replace_with(segment, size, with_room)?;
@@ -131,11 +140,29 @@ fn with_room<F: Fit, A: Allocator>(
     ensures types { result.0.types ≡ segment.types }
     ensures base { result.0.window.before ≡ [] }
     ensures room { OnOk result.1 (length (region_of result.0.window) ≡ room) }
+    ensures home { room ≤ segment.window.home.room →
+        result.0.window.home ≡ segment.window.home }
 {
     let types = segment.types().copy();
     let len = segment.window().len();
     let mut bytes = segment.into_window().into_bytes();
-    let resized = bytes.resize(room as usize, 0);
+    let resized = extend(&mut bytes, room as usize);
     let window = Window::place(Region::from_vec(bytes), 0, len).unwrap();
     (Segment::new(window, types), resized)
+}
+
+/// Adds zero bytes until there are `len` bytes, in the same memory if it has room for them.
+fn extend<A: Allocator>(bytes: &mut Vec<u8, A>, len: usize) -> Result<(), AllocError>
+    requires { vec_len bytes.old ≤ len }
+    ensures bytes { OnOk result
+        (bytes.new.items ≡ bytes.old.items ++ replicate (len - vec_len bytes.old) 0) }
+    ensures len { OnOk result (length bytes.new.items ≡ len) }
+    ensures unchanged { OnErr result (bytes.new.items ≡ bytes.old.items) }
+    ensures home { len ≤ vec_capacity bytes.old → home_of bytes.new ≡ home_of bytes.old }
+{
+    if len > bytes.capacity() {
+        bytes.reserve(len - bytes.len())?;
+    }
+    lengthen(bytes, len);
+    Ok(())
 }

@@ -2,8 +2,7 @@
 
 ghost use Rattle.std.specs.Prelude.{◌≡◌, [], ◌∷◌, codes, Some, None};
 ghost use Rattle.seg_spec.specs.Types.{Form};
-ghost use Rattle.seg_spec.specs.Heap.{Span, after_shrink};
-ghost use Rattle.seg_spec.specs.Demand.{units_for, growth, after_asks, after_gives, NoRoom};
+ghost use Rattle.seg_spec.specs.Demand.{units_for, growth, after_asks, NoRoom};
 ghost use Rattle.seg_spec.specs.Fixtures.{counter, greeting, empty};
 ghost use Rattle.seg_spec.specs.Spending.{buffer_asks, entry_asks, object_asks, replaced, cut_to};
 

@@ -1,13 +1,13 @@
 //! Worked examples: small clients.
 
 ghost use Rattle.std.specs.Prelude.{◌≡◌, ℕ, ◌^◌, ◌<◌, ◌++◌, pos, [], ◌∷◌, codes, replicate, Ok, Err};
-ghost use Rattle.client_spec.specs.Syntax.{Constant, Statements, no_more};
+ghost use Rattle.client_spec.specs.Syntax.{no_more};
 ghost use Rattle.client_spec.specs.Grammar.{file_version, client_bytes, SpellsClient};
 ghost use Rattle.client_spec.specs.Text.{text_of};
 ghost use Rattle.client_spec.specs.Run.{finished, stopped, stuck, bound};
 ghost use Rattle.client_spec.specs.Clients.{outputs, image_after, ending_after, table_after, StayWithin, AreMoves, IsFirstBadMove, IsLeftInPlace};
 ghost use Rattle.client_spec.specs.Safe.{IsFront, Writes};
-ghost use Rattle.client_spec.specs.Typed.{Reason, RegisterType, reason_number, types_after};
+ghost use Rattle.client_spec.specs.Typed.{Reason, RegisterType, types_after};
 ghost use Rattle.client_spec.specs.Fixtures.{increment, chain, cycle, dangling, lost, retyped, three_turns, counting_down, idle, echo, kill_twice, as_a_text, nested, types, constants, beginning, counted, no_names, RunsTo, left_with, two_runs, given_at_0, move_to};
 ghost use Rattle.seg_spec.specs.Types.{Form};
 

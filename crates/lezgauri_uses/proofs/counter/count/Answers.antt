@@ -1,12 +1,11 @@
 use Rattle.std.proofs.Common.{◌≡◌, ◌⊎◌, ◌≤◌, inl, inr, true, [], List, ℕ, sym, ap, ◌∙◌, subst}
-use Rattle.lezgauri.specs.SoundImages.{IsSound}
 use Rattle.lezgauri.specs.Error.TheVariants as error
 use Rattle.lezgauri.specs.Texts.{IsWrongText}
 use Rattle.lezgauri.specs.Grammar.{SpellsClient}
 use Rattle.lezgauri.specs.ClientFiles.{bytes_of}
 use Rattle.lezgauri.specs.Accepted.{client_of}
 use Rattle.lezgauri.specs.Verified.{Verified}
-use Rattle.lezgauri.proofs.OpenedLaws.{opened_ready}
+use Rattle.lezgauri.proofs.OpenedLaws.{image_sound, opened_ready}
 use Rattle.lezgauri_uses.specs.Counts.{HasCounted, RefusesToCount}
 use Rattle.lezgauri_uses.proofs.CountLaws.{HasRunTimes, none_ran, agrees_now, one_more_ran, counted, err_is}
 use Rattle.lezgauri_uses.proofs.counter.count.Goals as goal
@@ -17,7 +16,7 @@ returns-in_err-verify-clause-refused g c =
     let is = c.in_ok-image.ensures.image in
     let f = c.in_err-verify.field-0.0 in
     let text = c.args.client.now in
-    let sound : IsSound c.args.image.items = record { picture = is.picture; held = is.held; counted = is.counted; none_loose = is.none_loose } in
+    let sound = image_sound c.args.image.items _ is in
     err_is c.from_residual-in_err-verify.result (error.Fault f) (RefusesToCount c.args.image.items text)
     (inr (sound, subst (λ table. IsWrongText table text f) (sym is.table_is) c.in_err-verify.ensures.wrong)) c.from_residual-in_err-verify.ensures.1
 
@@ -64,7 +63,8 @@ returns-clause-counts g c =
     let over : (failed ≡ true) ⊎ (c.args.times ≤ c.loop.counter) =
     elim c.loop-test.branch [ else-loop-test w ↦ inr w.loop-test.false | then-loop-test+then-failed w ↦ inl (sym w.failed.ensures ∙ w.if-failed.true) ] in
     subst (λ (saved : List ℕ). HasCounted c.args.image.items text c.args.times taken taken_now failed saved) (sym c.into_bytes.ensures.bytes)
-    (counted image a.0 text c.args.times taken c.loop.image c.loop.counter taken_now failed (c.loop.invariant a.0 a.1 a.2 ready) c.args.image.items c.in_ok-image.ensures.opened c.in_ok-image.ensures.image a.1 a.2 over)
+    (counted image a.0 text c.args.times taken c.loop.image c.loop.counter taken_now failed (c.loop.invariant a.0 a.1 a.2 ready)
+    c.args.image.items c.in_ok-image.ensures.opened c.in_ok-image.ensures.whole c.in_ok-image.ensures.image a.1 a.2 over)
 
 pub returns-clause-sound : goal.returns-clause-sound
-returns-clause-sound g c = ((returns-clause-counts g c).ran.runs tt).sound
+returns-clause-sound g c = (returns-clause-counts g c).outcome.left.sound
