@@ -3,6 +3,8 @@
 use crate::abstract_run::{AbstractRun, Register};
 use crate::model::{Object, Objects, Shape, ValueContent};
 use client_code::{Instruction, Operation};
+use std::alloc::AllocError;
+use std::collections::BTreeMap;
 use std::ops::Bound;
 use std::test::Fail;
 
@@ -61,9 +63,13 @@ impl AbstractRun<'_> {
     }
 
     fn read_byte(&mut self) -> Answer {
-        let (first, rest) = self.input.split_first().ok_or(NONE)?;
-        self.input = rest;
-        Ok(Register::Number(i64::from(*first)))
+        match self.input.split_first() {
+            Some((first, rest)) => {
+                self.input = rest;
+                Ok(Register::Number(i64::from(*first)))
+            }
+            None => Err(NONE),
+        }
     }
 
     /// Makes a new value, if the real run found room for it.
@@ -236,7 +242,7 @@ impl AbstractRun<'_> {
             return Err(Fail::from("no cell"));
         };
         self.sharing.read |= is_shared && held.is_some();
-        Ok(held.map(Register::Value).ok_or(NONE))
+        Ok(value_or(*held, NONE))
     }
 
     /// Performs an opener on the contents of register b's value.
@@ -244,57 +250,50 @@ impl AbstractRun<'_> {
         match objects.content(self.value(i.b)) {
             Some(ValueContent::Text(text)) => self.on_text(text, i),
             Some(ValueContent::Items(items)) => Ok(self.on_items(items, i)),
-            Some(ValueContent::Held(held)) => Ok(take(held)),
-            Some(ValueContent::Keyed(entries)) => {
-                let key = self.number(i.c);
-                Ok(match i.operation {
-                    Operation::GetKey => entries
-                        .get(&key)
-                        .map(|value| Register::Value(*value))
-                        .ok_or(ABSENT),
-                    Operation::FirstKey => entries
-                        .first_key_value()
-                        .map(|entry| Register::Number(*entry.0))
-                        .ok_or(NONE),
-                    _ => entries
-                        .range((Bound::Excluded(key), Bound::Unbounded))
-                        .next()
-                        .map(|entry| Register::Number(*entry.0))
-                        .ok_or(NONE),
-                })
-            }
+            Some(ValueContent::Held(held)) => Ok(value_or(held.take(), NONE)),
+            Some(ValueContent::Keyed(entries)) => Ok(self.on_entries(entries, i)),
             _ => Err(Fail::from("no meaning")),
+        }
+    }
+
+    fn on_entries(&self, entries: &BTreeMap<i64, usize>, i: Instruction) -> Answer {
+        let key = self.number(i.c);
+        match i.operation {
+            Operation::GetKey => value_or(entries.get(&key).copied(), ABSENT),
+            Operation::FirstKey => key_of(entries.first_key_value()),
+            _ => {
+                let above = (Bound::Excluded(key), Bound::Unbounded);
+                key_of(entries.range(above).next())
+            }
         }
     }
 
     fn on_text(&self, text: &mut Vec<u8>, i: Instruction) -> Result<Answer, Fail> {
         let c = self.number(i.c);
         match i.operation {
-            Operation::At => {
-                let byte = usize::try_from(c)
-                    .ok()
-                    .and_then(|index| text.get(index).copied());
-                return Ok(
-                    byte.map(|byte| Register::Number(i64::from(byte)))
-                        .ok_or(OUT_OF_RANGE),
-                );
-            }
+            Operation::At => return Ok(byte_at(text.as_slice(), c)),
             Operation::PopBack => {
                 if text.pop().is_none() {
                     return Ok(Err(NONE));
                 }
-                return Ok(Ok(Register::Number(text.len() as i64)));
             }
             Operation::AddByte if u8::try_from(c).is_err() => return Ok(Err(OUT_OF_RANGE)),
             _ if !self.found_room() => return Ok(Err(NO_ROOM)),
-            Operation::AddByte => text.push(u8::try_from(c).unwrap_or(0))?,
-            Operation::AddStr => text.extend_from_slice(self.constant(i))?,
-            _ => {
-                text.clear();
-                text.extend_from_slice(self.constant(i))?;
-            }
+            _ => self.write_text(text, i)?,
         }
         Ok(Ok(Register::Number(text.len() as i64)))
+    }
+
+    /// Adds a byte or a text, or assigns a text.
+    fn write_text(&self, text: &mut Vec<u8>, i: Instruction) -> Result<(), AllocError> {
+        if i.operation == Operation::AddByte {
+            text.push(u8::try_from(self.number(i.c)).unwrap_or(0))?;
+            return Ok(());
+        }
+        if i.operation != Operation::AddStr {
+            text.clear();
+        }
+        text.extend_from_slice(self.constant(i))
     }
 
     fn on_items(&self, items: &mut Vec<usize>, i: Instruction) -> Answer {
@@ -315,13 +314,35 @@ impl AbstractRun<'_> {
 
 /// The value at an index.
 fn place(values: &[usize], index: i64) -> Answer {
-    usize::try_from(index)
-        .ok()
-        .and_then(|index| values.get(index).copied())
-        .map(|value| Register::Value(value))
-        .ok_or(OUT_OF_RANGE)
+    match usize::try_from(index) {
+        Ok(index) => value_or(values.get(index).copied(), OUT_OF_RANGE),
+        Err(_) => Err(OUT_OF_RANGE),
+    }
 }
 
-fn take(held: &mut Option<usize>) -> Answer {
-    held.take().map(Register::Value).ok_or(NONE)
+/// The byte at an index.
+fn byte_at(text: &[u8], index: i64) -> Answer {
+    let Ok(index) = usize::try_from(index) else {
+        return Err(OUT_OF_RANGE);
+    };
+    match text.get(index) {
+        Some(byte) => Ok(Register::Number(i64::from(*byte))),
+        None => Err(OUT_OF_RANGE),
+    }
+}
+
+/// A value, or a code if there is none.
+fn value_or(value: Option<usize>, code: i64) -> Answer {
+    match value {
+        Some(value) => Ok(Register::Value(value)),
+        None => Err(code),
+    }
+}
+
+/// The key of an entry.
+fn key_of(entry: Option<(&i64, &usize)>) -> Answer {
+    match entry {
+        Some((key, _)) => Ok(Register::Number(*key)),
+        None => Err(NONE),
+    }
 }

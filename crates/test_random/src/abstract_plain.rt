@@ -48,7 +48,10 @@ impl AbstractRun<'_> {
     fn kill(&mut self, objects: &mut Objects, i: Instruction) -> Result<(), Fail> {
         let name = self.name(i)?;
         let t = usize::from(i.type_id());
-        let is_there = objects.named.get(&name).is_some_and(|object| object.t == t);
+        let is_there = match objects.named.get(&name) {
+            Some(object) => object.t == t,
+            None => false,
+        };
         if is_there {
             let _ = objects.named.remove(&name);
         }
@@ -88,10 +91,7 @@ impl AbstractRun<'_> {
             }
             (Operation::Store, Some(ValueContent::Number(number))) => *number = self.number(i.c),
             (Operation::Field, Some(ValueContent::Fields(fields))) => {
-                let field = usize::try_from(i.number)
-                    .ok()
-                    .and_then(|index| fields.get(index).copied())
-                    .unwrap_or(usize::MAX);
+                let field = field_value(fields.as_slice(), i.number);
                 self.set(i.a, Register::Value(field));
             }
             (Operation::Put, Some(ValueContent::Held(held))) => {
@@ -123,4 +123,12 @@ pub(crate) fn length(content: &ValueContent) -> i64 {
         ValueContent::Number(_) | ValueContent::Held(_) | ValueContent::Fields(_) => 0,
     };
     len as i64
+}
+
+/// The value of a struct's field. An accepted client refers to no other field.
+fn field_value(fields: &[usize], index: i32) -> usize {
+    match usize::try_from(index) {
+        Ok(index) => fields.get(index).copied().unwrap_or(usize::MAX),
+        Err(_) => usize::MAX,
+    }
 }

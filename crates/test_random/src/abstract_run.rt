@@ -11,7 +11,7 @@ use std::test::Fail;
 const MARK: &[u8] = b"+\n";
 
 /// The contents of a register.
-#[derive(Clone, Copy, PartialEq, Eq, Default)]
+#[derive(Clone, Copy, Default)]
 pub(crate) enum Register {
     #[default]
     Undefined,
@@ -21,7 +21,7 @@ pub(crate) enum Register {
 }
 
 /// What a run did with frozen objects.
-#[derive(Clone, Copy, PartialEq, Eq, Default)]
+#[derive(Clone, Copy, Default)]
 pub(crate) struct Sharing {
     pub(crate) froze: bool,
     /// Whether an object couldn't be frozen because there was no room.
@@ -123,10 +123,10 @@ impl<'a> AbstractRun<'a> {
 
     /// The bytes of a constant.
     pub(crate) fn constant(&self, i: Instruction) -> &'a [u8] {
-        let constants = self.client.constants();
-        constants
-            .get(i.constant() as usize)
-            .map_or(&[], |constant| constant.bytes)
+        match self.client.constants().get(i.constant() as usize) {
+            Some(constant) => constant.bytes,
+            None => &[],
+        }
     }
 
     /// The name that an instruction refers to.
@@ -204,25 +204,28 @@ impl<'a> AbstractRun<'a> {
         self.at = at.wrapping_add(1);
     }
 
-    /// Ends a part. A loop has another iteration if its number isn't 0.
+    /// Ends a part.
     fn end(&mut self) -> Result<(), Fail> {
-        if let Some(EnteredPart::Loop { start, turns }) = self.parts.pop() {
-            let test = self
-                .client
-                .instruction(start)
-                .map_or(0, |i| self.number(i.b));
-            if test != 0 && turns > 0 {
+        match self.parts.pop() {
+            Some(EnteredPart::Loop { start, turns }) if turns > 0 && self.turns_again(start) => {
                 self.count_step();
                 self.parts.push(EnteredPart::Loop {
                     start,
                     turns: turns.wrapping_sub(1),
                 })?;
                 self.go_after(start);
-                return Ok(());
             }
+            _ => self.go_after(self.at),
         }
-        self.go_after(self.at);
         Ok(())
+    }
+
+    /// Whether the number of the loop that starts here isn't 0.
+    fn turns_again(&self, start: u32) -> bool {
+        match self.client.instruction(start) {
+            Some(i) => self.number(i.b) != 0,
+            None => false,
+        }
     }
 
     /// The index of the `ELSE` or `END` of the current instruction.

@@ -2,7 +2,7 @@ use crate::abstract_run::Sharing;
 use crate::random_clients::ROUND;
 
 /// How many clients were accepted, and how many of them did each thing with frozen objects.
-#[derive(Debug, Clone, Copy, PartialEq, Eq, Default)]
+#[derive(Debug, Clone, Copy, Default)]
 pub(crate) struct Counts {
     accepted: u32,
     froze: u32,

@@ -2,8 +2,8 @@
 
 use crate::model::{Shape, shape_of};
 use client_code::{Ends, Gives, Need, Number, OPERATIONS, Operand, Operation, Role, Row};
+use itoa::Buffer;
 use std::alloc::{AllocError, Global};
-use std::fmt::Write;
 use support_data::Random;
 
 /// The version of a client's file. Only version 2 has frozen objects.
@@ -43,7 +43,15 @@ const SHARED_TYPE_COUNT: u32 = 5;
 const CELL_TYPE: usize = 9;
 
 /// The name constant of that cell.
-const CELL: u32 = 7;
+const CELL: usize = 7;
+
+const CELL_NAME: ObjectName = ObjectName {
+    constant: CELL,
+    operand: " -",
+};
+
+/// The registers with small numbers, as operands with a space before them.
+const NUMBERS: [&str; 5] = [" r0", " r1", " r2", " r3", " r4"];
 
 /// The type of shared cells with lists.
 const LIST_CELL_TYPE: usize = 11;
@@ -75,7 +83,7 @@ CONST r4 300
 const DEPTH: usize = 7;
 
 /// How an open part ends.
-#[derive(Clone, Copy, PartialEq, Eq)]
+#[derive(Clone, Copy)]
 enum Close {
     /// Without a mark, for the field of a value.
     Nothing,
@@ -101,8 +109,15 @@ struct OpenPart {
     close: Close,
     register: usize,
     t: Option<usize>,
-    class: u32,
+    class: usize,
     access: Access,
+}
+
+/// A name of a client: its constant, and its operand b with a space before it.
+#[derive(Clone, Copy)]
+struct ObjectName {
+    constant: usize,
+    operand: &'static str,
 }
 
 /// A client that is being written.
@@ -112,7 +127,7 @@ pub(crate) struct Generator {
     text: String,
     parts: Vec<OpenPart>,
     random: Random,
-    classes: u32,
+    classes: usize,
 }
 
 impl Generator {
@@ -143,9 +158,39 @@ impl Generator {
         Ok(self.text)
     }
 
+    /// Writes lines. Each `#` in them stands for the next number.
+    fn write(&mut self, lines: &str, numbers: &[usize]) -> Result<(), AllocError> {
+        let mut numbers = numbers.iter();
+        for character in lines.chars() {
+            if character == '#' {
+                let number = numbers.next().copied().unwrap_or(0);
+                self.text.push_str(Buffer::new().format(number))?;
+            } else {
+                self.text.push(character)?;
+            }
+        }
+        Ok(())
+    }
+
+    /// Writes an operation on the object of a name. `front` is the text before operand b, in which `#` stands for the next
+    /// register, and `item` is the text of operand c.
+    fn write_named(
+        &mut self,
+        front: &str,
+        name: ObjectName,
+        item: &str,
+        t: usize,
+    ) -> Result<(), AllocError> {
+        let register = self.next_register();
+        self.write(front, &[register])?;
+        self.text.push_str(name.operand)?;
+        self.text.push_str(item)?;
+        self.write(" t# k#\n", &[t, name.constant])
+    }
+
     /// A register with a small number.
-    fn number(&mut self) -> u32 {
-        self.random.below(5)
+    fn number(&mut self) -> usize {
+        self.random.below(5) as usize
     }
 
     /// A type of the client. If the client is of version 2, half of these types have frozen objects.
@@ -191,41 +236,42 @@ impl Generator {
 
     /// Ends the innermost part. Its else part prints the code.
     fn close(&mut self) -> Result<(), AllocError> {
-        match self.parts.pop().map(|part| part.close) {
-            None | Some(Close::Nothing) => Ok(()),
-            Some(Close::Opener(code)) => {
+        let Some(part) = self.parts.pop() else {
+            return Ok(());
+        };
+        match part.close {
+            Close::Nothing => Ok(()),
+            Close::Opener(code) => {
                 let n = self.number();
-                write!(self.text, "ELSE\nOUTI r{code}\nADD r{n} r{n} r2\nEND\n")
+                self.write("ELSE\nOUTI r#\nADD r# r# r2\nEND\n", &[code, n, n])
             }
-            Some(Close::Owner { register, t }) => {
+            Close::Owner { register, t } => {
                 self.give_away(register, t)?;
-                write!(self.text, "ELSE\nOUTI r{register}\nEND\n")
+                self.write("ELSE\nOUTI r#\nEND\n", &[register])
             }
-            Some(Close::If) => self.text.push_str("ELSE\nOUTI r4\nEND\n"),
-            Some(Close::Loop) => self.text.push_str("END\n"),
+            Close::If => self.text.push_str("ELSE\nOUTI r4\nEND\n"),
+            Close::Loop => self.text.push_str("END\n"),
         }
     }
 
     /// Freezes the object that a register owns into an open cell of its type, or drops it if there is no such cell.
     fn give_away(&mut self, register: usize, t: usize) -> Result<(), AllocError> {
         let Some(cell) = self.cell_for(t) else {
-            return write!(self.text, "DROP r{register}\n");
+            return self.write("DROP r#\n", &[register]);
         };
         let b = cell.register;
         self.end_others(cell.class, b);
-        write!(
-            self.text,
-            "FREEZE r15 r{b} r{register}\nOUTC k3\nOUTI r15\n"
-        )?;
-        write!(self.text, "ELSE\nOUTI r15\nDROP r{register}\nEND\n")
+        self.write(
+            "FREEZE r15 r# r#\nOUTC k3\nOUTI r15\nELSE\nOUTI r15\nDROP r#\nEND\n",
+            &[b, register, register],
+        )
     }
 
     /// The innermost open shared cell for objects of a type, if it can be changed.
     fn cell_for(&self, t: usize) -> Option<OpenPart> {
         let mut cell = None;
         for part in &self.parts {
-            let is_cell = part.t.is_some_and(|of| shape_of(of) == Shape::Shared(t));
-            if is_cell && part.access == Access::Change {
+            if is_cell_for(*part, t) {
                 cell = Some(*part);
             }
         }
@@ -233,7 +279,7 @@ impl Generator {
     }
 
     /// Opens the success part of an opener that makes or finds an object.
-    fn open(&mut self, close: Close, t: Option<usize>, class: u32) -> Result<(), AllocError> {
+    fn open(&mut self, close: Close, t: Option<usize>, class: usize) -> Result<(), AllocError> {
         self.enter(OpenPart {
             close,
             register: self.next_register(),
@@ -262,12 +308,18 @@ impl Generator {
     }
 
     /// Ends the references of a class, except the one in a register.
-    fn end_others(&mut self, class: u32, register: usize) {
+    fn end_others(&mut self, class: usize, register: usize) {
         for part in &mut self.parts {
             if part.class == class && part.register != register {
                 part.t = None;
             }
         }
+    }
+
+    /// Writes an opener that gives register 15 a number, and its parts.
+    fn given(&mut self, opener: &str, numbers: &[usize]) -> Result<(), AllocError> {
+        self.write(opener, numbers)?;
+        self.print_given()
     }
 
     /// Writes the parts of an opener that gives register 15 a number.
@@ -280,30 +332,27 @@ impl Generator {
     fn plain(&mut self) -> Result<(), AllocError> {
         let (a, b, c) = (self.number(), self.number(), self.number());
         match self.random.below(11) {
-            0 => write!(self.text, "ADD r{a} r{b} r{c}\nOUTI r{a}\n"),
-            1 => write!(self.text, "SUB r{a} r{b} r{c}\n"),
-            2 => write!(self.text, "MUL r{a} r{b} r{c}\n"),
-            3 => write!(self.text, "LT r{a} r{b} r{c}\n"),
-            4 => write!(self.text, "EQ r{a} r{b} r{c}\n"),
-            5 => write!(self.text, "MOV r{a} r{b}\n"),
+            0 => self.write("ADD r# r# r#\nOUTI r#\n", &[a, b, c, a]),
+            1 => self.write("SUB r# r# r#\n", &[a, b, c]),
+            2 => self.write("MUL r# r# r#\n", &[a, b, c]),
+            3 => self.write("LT r# r# r#\n", &[a, b, c]),
+            4 => self.write("EQ r# r# r#\n", &[a, b, c]),
+            5 => self.write("MOV r# r#\n", &[a, b]),
             6 | 7 => self.from_table(),
-            8 => {
-                self.text.push_str("GETB r15\n")?;
-                self.print_given()
-            }
+            8 => self.given("GETB r15\n", &[]),
             9 => {
-                write!(self.text, "IF r{b}\n")?;
+                self.write("IF r#\n", &[b])?;
                 self.enter_plain(Close::If)
             }
-            _ => {
-                write!(
-                    self.text,
-                    "WHILE r{b} {}\n",
-                    self.random.below(3).wrapping_add(1)
-                )?;
-                self.enter_plain(Close::Loop)
-            }
+            _ => self.repeat(b),
         }
+    }
+
+    /// Opens a loop of at most three turns.
+    fn repeat(&mut self, b: usize) -> Result<(), AllocError> {
+        let turns = self.random.below(3).wrapping_add(1);
+        self.write("WHILE r# #\n", &[b, turns as usize])?;
+        self.enter_plain(Close::Loop)
     }
 
     /// Writes a simple operation by its row of the table. Its registers a and b are r15, with a number in it or, if the row allows
@@ -314,25 +363,29 @@ impl Generator {
         };
         let row = operation.row();
         let c = self.number();
-        match self.parts.last() {
-            Some(part) if part.t.is_some() && row.needs_b != Need::Int => {
-                write!(self.text, "MOV r15 r{}\n", part.register)?;
-            }
-            Some(_) | None => write!(self.text, "MOV r15 r{c}\n")?,
-        }
+        let copied = match self.parts.last() {
+            Some(part) if part.t.is_some() && row.needs_b != Need::Int => part.register,
+            Some(_) | None => c,
+        };
+        self.write("MOV r15 r#\n", &[copied])?;
         self.text.push_str(operation.word())?;
-        for (operand, register) in [(row.a, 15), (row.b, 15), (row.c, c)] {
-            if operand == Operand::Register {
-                write!(self.text, " r{register}")?;
-            }
-        }
-        if row.number == Number::Any {
-            write!(self.text, " {c}")?;
-        }
+        self.write_operands(row, c)?;
         self.text.push_str(match row.gives {
             Gives::Int => "\nOUTI r15\n",
             _ => "\nCONST r15 0\n",
         })
+    }
+
+    fn write_operands(&mut self, row: Row, c: usize) -> Result<(), AllocError> {
+        for (operand, register) in [(row.a, 15), (row.b, 15), (row.c, c)] {
+            if operand == Operand::Register {
+                self.write(" r#", &[register])?;
+            }
+        }
+        if row.number == Number::Any {
+            self.write(" #", &[c])?;
+        }
+        Ok(())
     }
 
     /// A random simple operation. `None` if no such operation was found.
@@ -358,39 +411,39 @@ impl Generator {
         Ok(())
     }
 
-    /// A name of the client: its constant and its operand b.
-    fn some_name(&mut self) -> (u32, &'static str) {
-        match self.random.below(4) {
-            0 => (0, "-"),
-            1 => (1, "-"),
-            2 => (2, "r2"),
-            _ => (2, "r3"),
-        }
+    fn some_name(&mut self) -> ObjectName {
+        let (constant, operand) = match self.random.below(4) {
+            0 => (0, " -"),
+            1 => (1, " -"),
+            2 => (2, " r2"),
+            _ => (2, " r3"),
+        };
+        ObjectName { constant, operand }
     }
 
     /// Writes a statement on a named, unique or anonymous object.
     fn object(&mut self) -> Result<(), AllocError> {
         let a = self.next_register();
         let t = self.some_type();
-        let c = self.number();
-        let (k, n) = self.some_name();
+        let item = NUMBERS.get(self.number()).copied().unwrap_or(" r0");
+        let name = self.some_name();
         match self.random.below(13) {
-            0 => write!(self.text, "MAKE r{a} {n} r{c} t{t} k{k}\n")?,
-            1 => write!(self.text, "MAKE r{a} {n} - t{t} k{k}\n")?,
-            2 => write!(self.text, "FIND r{a} {n} r{c} t{t} k{k}\n")?,
-            3 | 4 => write!(self.text, "FINDOR r{a} {n} t{t} k{k}\n")?,
-            5 => return self.count(t, k, n),
-            6 | 7 => return self.kill(t, k, n),
+            0 => self.write_named("MAKE r#", name, item, t)?,
+            1 => self.write_named("MAKE r#", name, " -", t)?,
+            2 => self.write_named("FIND r#", name, item, t)?,
+            3 | 4 => self.write_named("FINDOR r#", name, "", t)?,
+            5 => return self.count(t, name),
+            6 | 7 => return self.kill(t, name),
             8 => return self.new_object(t),
             unique => return self.unique(unique, t),
         }
-        self.open(Close::Opener(a), Some(t), k)
+        self.open(Close::Opener(a), Some(t), name.constant)
     }
 
     /// Writes a statement on a shared cell, which is unique or named.
     fn cell(&mut self) -> Result<(), AllocError> {
         match self.random.below(8) {
-            0 => self.kill(CELL_TYPE, CELL, "-"),
+            0 => self.kill(CELL_TYPE, CELL_NAME),
             1..=3 => self.named_cell(),
             4 => self.find_or_make_unique(LIST_CELL_TYPE),
             5 => self.find_or_make_unique(TEXT_CELL_TYPE),
@@ -400,30 +453,31 @@ impl Generator {
 
     fn named_cell(&mut self) -> Result<(), AllocError> {
         let a = self.next_register();
-        write!(self.text, "FINDOR r{a} - t{CELL_TYPE} k{CELL}\n")?;
+        self.write_named("FINDOR r#", CELL_NAME, "", CELL_TYPE)?;
         self.open(Close::Opener(a), Some(CELL_TYPE), CELL)
     }
 
-    fn count(&mut self, t: usize, k: u32, n: &str) -> Result<(), AllocError> {
-        write!(self.text, "COUNT r15 {n} t{t} k{k}\n")?;
+    fn count(&mut self, t: usize, name: ObjectName) -> Result<(), AllocError> {
+        self.write_named("COUNT r15", name, "", t)?;
         self.print_given()
     }
 
-    fn kill(&mut self, t: usize, k: u32, n: &str) -> Result<(), AllocError> {
-        self.end_others(k, 99);
-        write!(self.text, "KILL r15 {n} t{t} k{k}\nOUTI r15\n")
+    fn kill(&mut self, t: usize, name: ObjectName) -> Result<(), AllocError> {
+        self.end_others(name.constant, 99);
+        self.write_named("KILL r15", name, "", t)?;
+        self.text.push_str("OUTI r15\n")
     }
 
     fn unique(&mut self, choice: u32, t: usize) -> Result<(), AllocError> {
         let a = self.next_register();
         let class = unique_class(t);
         match choice {
-            9 => write!(self.text, "UMAKE r{a} t{t}\n")?,
-            10 => write!(self.text, "UFIND r{a} t{t}\n")?,
+            9 => self.write("UMAKE r# t#\n", &[a, t])?,
+            10 => self.write("UFIND r# t#\n", &[a, t])?,
             11 => return self.find_or_make_unique(t),
             _ => {
                 self.end_others(class, 99);
-                return write!(self.text, "UKILL r15 t{t}\nOUTI r15\n");
+                return self.write("UKILL r15 t#\nOUTI r15\n", &[t]);
             }
         }
         self.open(Close::Opener(a), Some(t), class)
@@ -431,14 +485,14 @@ impl Generator {
 
     fn find_or_make_unique(&mut self, t: usize) -> Result<(), AllocError> {
         let a = self.next_register();
-        write!(self.text, "UFINDOR r{a} t{t}\n")?;
+        self.write("UFINDOR r# t#\n", &[a, t])?;
         self.open(Close::Opener(a), Some(t), unique_class(t))
     }
 
     /// Makes an object that a register owns, and opens a part with a reference to it.
     fn new_object(&mut self, t: usize) -> Result<(), AllocError> {
         let a = self.next_register();
-        write!(self.text, "NEW r{a} t{t}\n")?;
+        self.write("NEW r# t#\n", &[a, t])?;
         self.own(a, t)?;
         self.fill(t)
     }
@@ -447,15 +501,11 @@ impl Generator {
     fn fill(&mut self, t: usize) -> Result<(), AllocError> {
         let (b, n) = (self.next_register().saturating_sub(1), self.number());
         match shape_of(t) {
-            Shape::Text => {
-                write!(self.text, "SETS r15 r{b} k4\n")?;
-                self.print_given()
+            Shape::Text => self.given("SETS r15 r# k4\n", &[b]),
+            Shape::Struct(_) => {
+                self.write("FIELD r15 r# 0\nSTORE r15 r#\nLOAD r15 r15\n", &[b, n])
             }
-            Shape::Struct(_) => write!(
-                self.text,
-                "FIELD r15 r{b} 0\nSTORE r15 r{n}\nLOAD r15 r15\n"
-            ),
-            Shape::Number => write!(self.text, "STORE r{b} r{n}\n"),
+            Shape::Number => self.write("STORE r# r#\n", &[b, n]),
             Shape::Sequence(_) | Shape::Keyed(_) | Shape::Own(_) | Shape::Shared(_) => Ok(()),
         }
     }
@@ -464,8 +514,8 @@ impl Generator {
     fn print_value(&mut self, t: usize) -> Result<(), AllocError> {
         let b = self.next_register().saturating_sub(1);
         match shape_of(t) {
-            Shape::Text => write!(self.text, "OUTS r{b}\nOUTC k6\n"),
-            Shape::Struct(_) => { write!(self.text, "FIELD r15 r{b} 0\nLOAD r15 r15\nOUTI r15\n") }
+            Shape::Text => self.write("OUTS r#\nOUTC k6\n", &[b]),
+            Shape::Struct(_) => self.write("FIELD r15 r# 0\nLOAD r15 r15\nOUTI r15\n", &[b]),
             Shape::Number
             | Shape::Sequence(_)
             | Shape::Keyed(_)
@@ -480,7 +530,7 @@ impl Generator {
         let class = self.classes;
         self.open(Close::Owner { register: a, t }, None, class)?;
         let register = self.next_register();
-        write!(self.text, "REF r{register} r{a}\n")?;
+        self.write("REF r# r#\n", &[register, a])?;
         self.parts.push(OpenPart {
             close: Close::Nothing,
             register,
@@ -496,7 +546,7 @@ impl Generator {
         let b = part.register;
         if self.random.below(24) == 0 {
             self.end_others(part.class, b);
-            return write!(self.text, "CLEAR r{b}\n");
+            return self.write("CLEAR r#\n", &[b]);
         }
         match shape_of(t) {
             Shape::Number => self.on_number(b),
@@ -528,54 +578,50 @@ impl Generator {
     fn on_number(&mut self, b: usize) -> Result<(), AllocError> {
         let n = self.number();
         match self.random.below(2) {
-            0 => write!(self.text, "STORE r{b} r{n}\n"),
+            0 => self.write("STORE r# r#\n", &[b, n]),
             _ => self.load(b),
         }
     }
 
     fn load(&mut self, b: usize) -> Result<(), AllocError> {
-        write!(self.text, "LOAD r15 r{b}\nOUTI r15\n")
+        self.write("LOAD r15 r#\nOUTI r15\n", &[b])
     }
 
     fn on_text(&mut self, b: usize) -> Result<(), AllocError> {
         let n = self.number();
-        let k = self.random.below(2).wrapping_add(4);
+        let k = self.random.below(2).wrapping_add(4) as usize;
         match self.random.below(9) {
-            0 => write!(self.text, "SETS r15 r{b} k{k}\n")?,
-            1 => write!(self.text, "ADDS r15 r{b} k{k}\n")?,
-            2 => write!(self.text, "ADDB r15 r{b} r{n}\n")?,
-            3 => write!(self.text, "POP r15 r{b}\n")?,
-            4 => return write!(self.text, "SHRINK r{b}\n"),
-            _ => return self.read_text(b),
+            0 => self.given("SETS r15 r# k#\n", &[b, k]),
+            1 => self.given("ADDS r15 r# k#\n", &[b, k]),
+            2 => self.given("ADDB r15 r# r#\n", &[b, n]),
+            3 => self.given("POP r15 r#\n", &[b]),
+            4 => self.write("SHRINK r#\n", &[b]),
+            _ => self.read_text(b),
         }
-        self.print_given()
     }
 
     fn read_text(&mut self, b: usize) -> Result<(), AllocError> {
         let n = self.number();
         match self.random.below(4) {
-            0 => {
-                write!(self.text, "AT r15 r{b} r{n}\n")?;
-                self.print_given()
-            }
+            0 => self.given("AT r15 r# r#\n", &[b, n]),
             1 => self.len(b),
-            _ => write!(self.text, "OUTS r{b}\nOUTC k6\n"),
+            _ => self.write("OUTS r#\nOUTC k6\n", &[b]),
         }
     }
 
     fn len(&mut self, b: usize) -> Result<(), AllocError> {
-        write!(self.text, "LEN r15 r{b}\nOUTI r15\n")
+        self.write("LEN r15 r#\nOUTI r15\n", &[b])
     }
 
     fn on_sequence(&mut self, part: OpenPart, t: usize, item: usize) -> Result<(), AllocError> {
         let (a, b) = (self.next_register(), part.register);
         let is_list = !VECTORS.contains(&t);
         match self.random.below(9) {
-            0..=2 => write!(self.text, "PUSH r{a} r{b}\n")?,
-            3 if is_list => write!(self.text, "PUSHF r{a} r{b}\n")?,
-            4 => return self.shorter(part, "POP"),
-            5 if is_list => return self.shorter(part, "POPF"),
-            5 => return write!(self.text, "SHRINK r{b}\n"),
+            0..=2 => self.write("PUSH r# r#\n", &[a, b])?,
+            3 if is_list => self.write("PUSHF r# r#\n", &[a, b])?,
+            4 => return self.shorter(part, "POP r15 r#\n"),
+            5 if is_list => return self.shorter(part, "POPF r15 r#\n"),
+            5 => return self.write("SHRINK r#\n", &[b]),
             _ => return self.read_sequence(part, item),
         }
         self.end_others(part.class, b);
@@ -595,7 +641,8 @@ impl Generator {
             | Shape::Shared(_)
             | Shape::Struct(_) => return Ok(()),
         };
-        write!(self.text, "CONST r15 0\nAT r15 r{b} r15\n{printed}")?;
+        self.write("CONST r15 0\nAT r15 r# r15\n", &[b])?;
+        self.text.push_str(printed)?;
         self.text.push_str("ELSE\nOUTI r15\nEND\n")
     }
 
@@ -604,33 +651,31 @@ impl Generator {
         match self.random.below(3) {
             0 => self.len(b),
             _ => {
-                write!(self.text, "AT r{a} r{b} r{n}\n")?;
+                self.write("AT r# r# r#\n", &[a, b, n])?;
                 self.open_inside(part, item)
             }
         }
     }
 
-    fn shorter(&mut self, part: OpenPart, operation: &str) -> Result<(), AllocError> {
-        let b = part.register;
-        self.end_others(part.class, b);
-        write!(self.text, "{operation} r15 r{b}\n")?;
-        self.print_given()
+    fn shorter(&mut self, part: OpenPart, opener: &str) -> Result<(), AllocError> {
+        self.end_others(part.class, part.register);
+        self.given(opener, &[part.register])
     }
 
     fn on_map(&mut self, part: OpenPart, t: usize, item: usize) -> Result<(), AllocError> {
         let (a, b, n) = (self.next_register(), part.register, self.number());
         match self.random.below(9) {
             0..=2 => {
-                write!(self.text, "PUTK r{a} r{b} r{n}\n")?;
+                self.write("PUTK r# r# r#\n", &[a, b, n])?;
                 self.end_others(part.class, b);
                 self.open_inside(part, item)?;
                 self.fill(item)
             }
             3 => {
                 self.end_others(part.class, b);
-                write!(self.text, "DELK r15 r{b} r{n}\nOUTI r15\n")
+                self.write("DELK r15 r# r#\nOUTI r15\n", &[b, n])
             }
-            4 if t == 4 => write!(self.text, "SHRINK r{b}\n"),
+            4 if t == 4 => self.write("SHRINK r#\n", &[b]),
             _ => self.read_map(part, item),
         }
     }
@@ -641,18 +686,17 @@ impl Generator {
             0 => self.len(b),
             1 => self.next_key(b, n),
             _ => {
-                write!(self.text, "GETK r{a} r{b} r{n}\n")?;
+                self.write("GETK r# r# r#\n", &[a, b, n])?;
                 self.open_inside(part, item)
             }
         }
     }
 
-    fn next_key(&mut self, b: usize, n: u32) -> Result<(), AllocError> {
+    fn next_key(&mut self, b: usize, n: usize) -> Result<(), AllocError> {
         match self.random.below(2) {
-            0 => write!(self.text, "FIRSTK r15 r{b}\n")?,
-            _ => write!(self.text, "NEXTK r15 r{b} r{n}\n")?,
+            0 => self.given("FIRSTK r15 r#\n", &[b]),
+            _ => self.given("NEXTK r15 r# r#\n", &[b, n]),
         }
-        self.print_given()
     }
 
     fn on_own(&mut self, part: OpenPart, held: usize) -> Result<(), AllocError> {
@@ -661,14 +705,14 @@ impl Generator {
             0 => self.content(part, held, Access::Change),
             1 => {
                 self.end_others(part.class, b);
-                write!(self.text, "TAKE r{a} r{b}\n")?;
+                self.write("TAKE r# r#\n", &[a, b])?;
                 self.own(a, held)
             }
             _ => {
                 self.end_others(part.class, b);
-                write!(
-                    self.text,
-                    "NEW r{a} t{held}\nOUTC k3\nPUT r{b} r{a}\nELSE\nOUTI r{a}\nEND\n"
+                self.write(
+                    "NEW r# t#\nOUTC k3\nPUT r# r#\nELSE\nOUTI r#\nEND\n",
+                    &[a, held, b, a, a],
                 )
             }
         }
@@ -677,7 +721,7 @@ impl Generator {
     /// Opens a part with the object of an own or a shared cell, which may be changed or only read.
     fn content(&mut self, part: OpenPart, held: usize, access: Access) -> Result<(), AllocError> {
         let (a, b) = (self.next_register(), part.register);
-        write!(self.text, "CONTENT r{a} r{b}\n")?;
+        self.write("CONTENT r# r#\n", &[a, b])?;
         self.open_inside(OpenPart { access, ..part }, held)?;
         self.print_value(held)
     }
@@ -705,7 +749,7 @@ impl Generator {
             (Access::Read, Access::Read) => return Ok(()),
         };
         self.end_others(to.class, to.register);
-        write!(self.text, "SHARE r{} r{}\n", to.register, from.register)
+        self.write("SHARE r# r#\n", &[to.register, from.register])
     }
 
     /// Opens a part with another cell of a type: the named one, if the cell of the part is the unique one.
@@ -733,7 +777,7 @@ impl Generator {
     fn field(&mut self, part: OpenPart, fields: &[usize]) -> Result<(), AllocError> {
         let index = self.random.below(u32::try_from(fields.len()).unwrap_or(1)) as usize;
         let (a, b) = (self.next_register(), part.register);
-        write!(self.text, "FIELD r{a} r{b} {index}\n")?;
+        self.write("FIELD r# r# #\n", &[a, b, index])?;
         self.parts.push(OpenPart {
             close: Close::Nothing,
             register: a,
@@ -759,6 +803,14 @@ fn is_simple(row: Row) -> bool {
 }
 
 /// The class of the unique object of a type.
-fn unique_class(t: usize) -> u32 {
-    u32::try_from(t).unwrap_or(0).wrapping_add(10)
+fn unique_class(t: usize) -> usize {
+    t.wrapping_add(10)
+}
+
+/// Whether the value of a part is a shared cell for objects of a type, and can be changed.
+fn is_cell_for(part: OpenPart, t: usize) -> bool {
+    let Some(of) = part.t else {
+        return false;
+    };
+    part.access == Access::Change && matches!(shape_of(of), Shape::Shared(held) if held == t)
 }

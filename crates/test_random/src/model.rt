@@ -6,7 +6,7 @@ use std::collections::BTreeMap;
 use std::mem;
 
 /// The kind of a type, with the types of its parts.
-#[derive(Clone, Copy, PartialEq, Eq)]
+#[derive(Clone, Copy)]
 pub(crate) enum Shape {
     Number,
     Text,
@@ -99,7 +99,10 @@ impl Objects {
     }
 
     pub(crate) fn type_of(&self, value: usize) -> usize {
-        self.values.get(value).map_or(0, |value| value.t)
+        match self.values.get(value) {
+            Some(value) => value.t,
+            None => 0,
+        }
     }
 
     pub(crate) fn shape(&self, value: usize) -> Shape {

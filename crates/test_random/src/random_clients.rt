@@ -14,7 +14,7 @@ use support_runs::{
 const INPUT: &[u8] = b"the input of a client";
 
 /// The steps and the input that a client took, and what it did with frozen objects.
-#[derive(Clone, Copy, PartialEq, Eq)]
+#[derive(Clone, Copy)]
 struct Retraced {
     steps: u64,
     read: usize,

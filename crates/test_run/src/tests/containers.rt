@@ -1,4 +1,4 @@
-use crate::tests::plays::plays;
+use crate::tests::plays::{plays, plays_with};
 use std::test::Fail;
 use support_runs::{BEST_FLAT, KINDS, SEQ_FLAT};
 
@@ -67,17 +67,15 @@ pub(crate) const PRINT_TEXTS: &str = "type str
 /// The fifth push has no room for 8 items, and gets room for fewer. The last text gets the block of the old buffer.
 #[test]
 fn fifth_push_takes_its_limit(rt: HostRuntime) -> Result<(), Fail> {
-    let text = format!(in rt.alloc();
-        r"$ client make
-        {FIVE_TEXTS}
-        $ client print
-        {PRINT_TEXTS}
-        $ seq on 1024 make print; free 0 named 1
+    plays_with(
+        rt.alloc(),
+        &[SEQ_FLAT, BEST_FLAT],
+        &[("make", FIVE_TEXTS), ("print", PRINT_TEXTS)],
+        r"$ seq on 1024 make print; free 0 named 1
         abbcccddddeeeee\
         $ best on 1024 make print
-        abbcccddddeeeee\"
-    )?;
-    plays(rt.alloc(), &[SEQ_FLAT, BEST_FLAT], text.as_str())
+        abbcccddddeeeee\",
+    )
 }
 
 /// Assigns a text of 5 bytes, appends 20, and prints both lengths and the text.
@@ -130,23 +128,23 @@ const EMPTY_TEXT: &str = "type str
 /// aren't needed.
 #[test]
 fn texts_grow_and_shrink_in_place(rt: HostRuntime) -> Result<(), Fail> {
-    let text = format!(in rt.alloc();
-        r"$ client grow
-        {GROW_TEXT}
-        $ client shrink
-        {SHRINK_TEXT}
-        $ client empty
-        {EMPTY_TEXT}
-        $ on 1024 grow; free 192 named 1
+    plays_with(
+        rt.alloc(),
+        &[SEQ_FLAT],
+        &[
+            ("grow", GROW_TEXT),
+            ("shrink", SHRINK_TEXT),
+            ("empty", EMPTY_TEXT),
+        ],
+        r"$ on 1024 grow; free 192 named 1
         5
         25
         helloabcdefghijklmnopqrst\
         $ then shrink; free 208 named 1
         $ then empty; free 240 named 1
         0
-        6"
-    )?;
-    plays(rt.alloc(), &[SEQ_FLAT], text.as_str())
+        6",
+    )
 }
 
 /// The bytes of a text, one by one.
@@ -267,22 +265,21 @@ const KILL_LIST: &str = "type i64
 /// Each node of a list of numbers has 2 units.
 #[test]
 fn lists_of_numbers(rt: HostRuntime) -> Result<(), Fail> {
-    let text = format!(in rt.alloc();
-        "$ client push
-        {PUSH_NUMBERS}
-        $ client pop
-        {POP_NUMBER}
-        $ client clear
-        {CLEAR_LIST}
-        $ client kill
-        {KILL_LIST}
-        $ on 1024 push; free 112 named 1
+    plays_with(
+        rt.alloc(),
+        &[SEQ_FLAT],
+        &[
+            ("push", PUSH_NUMBERS),
+            ("pop", POP_NUMBER),
+            ("clear", CLEAR_LIST),
+            ("kill", KILL_LIST),
+        ],
+        "$ on 1024 push; free 112 named 1
         $ then pop; free 144 named 1
         3
         7
         $ then clear; free 240 named 1
         6
-        $ then kill; free 320 named 0"
-    )?;
-    plays(rt.alloc(), &[SEQ_FLAT], text.as_str())
+        $ then kill; free 320 named 0",
+    )
 }

@@ -1,51 +1,57 @@
-use crate::tests::plays::plays;
+use crate::tests::plays::{plays, plays_with};
+use std::alloc::Global;
 use std::test::Fail;
 use support_runs::{KINDS, SEQ_FLAT};
 
-/// The smallest and the largest number are keys of both kinds of maps. Prints the first key, the next key, and the code after the
-/// last one.
+/// Makes a map of type 1 with the smallest and the largest number as keys. Prints the first key, the next key, and the code after
+/// the last one.
+const PRINT_KEYS: &str = "
+    name m
+    CONST r1 -2147483648
+    CONST r2 1
+    MUL r3 r1 r1
+    ADD r3 r3 r3
+    SUB r4 r3 r2
+    MAKE r0 - - t1 k0
+      PUTK r5 r0 r4
+      ELSE
+      END
+      PUTK r5 r0 r3
+      ELSE
+      END
+      FIRSTK r6 r0
+        OUTI r6
+        NEXTK r6 r0 r6
+          OUTI r6
+          NEXTK r6 r0 r6
+          ELSE
+            OUTI r6
+          END
+        ELSE
+        END
+      ELSE
+      END
+    ELSE
+    END";
+
+/// Tests the order of keys in a map of this kind.
+fn has_keys_in_order(alloc: Global, kind: &str) -> Result<(), Fail> {
+    let client = format!(in alloc; "type i64\ntype {kind} t0{PRINT_KEYS}")?;
+    plays_with(
+        alloc,
+        &KINDS,
+        &[("print_keys", client.as_str())],
+        "$ on 1024 print_keys
+        -9223372036854775808
+        9223372036854775807
+        6",
+    )
+}
+
 #[test]
 fn keys_in_order(rt: HostRuntime) -> Result<(), Fail> {
-    for kind in ["flat_map", "map"] {
-        let text = format!(in rt.alloc();
-            "$ client print_keys
-                type i64
-                type {kind} t0
-                name m
-                CONST r1 -2147483648
-                CONST r2 1
-                MUL r3 r1 r1
-                ADD r3 r3 r3
-                SUB r4 r3 r2
-                MAKE r0 - - t1 k0
-                  PUTK r5 r0 r4
-                  ELSE
-                  END
-                  PUTK r5 r0 r3
-                  ELSE
-                  END
-                  FIRSTK r6 r0
-                    OUTI r6
-                    NEXTK r6 r0 r6
-                      OUTI r6
-                      NEXTK r6 r0 r6
-                      ELSE
-                        OUTI r6
-                      END
-                    ELSE
-                    END
-                  ELSE
-                  END
-                ELSE
-                END
-            $ on 1024 print_keys
-            -9223372036854775808
-            9223372036854775807
-            6"
-        )?;
-        plays(rt.alloc(), &KINDS, text.as_str())?;
-    }
-    Ok(())
+    has_keys_in_order(rt.alloc(), "flat_map")?;
+    has_keys_in_order(rt.alloc(), "map")
 }
 
 /// Puts four numbers into a flat map, each with itself as its key.
@@ -109,21 +115,19 @@ const PUT_FIFTH: &str = "type i64
 /// A flat map of 4 numbers has a buffer of 5 units, and one of 5 numbers a buffer of 9 units in the same place.
 #[test]
 fn flat_maps_grow(rt: HostRuntime) -> Result<(), Fail> {
-    let text = format!(in rt.alloc();
-        "$ client put_four
-        {PUT_FOUR}
-        $ client put_fifth
-        {PUT_FIFTH}
-        $ on 1024 put_four; free 160 named 1
+    plays_with(
+        rt.alloc(),
+        &[SEQ_FLAT],
+        &[("put_four", PUT_FOUR), ("put_fifth", PUT_FIFTH)],
+        "$ on 1024 put_four; free 160 named 1
         $ then put_fifth; free 96 named 1
         3
         0
         1
         1
         0
-        4"
-    )?;
-    plays(rt.alloc(), &[SEQ_FLAT], text.as_str())
+        4",
+    )
 }
 
 /// A node of a map of numbers has 3 units.

@@ -1,4 +1,4 @@
-use crate::tests::plays::plays;
+use crate::tests::plays::{plays, plays_with};
 use std::test::Fail;
 use support_runs::{KINDS, SEQ_FLAT};
 
@@ -16,10 +16,11 @@ const MAKE: &str = "type i64
 /// The object has 2 units. A flat index prefers 3 units and accepts 2, and a node of the tree has 3.
 #[test]
 fn makes_an_object_where_there_is_room(rt: HostRuntime) -> Result<(), Fail> {
-    let text = format!(in rt.alloc();
-        "$ client make
-        {MAKE}
-        $ on 1024 make; free 240 named 1
+    plays_with(
+        rt.alloc(),
+        &KINDS,
+        &[("make", MAKE)],
+        "$ on 1024 make; free 240 named 1
         42
         $ on 784 make; free 0 named 1
         42
@@ -30,17 +31,17 @@ fn makes_an_object_where_there_is_room(rt: HostRuntime) -> Result<(), Fail> {
         $ on 752 make; free 48 named 0
         2
         $ on 736 make; free 32 named 0
-        2"
-    )?;
-    plays(rt.alloc(), &KINDS, text.as_str())
+        2",
+    )
 }
 
 #[test]
 fn destroys_an_object_once(rt: HostRuntime) -> Result<(), Fail> {
-    let text = format!(in rt.alloc();
-        "$ client make
-        {MAKE}
-        $ client kill_twice
+    plays_with(
+        rt.alloc(),
+        &KINDS,
+        &[("make", MAKE)],
+        "$ client kill_twice
             type i64
             name x
             KILL r0 - t0 k0
@@ -50,9 +51,8 @@ fn destroys_an_object_once(rt: HostRuntime) -> Result<(), Fail> {
         $ on 1024 make kill_twice; free 320 largest 320 named 0
         42
         1
-        0"
-    )?;
-    plays(rt.alloc(), &KINDS, text.as_str())
+        0",
+    )
 }
 
 /// An empty shared cell is as large as a number. Clients without types of shared cells run on the same image.
@@ -207,12 +207,11 @@ const REFUSED: &str = "type i64
 /// The second client has one more type, and refers to the array of the first.
 #[test]
 fn objects_of_many_values(rt: HostRuntime) -> Result<(), Fail> {
-    let text = format!(in rt.alloc();
-        "$ client rows
-        {ROWS}
-        $ client refused
-        {REFUSED}
-        $ on 1024 rows refused
+    plays_with(
+        rt.alloc(),
+        &KINDS,
+        &[("rows", ROWS), ("refused", REFUSED)],
+        "$ on 1024 rows refused
         3
         9
         5
@@ -221,9 +220,8 @@ fn objects_of_many_values(rt: HostRuntime) -> Result<(), Fail> {
         3
         5
         1
-        4"
-    )?;
-    plays(rt.alloc(), &KINDS, text.as_str())
+        4",
+    )
 }
 
 /// Makes the unique pair with a 9 in its second field, and fails to make it again.
@@ -272,14 +270,15 @@ const KILL_PAIR_TWICE: &str = "type i64
 
 #[test]
 fn unique_objects(rt: HostRuntime) -> Result<(), Fail> {
-    let text = format!(in rt.alloc();
-        "$ client make
-        {MAKE_PAIR}
-        $ client find
-        {FIND_PAIR}
-        $ client kill_twice
-        {KILL_PAIR_TWICE}
-        $ on 1024 make; free 288 named 0 unique 1
+    plays_with(
+        rt.alloc(),
+        &KINDS,
+        &[
+            ("make", MAKE_PAIR),
+            ("find", FIND_PAIR),
+            ("kill_twice", KILL_PAIR_TWICE),
+        ],
+        "$ on 1024 make; free 288 named 0 unique 1
         1
         9
         $ then find kill_twice; free 320 named 0
@@ -287,9 +286,8 @@ fn unique_objects(rt: HostRuntime) -> Result<(), Fail> {
         3
         9
         1
-        0"
-    )?;
-    plays(rt.alloc(), &KINDS, text.as_str())
+        0",
+    )
 }
 
 /// A client reads two bytes of the input, or prints the code at its end. Each client reads the input that the clients before it

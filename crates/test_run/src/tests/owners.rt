@@ -1,4 +1,4 @@
-use crate::tests::plays::plays;
+use crate::tests::plays::{plays, plays_with};
 use client_vm::Ended;
 use std::alloc::Global;
 use std::test::Fail;
@@ -9,12 +9,12 @@ use support_runs::{KINDS, PLAIN, Ran, SegmentKind, Setting, empty, run_in, stati
 #[test]
 fn a_chain_of_owners(rt: HostRuntime) -> Result<(), Fail> {
     let chain = chain(rt.alloc(), 20_000)?;
-    let text = format!(in rt.alloc();
-        "$ client chain
-        {chain}
-        $ on 1048576 chain; free 1047872 named 0 largest 1047872 steps 160004"
-    )?;
-    plays(rt.alloc(), &KINDS, text.as_str())
+    plays_with(
+        rt.alloc(),
+        &KINDS,
+        &[("chain", chain.as_str())],
+        "$ on 1048576 chain; free 1047872 named 0 largest 1047872 steps 160004",
+    )
 }
 
 /// The object of an own is destroyed when it is replaced, cleared, or dropped with its owner.

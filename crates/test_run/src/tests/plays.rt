@@ -10,7 +10,7 @@
 //!     3
 //!     $ flat on 768 add reads AB        only for a flat index, or `tree`, `seq`, `best`; the input is AB
 //!
-//! Each run must finish, and its saved image must be sound.
+//! Long clients can be given beside the text, with their names. Each run must finish, and its saved image must be sound.
 
 use client_vm::Ended;
 use seg_manager::IndexKind;
@@ -22,13 +22,21 @@ use support_runs::{PLAIN, Ran, SegmentKind, Setting, client, empty, run_files, s
 
 /// Performs the statements of a text on each of these kinds of segments.
 pub(crate) fn plays(alloc: Global, kinds: &[SegmentKind], text: &str) -> Result<(), Fail> {
+    plays_with(alloc, kinds, &[], text)
+}
+
+/// Like [`plays`], with these clients, each a name and a text.
+pub(crate) fn plays_with(
+    alloc: Global,
+    kinds: &[SegmentKind],
+    clients: &[(&str, &str)],
+    text: &str,
+) -> Result<(), Fail> {
     for kind in kinds {
-        let mut play = Play {
-            alloc,
-            kind: *kind,
-            clients: Vec::new(alloc),
-            image: Vec::new(alloc),
-        };
+        let mut play = Play::new(alloc, *kind);
+        for (name, client) in clients {
+            play.add(*name, *client)?;
+        }
         play.follow(text)?;
     }
     Ok(())
@@ -44,6 +52,15 @@ struct Play<'a> {
 }
 
 impl<'a> Play<'a> {
+    fn new(alloc: Global, kind: SegmentKind) -> Play<'a> {
+        Play {
+            alloc,
+            kind,
+            clients: Vec::new(alloc),
+            image: Vec::new(alloc),
+        }
+    }
+
     fn follow(&mut self, text: &'a str) -> Result<(), Fail> {
         for it in statements(self.alloc, text)? {
             self.perform(it.words.trim(), it.lines)?;
@@ -68,7 +85,7 @@ impl<'a> Play<'a> {
             "client" => self.add(rest, lines),
             "on" => self.run_anew(rest, lines),
             "then" => self.run(rest, lines),
-            _ => Err(Fail::new(format_args!("no statement: {verb} {rest}"))),
+            _ => Err(Fail::from("no statement")),
         }
     }
 
@@ -106,10 +123,7 @@ impl<'a> Play<'a> {
         let (run, left) = words.split_once(';').unwrap_or((words, ""));
         let (names, input) = run.split_once(" reads ").unwrap_or((run, ""));
         let ran = self.outcome(names, input.as_bytes())?;
-        if ran.ended != Ended::Done || !is_printed(ran.out.as_slice(), lines) {
-            let printed = str::from_utf8(ran.out.as_slice()).unwrap_or("bytes");
-            return Err(Fail::new(format_args!("{words} printed {printed:?}")));
-        }
+        prints(&ran, words, lines)?;
         self.leaves(&ran, left)?;
         self.image = ran.image;
         Ok(())
@@ -131,17 +145,20 @@ impl<'a> Play<'a> {
 
     /// Tests these numbers of the run and its image. Each number comes after a word for what it counts.
     fn leaves(&self, ran: &Ran, facts: &str) -> Result<(), Fail> {
-        let words: Vec<&str> = facts.split_whitespace().collect(self.alloc)?;
-        for fact in words.as_slice().chunks(2) {
-            let [what, wanted] = *fact else {
-                return Err(Fail::new(format_args!("no facts: {facts}")));
-            };
-            let number = self.number(ran, what)?;
-            if number != wanted.parse::<u64>()? {
-                return Err(Fail::new(format_args!("{what} {number}, not {wanted}")));
+        let mut what = "";
+        for word in facts.split_whitespace() {
+            if what.is_empty() {
+                what = word;
+            } else {
+                is_number(what, self.number(ran, what)?, word)?;
+                what = "";
             }
         }
-        Ok(())
+        if what.is_empty() {
+            Ok(())
+        } else {
+            Err(Fail::from("a number is missing"))
+        }
     }
 
     fn number(&self, ran: &Ran, what: &str) -> Result<u64, Fail> {
@@ -152,9 +169,27 @@ impl<'a> Play<'a> {
             "named" => Ok(u64::from(left.named)),
             "unique" => Ok(left.unique as u64),
             "steps" => Ok(ran.reports.first().copied().unwrap_or_default().steps),
-            _ => Err(Fail::new(format_args!("no number: {what}"))),
+            _ => Err(Fail::from("no such number")),
         }
     }
+}
+
+/// Tests that a number is as wanted.
+fn is_number(what: &str, number: u64, wanted: &str) -> Result<(), Fail> {
+    if number == wanted.parse::<u64>()? {
+        Ok(())
+    } else {
+        Err(Fail::new(format_args!("{what} {number}, not {wanted}")))
+    }
+}
+
+/// Tests that a run finished and printed exactly these lines.
+fn prints(ran: &Ran, words: &str, lines: &str) -> Result<(), Fail> {
+    if ran.ended == Ended::Done && is_printed(ran.out.as_slice(), lines) {
+        return Ok(());
+    }
+    let printed = str::from_utf8(ran.out.as_slice()).unwrap_or("bytes");
+    Err(Fail::new(format_args!("{words} printed {printed:?}")))
 }
 
 /// Whether exactly these lines were printed.

@@ -2,7 +2,7 @@
 //! heap of 320 bytes at 704, in which a number, a cell and a frozen number take 32 bytes each.
 
 use crate::tests::left::leaves;
-use crate::tests::plays::plays;
+use crate::tests::plays::{plays, plays_with};
 use client_vm::Ended;
 use seg_manager::{Fault, TypeTable};
 use std::alloc::Global;
@@ -69,10 +69,11 @@ fn shared_image(alloc: Global) -> Result<Vec<u8>, Fail> {
 
 #[test]
 fn a_frozen_number_is_shared_and_read(rt: HostRuntime) -> Result<(), Fail> {
-    let text = format!(in rt.alloc();
-        "$ client share
-        {SHARE}
-        $ client kill
+    plays_with(
+        rt.alloc(),
+        &KINDS,
+        &[("share", SHARE)],
+        "$ client kill
             type i64
             type shared t0
             name b
@@ -81,9 +82,8 @@ fn a_frozen_number_is_shared_and_read(rt: HostRuntime) -> Result<(), Fail> {
         $ on 1024 share; free 208 named 1 steps 12
         7
         $ then kill; free 320 named 0 largest 320
-        1"
-    )?;
-    plays(rt.alloc(), &KINDS, text.as_str())
+        1",
+    )
 }
 
 /// Each instruction outside the else parts is a step.
@@ -95,23 +95,24 @@ fn the_steps_of_sharing_are_the_bound(rt: HostRuntime) -> Result<(), Fail> {
     Ok(())
 }
 
-/// The bytes of words in an image.
-fn words(alloc: Global, words: &[u32]) -> Result<Vec<u8>, Fail> {
-    let mut bytes = Vec::new(alloc);
+/// Whether an image has these little-endian words at a position.
+fn has_words(image: &[u8], at: usize, words: &[u32]) -> bool {
+    let mut rest = image.get(at..).unwrap_or(&[]);
     for word in words {
-        bytes.extend_from_slice(&word.to_le_bytes())?;
+        match rest.strip_prefix(word.to_le_bytes().as_slice()) {
+            Some(after) => rest = after,
+            None => return false,
+        }
     }
-    Ok(bytes)
+    true
 }
 
 /// The cell points 64 bytes ahead. One cell shares the object there, which is the first frozen object, with the value 7.
 #[test]
 fn the_bytes_of_what_is_shared(rt: HostRuntime) -> Result<(), Fail> {
     let image = shared_image(rt.alloc())?;
-    let cell = words(rt.alloc(), &[64, 1])?;
-    let frozen = words(rt.alloc(), &[1, 0, 7, 0])?;
-    assert_eq!(rt; image.as_slice().get(800..808), Some(cell.as_slice()));
-    assert_eq!(rt; image.as_slice().get(864..880), Some(frozen.as_slice()));
+    assert!(rt; has_words(image.as_slice(), 800, &[64, 1]));
+    assert!(rt; has_words(image.as_slice(), 864, &[1, 0, 7, 0]));
     Ok(())
 }
 
@@ -122,15 +123,16 @@ fn changed(alloc: Global, at: usize, word: u32) -> Result<Vec<u8>, Fail> {
     Ok(image)
 }
 
+/// The fault of that image, if the checker finds one.
+fn fault_of_changed(alloc: Global, at: usize, word: u32) -> Result<Option<Fault>, Fail> {
+    Ok(checked(alloc, changed(alloc, at, word)?.as_slice()).err())
+}
+
 /// A count that isn't the number of cells, and a number that isn't below the next one, are faults.
 #[test]
 fn wrong_counts_and_numbers_are_refused(rt: HostRuntime) -> Result<(), Fail> {
     for (at, word) in [(864, 2), (868, 1)] {
-        let image = changed(rt.alloc(), at, word)?;
-        assert_eq!(rt;
-            checked(rt.alloc(), image.as_slice()),
-            Err(Fault::BadValue(864))
-        );
+        assert!(rt; fault_of_changed(rt.alloc(), at, word)? == Some(Fault::BadValue(864)));
     }
     Ok(())
 }
@@ -211,25 +213,23 @@ const REPLACE: &str = "type i64
 
 #[test]
 fn a_cell_names_what_its_content_shares(rt: HostRuntime) -> Result<(), Fail> {
-    let text = format!(in rt.alloc();
-        "$ client replace
-        {REPLACE}
-        $ on 1024 replace; free 192 named 1"
-    )?;
-    plays(rt.alloc(), &KINDS, text.as_str())
+    plays_with(
+        rt.alloc(),
+        &KINDS,
+        &[("replace", REPLACE)],
+        "$ on 1024 replace; free 192 named 1",
+    )
 }
 
 /// The named object is at 704 and its index at 736. The first struct, at 784, moves to the 48 bytes at 816. The second one, also
 /// at 784, moves to the 48 bytes at 864, which are free again at the end. The cell of `h` at 720 points to 832.
 #[test]
 fn the_first_of_two_frozen_structs_is_left(rt: HostRuntime) -> Result<(), Fail> {
-    let image = run_anew(rt.alloc(), 1024, SEQ_FLAT, &[REPLACE])?.image;
-    let cell = words(rt.alloc(), &[112, 1])?;
-    let frozen = words(rt.alloc(), &[1, 0, 0, 0, 1, 0])?;
-    let next = words(rt.alloc(), &[2])?;
-    assert_eq!(rt; image.as_slice().get(28..32), Some(next.as_slice()));
-    assert_eq!(rt; image.as_slice().get(720..728), Some(cell.as_slice()));
-    assert_eq!(rt; image.as_slice().get(832..856), Some(frozen.as_slice()));
+    let ran = run_anew(rt.alloc(), 1024, SEQ_FLAT, &[REPLACE])?;
+    let image = ran.image.as_slice();
+    assert!(rt; has_words(image, 28, &[2]));
+    assert!(rt; has_words(image, 720, &[112, 1]));
+    assert!(rt; has_words(image, 832, &[1, 0, 0, 0, 1, 0]));
     Ok(())
 }
 
@@ -291,10 +291,11 @@ fn no_gap_for_a_frozen_object(rt: HostRuntime) -> Result<(), Fail> {
 /// Sharing from an empty cell empties the other cell. Sharing from the cell itself changes nothing.
 #[test]
 fn cells_share_nothing_and_themselves(rt: HostRuntime) -> Result<(), Fail> {
-    let text = format!(in rt.alloc();
-        "$ client share
-        {SHARE}
-        $ client itself
+    plays_with(
+        rt.alloc(),
+        &KINDS,
+        &[("share", SHARE)],
+        "$ client itself
             type i64
             type shared t0
             name b
@@ -331,9 +332,8 @@ fn cells_share_nothing_and_themselves(rt: HostRuntime) -> Result<(), Fail> {
         7
         7
         $ then nothing itself; free 240 named 1
-        6"
-    )?;
-    plays(rt.alloc(), &KINDS, text.as_str())
+        6",
+    )
 }
 
 /// Freezes a struct with a value of each kind into `h`.
@@ -525,12 +525,11 @@ const READ_EACH_KIND: &str = "type i64
 /// The numbers of the struct are 11 to 17 in the order of its fields; the key is -5, and `b` is 98.
 #[test]
 fn what_is_frozen_is_read_in_each_way(rt: HostRuntime) -> Result<(), Fail> {
-    let text = format!(in rt.alloc();
-        r"$ client freeze
-        {FREEZE_EACH_KIND}
-        $ client read
-        {READ_EACH_KIND}
-        $ client kill
+    plays_with(
+        rt.alloc(),
+        &KINDS,
+        &[("freeze", FREEZE_EACH_KIND), ("read", READ_EACH_KIND)],
+        r"$ client kill
             type i64
             type str
             type vec t0
@@ -566,9 +565,8 @@ fn what_is_frozen_is_read_in_each_way(rt: HostRuntime) -> Result<(), Fail> {
         16
         17
         17
-        $ then kill; named 0 free 3392 largest 3392"
-    )?;
-    plays(rt.alloc(), &KINDS, text.as_str())
+        $ then kill; named 0 free 3392 largest 3392",
+    )
 }
 
 /// Tests that a client that only reads changes nothing.
@@ -590,20 +588,18 @@ fn readers_change_nothing(rt: HostRuntime) -> Result<(), Fail> {
 /// A notice is published and printed, twice. Before that there is no notice to print.
 #[test]
 fn a_notice_is_published(rt: HostRuntime) -> Result<(), Fail> {
-    let text = format!(in rt.alloc();
-        "$ client publish
-        {PUBLISH}
-        $ client notice
-        {NOTICE}
-        $ on 2048 notice publish notice; named 2
+    plays_with(
+        rt.alloc(),
+        &KINDS,
+        &[("publish", PUBLISH), ("notice", NOTICE)],
+        "$ on 2048 notice publish notice; named 2
         no notice
         7
         closed on Monday
         $ then publish notice; named 2
         7
-        closed on Monday"
-    )?;
-    plays(rt.alloc(), &KINDS, text.as_str())
+        closed on Monday",
+    )
 }
 
 /// An output fails after an object was frozen and shared. Tests that the objects are as they are without a failure.
