@@ -167,7 +167,7 @@ pub record MayEnter (bytes : List ℕ) (table : Table) (blocks : List ℕ) (root
   pub other : times (block_of root.at) blocks ≡ 0
 
 -- Only the index changed, which owned `blocks`. It now lists these names and owns `others`, and the
--- allocated blocks are these. Names that stay keep their nodes.
+-- allocated blocks are these. Other names keep their nodes.
 pub record ChangesNames (old new : List ℕ) (table : Table) (spans : List Span) (blocks : List ℕ)
     (names : List Root) (others : List ℕ) : Type 0 where
   pub length_kept : length new ≡ length old

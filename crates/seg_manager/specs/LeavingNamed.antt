@@ -35,7 +35,7 @@ pub record IsUnlisted (allocator : ℕ) (bytes : List ℕ) (table : Table) (root
 
 -- The object with this name and type was destroyed, with its blocks, the blocks of its entry, and
 -- the frozen objects that lost their last cell. The other objects didn't move. Each allocated block
--- outside the index is kept, except for the counts of frozen objects, and names that stay keep their
+-- outside the index is kept, except for the counts of frozen objects, and other names keep their
 -- nodes in it.
 pub record LosesNamed (allocator : ℕ) (old new : Stored) (picture : Picture)
     (index_blocks name : List ℕ) (T : ℕ) : Type 0 where

@@ -49,7 +49,7 @@ pub record GivesNamed (allocator : ℕ) (old new : List ℕ) (table : Table) (ro
 
 -- The requests for a new named object of n default values and for its entry were granted. The
 -- object is at this position, and in order among the others. Each allocated block outside the index
--- is kept, and names that stay keep their nodes in it.
+-- is kept, and other names keep their nodes in it.
 pub record MakesNamed (allocator : ℕ) (old new : Stored) (picture : Picture)
     (index_blocks name : List ℕ) (T n at : ℕ) : Type 0 where
   pub before : List Root

@@ -331,7 +331,7 @@ fn byte_at(text: &[u8], index: i64) -> Answer {
     }
 }
 
-/// A value, or a code if there is none.
+/// A value that exists, or a code.
 fn value_or(value: Option<usize>, code: i64) -> Answer {
     match value {
         Some(value) => Ok(Register::Value(value)),

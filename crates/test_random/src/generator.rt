@@ -158,7 +158,7 @@ impl Generator {
         Ok(self.text)
     }
 
-    /// Writes lines. Each `#` in them stands for the next number.
+    /// Writes lines. The next number is written for each `#` in them.
     fn write(&mut self, lines: &str, numbers: &[usize]) -> Result<(), AllocError> {
         let mut numbers = numbers.iter();
         for character in lines.chars() {
@@ -172,8 +172,8 @@ impl Generator {
         Ok(())
     }
 
-    /// Writes an operation on the object of a name. `front` is the text before operand b, in which `#` stands for the next
-    /// register, and `item` is the text of operand c.
+    /// Writes an operation on the object of a name. `front` is the text before operand b, with `#` for the next register,
+    /// and `item` is the text of operand c.
     fn write_named(
         &mut self,
         front: &str,
