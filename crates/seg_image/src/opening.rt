@@ -4,6 +4,7 @@ ghost use Rattle.seg_spec.specs.Header.{allocator_word};
 ghost use Rattle.seg_spec.specs.Images.{upgraded};
 ghost use Rattle.seg_raw.specs.Homes.{home_of};
 ghost use Rattle.seg_check.specs.Faults.{IsImageOf, IsFaultOf};
+ghost use Rattle.seg_check.specs.Owners.{IsOwnerFaultOf};
 ghost use Rattle.seg_image.specs.Images.{segment_of, allocator_of};
 
 use crate::image::Image;
@@ -34,6 +35,7 @@ impl<A: Allocator> From<Unopened<A>> for Fault {
 pub fn check<A: Allocator>(alloc: A, bytes: &[u8]) -> Result<TypeTable, Fault>
     ensures image { IfOk result (IsImageOf bytes.now) }
     ensures fault { IfErr result (IsFaultOf bytes.now) }
+    ensures owner { IfErr result (IsOwnerFaultOf bytes.now) }
 {
     seg_check::check(alloc, view_of(bytes)?)
 }
@@ -42,6 +44,7 @@ pub fn check<A: Allocator>(alloc: A, bytes: &[u8]) -> Result<TypeTable, Fault>
 pub(crate) fn view_of(bytes: &[u8]) -> Result<View<'_>, Fault>
     ensures view { IfOk result (λ view. view.bytes.now ≡ bytes.now) }
     ensures fault { IfErr result (IsFaultOf bytes.now) }
+    ensures owner { IfErr result (IsOwnerFaultOf bytes.now) }
 {
     if bytes.len() > MAX_LEN as usize {
         return Err(Fault::BadHeader);
@@ -61,6 +64,7 @@ impl<A: Allocator> Image<A> {
         ensures allocator { IfOk result
             (λ image. word bytes.items allocator_word ≡ allocator_of image) }
         ensures fault { IfErr result (λ unopened. IsFaultOf bytes.items unopened.fault) }
+        ensures owner { IfErr result (λ unopened. IsOwnerFaultOf bytes.items unopened.fault) }
         ensures refused { IfErr result (λ unopened. unopened.bytes.items ≡ bytes.items) }
         ensures home { IfOk result (λ image. (segment_of image).window.home ≡ home_of bytes) }
         ensures refused_home { IfErr result
@@ -99,6 +103,7 @@ impl<A: Allocator> Image<A> {
 fn window_of<A: Allocator>(bytes: Vec<u8, A>) -> Result<Window<A>, Unopened<A>>
     ensures window { IfOk result (λ window. window.bytes ≡ bytes.items) }
     ensures fault { IfErr result (λ unopened. IsFaultOf bytes.items unopened.fault) }
+    ensures owner { IfErr result (λ unopened. IsOwnerFaultOf bytes.items unopened.fault) }
     ensures refused { IfErr result (λ unopened. unopened.bytes.items ≡ bytes.items) }
     ensures home { IfOk result (λ window. window.home ≡ home_of bytes) }
     ensures refused_home { IfErr result (λ unopened. home_of unopened.bytes ≡ home_of bytes) }
