@@ -9,6 +9,7 @@ pub mod TypeLists
 pub use Rattle.seg_value.specs.Stored
 pub use Rattle.seg_space.specs.NewSegments
 pub use Rattle.seg_check.specs.Faults
+pub use Rattle.seg_check.specs.Owners as OwnerFaults
 pub use Rattle.seg_manager.specs.Segments
 pub use Rattle.seg_manager.specs.NamedObjects
 pub use Rattle.seg_seq.specs.Sequences
