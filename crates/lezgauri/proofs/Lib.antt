@@ -6,3 +6,6 @@ pub mod SliceMemory
 pub use Rattle.client_vm.proofs.TogetherLaws
 -- an image keeps its size
 pub use Rattle.client_sim.proofs.ImageSizeLaws
+-- named objects stay where they are
+pub mod StayingLaws
+pub use Rattle.client_sim.proofs.Names.NamePositionLaws
