@@ -1,4 +1,4 @@
--- Where named objects are before and after a run.
+-- The positions of named objects before and after a run.
 --     keeps_names operation     an instruction that makes no named object, and destroys none
 --     code_keeps_names code     code that has only such instructions
 --     NamesStay old new         each named object of one image is in the other, where it was

@@ -60,5 +60,5 @@ pub use Rattle.client_output.specs.declared.report.Ended
 pub use Rattle.client_output.specs.declared.refused.Refused
 -- what an output took
 pub use Rattle.client_sim.specs.Writes
--- where named objects are before and after a run
+-- the positions of named objects before and after a run
 pub use Rattle.client_sim.specs.Staying

@@ -66,7 +66,7 @@ times_in h (x ∷ xs) l = elim (cases_eq x h) [ inl e ↦ inl (sym e) | inr othe
 abbrev pub NotOfIndex : ℕ → Type 0
 NotOfIndex t = (t % 256 ≢ 5) × (t % 256 ≢ 6)
 
--- the tag is neither one of the index nor that of a named object
+-- no block of the index has this tag, and no named object
 abbrev pub NotOfNames : ℕ → Type 0
 NotOfNames t = (t % 256 ≢ 1) × (t % 256 ≢ 5) × (t % 256 ≢ 6)
 
@@ -389,7 +389,7 @@ pub record KeepsName (old new : List ℕ) (table : Table) (root : Root) : Type 0
   pub tag_kept : tag_at new (block_of root.at) ≡ tag_at old (block_of root.at)
   pub name_kept : IsSame old new (root.at + count root.values * size table root.type) (length root.name)
 
--- The blocks of the index are kept, and so are those of named objects, apart from their values.
+-- The blocks of the index are kept, and so are the blocks of named objects, apart from their values.
 pub record KeepsNames (old new : List ℕ) (p : Picture) (held : IsHeld old p) : Type 0 where
   pub kind_kept : word new index_kind_word ≡ word old index_kind_word
   pub index_kept : AllByRecursion (KeepsBlock old new) held.index_blocks
