@@ -11,3 +11,4 @@ pub mod Instructions
 pub mod Places
 pub mod Objects
 pub mod Frozen
+pub mod Names

@@ -3,3 +3,4 @@ pub mod Shows
 pub mod Acting
 pub mod Seeing
 pub mod Sharing
+pub mod Staying

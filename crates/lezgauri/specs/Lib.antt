@@ -60,3 +60,5 @@ pub use Rattle.client_output.specs.declared.report.Ended
 pub use Rattle.client_output.specs.declared.refused.Refused
 -- what an output took
 pub use Rattle.client_sim.specs.Writes
+-- the positions of named objects before and after a run
+pub use Rattle.client_sim.specs.Staying

@@ -1,4 +1,4 @@
-pub mod OnePicture
+pub use Rattle.client_sim.proofs.Names.OnePictureLaws as OnePicture
 pub mod ImageEvaluationLaws
 pub mod SoundImages
 pub mod SharedImages

@@ -6,7 +6,7 @@ use Rattle.seg_spec.specs.Bytes.{word}
 use Rattle.seg_spec.specs.Header.{next_word}
 use Rattle.seg_spec.specs.Sound.{Picture, IsHeld}
 use Rattle.seg_spec.specs.Counting.{AreCounted}
-use Rattle.test_definitions.proofs.OnePicture.{Held-one}
+use Rattle.client_sim.proofs.Names.OnePictureLaws.{Held-one}
 use Rattle.client_spec.specs.Syntax.{Client}
 use Rattle.client_spec.specs.Grammar.{SpellsClient}
 use Rattle.client_spec.specs.Run.{Ending, finished, stopped, stuck, bound}

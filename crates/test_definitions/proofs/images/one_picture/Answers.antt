@@ -1,4 +1,4 @@
-use Rattle.test_definitions.proofs.OnePicture.{Held-one}
+use Rattle.client_sim.proofs.Names.OnePictureLaws.{Held-one}
 use Rattle.test_definitions.proofs.images.one_picture.Goals as goal
 
 pub returns : goal.returns
