@@ -9,7 +9,7 @@ use Rattle.client_vm.specs.Admitted.{IsWrong}
 use Rattle.client_vm.specs.Outcomes.{HasOutcome, IsRefusedFor}
 use Rattle.client_vm.proofs.RefusalLaws.{why}
 use Rattle.lezgauri_c.specs.Calls.{whole_job, effect_of_one, IsRun}
-use Rattle.lezgauri_c.proofs.OneClient.{can_move}
+use Rattle.lezgauri.proofs.OpenedLaws.{can_move}
 
 -- a run of an equal image and output is the same run
 pub same_run : (text input image from output started output_then written saved left : List ℕ) (told : Report) (ended : Ended)

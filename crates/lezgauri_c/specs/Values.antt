@@ -6,6 +6,8 @@
 --     TellsOption status none value P
 --                               the caller has a value, or the status is `none`; P is true of that option
 --     IsReadStatus status       what a call that reads may return
+--     IsUnopened image types status
+--                               why an image isn't opened for a call, and the call's status
 --     stored_in, allocator_in   the segment that is the whole of an image, and its allocator
 --     OnSound image types P     if the image is sound and C keeps its types, P is true of its picture
 --     ShowsNext segment list U n i result, ShowsPrevious segment list U i result
@@ -13,9 +15,9 @@
 --                               none
 --     WhereText, WhereVector, WhereList, WhereMap image table place claim
 --                               the claim is true of the string, the vector, the list or the map at a place
-use Rattle.std.specs.Prelude.{◌≡◌, ◌⊎◌, ◌+◌, ◌-◌, ◌<◌, ◌≤◌, ℕ, ℤ, List, Option, Some, None, Result, Ok, Err, MatchResult, option_map}
+use Rattle.std.specs.Prelude.{◌≡◌, ◌⊎◌, ◌+◌, ◌-◌, ◌<◌, ◌≤◌, ℕ, ℤ, List, length, Option, Some, None, Result, Ok, Err, MatchResult, option_map}
 use Rattle.seg_spec.specs.Bytes.{word}
-use Rattle.seg_spec.specs.Header.{allocator_word}
+use Rattle.seg_spec.specs.Header.{allocator_word, max_length}
 use Rattle.seg_spec.specs.Types.{Table}
 use Rattle.seg_spec.specs.Value.{Values}
 use Rattle.seg_spec.specs.Sound.{Picture}
@@ -56,6 +58,11 @@ ReturnsPlace status old new P =
 abbrev pub TellsOption : {A : Type 0} → ℕ → ℕ → A → (Option A → Type 0) → Type 0
 TellsOption status none value P =
     ((status ≡ 0) × P (Some value)) ⊎ ((status ≡ none) × P None)
+
+-- C keeps no types, or the image is longer than any segment
+abbrev pub IsUnopened : List ℕ → KeptTypes → ℕ → Type 0
+IsUnopened image types status =
+    ((status ≡ 100) × (table_in types ≡ None)) ⊎ ((status ≡ 10) × (max_length < length image))
 
 -- OK, no types are kept, an image that is longer than any segment, or a code
 abbrev pub IsReadStatus : ℕ → Type 0

@@ -7,7 +7,7 @@ ghost use Rattle.lezgauri.specs.Images.{segment_of, bytes_in};
 ghost use Rattle.lezgauri_c.specs.Changes.{TellsDone, TellsFound, IsOpenedOn};
 ghost use Rattle.lezgauri_c.specs.KeptImages.{table_kept};
 ghost use Rattle.lezgauri_c.specs.Memory.{memory_of};
-ghost use Rattle.lezgauri_c.specs.Values.{table_in, OnSound};
+ghost use Rattle.lezgauri_c.specs.Values.{table_in, IsUnopened, OnSound};
 
 use crate::kept_image::KeptImage;
 use crate::kept_types::KeptTypes;
@@ -43,7 +43,7 @@ pub(crate) fn open_image(
     types: &mut KeptTypes,
 ) -> Result<Box<KeptImage>, u32>
     ensures opened { IfOk result (λ opened. IsOpenedOn image.old types.old opened.value) }
-    ensures status { IfErr result (λ status. (0 < status) × (status ≤ 100)) }
+    ensures status { IfErr result (IsUnopened image.old.bytes types.old) }
     ensures unsound { OnErr result (OnSound image.old.bytes types.old (λ _. ⊥)) }
     ensures kept { OnErr result (image.new.bytes ≡ image.old.bytes) }
     ensures kept_home { OnErr result (memory_of image.new ≡ memory_of image.old) }

@@ -1,9 +1,8 @@
 //! What all exports that read an image in place have in common: the types that C keeps are taken out of their box for one call.
 
-ghost use Rattle.std.specs.Prelude.{◌≡◌, ◌⊎◌, ◌+◌, ◌<◌, ◌≤◌, length, Some, None, IfOk, IfErr, OnErr};
-ghost use Rattle.seg_spec.specs.Header.{max_length};
+ghost use Rattle.std.specs.Prelude.{◌≡◌, ◌⊎◌, ◌<◌, ◌≤◌, Some, IfOk, IfErr, OnErr};
 ghost use Rattle.lezgauri_c.specs.KeptImages.{table_kept, types_in};
-ghost use Rattle.lezgauri_c.specs.Values.{table_in, Tells};
+ghost use Rattle.lezgauri_c.specs.Values.{table_in, Tells, IsUnopened};
 
 use crate::kept_image::KeptImage;
 use crate::kept_types::KeptTypes;
@@ -48,9 +47,7 @@ impl<'a> Opened<'a> {
         ensures image { IfOk result (λ opened. opened.view.bytes.now ≡ image.now) }
         ensures types { IfOk result
             (λ opened. table_in types.old ≡ Some (table_kept opened.types.value)) }
-        ensures status { IfErr result (λ status.
-            ((status ≡ 100) × (table_in types.old ≡ None))
-            ⊎ ((status ≡ 10) × (max_length < length image.now))) }
+        ensures status { IfErr result (IsUnopened image.now types.old) }
         ensures kept { OnErr result (table_in types.new ≡ table_in types.old) }
     {
         let Some(kept) = types.take(alloc) else {

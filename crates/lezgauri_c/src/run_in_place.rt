@@ -1,6 +1,6 @@
-ghost use Rattle.std.specs.Prelude.{◌≡◌, ◌↔◌, true, false, Ok, [], ◌∷◌, length, IfOk, IfErr, OnErr, ℕ};
+ghost use Rattle.std.specs.Prelude.{◌≡◌, ◌<◌, ◌↔◌, true, false, Ok, [], ◌∷◌, length, IfOk, IfErr, OnErr, ℕ};
 ghost use Rattle.seg_spec.specs.Bytes.{word};
-ghost use Rattle.seg_spec.specs.Header.{allocator_word};
+ghost use Rattle.seg_spec.specs.Header.{allocator_word, max_length};
 ghost use Rattle.seg_spec.specs.Types.{Table};
 ghost use Rattle.seg_spec.specs.Images.{IsSound, upgraded};
 ghost use Rattle.seg_spec.specs.Window.{region_of, with_bytes};
@@ -126,6 +126,7 @@ pub(crate) fn window_of<A: Allocator>(image: Vec<u8, A>) -> Result<Window<A>, Ve
     ensures region { IfOk result (λ window. region_of window ≡ image.items) }
     ensures base { IfOk result (λ window. length window.before ≡ 0) }
     ensures fault { OnErr result (IsFaultOf image.items Reason.BadHeader) }
+    ensures long { OnErr result (max_length < length image.items) }
     ensures kept { IfErr result (λ bytes. bytes.items ≡ image.items) }
     ensures home { IfOk result (λ window. window.home ≡ home_of image) }
     ensures kept_home { IfErr result (λ bytes. home_of bytes ≡ home_of image) }

@@ -1,10 +1,9 @@
-ghost use Rattle.std.specs.Prelude.{◌≡◌, ◌↔◌, ◌⊎◌, ℕ, ◌+◌, ◌<◌, ◌≤◌, length, vec_capacity, IsOk, IfOk, IfErr, OnOk, OnErr};
+ghost use Rattle.std.specs.Prelude.{◌≡◌, ◌↔◌, ◌+◌, ◌<◌, ◌≤◌, length, vec_capacity, IsOk, OnOk, OnErr};
 ghost use Rattle.seg_spec.specs.Bytes.{word};
 ghost use Rattle.seg_spec.specs.Header.{allocator_word};
 ghost use Rattle.seg_spec.specs.Heap.{gaps};
 ghost use Rattle.seg_spec.specs.Images.{IsSound};
 ghost use Rattle.seg_spec.specs.Window.{region_of};
-ghost use Rattle.lezgauri.specs.Faults.{IsImageOf};
 ghost use Rattle.seg_space.specs.Gaps.{bytes_in_gaps, largest_of};
 ghost use Rattle.seg_space.specs.Sizes.{MayGrowTo};
 ghost use Rattle.lezgauri_c.specs.Segments.{HasGrown, HasShrunk};

@@ -11,7 +11,7 @@ use Rattle.client_vm.proofs.RefusalLaws.{why}
 use Rattle.lezgauri_c.specs.Calls.{IsRun}
 use Rattle.lezgauri_c.specs.Prepared.{client_bytes_of}
 use Rattle.lezgauri_c.proofs.Numbers.{status_one}
-use Rattle.lezgauri_c.proofs.OneClient.{can_move}
+use Rattle.lezgauri.proofs.OpenedLaws.{can_move}
 use Rattle.lezgauri_c.proofs.ReadyLaws.{one_kept}
 use Rattle.lezgauri_c.proofs.preparing.lezgauri_raw_run_client.Goals as goal
 

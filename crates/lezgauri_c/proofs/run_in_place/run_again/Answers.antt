@@ -11,7 +11,8 @@ use Rattle.client_vm.specs.Admitted.{IsWrong}
 use Rattle.client_vm.proofs.TogetherLaws.{has_outcome}
 use Rattle.lezgauri_c.specs.Calls.{effect_of_one}
 use Rattle.lezgauri_c.specs.Prepared.{client_bytes_of}
-use Rattle.lezgauri_c.proofs.OneClient.{can_move, image_of, has_types}
+use Rattle.lezgauri.proofs.OpenedLaws.{can_move}
+use Rattle.lezgauri_c.proofs.OneClient.{image_of, has_types}
 use Rattle.lezgauri_c.proofs.ReadyLaws.{verified_on, differs_on}
 use Rattle.lezgauri_c.proofs.run_in_place.run_again.Goals as goal
 
