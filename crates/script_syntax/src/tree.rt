@@ -390,3 +390,29 @@ impl<'a, A: Allocator> Tree<'a, A> {
         self.fields.get(range.first..range.end).unwrap_or_default()
     }
 }
+
+impl Container {
+    /// The container with this word.
+    pub fn named(word: &[u8]) -> Option<Container> {
+        match word {
+            b"vec" => Some(Container::Vec),
+            b"list" => Some(Container::List),
+            b"map" => Some(Container::Map),
+            b"flat_map" => Some(Container::FlatMap),
+            b"own" => Some(Container::Own),
+            b"shared" => Some(Container::Shared),
+            _ => None,
+        }
+    }
+
+    pub fn spelling(self) -> &'static str {
+        match self {
+            Container::Vec => "vec",
+            Container::List => "list",
+            Container::Map => "map",
+            Container::FlatMap => "flat_map",
+            Container::Own => "own",
+            Container::Shared => "shared",
+        }
+    }
+}
