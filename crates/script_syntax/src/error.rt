@@ -150,7 +150,7 @@ impl Error {
 /// An error in words.
 #[derive(Clone, Copy)]
 pub struct Message<'a> {
-    /// The token that is wrong. The end of the program is empty.
+    /// The token that is wrong, or nothing at the end of the program.
     word: &'a [u8],
     kind: ErrorKind,
 }

@@ -9,8 +9,6 @@ mod leaving;
 mod lexer;
 mod parser;
 mod statement;
-#[cfg(test)]
-mod tests;
 mod token;
 mod tokens;
 mod tree;

@@ -16,7 +16,7 @@ pub enum TokenKind {
     /// A text, by its bytes without quotation marks and escapes.
     Text(Range),
     Word(Word),
-    /// What no token can be.
+    /// Bytes that are no token.
     Wrong(ErrorKind),
     End,
 }

@@ -11,7 +11,7 @@ pub struct Tokens<'t> {
 }
 
 impl<'t> Tokens<'t> {
-    /// `end` follows the last of the tokens, without end.
+    /// `end` is what `peek` and `take` return after the last token.
     pub fn new(tokens: &'t [Token], end: Token) -> Tokens<'t> {
         Tokens { rest: tokens, end }
     }

@@ -142,12 +142,12 @@ pub struct Held {
     pub name: Option<Span>,
 }
 
-/// Statements in braces, and the statements that run after them in the same part of the code.
+/// Statements in braces, and the statements that run after them.
 #[derive(Clone, Copy)]
 pub struct Block {
     pub statements: Range,
-    /// What followed the whole statement that this block belongs to, if the rewriting moved it into this block. The names that
-    /// `statements` declare aren't visible in it, except that the name of a `let` or a `use` without braces is.
+    /// The statements after the statement that has this block, if `parse` moved them into it. Names that the statement or
+    /// `statements` declare aren't visible there, unless the statement is a `let` or a `use` without a block.
     pub following: Range,
     /// Whether every way through the block ends in `break`, `continue`, `return` or `stop`.
     pub leaves: bool,
@@ -165,8 +165,8 @@ pub struct Statement {
     /// The first word.
     pub span: Span,
     pub kind: StatementKind,
-    /// The block of an `if`, a loop or a `use`. The rewriting gives one to each `let` that can fail and to each `use`: the
-    /// statements after it.
+    /// The block of an `if`, a loop or a `use`. A `let` that can fail and a `use` without a block have one too, with the
+    /// statements that were after them.
     pub body: Option<Block>,
     pub otherwise: Option<ElsePart>,
 }

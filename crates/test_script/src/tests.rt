@@ -1,42 +1,56 @@
-//! Programs that are read whole, what follows what leaves, and the errors that are told.
-
 mod programs;
 
-use crate::{Failure, StatementKind, parse};
 use programs::PROGRAMS;
+use script_syntax::{Error, Failure, StatementKind, parse};
 use std::alloc::{AllocError, Global};
 use std::fmt::Write;
+use std::process::Abort;
 use std::test::Fail;
 
-/// A line for each error of a program: its line and column, its message, and its hint after `/`.
+/// A line for each error of a program, or "none".
 fn errors_of(alloc: Global, text: &str) -> Result<String, AllocError> {
-    let mut told = String::new(alloc);
-    match parse(alloc, text.as_bytes()) {
-        Ok(_) => told.push_str("none")?,
-        Err(Failure::Memory) => return Err(AllocError),
-        Err(Failure::Errors(errors)) => {
-            for error in errors.as_slice() {
-                let line = error.span.line;
-                let column = error.span.column;
-                let message = error.message(text.as_bytes());
-                let hint = error.hint().unwrap_or("-");
-                writeln!(told, "{line}:{column}: {message} / {hint}")?;
-            }
-        }
+    match parse(alloc, text.as_bytes()).err() {
+        None => String::from_str(alloc, "none"),
+        Some(Failure::Memory) => Err(AllocError),
+        Some(Failure::Errors(errors)) => lines_of(alloc, text, errors.as_slice()),
     }
-    Ok(told)
 }
 
-#[test]
-fn programs_are_read(rt: HostRuntime) -> Result<(), Fail> {
-    for program in &PROGRAMS {
-        assert_eq!(rt; errors_of(rt.alloc(), program)?.as_str(), "none");
+/// For each error its line and column, its message, and its hint after `/`.
+fn lines_of(alloc: Global, text: &str, errors: &[Error]) -> Result<String, AllocError> {
+    let mut lines = String::new(alloc);
+    for error in errors {
+        add_line(&mut lines, text, error)?;
+    }
+    Ok(lines)
+}
+
+fn add_line(lines: &mut String, text: &str, error: &Error) -> Result<(), AllocError> {
+    let line = error.span.line;
+    let column = error.span.column;
+    let message = error.message(text.as_bytes());
+    let hint = error.hint().unwrap_or("-");
+    writeln!(lines, "{line}:{column}: {message} / {hint}")
+}
+
+/// Checks how the errors of programs are told.
+fn check_errors(
+    rt: &(impl Abort + AllocGlobal),
+    programs: &[(&str, &str)],
+) -> Result<(), AllocError> {
+    for (program, told) in programs {
+        assert_eq!(rt; errors_of(rt.alloc(), program)?.as_str(), *told);
     }
     Ok(())
 }
 
-/// Programs with one error each.
-const WRONG: [(&str, &str); 36] = [
+#[test]
+fn programs_are_read(rt: HostRuntime) -> Result<(), Fail> {
+    Ok(check_errors(&rt, &PROGRAMS)?)
+}
+
+/// Programs with an error each, and how it is told.
+static WRONG: [(&str, &str); 36] = [
     (
         r#"print "\q""#,
         "1:8: `\\q` is no escape / the escapes are \\n \\t \\r \\0 \\\\ \\\" \\' and \\x with two hexadecimal digits\n",
@@ -167,10 +181,7 @@ const WRONG: [(&str, &str); 36] = [
 
 #[test]
 fn errors_are_told(rt: HostRuntime) -> Result<(), Fail> {
-    for (program, told) in &WRONG {
-        assert_eq!(rt; errors_of(rt.alloc(), program)?.as_str(), *told);
-    }
-    Ok(())
+    Ok(check_errors(&rt, &WRONG)?)
 }
 
 const SEVERAL: &str = "let x = \nif x == { print @ }\nstruct S {\n    a: itn b\n}\nprint $, %\n";
