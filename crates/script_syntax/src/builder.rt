@@ -1,4 +1,4 @@
-use crate::error::{Error, Stop};
+use crate::error::Error;
 use crate::tree::{
     Block, Container, Declaration, Expression, ExpressionAt, Field, Held, Item, Range, Statement,
     Step, Tree,

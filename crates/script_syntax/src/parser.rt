@@ -44,7 +44,7 @@ enum Owner {
     Declaration(Header),
 }
 
-/// Reads a program. Its statements are nested as the machine needs them: see `Tree::nest`.
+/// Reads a program. Statements are moved as `Block::following` says.
 pub fn parse<'a, A: Allocator + Copy>(alloc: A, text: &'a [u8]) -> Result<Tree<'a, A>, Failure<A>> {
     let mut bytes = Vec::new(alloc);
     let (tokens, end) = tokens_of(alloc, text, &mut bytes)?;

@@ -4,8 +4,8 @@ use crate::expression::{read_expression, read_place};
 use crate::token::{Token, TokenKind};
 use crate::tokens::Tokens;
 use crate::tree::{
-    Expression, ExpressionAt, ExpressionKind, Held, Item, Range, SetOperator, Source, Span,
-    Statement, StatementKind, StepKind, Value, ValueKind,
+    ExpressionAt, ExpressionKind, Held, Item, Range, SetOperator, Source, Span, StatementKind,
+    StepKind, Value, ValueKind,
 };
 use crate::types::read_type;
 use crate::word::Word;
