@@ -1,0 +1,418 @@
+use std::alloc::Allocator;
+
+/// A part of a program's text.
+#[derive(Clone, Copy)]
+pub struct Span {
+    /// The bytes from `start` to before `end`.
+    pub start: usize,
+    pub end: usize,
+    /// The line and the column of the first character, from 1. Columns count characters.
+    pub line: usize,
+    pub column: usize,
+}
+
+/// The items of one of a tree's lists from `first` to before `end`.
+#[derive(Clone, Copy, PartialEq, Eq)]
+pub struct Range {
+    pub first: usize,
+    pub end: usize,
+}
+
+/// An expression of a tree. The operands of an expression come before it.
+#[derive(Clone, Copy, PartialEq, Eq)]
+pub struct ExpressionAt(pub usize);
+
+#[derive(Clone, Copy)]
+pub struct Expression {
+    /// The operator, the literal, or the name that the expression begins with.
+    pub span: Span,
+    pub kind: ExpressionKind,
+}
+
+#[derive(Clone, Copy)]
+pub enum ExpressionKind {
+    Number(u64),
+    /// A text, by its bytes.
+    Text(Range),
+    Unary(UnaryOperator, ExpressionAt),
+    Binary(BinaryOperator, ExpressionAt, ExpressionAt),
+    /// The place that the named object, variable or constant and these steps lead to.
+    Place(Range),
+    /// The value of a place, or the second expression if the place is absent.
+    OrElse(ExpressionAt, ExpressionAt),
+    /// A call of the named function, with these arguments.
+    Call(Range),
+}
+
+#[derive(Clone, Copy, PartialEq, Eq)]
+pub enum UnaryOperator {
+    Negative,
+    Not,
+}
+
+#[derive(Clone, Copy, PartialEq, Eq)]
+pub enum BinaryOperator {
+    Or,
+    And,
+    Equal,
+    NotEqual,
+    Less,
+    LessOrEqual,
+    Greater,
+    GreaterOrEqual,
+    Add,
+    Subtract,
+    Multiply,
+    Divide,
+    Remainder,
+}
+
+/// A step from a place to a part of it.
+#[derive(Clone, Copy)]
+pub struct Step {
+    /// The name of the field or of the method, or the opening bracket.
+    pub span: Span,
+    pub kind: StepKind,
+}
+
+#[derive(Clone, Copy)]
+pub enum StepKind {
+    Field,
+    Index(ExpressionAt),
+    /// A method with these arguments.
+    Method(Range),
+}
+
+/// A type: containers around a number, a text or a struct.
+#[derive(Clone, Copy)]
+pub struct Type {
+    /// The first word.
+    pub span: Span,
+    /// The containers, from the outermost.
+    pub containers: Range,
+    pub base: BaseType,
+}
+
+#[derive(Clone, Copy, PartialEq, Eq)]
+pub enum Container {
+    Vec,
+    List,
+    Map,
+    FlatMap,
+    Own,
+    Shared,
+}
+
+#[derive(Clone, Copy)]
+pub enum BaseType {
+    Int,
+    Text,
+    /// A struct, by its name.
+    Struct(Span),
+}
+
+/// The right side of a `let`, an `if let` or an assignment.
+#[derive(Clone, Copy)]
+pub struct Value {
+    /// The word `new` or `take`, or the expression's span.
+    pub span: Span,
+    pub kind: ValueKind,
+}
+
+#[derive(Clone, Copy)]
+pub enum ValueKind {
+    Expression(ExpressionAt),
+    New(Type),
+    /// `take`, with the place.
+    Take(ExpressionAt),
+}
+
+/// What a `print`, a `write` or an assignment lists.
+#[derive(Clone, Copy)]
+pub struct Item {
+    pub value: Value,
+    /// The width after `:`.
+    pub width: Option<ExpressionAt>,
+}
+
+/// A place that a `use` holds, with the name after `as`.
+#[derive(Clone, Copy)]
+pub struct Held {
+    pub place: ExpressionAt,
+    pub name: Option<Span>,
+}
+
+/// Statements in braces, and the statements that run after them.
+#[derive(Clone, Copy)]
+pub struct Block {
+    pub statements: Range,
+    /// The statements after the statement that has this block, if `parse` moved them into it. Names that the statement or
+    /// `statements` declare aren't visible there, unless the statement is a `let` or a `use` without a block.
+    pub following: Range,
+    /// Whether every way through the block ends in `break`, `continue`, `return` or `stop`.
+    pub leaves: bool,
+}
+
+/// `else {..}`, or `else CODE {..}`. After `else if` the block has that one statement.
+#[derive(Clone, Copy)]
+pub struct ElsePart {
+    pub code: Option<Span>,
+    pub block: Block,
+}
+
+#[derive(Clone, Copy)]
+pub struct Statement {
+    /// The first word.
+    pub span: Span,
+    pub kind: StatementKind,
+    /// The block of an `if`, a loop or a `use`. A `let` that can fail and a `use` without a block have one too, with the
+    /// statements that were after them.
+    pub body: Option<Block>,
+    pub otherwise: Option<ElsePart>,
+}
+
+#[derive(Clone, Copy)]
+pub enum StatementKind {
+    Let {
+        name: Span,
+        value: Value,
+    },
+    If(ExpressionAt),
+    IfLet {
+        name: Span,
+        value: Value,
+    },
+    For {
+        /// The name before the comma, if there are two.
+        key: Option<Span>,
+        name: Span,
+        source: Source,
+        most: Option<ExpressionAt>,
+    },
+    While {
+        condition: ExpressionAt,
+        most: Option<ExpressionAt>,
+    },
+    Break,
+    Continue,
+    Stop,
+    Return(Option<ExpressionAt>),
+    Print {
+        items: Range,
+        most: Option<ExpressionAt>,
+        /// Whether it is `print`, and not `write`.
+        ends_line: bool,
+    },
+    Set {
+        place: ExpressionAt,
+        operator: SetOperator,
+        operator_span: Span,
+        /// One or more. `new` and `take` are the only item.
+        items: Range,
+        most: Option<ExpressionAt>,
+    },
+    /// A call of a function or of a method.
+    Call(ExpressionAt),
+    Delete(ExpressionAt),
+    Clear(ExpressionAt),
+    Shrink(ExpressionAt),
+    Freeze {
+        place: ExpressionAt,
+        name: Span,
+    },
+    Share {
+        place: ExpressionAt,
+        source: ExpressionAt,
+    },
+    /// `use`, with the places that it holds.
+    Use(Range),
+    /// A statement whose beginning has an error. It is only in the tree of a program with errors.
+    Wrong,
+}
+
+#[derive(Clone, Copy, PartialEq, Eq)]
+pub enum SetOperator {
+    Set,
+    Add,
+    Subtract,
+    Multiply,
+    Divide,
+    Remainder,
+}
+
+/// What a `for` goes through.
+#[derive(Clone, Copy)]
+pub enum Source {
+    /// The input, at the span of the word.
+    Input(Span),
+    /// From the first number to before the second.
+    Numbers(ExpressionAt, ExpressionAt),
+    Place(ExpressionAt),
+}
+
+#[derive(Clone, Copy)]
+pub struct Declaration {
+    /// The declared name, or the word `fail`.
+    pub span: Span,
+    pub kind: DeclarationKind,
+}
+
+#[derive(Clone, Copy)]
+pub enum DeclarationKind {
+    Constant(ExpressionAt),
+    /// A struct, with its fields.
+    Struct(Range),
+    Object {
+        value_type: Type,
+        /// The number of values, if it is an array.
+        count: Option<ExpressionAt>,
+        /// The bytes of the name in the segment, after `as`.
+        segment_name: Option<Range>,
+    },
+    Family {
+        value_type: Type,
+        segment_name: Option<Range>,
+    },
+    Unique(Type),
+    Function {
+        parameters: Range,
+        gives_number: bool,
+        body: Block,
+    },
+    Fail(Block),
+}
+
+/// A field of a struct, or a parameter of a function. A parameter without a type is a number.
+#[derive(Clone, Copy)]
+pub struct Field {
+    pub name: Span,
+    pub value_type: Type,
+}
+
+/// A program: its declarations and statements, in lists that refer to each other by position.
+#[derive(Drop)]
+pub struct Tree<'a, A: Allocator> {
+    pub(crate) text: &'a [u8],
+    pub(crate) bytes: Vec<u8, A>,
+    pub(crate) expressions: Vec<Expression, A>,
+    pub(crate) arguments: Vec<ExpressionAt, A>,
+    pub(crate) steps: Vec<Step, A>,
+    pub(crate) containers: Vec<Container, A>,
+    pub(crate) items: Vec<Item, A>,
+    pub(crate) held: Vec<Held, A>,
+    pub(crate) fields: Vec<Field, A>,
+    pub(crate) statements: Vec<Statement, A>,
+    pub(crate) declarations: Vec<Declaration, A>,
+    pub(crate) body: Block,
+}
+
+impl Range {
+    pub const NONE: Range = Range { first: 0, end: 0 };
+
+    pub fn is_empty(&self) -> bool {
+        self.end <= self.first
+    }
+}
+
+impl Block {
+    pub const EMPTY: Block = Block {
+        statements: Range::NONE,
+        following: Range::NONE,
+        leaves: false,
+    };
+}
+
+impl<'a, A: Allocator> Tree<'a, A> {
+    /// The program's text.
+    pub fn text(&self) -> &'a [u8] {
+        self.text
+    }
+
+    /// The bytes of the text in a span, for example a name.
+    pub fn word(&self, span: Span) -> &'a [u8] {
+        self.text.get(span.start..span.end).unwrap_or_default()
+    }
+
+    pub fn declarations(&self) -> &[Declaration] {
+        self.declarations.as_slice()
+    }
+
+    /// The statements outside functions.
+    pub fn body(&self) -> Block {
+        self.body
+    }
+
+    pub fn expression(&self, at: ExpressionAt) -> Option<Expression> {
+        self.expressions.get(at.0).copied()
+    }
+
+    pub fn statements(&self, range: Range) -> &[Statement] {
+        self.statements
+            .get(range.first..range.end)
+            .unwrap_or_default()
+    }
+
+    /// The bytes of a text, without its quotation marks and escapes.
+    pub fn bytes(&self, range: Range) -> &[u8] {
+        self.bytes.get(range.first..range.end).unwrap_or_default()
+    }
+
+    /// The arguments of a function or a method.
+    pub fn arguments(&self, range: Range) -> &[ExpressionAt] {
+        self.arguments
+            .get(range.first..range.end)
+            .unwrap_or_default()
+    }
+
+    /// The steps of a place.
+    pub fn steps(&self, range: Range) -> &[Step] {
+        self.steps.get(range.first..range.end).unwrap_or_default()
+    }
+
+    /// The containers of a type, from the outermost.
+    pub fn containers(&self, range: Range) -> &[Container] {
+        self.containers
+            .get(range.first..range.end)
+            .unwrap_or_default()
+    }
+
+    pub fn items(&self, range: Range) -> &[Item] {
+        self.items.get(range.first..range.end).unwrap_or_default()
+    }
+
+    /// The places of a `use`.
+    pub fn held(&self, range: Range) -> &[Held] {
+        self.held.get(range.first..range.end).unwrap_or_default()
+    }
+
+    /// The fields of a struct, or the parameters of a function.
+    pub fn fields(&self, range: Range) -> &[Field] {
+        self.fields.get(range.first..range.end).unwrap_or_default()
+    }
+}
+
+impl Container {
+    /// The container with this word.
+    pub fn named(word: &[u8]) -> Option<Container> {
+        match word {
+            b"vec" => Some(Container::Vec),
+            b"list" => Some(Container::List),
+            b"map" => Some(Container::Map),
+            b"flat_map" => Some(Container::FlatMap),
+            b"own" => Some(Container::Own),
+            b"shared" => Some(Container::Shared),
+            _ => None,
+        }
+    }
+
+    pub fn spelling(self) -> &'static str {
+        match self {
+            Container::Vec => "vec",
+            Container::List => "list",
+            Container::Map => "map",
+            Container::FlatMap => "flat_map",
+            Container::Own => "own",
+            Container::Shared => "shared",
+        }
+    }
+}
