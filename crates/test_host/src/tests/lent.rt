@@ -5,19 +5,26 @@ ghost use Rattle.lezgauri.specs.Homes.{home_of};
 ghost use Rattle.lezgauri.specs.Images.{segment_of};
 
 use crate::tests::door::Host;
-use lezgauri::{AllocatorKind, Error, Fault, Image, ImageRead, IndexKind, Lodged, Type, lend};
+use lezgauri::{
+    AllocatorKind, Error, Fault, Image, ImageRead, IndexKind, Lodged, Through, Type, lend, prepare,
+    run, verify,
+};
 use std::alloc::Global;
 use std::process::Abort;
 use std::test::Fail;
+use support_data::{INCREMENT_FILE, Limited};
 
-/// Adds 1 to the number `count` of an image, and returns it.
-fn count(image: &mut Image<Lodged>) -> Result<i64, Error>
+/// Adds 1 to the number `x` of an image, runs the client, which adds 1 too, and returns the number.
+fn count(alloc: Global, image: &mut Image<Lodged>) -> Result<i64, Error>
     ensures { (segment_of image.new).window.home ≡ (segment_of image.old).window.home }
 {
-    let count = image.find(b"count", 0)?;
-    let next = image.load(count)?.saturating_add(1);
-    image.store(count, next)?;
-    Ok(next)
+    let x = image.find(b"x", 0)?;
+    let next = image.load(x)?.saturating_add(1);
+    image.store(x, next)?;
+    let client = prepare(alloc, verify(image, &INCREMENT_FILE)?)?;
+    let mut out = Through::new(Limited::unlimited(alloc));
+    run(image, &client, b"", &mut out)?;
+    Ok(image.load(x)?)
 }
 
 /// The same in the memory of an image, which is in the first `used` bytes.
@@ -32,7 +39,7 @@ fn count_in(alloc: Global, memory: &mut [u8], used: usize) -> Result<i64, Error>
         {
             match Image::open(alloc, bytes) {
                 Ok(mut image) => {
-                    let counted = count(&mut image);
+                    let counted = count(alloc, &mut image);
                     (image.into_bytes(), counted)
                 }
                 Err(unopened) => (unopened.bytes, Err(Error::from(unopened.fault))),
@@ -45,13 +52,13 @@ fn count_in(alloc: Global, memory: &mut [u8], used: usize) -> Result<i64, Error>
 fn counts(rt: &(impl Abort + AllocGlobal), allocator: AllocatorKind) -> Result<(), Fail> {
     let mut image = Host::create(rt.alloc(), 1024, allocator, IndexKind::Flat)?;
     image.add_types(&[Type::I64])?;
-    image.construct(b"count", 0, 1)?;
+    image.construct(b"x", 0, 1)?;
     let mut memory = image.into_bytes();
     memory.resize(2048, 7)?;
     let lent = memory.as_mut_slice();
     assert_eq!(rt; lent.len(), 2048);
-    assert_eq!(rt; count_in(rt.alloc(), lent, 1024), Ok(1));
     assert_eq!(rt; count_in(rt.alloc(), lent, 1024), Ok(2));
+    assert_eq!(rt; count_in(rt.alloc(), lent, 1024), Ok(4));
     assert_eq!(rt;
         count_in(rt.alloc(), lent, 1023),
         Err(Error::from(Fault::BadHeader))
