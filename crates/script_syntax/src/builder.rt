@@ -86,7 +86,7 @@ impl<'a, A: Allocator> Builder<'a, A> {
         Ok(self.errors.push(error)?)
     }
 
-    /// Where the list begins whose steps are added next.
+    /// The beginning of the list whose steps are added next.
     pub fn steps_begin(&self) -> usize {
         self.steps.len()
     }
@@ -100,7 +100,7 @@ impl<'a, A: Allocator> Builder<'a, A> {
         end_list(&mut self.steps, begin, &mut self.tree.steps)
     }
 
-    /// Where the list begins whose arguments are added next.
+    /// The beginning of the list whose arguments are added next.
     pub fn arguments_begin(&self) -> usize {
         self.arguments.len()
     }
@@ -114,7 +114,7 @@ impl<'a, A: Allocator> Builder<'a, A> {
         end_list(&mut self.arguments, begin, &mut self.tree.arguments)
     }
 
-    /// Where the block begins whose statements are added next.
+    /// The beginning of the block whose statements are added next.
     pub fn block_begin(&self) -> usize {
         self.statements.len()
     }

@@ -30,7 +30,7 @@ impl<A: Allocator> From<AllocError> for Failure<A> {
 #[derive(Clone, Copy)]
 struct OpenBlock {
     owner: Owner,
-    /// Where its statements begin.
+    /// The beginning of its statements.
     begin: usize,
     brace: Span,
 }
@@ -89,7 +89,7 @@ fn read_program<A: Allocator>(
     Ok(())
 }
 
-/// Reads a declaration, a statement up to its block, or the end of a block. After an error, goes on at the next block or line.
+/// Reads a declaration, a statement up to its block, or the end of a block. After an error, continues at the next block or line.
 fn read_or_recover<A: Allocator>(
     token: Token,
     tokens: &mut Tokens<'_>,

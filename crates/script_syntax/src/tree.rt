@@ -24,7 +24,7 @@ pub struct ExpressionAt(pub usize);
 
 #[derive(Clone, Copy)]
 pub struct Expression {
-    /// The operator, the literal, or the name that the expression begins with.
+    /// The operator, the literal, or the first name.
     pub span: Span,
     pub kind: ExpressionKind,
 }
@@ -36,7 +36,7 @@ pub enum ExpressionKind {
     Text(Range),
     Unary(UnaryOperator, ExpressionAt),
     Binary(BinaryOperator, ExpressionAt, ExpressionAt),
-    /// The place that the named object, variable or constant and these steps lead to.
+    /// A place: a name of an object, a variable or a constant, and these steps from it.
     Place(Range),
     /// The value of a place, or the second expression if the place is absent.
     OrElse(ExpressionAt, ExpressionAt),
@@ -146,8 +146,8 @@ pub struct Held {
 #[derive(Clone, Copy)]
 pub struct Block {
     pub statements: Range,
-    /// The statements after the statement that has this block, if `parse` moved them into it. Names that the statement or
-    /// `statements` declare aren't visible there, unless the statement is a `let` or a `use` without a block.
+    /// The statements after the statement that has this block, if `parse` moved them into it. What the statement or
+    /// `statements` declare isn't visible there, unless the statement is a `let` or a `use` without a block.
     pub following: Range,
     /// Whether every way through the block ends in `break`, `continue`, `return` or `stop`.
     pub leaves: bool,

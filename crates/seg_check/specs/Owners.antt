@@ -3,7 +3,7 @@
 --     HoldsBut bytes unowned       a sound image, except that these allocated blocks have no owner
 --     HoldsOnce bytes              the same, for some such blocks
 --     LacksOwnerAt bytes at        only owners are missing; the first block without one is at `at`
---     IsOwnerFaultOf bytes fault   the fault is `Unowned` if only owners are missing, and only then
+--     IsOwnerFaultOf bytes fault   `Unowned` if only owners are missing, and then no other fault of the content
 use Rattle.std.specs.Prelude.{ℕ, ◌≤◌, ⊤, List, ◌++◌}
 use Rattle.seg_spec.specs.Heap.{live}
 use Rattle.seg_spec.specs.Sound.{times, SameBlocks, positions}

@@ -36,7 +36,7 @@ use Rattle.client_spec.proofs.Unfolded.UnfoldedStateLaws.{register_same}
 use Rattle.test_definitions.specs.RefusedOutcomes.{IsOutcomeOf, add_a_byte, make_y}
 use Rattle.test_definitions.proofs.ImageEvaluationLaws.{live_evaluated, numbers-valid, texts-valid}
 use Rattle.test_definitions.proofs.SoundImages.{empty_held, empty_tiles, empty_fill, empty_headers, greeting_held}
-use Rattle.test_definitions.proofs.OnePicture.{Held-one}
+use Rattle.client_sim.proofs.Names.OnePictureLaws.{Held-one}
 use Rattle.test_definitions.proofs.OneRow.{none_and_some, pair_is}
 use Rattle.test_definitions.proofs.OneClientLaws.{one_run, first_image}
 use Rattle.test_definitions.proofs.IncrementLaws.{is_instruction}

@@ -16,7 +16,7 @@ use Rattle.client_spec.specs.Clients.{AreAccepted, RunClients}
 use Rattle.client_spec.specs.Outcome.{given_first}
 use Rattle.client_spec.proofs.Spelling.OneClientLaws.{one_client}
 use Rattle.test_definitions.specs.RefusedOutcomes.{IsOutcomeOf}
-use Rattle.test_definitions.proofs.OnePicture.{Held-one}
+use Rattle.client_sim.proofs.Names.OnePictureLaws.{Held-one}
 
 -- the run of the one client that the text spells
 pub one_run : (image : List ℕ) (client : Client) (left : Left) → SpellsClient (client_bytes client) client → IsOutcomeOf client image left → (host : List ℕ) × RunsClient client (given_first (upgraded image) host [] 0 []) left

@@ -25,7 +25,7 @@ use Rattle.client_spec.specs.Ties.{places_of}
 use Rattle.client_spec.specs.OnImages.{Move, Situation, RowWith, RowOn}
 use Rattle.client_spec.proofs.TypedStates.ValueLaws.{Some_inj}
 use Rattle.client_spec.proofs.Rows.RoomRowLaws.{same, denied, by_room}
-use Rattle.test_definitions.proofs.OnePicture.{Held-one}
+use Rattle.client_sim.proofs.Names.OnePictureLaws.{Held-one}
 use Rattle.test_definitions.proofs.OneState.{plain_same, owned_same}
 
 pub pair_is : {A B : Type 0} (a b : A) (s t : B) → ◌≡◌ {A = Option (A × B)} (Some (a, s)) (Some (b, t)) → (a ≡ b) × (s ≡ t)

@@ -16,7 +16,7 @@ use Rattle.client_spec.specs.Machine.{Register, State}
 use Rattle.client_spec.specs.Trees.{unfolded_register}
 use Rattle.client_spec.specs.Pictures.{AreOwned, Pictures, PicturesTrees, meaning_in, object_of}
 use Rattle.client_spec.specs.Ties.{places_of}
-use Rattle.test_definitions.proofs.OnePicture.{plain-one, Held-one}
+use Rattle.client_sim.proofs.Names.OnePictureLaws.{plain-one, Held-one}
 
 -- roots without a name are determined by their positions
 roots_one : (bytes : List ℕ) (table : Table) (rs qs : List Root) (xs ys : List ℕ) → places_of rs ≡ places_of qs → HoldsRoots bytes table rs xs → HoldsRoots bytes table qs ys → AllByRecursion IsPlain rs → AllByRecursion IsPlain qs → rs ≡ qs

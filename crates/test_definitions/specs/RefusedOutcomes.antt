@@ -1,4 +1,5 @@
--- An image that no outcome of the increment leaves, and two clients that never fail.
+-- Outcomes of one client: an image that no outcome of the increment leaves, and two clients that
+-- print something only if they fail.
 --     IsOutcomeOf client image left   an outcome of one client, at base 0 of a region of 2048 bytes
 --     exchanged    x is 42, and x and the index are in each other's blocks
 --     add_a_byte   adds a byte to the text s, and prints the code if this fails
