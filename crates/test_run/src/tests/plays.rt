@@ -145,20 +145,14 @@ impl<'a> Play<'a> {
 
     /// Tests these numbers of the run and its image. Each number comes after a word for what it counts.
     fn leaves(&self, ran: &Ran, facts: &str) -> Result<(), Fail> {
-        let mut what = "";
-        for word in facts.split_whitespace() {
-            if what.is_empty() {
-                what = word;
-            } else {
-                is_number(what, self.number(ran, what)?, word)?;
-                what = "";
-            }
+        let words: Vec<&str> = facts.split_whitespace().collect(self.alloc)?;
+        for fact in words.as_slice().chunks(2) {
+            let [what, wanted] = *fact else {
+                return Err(Fail::from("a number is missing"));
+            };
+            is_number(what, self.number(ran, what)?, wanted)?;
         }
-        if what.is_empty() {
-            Ok(())
-        } else {
-            Err(Fail::from("a number is missing"))
-        }
+        Ok(())
     }
 
     fn number(&self, ran: &Ran, what: &str) -> Result<u64, Fail> {
