@@ -35,14 +35,14 @@ module _ {old new : List ℕ} {table : Table} {before after : List Frozen} (kept
 
 module _ (constants : List Constant) (others : List Root) (moves : List Move) (i : Instruction) (x y : Situation) (answer : Answer) (row : RowOn constants others moves i x answer y) (f g : Frozen)
     (was : Contains row.before.pictured.picture.frozen f) (is : Contains row.after.pictured.picture.frozen g) (same : g.at ≡ f.at) where
-  pub content_stays : (g.type ≡ f.type) × (g.number ≡ f.number) × (g.value ≡ f.value)
-  content_stays = same_content row.frozen_kept f g was is same
+  pub object_stays : (g.type ≡ f.type) × (g.number ≡ f.number) × (g.value ≡ f.value)
+  object_stays = same_content row.frozen_kept f g was is same
 
   pub bytes_stay : IsSame x.image y.image (f.at + 4) (4 + size row.before.pictured.picture.table f.type)
   bytes_stay = same_bytes row.frozen_kept f g was is same
 
   pub no_other_value : g.value ≢ f.value → ⊥
-  no_other_value other = other content_stays.2
+  no_other_value other = other object_stays.2
 
   pub no_other_bytes : (IsSame x.image y.image (f.at + 4) (4 + size row.before.pictured.picture.table f.type) → ⊥) → ⊥
   no_other_bytes differ = differ bytes_stay

@@ -7,10 +7,11 @@ use Rattle.seg_spec.specs.Block.{KeepsBlock, payload_size}
 use Rattle.seg_spec.specs.Bytes.{IsSame}
 use Rattle.seg_spec.specs.Sound.{times, positions}
 use Rattle.seg_spec.specs.Apart.{KeepsBlockAround}
+use Rattle.seg_spec.specs.Roots.{KeepsNodes}
 use Rattle.client_spec.specs.declared.table.Operation.{Operation}
 use Rattle.client_spec.specs.Syntax.{Constant, Instruction}
 use Rattle.client_spec.specs.Answer.{Answer, success, bad_alloc}
-use Rattle.client_spec.specs.Ties.{Spot, writes_image, keeps_image, TouchesBy, Changes}
+use Rattle.client_spec.specs.Ties.{Spot, writes_image, keeps_image, TouchesBy, KeepsBy, Changes}
 use Rattle.client_spec.specs.OnImages.{Move, Situation, RowOn}
 
 keeps : (operation : Operation) (answer : Answer) → answer ≢ success → answer ≢ bad_alloc → keeps_image operation answer ≡ true
@@ -53,3 +54,14 @@ new_keeps constants others moves i x y answer row news h some = by row.ties.chan
 pub new_moves_nothing : (constants : List Constant) (others : List Root) (moves : List Move) (i : Instruction) (x y : Situation) (answer : Answer)
     → i.operation ≡ Operation.New → (h : ℕ) → 1 ≤ times h (positions (live x.image)) → (IsSame x.image y.image (h + 16) (payload_size x.image h) → ⊥) → RowOn constants others moves i x answer y → ⊥
 new_moves_nothing constants others moves i x y answer news h some differs row = differs (new_keeps constants others moves i x y answer row news h some).payload
+
+-- an instruction that makes or destroys a named object keeps the nodes of the index
+pub nodes_kept : (constants : List Constant) (others : List Root) (moves : List Move) (i : Instruction) (x y : Situation) (answer : Answer) → (row : RowOn constants others moves i x answer y)
+    → (i.operation ≡ Operation.Make) ⊎ (i.operation ≡ Operation.FindOrMake) ⊎ (i.operation ≡ Operation.Kill) → KeepsNodes x.image y.image row.before.pictured.held.index_blocks
+nodes_kept constants others moves i x y answer row (inl makes) = subst (λ o. KeepsBy constants i row.before.pictured o y.image) makes row.ties.kept_by
+nodes_kept constants others moves i x y answer row (inr (inl finds)) = (subst (λ o. KeepsBy constants i row.before.pictured o y.image) finds row.ties.kept_by).1
+nodes_kept constants others moves i x y answer row (inr (inr kills)) = (subst (λ o. KeepsBy constants i row.before.pictured o y.image) kills row.ties.kept_by).1
+
+pub no_other_node : (constants : List Constant) (others : List Root) (moves : List Move) (i : Instruction) (x y : Situation) (answer : Answer) → (row : RowOn constants others moves i x answer y)
+    → (i.operation ≡ Operation.Make) ⊎ (i.operation ≡ Operation.FindOrMake) ⊎ (i.operation ≡ Operation.Kill) → (KeepsNodes x.image y.image row.before.pictured.held.index_blocks → ⊥) → ⊥
+no_other_node constants others moves i x y answer row changes differs = differs (nodes_kept constants others moves i x y answer row changes)

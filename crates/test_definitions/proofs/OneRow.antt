@@ -181,3 +181,8 @@ pub one_row : (constants : List Constant) (others : List Root) (moves : List Mov
 one_row constants others moves i x y z a b r q =
     one_answer constants others i x.state x.image x.owned a b y.state z.state y.image z.image
     (record { row = r.row; before = r.before; blocks = r.blocks; owned = r.owned_before }) (record { row = q.row; before = q.before; blocks = q.blocks; owned = q.owned_before })
+
+-- an instruction that succeeds isn't out of memory
+pub no_choice : (constants : List Constant) (others : List Root) (moves : List Move) (i : Instruction) (x y z : Situation)
+    → RowOn constants others moves i x success y → RowOn constants others moves i x bad_alloc z → ⊥
+no_choice constants others moves i x y z r q = let same : success ≡ bad_alloc = (one_row constants others moves i x y z success bad_alloc r q).0 in cc

@@ -1,5 +1,5 @@
-use Rattle.test_definitions.proofs.FrozenRowLaws.{content_stays, bytes_stay, no_other_value, no_other_bytes}
+use Rattle.test_definitions.proofs.FrozenRowLaws.{object_stays, bytes_stay, no_other_value, no_other_bytes}
 use Rattle.test_definitions.proofs.pictures.frozen_kept_by_rows.Goals as goal
 
 pub returns : goal.returns
-returns c = record { content = content_stays; bytes = bytes_stay; other_value = no_other_value; other_bytes = no_other_bytes }
+returns c = record { kept = object_stays; bytes = bytes_stay; other_value = no_other_value; other_bytes = no_other_bytes }
