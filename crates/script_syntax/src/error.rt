@@ -55,7 +55,7 @@ pub enum ErrorKind {
     TooLarge,
 }
 
-/// The use of a name that is missing.
+/// What is declared by a missing name.
 #[derive(Clone, Copy)]
 pub enum Wanted {
     Name,

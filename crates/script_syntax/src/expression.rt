@@ -218,7 +218,7 @@ fn member<A: Allocator>(
     })
 }
 
-/// Whether a token may name a field or a method. Reserved words may.
+/// Whether a token may be a field's or a method's name. Reserved words may.
 fn is_member(token: Token) -> bool {
     match token.kind {
         TokenKind::Name => true,

@@ -9,7 +9,6 @@ mod image;
 mod index;
 mod keys;
 mod lists;
-mod made;
 mod maps;
 mod names;
 mod order;

@@ -1,5 +1,5 @@
 use crate::tests::every;
-use client_code::{Fault, Instruction, OPERATIONS, Operation, parse};
+use client_code::{Client, Fault, Instruction, OPERATIONS, Operation, parse};
 use client_text::{assemble, print};
 use std::alloc::{AllocError, Global};
 use std::process::Abort;
@@ -20,13 +20,12 @@ fn cut_field(len: u32) -> u32 {
 fn a_cut_file_is_wrong_at_the_cut_field(rt: HostRuntime) {
     for len in 0..103u32 {
         let wanted = Some(Fault::BadCode(cut_field(len)));
-        assert_eq!(rt;
-            parse(&INCREMENT_FILE[..len as usize]).err(),
-            wanted,
+        assert!(rt;
+            parse(&INCREMENT_FILE[..len as usize]).err() == wanted,
             "{len}"
         );
     }
-    assert_eq!(rt; cut_field(102), 95);
+    assert!(rt; cut_field(102) == 95);
 }
 
 #[test]
@@ -35,9 +34,9 @@ fn the_increment_in_bytes_and_text(rt: HostRuntime) -> Result<(), Fail> {
     assert!(rt; file.as_slice() == INCREMENT_FILE.as_slice());
     let client = parse(file.as_slice())?;
     assert!(rt; print(rt.alloc(), &client)?.as_slice() == INCREMENT.as_bytes());
-    assert_eq!(rt; client.type_count(), 1);
-    assert_eq!(rt; client.constants().len(), 1);
-    assert_eq!(rt; client.instruction(8), None);
+    assert!(rt; client.type_count() == 1);
+    assert!(rt; client.constants().len() == 1);
+    assert!(rt; client.instruction(8).is_none());
     let find = Instruction {
         operation: Operation::Find,
         a: 0,
@@ -45,7 +44,7 @@ fn the_increment_in_bytes_and_text(rt: HostRuntime) -> Result<(), Fail> {
         c: 16,
         number: 0,
     };
-    assert_eq!(rt; client.instruction(0), Some(find));
+    assert!(rt; client.instruction(0) == Some(find));
     let load = Instruction {
         operation: Operation::Load,
         a: 1,
@@ -53,7 +52,7 @@ fn the_increment_in_bytes_and_text(rt: HostRuntime) -> Result<(), Fail> {
         c: 0,
         number: 0,
     };
-    assert_eq!(rt; client.instruction(1), Some(load));
+    assert!(rt; client.instruction(1) == Some(load));
     Ok(())
 }
 
@@ -63,40 +62,21 @@ fn place_of_fault(rt: &(impl Abort + AllocGlobal), file: &[u8]) -> Result<Option
         Err(Fault::BadCode(at)) => Ok(Some(at)),
         Err(fault) => Err(fault),
         Ok(client) => {
-            let text = print(rt.alloc(), &client)?;
-            let again = assemble(rt.alloc(), text.as_slice())?;
+            let again = reassembled(rt.alloc(), &client)?;
             assert!(rt; again.as_slice() == file);
             Ok(None)
         }
     }
 }
 
-/// How many files are clients, and the sum of the positions of the faults in the others.
-#[derive(Debug, Clone, Copy, PartialEq, Eq)]
-struct Count {
-    clients: u32,
-    positions: u64,
-}
-
-impl Count {
-    /// Counts one more file, which is a client or has a fault at this position.
-    fn with(self, fault: Option<u32>) -> Count {
-        let Count { clients, positions } = self;
-        match fault {
-            None => Count {
-                clients: clients.wrapping_add(1),
-                positions,
-            },
-            Some(at) => Count {
-                clients,
-                positions: positions.wrapping_add(u64::from(at)),
-            },
-        }
-    }
+/// Prints a client, and assembles the text.
+fn reassembled(alloc: Global, client: &Client) -> Result<Vec<u8>, Fault> {
+    let text = print(alloc, client)?;
+    assemble(alloc, text.as_slice())
 }
 
 /// The number of operations in the model that the expected counts come from. To it, a later operation is a fault.
-const COUNTED_OPERATIONS: u8 = 52;
+const COUNTED_OPERATIONS: usize = 52;
 
 /// The position of the code in a client's file.
 fn code_of(file: &[u8]) -> Result<usize, Fault> {
@@ -109,41 +89,39 @@ fn code_of(file: &[u8]) -> Result<usize, Fault> {
 
 /// Whether the byte at a position is the number of an operation that isn't counted.
 fn is_later_operation(file: &[u8], code_at: usize, at: usize) -> bool {
-    let is_number = at
-        .checked_sub(code_at)
-        .is_some_and(|distance| distance % Instruction::SIZE == 0);
-    let is_later = file.get(at).is_some_and(|number| {
-        *number > COUNTED_OPERATIONS && usize::from(*number) <= OPERATIONS
-    });
-    is_number && is_later
+    let number = usize::from(file.get(at).copied().unwrap_or(0));
+    at >= code_at
+        && (at - code_at) % Instruction::SIZE == 0
+        && number > COUNTED_OPERATIONS
+        && number <= OPERATIONS
 }
 
-/// Tests the files in which one byte is combined by `^` with each of these changes.
+/// Tests the files in which one byte is combined by `^` with each of these changes. Returns how many files are clients, and the
+/// sum of the positions of the faults in the others.
 fn count_changes(
     rt: &(impl Abort + AllocGlobal),
     file: &mut [u8],
     changes: &[u8],
-) -> Result<Count, Fault> {
+) -> Result<(u32, u64), Fault> {
     let code_at = code_of(file)?;
-    let mut so_far = Count {
-        clients: 0,
-        positions: 0,
-    };
+    let mut clients = 0u32;
+    let mut positions = 0u64;
     for at in 0..file.len() {
         let byte = file[at];
         for change in changes {
             file[at] = byte ^ *change;
             let found = place_of_fault(rt, file)?;
-            let counted = if is_later_operation(file, code_at, at) {
-                u32::try_from(at).ok()
+            if is_later_operation(file, code_at, at) {
+                positions = positions.wrapping_add(at as u64);
+            } else if let Some(position) = found {
+                positions = positions.wrapping_add(u64::from(position));
             } else {
-                found
-            };
-            so_far = so_far.with(counted);
+                clients = clients.wrapping_add(1);
+            }
         }
         file[at] = byte;
     }
-    Ok(so_far)
+    Ok((clients, positions))
 }
 
 // The expected counts come from a model of the format that was written independently, from the rules of the format.
@@ -154,14 +132,8 @@ fn each_byte_changed_to_each_value(rt: HostRuntime) -> Result<(), Fail> {
         changes[usize::from(value)] = value;
     }
     let mut file = INCREMENT_FILE;
-    let count = count_changes(&rt, file.as_mut_slice(), &changes)?;
-    assert_eq!(rt;
-        count,
-        Count {
-            clients: 1426,
-            positions: 1204682
-        }
-    );
+    let (clients, positions) = count_changes(&rt, file.as_mut_slice(), &changes)?;
+    assert!(rt; clients == 1426 && positions == 1204682);
     Ok(())
 }
 
@@ -169,14 +141,8 @@ fn each_byte_changed_to_each_value(rt: HostRuntime) -> Result<(), Fail> {
 fn every_operation_with_each_bit_changed(rt: HostRuntime) -> Result<(), Fail> {
     let changes = [1, 2, 4, 8, 16, 32, 64, 128];
     let mut file = assemble(rt.alloc(), every::TEXT.as_bytes())?;
-    let count = count_changes(&rt, file.as_mut_slice(), &changes)?;
-    assert_eq!(rt;
-        count,
-        Count {
-            clients: 663,
-            positions: 3600928
-        }
-    );
+    let (clients, positions) = count_changes(&rt, file.as_mut_slice(), &changes)?;
+    assert!(rt; clients == 663 && positions == 3600928);
     Ok(())
 }
 
@@ -205,62 +171,50 @@ static OTHER_FILES: [(&[u8], u32); 13] = [
 #[test]
 fn other_wrong_files(rt: HostRuntime) {
     for (file, at) in &OTHER_FILES {
-        assert_eq!(rt; parse(file).err(), Some(Fault::BadCode(*at)), "{file:?}");
+        assert!(rt; parse(file).err() == Some(Fault::BadCode(*at)), "{file:?}");
     }
 }
 
-/// A file with two type entries, the second of which may be cut off.
-fn two_types(alloc: Global, first: &[u8], second: &[u8]) -> Result<Vec<u8>, AllocError> {
-    let mut file = Vec::from_slice(alloc, b"SEGC\x01\0\0\0\x02\0\0\0\0\0\0\0\0\0\0\0")?;
-    for byte in 0..16usize {
-        file.push(first.get(byte).copied().unwrap_or(0))
-            .map_err(AllocError::from)?;
-    }
-    file.extend_from_slice(second)?;
-    Ok(file)
-}
+// Two type entries, the second of which may be cut off, and the position of the fault.
+static TWO_TYPES: [(&[u8; 3], &[u8], u32); 5] = [
+    // vec t1, and t1 is cut
+    (b"\x03\x01\x01", b"", 36),
+    (b"\x03\x01\x01", b"\x01\0\0", 36),
+    // vec t2, and there is no t2
+    (b"\x03\x01\x02", b"", 20),
+    // vec t1, and t1 is unused
+    (b"\x03\x01\x01", &[0; 16], 20),
+    // t1 is unused
+    (b"\x03\x01\0", &[0; 16], 36),
+];
 
 #[test]
 fn types_that_name_a_cut_or_an_unused_one(rt: HostRuntime) -> Result<(), Fail> {
-    let cut = two_types(rt.alloc(), b"\x03\x01\x01", b"")?;
-    assert_eq!(rt;
-        parse(cut.as_slice()).err(),
-        Some(Fault::BadCode(36)),
-        "vec t1, and t1 is cut"
-    );
-    let cut = two_types(rt.alloc(), b"\x03\x01\x01", b"\x01\0\0")?;
-    assert_eq!(rt;
-        parse(cut.as_slice()).err(),
-        Some(Fault::BadCode(36)),
-        "vec t1, and t1 is cut"
-    );
-    let past = two_types(rt.alloc(), b"\x03\x01\x02", b"")?;
-    assert_eq!(rt;
-        parse(past.as_slice()).err(),
-        Some(Fault::BadCode(20)),
-        "vec t2, and there is no t2"
-    );
-    let unused = two_types(
-        rt.alloc(),
-        b"\x03\x01\x01",
-        b"\0\0\0\0\0\0\0\0\0\0\0\0\0\0\0\0",
-    )?;
-    assert_eq!(rt;
-        parse(unused.as_slice()).err(),
-        Some(Fault::BadCode(20)),
-        "vec t1, and t1 is unused"
-    );
-    let alone = two_types(
-        rt.alloc(),
-        b"\x03\x01\0",
-        b"\0\0\0\0\0\0\0\0\0\0\0\0\0\0\0\0",
-    )?;
-    assert_eq!(rt;
-        parse(alone.as_slice()).err(),
-        Some(Fault::BadCode(36)),
-        "t1 is unused"
-    );
+    for (first, second, at) in &TWO_TYPES {
+        let file = joined(
+            rt.alloc(),
+            &[
+                b"SEGC\x01\0\0\0\x02\0\0\0\0\0\0\0\0\0\0\0",
+                *first,
+                &[0; 13],
+                second,
+            ],
+        )?;
+        assert!(rt;
+            parse(file.as_slice()).err() == Some(Fault::BadCode(*at)),
+            "{file:?}"
+        );
+    }
     Ok(())
+}
+
+/// These bytes, one after the other.
+fn joined(alloc: Global, parts: &[&[u8]]) -> Result<Vec<u8>, AllocError> {
+    let mut file = Vec::new(alloc);
+    for part in parts {
+        file.extend_from_slice(part)?;
+    }
+    Ok(file)
 }
 
 /// A file of a version with the type `i64`, another type, and the bytes of its constants.
@@ -271,13 +225,17 @@ fn file_of(
     constants: u8,
     rest: &[u8],
 ) -> Result<Vec<u8>, AllocError> {
-    let mut file = Vec::from_slice(alloc, b"SEGC")?;
-    file.extend_from_slice(&[version, 0, 0, 0, 2, 0, 0, 0, constants, 0, 0, 0])?;
-    file.extend_from_slice(b"\0\0\0\0\x01\0\0\0\0\0\0\0\0\0\0\0\0\0\0\0")?;
-    file.extend_from_slice(second)?;
-    file.extend_from_slice(b"\0\0\0\0\0\0\0\0\0\0\0\0\0")?;
-    file.extend_from_slice(rest)?;
-    Ok(file)
+    joined(
+        alloc,
+        &[
+            b"SEGC",
+            &[version, 0, 0, 0, 2, 0, 0, 0, constants, 0, 0, 0],
+            b"\0\0\0\0\x01\0\0\0\0\0\0\0\0\0\0\0\0\0\0\0",
+            second,
+            &[0; 13],
+            rest,
+        ],
+    )
 }
 
 const SHARED: [u8; 3] = [9, 1, 0];
@@ -308,7 +266,7 @@ fn versions_and_types(rt: HostRuntime) -> Result<(), Fail> {
     for (version, second, constants, rest, wanted) in &VERSIONS {
         let file = file_of(rt.alloc(), *version, second, *constants, rest)?;
         let found = place_of_fault(&rt, file.as_slice())?;
-        assert_eq!(rt; found, *wanted, "{file:?}");
+        assert!(rt; found == *wanted, "{file:?}");
     }
     Ok(())
 }
@@ -339,7 +297,7 @@ fn freezing_and_sharing_in_bytes_and_text(rt: HostRuntime) -> Result<(), Fail> {
         c: 2,
         number: 0,
     };
-    assert_eq!(rt; client.instruction(0), Some(freeze));
+    assert!(rt; client.instruction(0) == Some(freeze));
     let share = Instruction {
         operation: Operation::Share,
         a: 0,
@@ -347,7 +305,7 @@ fn freezing_and_sharing_in_bytes_and_text(rt: HostRuntime) -> Result<(), Fail> {
         c: 0,
         number: 0,
     };
-    assert_eq!(rt; client.instruction(3), Some(share));
+    assert!(rt; client.instruction(3) == Some(share));
     Ok(())
 }
 
@@ -393,7 +351,7 @@ fn versions_and_code(rt: HostRuntime) -> Result<(), Fail> {
             *changed = *byte;
         }
         let found = place_of_fault(&rt, file.as_slice())?;
-        assert_eq!(rt; found, *wanted, "{text}");
+        assert!(rt; found == *wanted, "{text}");
     }
     Ok(())
 }

@@ -1,7 +1,6 @@
-use client_code::{Number, OPERATIONS, Operand, Operation, Role, parse};
-use client_text::{assemble, print};
+use crate::tests::support::canonical;
+use client_code::{Number, OPERATIONS, Operand, Operation, Role};
 use std::alloc::AllocError;
-use std::process::Abort;
 use std::test::Fail;
 use support_data::Random;
 
@@ -111,17 +110,6 @@ impl Writer<'_> {
     }
 }
 
-/// Tests that a canonical text assembles to a file, and that the file prints as that text.
-fn goes_round(rt: &(impl Abort + AllocGlobal), text: &str) -> Result<(), Fail> {
-    let alloc = rt.alloc();
-    let file = assemble(alloc, text.as_bytes())?;
-    let printed = print(alloc, &parse(file.as_slice())?)?;
-    assert_eq!(rt; printed.as_slice(), text.as_bytes());
-    let again = assemble(alloc, printed.as_slice())?;
-    assert_eq!(rt; again.as_slice(), file.as_slice());
-    Ok(())
-}
-
 #[test]
 fn random_texts_go_round(rt: HostRuntime) -> Result<(), Fail> {
     let mut random = Random::new(1);
@@ -132,7 +120,9 @@ fn random_texts_go_round(rt: HostRuntime) -> Result<(), Fail> {
             text: &mut text,
         };
         writer.part(8)?;
-        goes_round(&rt, text.as_str())?;
+        // a canonical text is printed again
+        let printed = canonical(rt.alloc(), text.as_bytes())?;
+        assert!(rt; printed.as_slice() == text.as_bytes(), "{text}");
     }
     Ok(())
 }

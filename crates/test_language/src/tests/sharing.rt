@@ -252,5 +252,5 @@ fn an_object_frozen_into_itself(rt: HostRuntime) {
         instruction: 3,
         reason: 3,
     });
-    assert_eq!(rt; verdict(rt.alloc(), text.as_bytes()), inside);
+    assert!(rt; verdict(rt.alloc(), text.as_bytes()) == inside);
 }

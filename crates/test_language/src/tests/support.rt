@@ -1,5 +1,5 @@
 use client_code::{Fault, TypeTable, parse};
-use client_text::assemble;
+use client_text::{assemble, print};
 use client_verify::verify;
 use std::alloc::Global;
 use std::process::Abort;
@@ -24,19 +24,27 @@ family f
 name m
 ";
 
+/// Assembles a text, and prints the client as its canonical text.
+pub fn canonical(alloc: Global, text: &[u8]) -> Result<Vec<u8>, Fault> {
+    let file = assemble(alloc, text)?;
+    print(alloc, &parse(file.as_slice())?)
+}
+
 /// The result of the verifier for a text: the bound, or the fault.
 pub fn verdict(alloc: Global, text: &[u8]) -> Result<u64, Fault> {
     let file = assemble(alloc, text)?;
-    let client = parse(file.as_slice())?;
-    Ok(verify(client, &TypeTable::new())?.bound())
+    verdict_of(file.as_slice())
+}
+
+fn verdict_of(file: &[u8]) -> Result<u64, Fault> {
+    Ok(verify(parse(file)?, &TypeTable::new())?.bound())
 }
 
 /// The same for a program after `FRONT`. `;` ends its lines too.
 pub fn verdict_after_front(alloc: Global, program: &[u8]) -> Result<u64, Fault> {
     let mut text = Vec::from_slice(alloc, FRONT)?;
     for byte in program {
-        text.push(if *byte == b';' { b'\n' } else { *byte })
-            .map_err(std::alloc::AllocError::from)?;
+        text.extend_from_slice(&[if *byte == b';' { b'\n' } else { *byte }])?;
     }
     verdict(alloc, text.as_slice())
 }
@@ -55,9 +63,8 @@ pub type Rejected = (u8, &'static str, u32, u8);
 
 pub fn check_accepted(rt: &(impl Abort + AllocGlobal), row: &Accepted) {
     let (type_id, program, bound) = *row;
-    assert_eq!(rt;
-        verdict_with(rt.alloc(), type_id, program),
-        Ok(bound),
+    assert!(rt;
+        verdict_with(rt.alloc(), type_id, program) == Ok(bound),
         "t{type_id}: {program}"
     );
 }
@@ -68,9 +75,8 @@ pub fn check_rejected(rt: &(impl Abort + AllocGlobal), row: &Rejected) {
         instruction,
         reason,
     });
-    assert_eq!(rt;
-        verdict_with(rt.alloc(), type_id, program),
-        rejected,
+    assert!(rt;
+        verdict_with(rt.alloc(), type_id, program) == rejected,
         "t{type_id}: {program}"
     );
 }

@@ -1,20 +1,9 @@
-use client_code::{Fault, parse};
-use client_text::{assemble, print};
+use crate::tests::support::canonical;
+use client_code::Fault;
+use client_text::assemble;
 use std::alloc::{AllocError, Global};
 use std::process::Abort;
 use std::test::Fail;
-
-/// Assembles a text, and prints the client as its canonical text.
-fn canonical(alloc: Global, text: &[u8]) -> Result<Vec<u8>, Fault> {
-    let file = assemble(alloc, text)?;
-    print(alloc, &parse(file.as_slice())?)
-}
-
-/// The same after one type and three constants.
-fn canonical_after_front(alloc: Global, text: &str) -> Result<Vec<u8>, Fault> {
-    let text = format!(in alloc; "type i64\ntext hi\nname n\nfamily f\n{text}")?;
-    canonical(alloc, text.as_bytes())
-}
 
 fn check_canonical(rt: &(impl Abort + AllocGlobal), text: &[u8], wanted: &str) {
     match canonical(rt.alloc(), text) {
@@ -25,7 +14,19 @@ fn check_canonical(rt: &(impl Abort + AllocGlobal), text: &[u8], wanted: &str) {
 
 fn check_wrong(rt: &(impl Abort + AllocGlobal), text: &[u8], line: u32) {
     let found = assemble(rt.alloc(), text).err();
-    assert_eq!(rt; found, Some(Fault::BadLine(line)), "{text:?}");
+    assert!(rt; found == Some(Fault::BadLine(line)), "{text:?}");
+}
+
+/// Tests a text whose wrong line comes after other lines.
+fn check_wrong_after(
+    rt: &(impl Abort + AllocGlobal),
+    front: &str,
+    row: &(&str, u32),
+) -> Result<(), AllocError> {
+    let (lines, line) = *row;
+    let text = format!(in rt.alloc(); "{front}\n{lines}")?;
+    check_wrong(rt, text.as_bytes(), line);
+    Ok(())
 }
 
 static CANONICAL: [(&[u8], &str); 30] = [
@@ -250,11 +251,11 @@ static WRONG_AFTER_FRONT: [(&str, u32); 20] = [
 ];
 
 #[test]
-fn wrong_operands(rt: HostRuntime) {
-    for (text, line) in &WRONG_AFTER_FRONT {
-        let found = canonical_after_front(rt.alloc(), text).err();
-        assert_eq!(rt; found, Some(Fault::BadLine(*line)), "{text}");
+fn wrong_operands(rt: HostRuntime) -> Result<(), Fail> {
+    for row in &WRONG_AFTER_FRONT {
+        check_wrong_after(&rt, "type i64\ntext hi\nname n\nfamily f", row)?;
     }
+    Ok(())
 }
 
 // Lines after `type i64`, `type shared t0`. The first of them is line 3.
@@ -277,9 +278,8 @@ static WRONG_TO_SHARE: [(&str, u32); 14] = [
 
 #[test]
 fn wrong_lines_that_share(rt: HostRuntime) -> Result<(), Fail> {
-    for (text, line) in &WRONG_TO_SHARE {
-        let text = format!(in rt.alloc(); "type i64\ntype shared t0\n{text}")?;
-        check_wrong(&rt, text.as_bytes(), *line);
+    for row in &WRONG_TO_SHARE {
+        check_wrong_after(&rt, "type i64\ntype shared t0", row)?;
     }
     Ok(())
 }

@@ -1,7 +1,6 @@
 //! The checker on blocks and free structures.
 
-use crate::tests::image::{ImageBuilder, checks};
-use std::alloc::Global;
+use crate::tests::image::checks;
 use std::test::Fail;
 
 /// Three unique numbers, with free blocks of 2, 3 and 2 units between and after them, whose links are at 748, 812 and 892.
@@ -16,32 +15,25 @@ const COMB: &str = "
     864 unique t2 2
     896 gap 2";
 
-/// `COMB` with the free list of sequential fit.
-fn listed(alloc: Global) -> Result<ImageBuilder, Fail> {
-    let mut image = ImageBuilder::of(alloc, COMB)?;
-    image.follow(alloc, "24->752 748->816 812->896 892->null")?;
-    Ok(image)
-}
+/// The free list of sequential fit in `COMB`.
+const LISTED: &str = "24->752 748->816 812->896 892->null";
 
-/// `COMB` with the free tree of best fit. Its root is the free block at 880; below are the lower one of the same size, and the
+/// The free tree of best fit in `COMB`. Its root is the free block at 880; below are the lower one of the same size, and the
 /// larger one.
-fn grown(alloc: Global) -> Result<ImageBuilder, Fail> {
-    let mut image = ImageBuilder::of(alloc, COMB)?;
-    image.follow(
-        alloc,
-        "16=1 24->896
-        752->null 756->null 760=1
-        816->null 820->null 824=1
-        896->752  900->816  904=0",
-    )?;
-    Ok(image)
-}
+const GROWN: &str = "
+    16=1 24->896
+    752->null 756->null 760=1
+    816->null 820->null 824=1
+    896->752  900->816  904=0";
 
 #[test]
 fn finds_faults_in_headers_of_blocks(rt: HostRuntime) -> Result<(), Fail> {
-    listed(rt.alloc())?.follow(
+    checks(
         rt.alloc(),
-        "=> sound
+        &[
+            COMB,
+            LISTED,
+            "=> sound
         704=0x80000000 | 704=0x80000001 | 704=0x8000000e | 704=0xffffffff | 704=2 | 708=1 => block 704
         704=0x80000003 => block 752
         740=3 => block 736
@@ -52,6 +44,7 @@ fn finds_faults_in_headers_of_blocks(rt: HostRuntime) -> Result<(), Fail> {
         768=2 776=0 => block 768 ; a free block after a free one
         ; these tags are allowed, of blocks that nothing may name here
         712=1 | 712=5 | 712=6 | 712=0x102 => pointer 576",
+        ],
     )
 }
 
@@ -60,7 +53,8 @@ fn finds_faults_in_headers_of_blocks(rt: HostRuntime) -> Result<(), Fail> {
 fn finds_tags_that_the_types_do_not_allow(rt: HostRuntime) -> Result<(), Fail> {
     checks(
         rt.alloc(),
-        "type str
+        &[
+            "type str
         type list t0
         720 unique t0 2
         752 unique t1 2
@@ -71,49 +65,62 @@ fn finds_tags_that_the_types_do_not_allow(rt: HostRuntime) -> Result<(), Fail> {
         712=4 => block 704
         744=0x104 => pointer 580
         744=0x103 => block 736",
+        ],
     )
 }
 
 #[test]
 fn finds_faults_of_the_free_list(rt: HostRuntime) -> Result<(), Fail> {
-    listed(rt.alloc())?.follow(
+    checks(
         rt.alloc(),
-        "24->null | 24->816 | 24->720 | 24=0 => free 24
+        &[
+            COMB,
+            LISTED,
+            "24->null | 24->816 | 24->720 | 24=0 => free 24
         748->null | 748->752 | 748->896 => free 748
         812->752 | 812->897 => free 812
         892->752 | 892=0 => free 892
         ; the list in another order: its first pointer is wrong
         24->896 892->816 812->752 748->null => free 24
         752=77 764=78 816=79 => sound ; what stands in a gap is of no matter",
+        ],
     )
 }
 
 #[test]
 fn finds_faults_of_the_free_tree(rt: HostRuntime) -> Result<(), Fail> {
-    grown(rt.alloc())?.follow(
+    checks(
         rt.alloc(),
-        "=> sound
+        &[
+            COMB,
+            GROWN,
+            "=> sound
         760=0 824=0 | 832=77 => sound
         ; a red root, a third colour, words that are not 0, one way with fewer black nodes
         904=1 | 760=2 | 764=1 | 908=0x80000000 | 760=0 => free 24
         748=0 | 812=0 | 892=0 => free 24 ; a link",
+        ],
     )
 }
 
 #[test]
 fn finds_free_trees_of_other_blocks(rt: HostRuntime) -> Result<(), Fail> {
-    grown(rt.alloc())?.follow(
+    checks(
         rt.alloc(),
-        "; not all free blocks, one twice, what is no free block, a circle
+        &[
+            COMB,
+            GROWN,
+            "; not all free blocks, one twice, what is no free block, a circle
         24->null | 24->752 | 896->null | 900->null | 900->752 | 896->720 | 896->753 => free 24
         896->896 | 752->896 | 896=0x7fffffff => free 24
         896->816 900->752 => free 24 ; larger before smaller
         ; of one size, the higher one before the lower one
         24->752 760=0 752->896 756->816 896->null 900->null 904=1 => free 24
         16=0 => free 24 ; the tree is no list of sequential fit",
+        ],
     )?;
     // the list isn't a tree either
-    listed(rt.alloc())?.follow(rt.alloc(), "16=1 => free 24")
+    checks(rt.alloc(), &[COMB, LISTED, "16=1 => free 24"])
 }
 
 /// Without free blocks both free structures are empty.
@@ -121,10 +128,12 @@ fn finds_free_trees_of_other_blocks(rt: HostRuntime) -> Result<(), Fail> {
 fn accepts_a_heap_without_gaps(rt: HostRuntime) -> Result<(), Fail> {
     checks(
         rt.alloc(),
-        "type i64
+        &[
+            "type i64
         720 unique t0 2
         16=0 | 16=1 => sound
         16=0 24->720 | 16=0 24=0 | 16=1 24->720 | 16=1 24=0 => free 24
         16=2 | 20=2 => header",
+        ],
     )
 }

@@ -1,7 +1,6 @@
 //! Each call on a text, a list, a map and an own, made once over both allocators.
 
 use crate::tests::rooted::{Rooted, with_root};
-use crate::tests::support::{I64, STR, Spelled, flat_map_of, list_of, map_of, own_of};
 use crate::tests::tiles::is_one_gap;
 use seg_bestfit::BestFit;
 use seg_block::Fit;
@@ -16,22 +15,19 @@ use std::alloc::Global;
 use std::process::Abort;
 use std::test::Fail;
 
-/// A heap with numbers as type 0, and with a root of the given type.
-fn root_of<F: Fit>(alloc: Global, root: Spelled) -> Result<Rooted<F>, Fail> {
-    with_root::<F>(alloc, 1024, &[I64, root], 1)
+/// A heap with a root of the second type.
+fn root_of<F: Fit>(alloc: Global, types: &str) -> Result<Rooted<F>, Fail> {
+    with_root::<F>(alloc, 1024, types, 1)
 }
 
 fn calls_on_texts<F: Fit>(rt: &(impl Abort + AllocGlobal)) -> Result<(), Fail> {
-    let mut s = root_of::<F>(rt.alloc(), STR)?;
+    let mut s = root_of::<F>(rt.alloc(), "i64, str")?;
     assign(&mut s.heap, s.root, b"hello")?;
     append(&mut s.heap, s.root, b", all")?;
-    assert_eq!(rt; push_byte(&mut s.heap, s.root, b'!')?, 11);
-    assert_eq!(rt; seg_seq::len(&s.heap, s.root)?, 11);
+    assert!(rt; push_byte(&mut s.heap, s.root, b'!') == Ok(11));
+    assert!(rt; seg_seq::len(&s.heap, s.root) == Ok(11));
     let from = at(&s.heap, s.root, 0)?;
-    assert_eq!(rt;
-        s.heap.window().slice(from as usize, 11),
-        b"hello, all!".as_slice()
-    );
+    assert!(rt; s.heap.window().slice(from as usize, 11) == b"hello, all!".as_slice());
     s.heap.clear(s.root);
     is_one_gap(rt, s.heap.window());
     Ok(())
@@ -55,27 +51,24 @@ fn item<F: Fit>(s: &Rooted<F>, index: u32) -> Result<i64, Code> {
 
 /// A list of the numbers 1, 2 and 3.
 fn three_numbers<F: Fit>(rt: &(impl Abort + AllocGlobal)) -> Result<Rooted<F>, Fail> {
-    let mut s = root_of::<F>(rt.alloc(), list_of(0))?;
+    let mut s = root_of::<F>(rt.alloc(), "i64, list t0")?;
     push_number(&mut s, 2)?;
     push_number(&mut s, 3)?;
     let first = push_front(&mut s.heap, s.root)?;
     s.heap.store(first, 1);
-    assert_eq!(rt; s.heap.load(next(&s.heap, first)), 2);
-    assert_eq!(rt; s.heap.load(previous(&s.heap, first)), 3);
+    assert!(rt; s.heap.load(next(&s.heap, first)) == 2);
+    assert!(rt; s.heap.load(previous(&s.heap, first)) == 3);
     Ok(s)
 }
 
 fn calls_on_lists<F: Fit>(rt: &(impl Abort + AllocGlobal)) -> Result<(), Fail> {
     let mut s = three_numbers::<F>(rt)?;
-    assert_eq!(rt;
-        (item(&s, 0), item(&s, 1), item(&s, 2)),
-        (Ok(1), Ok(2), Ok(3))
-    );
+    assert!(rt; item(&s, 0) == Ok(1) && item(&s, 1) == Ok(2) && item(&s, 2) == Ok(3));
     pop_front(&mut s.heap, s.root)?;
     pop_back(&mut s.heap, s.root)?;
-    assert_eq!(rt; (item(&s, 0), item(&s, 1)), (Ok(2), Err(Code::OutOfRange)));
+    assert!(rt; item(&s, 0) == Ok(2) && item(&s, 1) == Err(Code::OutOfRange));
     pop_back(&mut s.heap, s.root)?;
-    assert_eq!(rt; pop_back(&mut s.heap, s.root), Err(Code::Null));
+    assert!(rt; pop_back(&mut s.heap, s.root) == Err(Code::Null));
     is_one_gap(rt, s.heap.window());
     Ok(())
 }
@@ -98,56 +91,56 @@ fn value<F: Fit>(s: &Rooted<F>, key: i64) -> Result<i64, Code> {
 }
 
 /// A map with the keys -5, 3 and 4. The number at 3 is 6, since 3 was added twice.
-fn three_keys<F: Fit>(alloc: Global, map: Spelled) -> Result<Rooted<F>, Fail> {
-    let mut s = root_of::<F>(alloc, map)?;
+fn three_keys<F: Fit>(alloc: Global, types: &str) -> Result<Rooted<F>, Fail> {
+    let mut s = root_of::<F>(alloc, types)?;
     for key in [3, -5, 4, 3] {
         add(&mut s, key)?;
     }
     Ok(s)
 }
 
-fn calls_on_maps<F: Fit>(rt: &(impl Abort + AllocGlobal), map: Spelled) -> Result<(), Fail> {
-    let mut s = three_keys::<F>(rt.alloc(), map)?;
-    assert_eq!(rt; seg_map::len(&s.heap, s.root), Ok(3));
-    assert_eq!(rt; first_key(&s.heap, s.root), Ok(-5));
-    assert_eq!(rt; next_key(&s.heap, s.root, -5), Ok(3));
-    assert_eq!(rt; (value(&s, 3), value(&s, 4)), (Ok(6), Ok(4)));
+fn calls_on_maps<F: Fit>(rt: &(impl Abort + AllocGlobal), types: &str) -> Result<(), Fail> {
+    let mut s = three_keys::<F>(rt.alloc(), types)?;
+    assert!(rt; seg_map::len(&s.heap, s.root) == Ok(3));
+    assert!(rt; first_key(&s.heap, s.root) == Ok(-5));
+    assert!(rt; next_key(&s.heap, s.root, -5) == Ok(3));
+    assert!(rt; value(&s, 3) == Ok(6) && value(&s, 4) == Ok(4));
     assert!(rt; remove(&mut s.heap, s.root, 3) && !remove(&mut s.heap, s.root, 3));
-    assert_eq!(rt; value(&s, 3), Err(Code::Absent));
-    assert_eq!(rt; push_back(&mut s.heap, s.root), Err(Code::OtherType));
+    assert!(rt; value(&s, 3) == Err(Code::Absent));
+    assert!(rt; push_back(&mut s.heap, s.root) == Err(Code::OtherType));
     Ok(())
 }
 
 /// The keys from the greatest one down, once from a key that the map doesn't have.
-fn keys_downwards<F: Fit>(rt: &(impl Abort + AllocGlobal), map: Spelled) -> Result<(), Fail> {
-    let empty = root_of::<F>(rt.alloc(), map)?;
-    assert_eq!(rt; last_key(&empty.heap, empty.root), Err(Code::Null));
-    let s = three_keys::<F>(rt.alloc(), map)?;
-    assert_eq!(rt; last_key(&s.heap, s.root), Ok(4));
-    assert_eq!(rt; previous_key(&s.heap, s.root, 4), Ok(3));
-    assert_eq!(rt; previous_key(&s.heap, s.root, 0), Ok(-5));
-    assert_eq!(rt; previous_key(&s.heap, s.root, -5), Err(Code::Null));
+fn keys_downwards<F: Fit>(rt: &(impl Abort + AllocGlobal), types: &str) -> Result<(), Fail> {
+    let empty = root_of::<F>(rt.alloc(), types)?;
+    assert!(rt; last_key(&empty.heap, empty.root) == Err(Code::Null));
+    let s = three_keys::<F>(rt.alloc(), types)?;
+    assert!(rt; last_key(&s.heap, s.root) == Ok(4));
+    assert!(rt; previous_key(&s.heap, s.root, 4) == Ok(3));
+    assert!(rt; previous_key(&s.heap, s.root, 0) == Ok(-5));
+    assert!(rt; previous_key(&s.heap, s.root, -5) == Err(Code::Null));
     Ok(())
 }
 
 #[test]
 fn each_call_on_a_map(rt: HostRuntime) -> Result<(), Fail> {
-    for map in [flat_map_of(0), map_of(0)] {
-        calls_on_maps::<SeqFit>(&rt, map)?;
-        calls_on_maps::<BestFit>(&rt, map)?;
-        keys_downwards::<SeqFit>(&rt, map)?;
-        keys_downwards::<BestFit>(&rt, map)?;
+    for types in ["i64, flat_map t0", "i64, map t0"] {
+        calls_on_maps::<SeqFit>(&rt, types)?;
+        calls_on_maps::<BestFit>(&rt, types)?;
+        keys_downwards::<SeqFit>(&rt, types)?;
+        keys_downwards::<BestFit>(&rt, types)?;
     }
     Ok(())
 }
 
 fn calls_on_owns<F: Fit>(rt: &(impl Abort + AllocGlobal)) -> Result<(), Fail> {
-    let mut s = root_of::<F>(rt.alloc(), own_of(0))?;
+    let mut s = root_of::<F>(rt.alloc(), "i64, own t0")?;
     let number = Content::object(s.heap.types(), 0);
     let object = s.heap.new_block(&number)?;
     set_own(&mut s.heap, s.root, object);
-    assert_eq!(rt; take_own(&mut s.heap, s.root), Some(object));
-    assert_eq!(rt; take_own(&mut s.heap, s.root), None);
+    assert!(rt; take_own(&mut s.heap, s.root) == Some(object));
+    assert!(rt; take_own(&mut s.heap, s.root).is_none());
     s.heap.destroy(object);
     is_one_gap(rt, s.heap.window());
     Ok(())

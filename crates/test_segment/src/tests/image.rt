@@ -15,25 +15,16 @@
 
 use crate::tests::support::{first_fault, window};
 use seg_manager::header::{SIZE, TYPES, UNIQUES};
-use seg_manager::{Fault, Window};
+use seg_manager::{ENTRY, Fault, Window};
 use std::alloc::Global;
 use std::test::Fail;
 use support_data::{change, number};
 
-/// The kinds of allocated blocks, as in a tag.
-const NAMED: u32 = 1;
+/// The kinds of types, as in their entries. There is no type of the last kind.
+const TYPE_KINDS: &str = "unused i64 str vec list flat_map map own struct shared unknown";
 
-const OBJECT: u32 = 2;
-
-const BUFFER: u32 = 3;
-
-const NODE: u32 = 4;
-
-const INDEX_BUFFER: u32 = 5;
-
-const INDEX_NODE: u32 = 6;
-
-const FROZEN: u32 = 7;
+/// The kinds of blocks, as in their tags.
+const BLOCK_KINDS: &str = "gap named object buffer node index index_node frozen";
 
 /// The bit of a header's first word that is set if the block is allocated.
 const LIVE: u32 = 1 << 31;
@@ -53,9 +44,12 @@ pub(crate) struct ImageBuilder {
     before: u32,
 }
 
-/// Tests that the image of a text has the faults that the text states.
-pub(crate) fn checks(alloc: Global, text: &str) -> Result<(), Fail> {
-    let _ = ImageBuilder::of(alloc, text)?;
+/// Tests that the image of these texts, one after the other, has the faults that they state.
+pub(crate) fn checks(alloc: Global, texts: &[&str]) -> Result<(), Fail> {
+    let mut image = ImageBuilder::empty(alloc)?;
+    for text in texts {
+        image.follow(alloc, text)?;
+    }
     Ok(())
 }
 
@@ -87,37 +81,29 @@ impl ImageBuilder {
     /// Does what each line requires.
     pub(crate) fn follow(&mut self, alloc: Global, text: &str) -> Result<(), Fail> {
         for line in text.lines() {
-            let line = line.split_once(';').map_or(line, |parts| parts.0);
+            let (line, _) = line.split_once(';').unwrap_or((line, ""));
             match line.split_once("=>") {
-                Some((changes, fault)) => self.finds_each(alloc, changes, fault)?,
-                None => self.builds(alloc, line)?,
+                Some((changes, fault)) => {
+                    for change in changes.split('|') {
+                        self.finds(alloc, change, fault)?;
+                    }
+                }
+                None => self.builds(line)?,
             }
         }
         Ok(())
     }
 
-    /// Tests that the image with each of the changes, which are then undone, has this first fault.
-    fn finds_each(&mut self, alloc: Global, changes: &str, fault: &str) -> Result<(), Fail> {
-        for change in changes.split('|') {
-            self.finds(alloc, change, fault)?;
-        }
-        Ok(())
-    }
-
-    fn finds(&mut self, alloc: Global, change: &str, fault: &str) -> Result<(), Fail> {
-        let found = self.fault_with(alloc, change)?;
+    /// Tests that the image with these changes, which are then undone, has this first fault.
+    fn finds(&mut self, alloc: Global, changes: &str, fault: &str) -> Result<(), Fail> {
+        let bytes = Vec::from_slice(alloc, self.w.slice(0, self.w.len() as usize))?;
+        self.builds(changes)?;
+        let found = self.fault(alloc);
+        self.w.copy_in(0, bytes.as_slice());
         if is_told(found, fault) {
             return Ok(());
         }
-        Err(Fail::new(format_args!("{change} => {fault}, not {found:?}")))
-    }
-
-    fn fault_with(&mut self, alloc: Global, change: &str) -> Result<Option<Fault>, Fail> {
-        let bytes = Vec::from_slice(alloc, self.w.slice(0, self.w.len() as usize))?;
-        self.builds(alloc, change)?;
-        let found = self.fault(alloc);
-        self.w.copy_in(0, bytes.as_slice());
-        Ok(found)
+        Err(Fail::new(format_args!("{changes} => {fault}, not {found:?}")))
     }
 
     /// The image's first fault, or `None` if it is sound.
@@ -125,123 +111,128 @@ impl ImageBuilder {
         first_fault(alloc, &self.w)
     }
 
-    fn builds(&mut self, alloc: Global, line: &str) -> Result<(), Fail> {
-        let words: Vec<&str> = line.split_whitespace().collect(alloc)?;
-        match self.build(words.as_slice()) {
+    fn builds(&mut self, line: &str) -> Result<(), Fail> {
+        match self.build(line.trim()) {
             Some(()) => Ok(()),
             None => Err(Fail::new(format_args!("not understood: {line}"))),
         }
     }
 
-    fn build(&mut self, words: &[&str]) -> Option<()> {
-        match *words {
-            ["type", kind, ref parts @ ..] => self.add_type(kind, parts),
-            ["chain", kind, from, nodes] => self.add_chain(kind, number(from)?, number(nodes)?),
-            [at, "gap", units] => self.add_block(number(at)?, number(units)?, 0, 0),
-            [at, "unique", t, units] => self.add_unique(number(at)?, type_id(t)?, number(units)?),
-            [at, kind, t, units] if tag_of(kind, t).is_some() => {
-                self.add_block(number(at)?, number(units)?, LIVE, tag_of(kind, t)?)
-            }
-            _ => self.change(words),
+    fn build(&mut self, line: &str) -> Option<()> {
+        if let Some(words) = line.strip_prefix("type ") {
+            return self.add_type(words);
+        }
+        if let Some(words) = line.strip_prefix("chain ") {
+            return self.add_chain(words);
+        }
+        let (first, words) = line.split_once(' ').unwrap_or((line, ""));
+        match number(first) {
+            Some(at) => self.add_block(at, words),
+            None => change(self.w.bytes_mut(), line),
         }
     }
 
-    fn add_type(&mut self, kind: &str, parts: &[&str]) -> Option<()> {
-        let at = TYPES.saturating_add(self.types.saturating_mul(16));
+    fn add_type(&mut self, words: &str) -> Option<()> {
+        let at = TYPES.saturating_add(self.types.saturating_mul(ENTRY));
+        self.w.copy_in(at, &entry_of(words)?);
         self.types = self.types.saturating_add(1);
-        self.w.put8(at, kind_of(kind)?);
-        self.w
-            .put8(at.saturating_add(1), u8::try_from(parts.len()).ok()?);
-        for (place, part) in (at.saturating_add(2)..).zip(parts) {
-            self.w.put8(place, u8::try_from(type_id(part)?).ok()?);
-        }
         Some(())
     }
 
-    fn add_block(&mut self, payload: u32, units: u32, live: u32, tag: u32) -> Option<()> {
+    /// Adds a block: its kind, its type if it isn't free, and its units.
+    fn add_block(&mut self, payload: u32, words: &str) -> Option<()> {
+        let (kind, words) = words.split_once(' ')?;
+        if kind == "gap" {
+            return self.push(payload, number(words)?, 0, 0);
+        }
+        let (t, units) = words.split_once(' ')?;
+        let t = type_id(t)?;
+        if kind == "unique" {
+            self.w.point(UNIQUES + 4 * usize::from(t), Some(payload));
+        }
+        self.push(payload, number(units)?, LIVE, tag_of(kind, t)?)
+    }
+
+    /// Adds a block at the end of the heap.
+    fn push(&mut self, payload: u32, units: u32, live: u32, tag: u32) -> Option<()> {
         let block = self.w.len();
         let end = block.saturating_add(units.saturating_mul(16));
         if payload != block.saturating_add(16) || self.w.resize(end).is_err() {
             return None;
         }
-        let words = [units.wrapping_add(live), self.before, tag, 1];
-        for (at, word) in (block as usize..).step_by(4).zip(words) {
-            self.w.put32(at, word);
-        }
+        let at = block as usize;
+        self.w.put32(at, units.wrapping_add(live));
+        self.w.put32(at.saturating_add(4), self.before);
+        self.w.put32(at.saturating_add(8), tag);
+        self.w.point(at.saturating_add(12), None);
         self.w.put32(SIZE, end / 16);
         self.before = units;
         Some(())
     }
 
-    fn add_unique(&mut self, payload: u32, t: u32, units: u32) -> Option<()> {
-        let tag = OBJECT.wrapping_add(t.wrapping_mul(256));
-        self.w.point(
-            UNIQUES.saturating_add((t as usize).saturating_mul(4)),
-            Some(payload),
-        );
-        self.add_block(payload, units, LIVE, tag)
+    /// Adds nodes: their kind, the pointer to the first one, and their number.
+    fn add_chain(&mut self, words: &str) -> Option<()> {
+        let (kind, words) = words.split_once(' ')?;
+        let (from, nodes) = words.split_once(' ')?;
+        self.push_chain(tag_of(kind, 0)?, number(from)?, number(nodes)?)
     }
 
-    fn add_chain(&mut self, kind: &str, from: u32, nodes: u32) -> Option<()> {
+    fn push_chain(&mut self, tag: u32, from: u32, nodes: u32) -> Option<()> {
         let mut pointer = from as usize;
         for _ in 0..nodes {
             let node = self.w.len().saturating_add(16);
-            self.add_block(node, 3, LIVE, tag_of(kind, "t0")?)?;
-            self.w.put32(node as usize, 1);
-            self.w.put32(node as usize + 4, 1);
+            self.push(node, 3, LIVE, tag)?;
+            self.w.point(node as usize, None);
+            self.w.point((node as usize).saturating_add(4), None);
             self.w.point(pointer, Some(node));
             pointer = node as usize;
         }
         Some(())
     }
+}
 
-    fn change(&mut self, changes: &[&str]) -> Option<()> {
-        for it in changes {
-            change(self.w.bytes_mut(), it)?;
-        }
-        Some(())
+/// The entry of a type: its kind and its parts, at most 14.
+pub(crate) fn entry_of(words: &str) -> Option<[u8; ENTRY]> {
+    let mut words = words.split_whitespace();
+    let mut entry = [0; ENTRY];
+    entry[0] = index_of(TYPE_KINDS, words.next()?)?;
+    for part in words {
+        let parts = entry[1];
+        *entry.get_mut(usize::from(parts) + 2)? = type_id(part)?;
+        entry[1] = parts.saturating_add(1);
     }
+    Some(entry)
 }
 
-fn kind_of(word: &str) -> Option<u8> {
-    Some(match word {
-        "i64" => 1,
-        "str" => 2,
-        "vec" => 3,
-        "list" => 4,
-        "flat_map" => 5,
-        "map" => 6,
-        "own" => 7,
-        "struct" => 8,
-        "shared" => 9,
-        _ => return None,
-    })
+/// The tag of an allocated block. A `unique` is an object too.
+fn tag_of(kind: &str, t: u8) -> Option<u32> {
+    let kind = if kind == "unique" { "object" } else { kind };
+    Some(u32::from(index_of(BLOCK_KINDS, kind)?) + 256 * u32::from(t))
 }
 
-/// The tag of an allocated block.
-fn tag_of(kind: &str, t: &str) -> Option<u32> {
-    let kind = match kind {
-        "named" => NAMED,
-        "object" => OBJECT,
-        "buffer" => BUFFER,
-        "node" => NODE,
-        "index" => INDEX_BUFFER,
-        "index_node" => INDEX_NODE,
-        "frozen" => FROZEN,
-        _ => return None,
-    };
-    Some(kind.wrapping_add(type_id(t)?.wrapping_mul(256)))
+/// The index of a word in a list.
+fn index_of(list: &str, word: &str) -> Option<u8> {
+    let mut index = 0u8;
+    for it in list.split(' ') {
+        if it == word {
+            return Some(index);
+        }
+        index = index.saturating_add(1);
+    }
+    None
 }
 
-fn type_id(word: &str) -> Option<u32> {
-    number(word.strip_prefix('t')?)
+fn type_id(word: &str) -> Option<u8> {
+    word.strip_prefix('t')?.parse().ok()
 }
 
 /// Whether a fault is the one that these words describe.
 fn is_told(fault: Option<Fault>, words: &str) -> bool {
-    let mut words = words.split_whitespace();
     let (kind, at) = in_words(fault);
-    words.next() == Some(kind) && words.next().and_then(|at| number(at)) == at
+    match words.trim().split_once(' ') {
+        Some((told, told_at)) => kind == told && number(told_at) == at,
+        None => kind == words.trim() && at.is_none(),
+    }
 }
 
 /// What is wrong, and where, in words.

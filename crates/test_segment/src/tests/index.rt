@@ -1,5 +1,5 @@
 use crate::tests::rooted::{Rooted, with_root};
-use crate::tests::support::{I64, INDEXES};
+use crate::tests::support::INDEXES;
 use seg_block::{Fit, Kind, Tag, UNIT, need};
 use seg_index::{
     IndexKind, NameEntry, find, first_name, look_up, name_count_in, next_name, set_unique, unique,
@@ -12,7 +12,7 @@ use std::test::Fail;
 
 /// A heap of numbers without names, which is one free block.
 fn nameless(rt: &impl AllocGlobal, kind: IndexKind) -> Result<Rooted<SeqFit>, Fail> {
-    let mut s = with_root::<SeqFit>(rt.alloc(), 2048, &[I64], 0)?;
+    let mut s = with_root::<SeqFit>(rt.alloc(), 2048, "i64", 0)?;
     let w = s.heap.window_mut();
     w.put32(header::INDEX_KIND, kind.word());
     w.point(header::INDEX, None);
@@ -53,7 +53,10 @@ fn remove<F: Fit>(s: &mut Rooted<F>, name: &[u8]) -> bool {
 }
 
 fn is_entry_of<S: SegmentRead>(source: &S, entry: Option<NameEntry>, name: &[u8]) -> bool {
-    entry.is_some_and(|entry| entry.name_in(source.view(), source.types()) == name)
+    match entry {
+        Some(entry) => entry.name_in(source.view(), source.types()) == name,
+        None => false,
+    }
 }
 
 /// Tests that exactly these names are found, in this order.
@@ -65,7 +68,7 @@ fn lists<S: SegmentRead>(rt: &impl Abort, source: &S, names: &[&[u8]]) {
         entry = next_name(source, name);
     }
     assert!(rt; entry.is_none());
-    assert_eq!(rt; name_count_in(source.view()) as usize, names.len());
+    assert!(rt; name_count_in(source.view()) as usize == names.len());
 }
 
 /// The same in the heap and in its bytes alone.

@@ -1,6 +1,6 @@
 //! The checker on lists.
 
-use crate::tests::image::{ImageBuilder, checks};
+use crate::tests::image::checks;
 use std::test::Fail;
 
 /// A unique list of three numbers: its cell is at 720.
@@ -18,9 +18,11 @@ const LIST: &str = "
 
 #[test]
 fn claims_the_nodes_of_a_list(rt: HostRuntime) -> Result<(), Fail> {
-    ImageBuilder::of(rt.alloc(), LIST)?.follow(
+    checks(
         rt.alloc(),
-        "=> sound
+        &[
+            LIST,
+            "=> sound
         760=7 764=0x80000000 => sound ; another number
         720->null => pointer 720
         752->null | 752->720 => pointer 752
@@ -28,20 +30,24 @@ fn claims_the_nodes_of_a_list(rt: HostRuntime) -> Result<(), Fail> {
         784->752 | 752->752 => twice 736
         724=4 | 724=0xffffffff => twice 736 ; a fourth node is the first again
         720->null 724=0 => unowned 736",
+        ],
     )
 }
 
 #[test]
 fn finds_what_is_no_ring(rt: HostRuntime) -> Result<(), Fail> {
-    ImageBuilder::of(rt.alloc(), LIST)?.follow(
+    checks(
         rt.alloc(),
-        "724=2 | 724=1 | 724=0 => value 720 ; fewer nodes, and none beside a pointer
+        &[
+            LIST,
+            "724=2 | 724=1 | 724=0 => value 720 ; fewer nodes, and none beside a pointer
         816->null | 816->784 => value 720 ; the last one's next
         756->null | 756->784 | 788->816 | 820->816 => value 720 ; previous ones
         756->null 784->null => pointer 784 ; the claims come first
         ; a ring that goes on after the nodes that are counted
         724=2 784->752 => value 720
         724=2 784->752 756->784 => unowned 800",
+        ],
     )
 }
 
@@ -50,7 +56,8 @@ fn finds_what_is_no_ring(rt: HostRuntime) -> Result<(), Fail> {
 fn accepts_a_list_of_one_node(rt: HostRuntime) -> Result<(), Fail> {
     checks(
         rt.alloc(),
-        "type list t1
+        &[
+            "type list t1
         type i64
         720 unique t0 2
         752 node t0 2
@@ -58,6 +65,7 @@ fn accepts_a_list_of_one_node(rt: HostRuntime) -> Result<(), Fail> {
         752=0 756=0xfffffffc
         => sound
         752=1 | 756=1 => value 720",
+        ],
     )
 }
 
@@ -66,7 +74,8 @@ fn accepts_a_list_of_one_node(rt: HostRuntime) -> Result<(), Fail> {
 fn finds_nodes_that_are_too_small(rt: HostRuntime) -> Result<(), Fail> {
     checks(
         rt.alloc(),
-        "type i64
+        &[
+            "type i64
         type struct t0 t0
         type list t1
         720 unique t2 2
@@ -74,6 +83,7 @@ fn finds_nodes_that_are_too_small(rt: HostRuntime) -> Result<(), Fail> {
         720->752 724=1
         752=0 756=0xfffffffc
         => pointer 720",
+        ],
     )
 }
 
@@ -81,7 +91,8 @@ fn finds_nodes_that_are_too_small(rt: HostRuntime) -> Result<(), Fail> {
 fn accepts_nodes_that_are_large_enough(rt: HostRuntime) -> Result<(), Fail> {
     checks(
         rt.alloc(),
-        "type i64
+        &[
+            "type i64
         type struct t0 t0
         type list t1
         720 unique t2 2
@@ -89,5 +100,6 @@ fn accepts_nodes_that_are_large_enough(rt: HostRuntime) -> Result<(), Fail> {
         720->752 724=1
         752=0 756=0xfffffffc
         => sound",
+        ],
     )
 }

@@ -1,6 +1,6 @@
 //! The checker on maps and flat maps.
 
-use crate::tests::image::{ImageBuilder, checks};
+use crate::tests::image::checks;
 use std::test::Fail;
 
 /// A unique map with the keys -9, 0 and 9: its cell is at 720, the root at 800. A node has its key at offset 16.
@@ -18,9 +18,11 @@ const MAP: &str = "
 
 #[test]
 fn claims_the_nodes_of_a_map(rt: HostRuntime) -> Result<(), Fail> {
-    ImageBuilder::of(rt.alloc(), MAP)?.follow(
+    checks(
         rt.alloc(),
-        "=> sound
+        &[
+            MAP,
+            "=> sound
         720->null | 720->720 => pointer 720
         800->720 => pointer 800
         804->849 => pointer 804
@@ -31,14 +33,17 @@ fn claims_the_nodes_of_a_map(rt: HostRuntime) -> Result<(), Fail> {
         804->720 760=2 764=1 768=1 772=0 724=2 => pointer 804
         724=0 720->720 => value 720 ; a number that the pointer doesn't allow comes before the claims
         720->null 724=0 => unowned 736",
+        ],
     )
 }
 
 #[test]
 fn finds_what_is_no_tree(rt: HostRuntime) -> Result<(), Fail> {
-    ImageBuilder::of(rt.alloc(), MAP)?.follow(
+    checks(
         rt.alloc(),
-        "760=0 856=0 => sound
+        &[
+            MAP,
+            "760=0 856=0 => sound
         724=0 | 724=2 | 724=4 => value 720 ; the number of nodes
         ; a red root, a third colour, other ways with another number of black nodes
         808=1 | 760=2 | 760=0 | 856=0 => value 720
@@ -47,15 +52,19 @@ fn finds_what_is_no_tree(rt: HostRuntime) -> Result<(), Fail> {
         804->null 752->848 864:-10 => value 720
         804->null 756->848 864:-8 => value 720
         804->null 724=2 => unowned 832",
+        ],
     )
 }
 
 #[test]
 fn finds_keys_of_a_map_out_of_order(rt: HostRuntime) -> Result<(), Fail> {
-    ImageBuilder::of(rt.alloc(), MAP)?.follow(
+    checks(
         rt.alloc(),
-        "768:0 | 768:5 | 816:9 | 816:-10 | 864:0 | 864:-9223372036854775808 => value 720
+        &[
+            MAP,
+            "768:0 | 768:5 | 816:9 | 816:-10 | 864:0 | 864:-9223372036854775808 => value 720
         768:-9223372036854775808 864:9223372036854775807 => sound",
+        ],
     )
 }
 
@@ -64,7 +73,8 @@ fn finds_keys_of_a_map_out_of_order(rt: HostRuntime) -> Result<(), Fail> {
 fn refuses_a_map_that_is_too_deep_at_once(rt: HostRuntime) -> Result<(), Fail> {
     checks(
         rt.alloc(),
-        "type map t1
+        &[
+            "type map t1
         type i64
         720 unique t0 2
         724=60
@@ -73,6 +83,7 @@ fn refuses_a_map_that_is_too_deep_at_once(rt: HostRuntime) -> Result<(), Fail> {
         3584->5 | 3584->752 => value 720 ; the last node, at 752 + 59 * 48
         3536->5 => pointer 3536
         3536->752 => twice 736",
+        ],
     )
 }
 
@@ -87,23 +98,29 @@ const FLAT_MAP: &str = "
 
 #[test]
 fn finds_faults_of_a_flat_map(rt: HostRuntime) -> Result<(), Fail> {
-    ImageBuilder::of(rt.alloc(), FLAT_MAP)?.follow(
+    checks(
         rt.alloc(),
-        "=> sound
+        &[
+            FLAT_MAP,
+            "=> sound
         724=2 | 724=0 => sound
         724=4 | 724=0xffffffff | 720->null | 720->720 | 720->753 => pointer 720
         720->null 724=0 => unowned 736
         752:0 | 752:5 | 768:7 | 768:-6 | 784:0 | 784:-1 => value 720
         752:-9223372036854775808 784:9223372036854775807 => sound",
+        ],
     )
 }
 
 /// The bytes after the counted keys may have any values.
 #[test]
 fn reads_only_the_keys_that_count(rt: HostRuntime) -> Result<(), Fail> {
-    ImageBuilder::of(rt.alloc(), FLAT_MAP)?.follow(
+    checks(
         rt.alloc(),
-        "784:-7 => value 720
+        &[
+            FLAT_MAP,
+            "784:-7 => value 720
         784:-7 724=2 => sound",
+        ],
     )
 }

@@ -1,10 +1,9 @@
 //! The checker on the index of names, flat and a tree.
 
-use crate::tests::image::{ImageBuilder, checks};
-use std::alloc::Global;
+use crate::tests::image::checks;
 use std::test::Fail;
 
-/// The numbers a, ab and one whose name has 63 letters. An entry has the number of values and the length of the name.
+/// The numbers a, ab and one whose name is 63 times the letter b, 0x62. An entry has the number of values and the length of the name.
 const FLAT: &str = "
     type i64
     720 named t0 2
@@ -15,35 +14,36 @@ const FLAT: &str = "
     32->880 36=3
     880->720 884=1,1
     888->752 892=1,2
-    896->784 900=1,63";
-
-fn flat(alloc: Global) -> Result<ImageBuilder, Fail> {
-    let mut image = ImageBuilder::of(alloc, FLAT)?;
-    image.w.copy_in(792, &[b'b'; 63]);
-    Ok(image)
-}
+    896->784 900=1,63
+    792=0x62626262 796=0x62626262 800=0x62626262 804=0x62626262
+    808=0x62626262 812=0x62626262 816=0x62626262 820=0x62626262
+    824=0x62626262 828=0x62626262 832=0x62626262 836=0x62626262
+    840=0x62626262 844=0x62626262 848=0x62626262 852=0x626262";
 
 #[test]
 fn finds_faults_of_the_buffer_of_entries(rt: HostRuntime) -> Result<(), Fail> {
-    let mut image = flat(rt.alloc())?;
-    assert_eq!(rt; image.w.target(32), Some(880));
-    image.follow(
+    checks(
         rt.alloc(),
-        "=> sound
+        &[
+            FLAT,
+            "=> sound
         36=0 => index 32
         32->null 36=0 => unowned 704
         36=5 | 32->null | 32->720 | 32->881 | 32->16 | 20=1 => pointer 32
         32->720 36=0 => pointer 32
         36=4 => index 904 ; a fourth entry, of zeros
         36=2 => unowned 768",
+        ],
     )
 }
 
 #[test]
 fn finds_faults_of_entries(rt: HostRuntime) -> Result<(), Fail> {
-    flat(rt.alloc())?.follow(
+    checks(
         rt.alloc(),
-        "; the entry's numbers come before its claim
+        &[
+            FLAT,
+            "; the entry's numbers come before its claim
         892=0,2 | 892=1,0 | 892=1,64 | 892=1,255 | 892=1,258 => index 888
         892=0,2 888->null | 892=1,0 888->null | 892=1,64 888->null => index 888
         892=1,255 888->null | 892=1,258 888->null => index 888
@@ -51,19 +51,23 @@ fn finds_faults_of_entries(rt: HostRuntime) -> Result<(), Fail> {
         888->720 892=1,2 => twice 704 ; the claim comes before the name
         ; 16 bytes have room for a value and a name of 8 bytes, but here these are no letters
         892=1,8 => index 888",
+        ],
     )
 }
 
 #[test]
 fn finds_faults_of_names(rt: HostRuntime) -> Result<(), Fail> {
-    flat(rt.alloc())?.follow(
+    checks(
         rt.alloc(),
-        "; the bytes of the second name
+        &[
+            FLAT,
+            "; the bytes of the second name
         760=0x61 | 760=0x2061 | 760=0x7f61 | 760=0x8061 | 760=0xff61 => index 888
         760='a!' | 760='a~' => sound
         728='b' | 892=1,1 => index 888 ; the first name after the second, and equal to it
         880->752 884=1,2 888->720 892=1,1 => index 888 ; a prefix after the longer name
         760='cc' => index 896 ; the third before the second",
+        ],
     )
 }
 
@@ -85,9 +89,11 @@ const TREE: &str = "
 
 #[test]
 fn finds_faults_of_the_tree_of_entries(rt: HostRuntime) -> Result<(), Fail> {
-    ImageBuilder::of(rt.alloc(), TREE)?.follow(
+    checks(
         rt.alloc(),
-        "=> sound
+        &[
+            TREE,
+            "=> sound
         824=0 920=0 => sound
         ; a red root, a third colour, words that are not 0, a way with another number of black nodes
         872=1 | 824=2 | 828=1 | 876=0x80000000 | 824=0 => index 32
@@ -97,27 +103,33 @@ fn finds_faults_of_the_tree_of_entries(rt: HostRuntime) -> Result<(), Fail> {
         864->720 => pointer 864
         868->913 => pointer 868
         20=0 => pointer 32",
+        ],
     )
 }
 
 #[test]
 fn claims_the_nodes_before_it_looks_at_the_tree(rt: HostRuntime) -> Result<(), Fail> {
-    ImageBuilder::of(rt.alloc(), TREE)?.follow(
+    checks(
         rt.alloc(),
-        "868->816 => twice 800
+        &[
+            TREE,
+            "868->816 => twice 800
         864->864 | 816->864 => twice 848
         ; the left part before the right one, and both before colours and the number of names
         816->720 868->720 36=2 => pointer 816
         868->720 824=2 36=0 => pointer 868
         828=1 836=0,1 => index 32 ; the tree before its entries",
+        ],
     )
 }
 
 #[test]
 fn reads_the_entries_of_a_tree_in_order(rt: HostRuntime) -> Result<(), Fail> {
-    ImageBuilder::of(rt.alloc(), TREE)?.follow(
+    checks(
         rt.alloc(),
-        "836=0,1 884=0 => index 832
+        &[
+            TREE,
+            "836=0,1 884=0 => index 832
         884=1,0 932=0 => index 880
         932=1,257 => index 928
         832->785 => pointer 832
@@ -125,6 +137,7 @@ fn reads_the_entries_of_a_tree_in_order(rt: HostRuntime) -> Result<(), Fail> {
         832->752 => twice 736 ; the object b has two entries
         760='a' => index 880
         868->null 36=2 => unowned 768",
+        ],
     )
 }
 
@@ -133,12 +146,14 @@ fn reads_the_entries_of_a_tree_in_order(rt: HostRuntime) -> Result<(), Fail> {
 fn refuses_a_tree_that_is_too_deep_at_once(rt: HostRuntime) -> Result<(), Fail> {
     checks(
         rt.alloc(),
-        "type i64
+        &[
+            "type i64
         20=1 36=60
         chain index_node 32 60
         => index 32
         3552->5 | 3552->720 => index 32 ; the last node, at 720 + 59 * 48
         3504->5 => pointer 3504
         3504->720 => twice 704",
+        ],
     )
 }

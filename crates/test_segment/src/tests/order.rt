@@ -8,7 +8,8 @@ use std::test::Fail;
 fn answers_the_earliest_fault(rt: HostRuntime) -> Result<(), Fail> {
     checks(
         rt.alloc(),
-        "type i64
+        &[
+            "type i64
         type own t0
         type str
         720 named t0 2
@@ -41,6 +42,7 @@ fn answers_the_earliest_fault(rt: HostRuntime) -> Result<(), Fail> {
         => type 3
         8=3
         => header",
+        ],
     )
 }
 
@@ -49,7 +51,8 @@ fn answers_the_earliest_fault(rt: HostRuntime) -> Result<(), Fail> {
 fn answers_counts_after_values(rt: HostRuntime) -> Result<(), Fail> {
     checks(
         rt.alloc(),
-        "8=2 28=1
+        &[
+            "8=2 28=1
         type i64
         type shared t0
         type own t0
@@ -67,6 +70,7 @@ fn answers_counts_after_values(rt: HostRuntime) -> Result<(), Fail> {
         => value 784
         752->784
         => pointer 752",
+        ],
     )
 }
 
@@ -75,7 +79,8 @@ fn answers_counts_after_values(rt: HostRuntime) -> Result<(), Fail> {
 fn takes_blocks_first_in_first_out(rt: HostRuntime) -> Result<(), Fail> {
     checks(
         rt.alloc(),
-        "type own t1
+        &[
+            "type own t1
         type str
         type struct t0 t0
         720 unique t2 2
@@ -92,6 +97,7 @@ fn takes_blocks_first_in_first_out(rt: HostRuntime) -> Result<(), Fail> {
         752->null 728->null => pointer 728
         752->null 720->null => pointer 720
         784->816 => twice 800 ; both strings claim one buffer: the second one is too late",
+        ],
     )
 }
 
@@ -100,7 +106,8 @@ fn takes_blocks_first_in_first_out(rt: HostRuntime) -> Result<(), Fail> {
 fn claims_unique_objects_before_values(rt: HostRuntime) -> Result<(), Fail> {
     checks(
         rt.alloc(),
-        "type own t1
+        &[
+            "type own t1
         type i64
         720 unique t0 2
         752 unique t1 2
@@ -109,5 +116,6 @@ fn claims_unique_objects_before_values(rt: HostRuntime) -> Result<(), Fail> {
         720->752 724=1 => twice 736
         724=2 580->720 => pointer 580
         724=1 580=2 => pointer 580",
+        ],
     )
 }

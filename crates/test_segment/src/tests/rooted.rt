@@ -1,4 +1,4 @@
-use crate::tests::support::{Spelled, one_gap, place_of, table};
+use crate::tests::support::{one_gap, place_of, table};
 use seg_block::Fit;
 use seg_manager::TypeId;
 use seg_value::{Heap, Place};
@@ -20,7 +20,7 @@ pub(crate) struct Rooted<F: Fit> {
 pub(crate) fn with_root<F: Fit>(
     alloc: Global,
     len: u32,
-    types: &[Spelled],
+    types: &str,
     root: TypeId,
 ) -> Result<Rooted<F>, Fail> {
     let mut heap = Heap::new(one_gap::<F>(alloc, len, len)?, table(alloc, types)?);

@@ -2,7 +2,7 @@
 //! a number and another cell.
 
 use crate::tests::rooted::{ROOT, Rooted, with_root};
-use crate::tests::support::{I64, pair, place_of, shared_of};
+use crate::tests::support::place_of;
 use crate::tests::tiles::{is_one_gap, live_are};
 use seg_bestfit::BestFit;
 use seg_block::Fit;
@@ -20,7 +20,7 @@ const SHARED: TypeId = 1;
 const PAIR: TypeId = 2;
 
 fn heap_of<F: Fit>(alloc: Global, len: u32) -> Result<Rooted<F>, Fail> {
-    with_root::<F>(alloc, len, &[I64, shared_of(PAIR), pair(0, SHARED)], SHARED)
+    with_root::<F>(alloc, len, "i64, shared t2, struct t0 t1", SHARED)
 }
 
 /// Freezes a new pair into the root. The pair's cell shares what the root shared before.
@@ -36,15 +36,15 @@ fn calls_on_shared<F: Fit>(rt: &(impl Abort + AllocGlobal)) -> Result<(), Fail> 
     let mut s = heap_of::<F>(rt.alloc(), 1024)?;
     freeze_on_top(&mut s)?;
     let first = frozen(&s.heap, s.root);
-    live_are(rt, s.heap.window(), &[(736, 3)])?;
+    live_are(rt, s.heap.window(), &[(736, 3)]);
     freeze_on_top(&mut s)?;
     let second = frozen(&s.heap, s.root).ok_or("nothing")?;
     let field = place_of(SHARED, second.wrapping_add(8));
-    assert_eq!(rt; frozen(&s.heap, field), first);
-    live_are(rt, s.heap.window(), &[(736, 3), (784, 3)])?;
+    assert!(rt; frozen(&s.heap, field) == first);
+    live_are(rt, s.heap.window(), &[(736, 3), (784, 3)]);
     share(&mut s.heap, s.root, field);
-    assert_eq!(rt; frozen(&s.heap, s.root), first);
-    live_are(rt, s.heap.window(), &[(736, 3)])?;
+    assert!(rt; frozen(&s.heap, s.root) == first);
+    live_are(rt, s.heap.window(), &[(736, 3)]);
     s.heap.clear(s.root);
     is_one_gap(rt, s.heap.window());
     Ok(())
@@ -63,7 +63,7 @@ fn a_chain_goes_with_its_cell(rt: HostRuntime) -> Result<(), Fail> {
     for _ in 0..20_000 {
         freeze_on_top(&mut s)?;
     }
-    assert_eq!(rt; frozen(&s.heap, place_of(SHARED, ROOT)), Some(960_712));
+    assert!(rt; frozen(&s.heap, place_of(SHARED, ROOT)) == Some(960_712));
     s.heap.clear(s.root);
     is_one_gap(&rt, s.heap.window());
     Ok(())

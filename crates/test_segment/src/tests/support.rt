@@ -1,9 +1,10 @@
+use crate::tests::image::entry_of;
 use seg_block::Fit;
 use seg_check::check;
 use seg_manager::{Code, Fault, IndexKind, Region, Segment, TypeId, TypeTable, Window};
 use seg_space::create;
 use seg_value::Place;
-use std::alloc::{AllocError, Global};
+use std::alloc::Global;
 use std::test::Fail;
 
 /// Numbers, the type that the tests use most.
@@ -12,55 +13,17 @@ pub(crate) const NUMBER: TypeId = 0;
 /// Both kinds of index.
 pub(crate) const INDEXES: [IndexKind; 2] = [IndexKind::Flat, IndexKind::Tree];
 
-/// A type: a kind, the number of parts, the parts, and zeros.
-pub(crate) type Spelled = [u8; 10];
-
-pub(crate) const I64: Spelled = [1, 0, 0, 0, 0, 0, 0, 0, 0, 0];
-
-pub(crate) const STR: Spelled = [2, 0, 0, 0, 0, 0, 0, 0, 0, 0];
-
-pub(crate) fn vec_of(item: TypeId) -> Spelled {
-    [3, 1, item, 0, 0, 0, 0, 0, 0, 0]
-}
-
-pub(crate) fn list_of(item: TypeId) -> Spelled {
-    [4, 1, item, 0, 0, 0, 0, 0, 0, 0]
-}
-
-pub(crate) fn flat_map_of(item: TypeId) -> Spelled {
-    [5, 1, item, 0, 0, 0, 0, 0, 0, 0]
-}
-
-pub(crate) fn map_of(item: TypeId) -> Spelled {
-    [6, 1, item, 0, 0, 0, 0, 0, 0, 0]
-}
-
-pub(crate) fn own_of(item: TypeId) -> Spelled {
-    [7, 1, item, 0, 0, 0, 0, 0, 0, 0]
-}
-
-/// A cell that shares an object with others.
-pub(crate) fn shared_of(item: TypeId) -> Spelled {
-    [9, 1, item, 0, 0, 0, 0, 0, 0, 0]
-}
-
-/// A struct of two fields.
-pub(crate) fn pair(first: TypeId, second: TypeId) -> Spelled {
-    [8, 2, first, second, 0, 0, 0, 0, 0, 0]
-}
-
-/// The entries of these types in an image.
-pub(crate) fn spelled(alloc: Global, types: &[Spelled]) -> Result<Vec<u8>, AllocError> {
+/// The bytes of the entries of these types, which are written as in an image's text, with commas between them.
+pub(crate) fn spelled(alloc: Global, types: &str) -> Result<Vec<u8>, Fail> {
     let mut bytes = Vec::new(alloc);
-    for entry in types {
-        bytes.extend_from_slice(entry)?;
-        bytes.extend_from_slice(&[0; 6])?;
+    for words in types.split(',') {
+        bytes.extend_from_slice(&entry_of(words).ok_or("no type")?)?;
     }
     Ok(bytes)
 }
 
 /// The table of these types, which may have shared cells.
-pub(crate) fn table(alloc: Global, types: &[Spelled]) -> Result<TypeTable, Fail> {
+pub(crate) fn table(alloc: Global, types: &str) -> Result<TypeTable, Fail> {
     Ok(TypeTable::read_shared(&spelled(alloc, types)?)?)
 }
 
@@ -97,7 +60,7 @@ pub(crate) fn segment<F: Fit>(
     alloc: Global,
     size: u32,
     index: IndexKind,
-    types: &[Spelled],
+    types: &str,
 ) -> Result<Segment<F, Global>, Fail> {
     segment_in::<F>(alloc, size, size, index, types)
 }
@@ -108,7 +71,7 @@ pub(crate) fn segment_in<F: Fit>(
     room: u32,
     size: u32,
     index: IndexKind,
-    types: &[Spelled],
+    types: &str,
 ) -> Result<Segment<F, Global>, Fail> {
     let region = used_region(alloc, room)?;
     match create::<F, Global>(region, 0, size, index) {

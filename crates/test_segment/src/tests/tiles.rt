@@ -1,63 +1,34 @@
-//! The blocks of a heap as a list.
+//! The blocks of a heap.
 
 use seg_block::{HEAP_START, UNIT, block_at, is_live, tag_word};
 use seg_manager::Window;
 use seg_manager::header::FREE;
-use std::alloc::{AllocError, Global};
+use std::alloc::Global;
 use std::process::Abort;
-use std::test::Fail;
 
-/// A block of the heap. The tag is 0 if the block is free.
-#[derive(Debug, Clone, Copy, PartialEq, Eq)]
-pub(crate) struct Tile {
-    pub(crate) at: u32,
-    pub(crate) units: u32,
-    pub(crate) live: bool,
-    pub(crate) tag: u32,
+/// Tests that these are the allocated blocks, with their positions and units.
+pub(crate) fn live_are(rt: &impl Abort, w: &Window<Global>, wanted: &[(u32, u32)]) {
+    assert!(rt; are_live(w, wanted));
 }
 
-/// The blocks of the heap, in order.
-pub(crate) fn tiles(alloc: Global, w: &Window<Global>) -> Result<Vec<Tile>, AllocError> {
-    let mut tiles = Vec::new(alloc);
+fn are_live(w: &Window<Global>, wanted: &[(u32, u32)]) -> bool {
+    let mut found = 0usize;
     let mut at = HEAP_START;
     for _ in 0..w.len() / UNIT {
         let Some(block) = block_at(w, at) else {
             break;
         };
-        tiles.push(Tile {
-            at,
-            units: block.units,
-            live: is_live(w, at),
-            tag: tag_word(w, at),
-        })?;
+        if is_live(w, at) {
+            match wanted.get(found) {
+                Some(&(wanted_at, units)) if wanted_at == at && units == block.units => {
+                    found = found.saturating_add(1);
+                }
+                _ => return false,
+            }
+        }
         at = block.at + UNIT * block.units;
     }
-    Ok(tiles)
-}
-
-/// Tests that these are the allocated blocks, with their positions and units.
-pub(crate) fn live_are(
-    rt: &(impl Abort + AllocGlobal),
-    w: &Window<Global>,
-    wanted: &[(u32, u32)],
-) -> Result<(), Fail> {
-    let tiles = tiles(rt.alloc(), w)?;
-    assert!(rt; are_live(tiles.as_slice(), wanted));
-    Ok(())
-}
-
-fn are_live(tiles: &[Tile], wanted: &[(u32, u32)]) -> bool {
-    let mut wanted = wanted.iter();
-    for tile in tiles {
-        if !tile.live {
-            continue;
-        }
-        match wanted.next() {
-            Some(&(at, units)) if at == tile.at && units == tile.units => {}
-            _ => return false,
-        }
-    }
-    wanted.next().is_none()
+    found == wanted.len()
 }
 
 /// Whether the heap is one free block, to which the free structure points, with a null link.

@@ -7,7 +7,8 @@ use std::test::Fail;
 fn finds_faults_of_a_string(rt: HostRuntime) -> Result<(), Fail> {
     checks(
         rt.alloc(),
-        "type str
+        &[
+            "type str
         720 unique t0 2
         752 buffer t0 3
         720->752 724=20
@@ -16,6 +17,7 @@ fn finds_faults_of_a_string(rt: HostRuntime) -> Result<(), Fail> {
         724=33 | 724=0xffffffff | 720->null | 720->720 | 720->753 | 720->704 => pointer 720
         720=0x7fffffff | 744=2 => pointer 720
         720->null 724=0 => unowned 736",
+        ],
     )
 }
 
@@ -24,7 +26,8 @@ fn finds_faults_of_a_string(rt: HostRuntime) -> Result<(), Fail> {
 fn finds_faults_of_a_vector(rt: HostRuntime) -> Result<(), Fail> {
     checks(
         rt.alloc(),
-        "type vec t1
+        &[
+            "type vec t1
         type str
         720 unique t0 2
         752 buffer t0 4
@@ -42,6 +45,7 @@ fn finds_faults_of_a_vector(rt: HostRuntime) -> Result<(), Fail> {
         760->816 => twice 800
         760->752 => pointer 760 ; the buffer of the vector isn't one of a string
         760->720 => pointer 760 ; a wrong tag comes before a second owner",
+        ],
     )
 }
 
@@ -49,7 +53,8 @@ fn finds_faults_of_a_vector(rt: HostRuntime) -> Result<(), Fail> {
 fn finds_faults_of_an_own(rt: HostRuntime) -> Result<(), Fail> {
     checks(
         rt.alloc(),
-        "type own t1
+        &[
+            "type own t1
         type i64
         720 unique t0 2
         752 object t1 2
@@ -59,6 +64,7 @@ fn finds_faults_of_an_own(rt: HostRuntime) -> Result<(), Fail> {
         720->null | 720->720 => pointer 720
         720->null 724=0 => unowned 736
         580->752 => twice 736 ; the object is a unique one too",
+        ],
     )
 }
 
@@ -67,7 +73,8 @@ fn finds_faults_of_an_own(rt: HostRuntime) -> Result<(), Fail> {
 fn finds_an_own_in_itself(rt: HostRuntime) -> Result<(), Fail> {
     checks(
         rt.alloc(),
-        "type own t0
+        &[
+            "type own t0
         720 unique t0 2
         752 object t0 2
         784 object t0 2
@@ -80,6 +87,7 @@ fn finds_an_own_in_itself(rt: HostRuntime) -> Result<(), Fail> {
         816->816 820=1 => twice 800
         816->720 820=1 => twice 704
         784->784 => twice 768",
+        ],
     )
 }
 
@@ -88,7 +96,8 @@ fn finds_an_own_in_itself(rt: HostRuntime) -> Result<(), Fail> {
 fn finds_faults_in_a_struct(rt: HostRuntime) -> Result<(), Fail> {
     checks(
         rt.alloc(),
-        "type i64
+        &[
+            "type i64
         type str
         type struct t1
         type struct t0 t1 t2
@@ -102,6 +111,7 @@ fn finds_faults_in_a_struct(rt: HostRuntime) -> Result<(), Fail> {
         728->null 736->null => pointer 728
         736->null => pointer 736
         736->768 => twice 752",
+        ],
     )
 }
 
@@ -110,7 +120,8 @@ fn finds_faults_in_a_struct(rt: HostRuntime) -> Result<(), Fail> {
 fn finds_faults_in_each_value_of_an_object(rt: HostRuntime) -> Result<(), Fail> {
     checks(
         rt.alloc(),
-        "type str
+        &[
+            "type str
         720 named t0 3
         768 index t0 2
         800 buffer t0 2
@@ -124,6 +135,7 @@ fn finds_faults_in_each_value_of_an_object(rt: HostRuntime) -> Result<(), Fail> 
         720->null 728->null => pointer 720
         732=17 => pointer 728
         728->800 => twice 784",
+        ],
     )
 }
 
@@ -131,7 +143,8 @@ fn finds_faults_in_each_value_of_an_object(rt: HostRuntime) -> Result<(), Fail> 
 fn finds_faults_of_unique_objects(rt: HostRuntime) -> Result<(), Fail> {
     checks(
         rt.alloc(),
-        "type i64
+        &[
+            "type i64
         type i64
         type struct t0 t0 t0
         720 unique t0 2
@@ -146,5 +159,6 @@ fn finds_faults_of_unique_objects(rt: HostRuntime) -> Result<(), Fail> {
         700=0 => pointer 700
         744=0x202 584->752 => pointer 580 ; 16 bytes for a value of 24
         744=0x202 580->null 584->752 => pointer 584",
+        ],
     )
 }
