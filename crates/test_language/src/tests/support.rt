@@ -36,10 +36,6 @@ pub fn verdict(alloc: Global, text: &[u8]) -> Result<u64, Fault> {
     verdict_of(file.as_slice())
 }
 
-fn verdict_of(file: &[u8]) -> Result<u64, Fault> {
-    Ok(verify(parse(file)?, &TypeTable::new())?.bound())
-}
-
 /// The same for a program after `FRONT`. `;` ends its lines too.
 pub fn verdict_after_front(alloc: Global, program: &[u8]) -> Result<u64, Fault> {
     let mut text = Vec::from_slice(alloc, FRONT)?;
@@ -53,6 +49,10 @@ pub fn verdict_after_front(alloc: Global, program: &[u8]) -> Result<u64, Fault> 
 pub fn verdict_with(alloc: Global, type_id: u8, program: &str) -> Result<u64, Fault> {
     let text = format!(in alloc; "FINDOR r0 - t{type_id} k1;{program};ELSE;END")?;
     verdict_after_front(alloc, text.as_bytes())
+}
+
+fn verdict_of(file: &[u8]) -> Result<u64, Fault> {
+    Ok(verify(parse(file)?, &TypeTable::new())?.bound())
 }
 
 /// The type of r0, a program that is accepted inside the opener, and the bound.
