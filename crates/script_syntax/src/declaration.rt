@@ -78,7 +78,7 @@ fn structure<A: Allocator>(
         let name = tokens.name(Wanted::Field)?;
         let value_type = type_after_colon(tokens, builder)?;
         builder.field(Field { name, value_type })?;
-        let _ = tokens.accept(Word::Comma) || tokens.accept(Word::Semicolon);
+        let _ = tokens.accept(Word::Comma);
     }
     tokens.expect(Word::BraceClose)?;
     let end = builder.tree.fields.len();

@@ -1,7 +1,7 @@
 ghost use Rattle.std.specs.Prelude.{◌<◌, IfOk, IfSome};
 
 use crate::builder::Builder;
-use crate::error::{DEEPEST, ErrorKind, LARGEST, Stop, Wanted};
+use crate::error::{DEEPEST, Error, ErrorKind, LARGEST, Stop, Wanted};
 use crate::token::{Token, TokenKind};
 use crate::tokens::Tokens;
 use crate::tree::{
@@ -42,6 +42,21 @@ fn deeper(tokens: &Tokens<'_>, depth: u32) -> Result<u32, Stop>
     }
 }
 
+/// Adds an expression, after its operands.
+fn add_expression<A: Allocator>(
+    span: Span,
+    kind: ExpressionKind,
+    builder: &mut Builder<'_, A>,
+) -> Result<ExpressionAt, Stop> {
+    if builder.expression_size() >= LARGEST {
+        return Err(Stop::Error(Error {
+            span,
+            kind: ErrorKind::TooLarge,
+        }));
+    }
+    Ok(builder.expression(Expression { span, kind })?)
+}
+
 /// Reads operands with the operators of this level and the levels above between them.
 #[cycle(expression)]
 fn operators<A: Allocator>(
@@ -60,10 +75,7 @@ fn operators<A: Allocator>(
         let span = tokens.take().span;
         let right = operators(tokens, builder, level + 1, depth)?;
         let kind = ExpressionKind::Binary(operator, left, right);
-        left = builder.expression(Expression { span, kind })?;
-        if builder.expression_size() > LARGEST {
-            return Err(Stop::at(tokens.peek(), ErrorKind::TooLarge));
-        }
+        left = add_expression(span, kind, builder)?;
         if level == COMPARISONS && operator_of(tokens.peek(), level).is_some() {
             return Err(Stop::at(tokens.peek(), ErrorKind::ChainedComparisons));
         }
@@ -88,10 +100,7 @@ fn unary<A: Allocator>(
     let depth = deeper(tokens, depth)?;
     let operand = unary(tokens, builder, depth)?;
     let kind = ExpressionKind::Unary(operator, operand);
-    Ok(builder.expression(Expression {
-        span: token.span,
-        kind,
-    })?)
+    add_expression(token.span, kind, builder)
 }
 
 #[cycle(expression)]
@@ -117,10 +126,7 @@ fn operand<A: Allocator>(
         _ => return Err(Stop::at(token, ErrorKind::ValueWanted)),
     };
     tokens.take();
-    Ok(builder.expression(Expression {
-        span: token.span,
-        kind,
-    })?)
+    add_expression(token.span, kind, builder)
 }
 
 /// Reads a place with its `??`.
@@ -138,7 +144,7 @@ fn with_default<A: Allocator>(
     let depth = deeper(tokens, depth)?;
     let default = unary(tokens, builder, depth)?;
     let kind = ExpressionKind::OrElse(found, default);
-    Ok(builder.expression(Expression { span, kind })?)
+    add_expression(span, kind, builder)
 }
 
 /// Reads a place, or a call of a function.
@@ -154,7 +160,7 @@ fn place<A: Allocator>(
     } else {
         ExpressionKind::Place(steps(tokens, builder, depth)?)
     };
-    Ok(builder.expression(Expression { span, kind })?)
+    add_expression(span, kind, builder)
 }
 
 #[cycle(expression)]
@@ -235,14 +241,15 @@ fn arguments<A: Allocator>(
     depth: u32,
 ) -> Result<Range, Stop> {
     let begin = builder.arguments_begin();
-    // each turn takes a token
-    for _ in 0..tokens.left() {
-        if tokens.is(Word::ParenClose) {
-            break;
+    if !tokens.is(Word::ParenClose) {
+        // each turn takes a token
+        for _ in 0..=tokens.left() {
+            let argument = operators(tokens, builder, 0, depth)?;
+            builder.argument(argument)?;
+            if !tokens.accept(Word::Comma) {
+                break;
+            }
         }
-        let argument = operators(tokens, builder, 0, depth)?;
-        builder.argument(argument)?;
-        let _ = tokens.accept(Word::Comma);
     }
     tokens.expect(Word::ParenClose)?;
     Ok(builder.arguments_end(begin)?)

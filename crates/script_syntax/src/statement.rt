@@ -82,9 +82,6 @@ fn binding<A: Allocator>(
     builder: &mut Builder<'_, A>,
 ) -> Result<StatementKind, Stop> {
     let name = tokens.name(Wanted::Name)?;
-    if tokens.accept(Word::Colon) {
-        let _ = read_type(tokens, builder)?;
-    }
     tokens.expect(Word::Equal)?;
     let value = read_value(tokens, builder)?;
     Ok(StatementKind::Let { name, value })
@@ -186,11 +183,17 @@ fn printed<A: Allocator>(
     tokens: &mut Tokens<'_>,
     builder: &mut Builder<'_, A>,
 ) -> Result<StatementKind, Stop> {
-    let items = if ends_line && is_alone(span, tokens) {
-        Range::NONE
-    } else {
-        read_items(tokens, builder)?
-    };
+    if is_alone(span, tokens) {
+        if !ends_line {
+            return Err(Stop::at(tokens.peek(), ErrorKind::ValueWanted));
+        }
+        return Ok(StatementKind::Print {
+            items: Range::NONE,
+            most: None,
+            ends_line,
+        });
+    }
+    let items = read_items(tokens, builder)?;
     let most = read_most(tokens, builder)?;
     Ok(StatementKind::Print {
         items,
@@ -205,7 +208,7 @@ fn held<A: Allocator>(
 ) -> Result<StatementKind, Stop> {
     let first = builder.tree.held.len();
     // each turn takes a token
-    for _ in 0..tokens.left() {
+    for _ in 0..=tokens.left() {
         let place = read_place(tokens, builder)?;
         let name = if tokens.accept(Word::As) {
             Some(tokens.name(Wanted::Name)?)
@@ -243,6 +246,9 @@ fn named<A: Allocator>(
     }
     if is_call(place, builder) {
         return Ok(StatementKind::Call(place));
+    }
+    if matches!(token.kind, TokenKind::Wrong(_)) {
+        return Err(Stop::at(token, ErrorKind::NothingDone));
     }
     let is_increment = tokens.accept(Word::Plus) && tokens.accept(Word::Plus);
     Err(Stop::Error(Error {

@@ -21,6 +21,17 @@ impl<'t> Tokens<'t> {
         self.rest.len()
     }
 
+    /// Whether this word was read since `earlier`.
+    pub fn has_read(&self, earlier: &Tokens<'t>, word: Word) -> bool {
+        let len = earlier.left().saturating_sub(self.left());
+        for token in earlier.rest.get(..len).unwrap_or_default() {
+            if token.kind.is(word) {
+                return true;
+            }
+        }
+        false
+    }
+
     /// The next token.
     pub fn peek(&self) -> Token {
         self.rest.first().copied().unwrap_or(self.end)
