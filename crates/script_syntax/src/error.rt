@@ -6,10 +6,10 @@ use std::{fmt, str};
 
 /// How many levels an expression may have. The expression is the first. Parentheses, an index, an argument, a sign, what
 /// follows `??` and the right side of an operator are a level each.
-pub const DEEPEST: u32 = 64;
+pub const MAX_DEPTH: u32 = 64;
 
 /// How many operands and operators an expression may have, so that its tree isn't too deep.
-pub const LARGEST: usize = 500;
+pub const MAX_SIZE: usize = 500;
 
 /// What is wrong with a program, and where.
 #[derive(Clone, Copy)]
@@ -49,9 +49,9 @@ pub enum ErrorKind {
     MemberWanted,
     /// Code after the statement in this line, which leaves.
     Unreachable(usize),
-    LetGoesOn,
-    NewGoesOn,
-    UseGoesOn,
+    LetElseStays,
+    NewElseStays,
+    UseElseStays,
     TooDeep,
     TooLarge,
 }
@@ -74,28 +74,28 @@ pub enum OtherType {
 
 /// Why a part of a program wasn't read.
 #[derive(Clone, Copy)]
-pub enum Stop {
+pub enum ReadError {
     Error(Error),
     Memory,
 }
 
-impl Stop {
+impl ReadError {
     /// An error at a token. If the token is wrong itself, that is the error.
-    pub fn at(token: Token, kind: ErrorKind) -> Stop {
+    pub fn at(token: Token, kind: ErrorKind) -> ReadError {
         let kind = match token.kind {
             TokenKind::Wrong(kind) => kind,
             _ => kind,
         };
-        Stop::Error(Error {
+        ReadError::Error(Error {
             span: token.span,
             kind,
         })
     }
 }
 
-impl From<AllocError> for Stop {
-    fn from(_: AllocError) -> Stop {
-        Stop::Memory
+impl From<AllocError> for ReadError {
+    fn from(_: AllocError) -> ReadError {
+        ReadError::Memory
     }
 }
 
@@ -135,11 +135,11 @@ impl Error {
             ),
             ErrorKind::ChainedComparisons => Some("write `a < b && b < c`"),
             ErrorKind::MisplacedTake => Some("`take` stands right behind `=`"),
-            ErrorKind::LetGoesOn => {
+            ErrorKind::LetElseStays => {
                 Some("end it with break, continue, return or stop, or write `if let`")
             }
-            ErrorKind::NewGoesOn => Some("end it with break, continue, return or stop"),
-            ErrorKind::UseGoesOn => {
+            ErrorKind::NewElseStays => Some("end it with break, continue, return or stop"),
+            ErrorKind::UseElseStays => {
                 Some("end it with break, continue, return or stop, or give `use` a block")
             }
             ErrorKind::TooDeep | ErrorKind::TooLarge => Some("name a part of it with `let`"),
@@ -211,15 +211,15 @@ impl fmt::Display for Message<'_> {
             ErrorKind::Unreachable(line) => {
                 write!(f, "nothing comes here, since line {line} leaves")
             }
-            ErrorKind::LetGoesOn | ErrorKind::NewGoesOn => {
+            ErrorKind::LetElseStays | ErrorKind::NewElseStays => {
                 f.write_str("the else part of this `let` has to leave")
             }
-            ErrorKind::UseGoesOn => f.write_str("the else part of this `use` has to leave"),
-            ErrorKind::TooDeep => { write!(f, "expressions are nested at most {DEEPEST} deep") }
+            ErrorKind::UseElseStays => f.write_str("the else part of this `use` has to leave"),
+            ErrorKind::TooDeep => { write!(f, "expressions are nested at most {MAX_DEPTH} deep") }
             ErrorKind::TooLarge => {
                 write!(
                     f,
-                    "an expression has at most {LARGEST} operands and operators"
+                    "an expression has at most {MAX_SIZE} operands and operators"
                 )
             }
         }

@@ -49,8 +49,8 @@ impl<'a> Cursor<'a> {
 #[derive(Clone, Copy)]
 enum Class {
     Blank,
-    /// What a comment may have.
-    Comment,
+    /// All bytes but the end of a line.
+    Line,
     Name,
     Decimal,
     Hexadecimal,
@@ -62,7 +62,7 @@ impl Class {
     fn has(self, byte: u8) -> bool {
         match self {
             Class::Blank => matches!(byte, b' ' | b'\t' | b'\r' | b'\n'),
-            Class::Comment => byte != b'\n',
+            Class::Line => byte != b'\n',
             Class::Name => byte == b'_' || byte.is_ascii_alphanumeric(),
             Class::Decimal => byte == b'_' || byte.is_ascii_digit(),
             Class::Hexadecimal => byte == b'_' || byte.is_ascii_hexdigit(),
@@ -130,7 +130,7 @@ pub fn tokens_of<A: Allocator>(
             tokens.push(Token { span, kind })?;
             // at the beginning of a line `--` is meant as a comment
             if span.line != last_line && is_two_minus_signs(kind) {
-                cursor.take(Class::Comment.len(cursor.rest));
+                cursor.take(Class::Line.len(cursor.rest));
             }
             last_line = span.line;
         }
@@ -147,7 +147,7 @@ fn is_two_minus_signs(kind: TokenKind) -> bool {
 /// The length of the blanks, or of the comment, that a text begins with.
 fn blank_len(text: &[u8]) -> usize {
     match text {
-        [b'#', ..] | [b'/', b'/', ..] => Class::Comment.len(text),
+        [b'#', ..] | [b'/', b'/', ..] => Class::Line.len(text),
         _ => Class::Blank.len(text),
     }
 }
@@ -255,7 +255,7 @@ fn quoted<A: Allocator>(
     let others = text.get(1..).unwrap_or_default();
     let Some(spelling) = before_quote(others, quote) else {
         let kind = TokenKind::Wrong(ErrorKind::OpenText);
-        return Ok(Lexeme::new(kind, Class::Comment.len(text)));
+        return Ok(Lexeme::new(kind, Class::Line.len(text)));
     };
     let first = bytes.len();
     if let Some(left) = unescape(spelling, bytes)? {

@@ -1,6 +1,6 @@
 use crate::builder::Builder;
 use crate::declaration::{Header, begins_declaration, read_declaration};
-use crate::error::{Error, ErrorKind, Stop};
+use crate::error::{Error, ErrorKind, ReadError};
 use crate::lexer::tokens_of;
 use crate::statement::read_statement;
 use crate::token::{Token, TokenKind};
@@ -115,8 +115,8 @@ fn read_or_recover<A: Allocator>(
     let before = *tokens;
     let error = match read_next(token, tokens, builder, blocks) {
         Ok(()) => return Ok(()),
-        Err(Stop::Memory) => return Err(AllocError),
-        Err(Stop::Error(error)) => error,
+        Err(ReadError::Memory) => return Err(AllocError),
+        Err(ReadError::Error(error)) => error,
     };
     builder.error(error)?;
     let has_brace = tokens.has_read(&before, Word::BraceOpen);
@@ -198,7 +198,7 @@ fn read_next<A: Allocator>(
     tokens: &mut Tokens<'_>,
     builder: &mut Builder<'_, A>,
     blocks: &mut Vec<OpenBlock, A>,
-) -> Result<(), Stop> {
+) -> Result<(), ReadError> {
     match token.kind {
         TokenKind::Word(Word::Semicolon) => {
             tokens.take();
@@ -208,7 +208,7 @@ fn read_next<A: Allocator>(
             tokens.take();
             match blocks.pop() {
                 Some(block) => close_block(block, tokens, builder, blocks),
-                None => Err(Stop::at(token, ErrorKind::StatementWanted)),
+                None => Err(ReadError::at(token, ErrorKind::StatementWanted)),
             }
         }
         TokenKind::Word(word) if blocks.is_empty() && begins_declaration(word) => {
@@ -229,7 +229,7 @@ fn read_beginning<A: Allocator>(
     tokens: &mut Tokens<'_>,
     builder: &mut Builder<'_, A>,
     blocks: &mut Vec<OpenBlock, A>,
-) -> Result<(), Stop> {
+) -> Result<(), ReadError> {
     let kind = read_statement(tokens, builder)?;
     let statement = Statement {
         span: token.span,
@@ -257,7 +257,7 @@ fn read_else<A: Allocator>(
     tokens: &mut Tokens<'_>,
     builder: &mut Builder<'_, A>,
     blocks: &mut Vec<OpenBlock, A>,
-) -> Result<(), Stop> {
+) -> Result<(), ReadError> {
     if !can_have_else(statement.kind) || !tokens.accept(Word::Else) {
         return Ok(end_statement(statement, builder, blocks)?);
     }
@@ -315,9 +315,9 @@ fn expect_block<A: Allocator>(
     tokens: &mut Tokens<'_>,
     builder: &Builder<'_, A>,
     blocks: &mut Vec<OpenBlock, A>,
-) -> Result<(), Stop> {
+) -> Result<(), ReadError> {
     if !tokens.is(Word::BraceOpen) {
-        return Err(Stop::at(tokens.peek(), ErrorKind::WordWanted(Word::BraceOpen)));
+        return Err(ReadError::at(tokens.peek(), ErrorKind::WordWanted(Word::BraceOpen)));
     }
     Ok(open_block(owner, tokens, builder, blocks)?)
 }
@@ -342,7 +342,7 @@ fn close_block<A: Allocator>(
     tokens: &mut Tokens<'_>,
     builder: &mut Builder<'_, A>,
     blocks: &mut Vec<OpenBlock, A>,
-) -> Result<(), Stop> {
+) -> Result<(), ReadError> {
     let block = builder.block_end(open.begin)?;
     match open.owner {
         Owner::Body(statement) => {

@@ -189,11 +189,11 @@ pub enum StatementKind {
         key: Option<Span>,
         name: Span,
         source: Source,
-        most: Option<ExpressionAt>,
+        max: Option<ExpressionAt>,
     },
     While {
         condition: ExpressionAt,
-        most: Option<ExpressionAt>,
+        max: Option<ExpressionAt>,
     },
     Break,
     Continue,
@@ -201,7 +201,7 @@ pub enum StatementKind {
     Return(Option<ExpressionAt>),
     Print {
         items: Range,
-        most: Option<ExpressionAt>,
+        max: Option<ExpressionAt>,
         /// Whether it is `print`, and not `write`.
         ends_line: bool,
     },
@@ -211,7 +211,7 @@ pub enum StatementKind {
         operator_span: Span,
         /// One or more. `new` and `take` are the only item.
         items: Range,
-        most: Option<ExpressionAt>,
+        max: Option<ExpressionAt>,
     },
     /// A call of a function or of a method.
     Call(ExpressionAt),

@@ -346,7 +346,7 @@ impl Writer<'_> {
                 key,
                 name,
                 source,
-                most,
+                max,
             } => self.add(&[
                 Part::Text("for"),
                 Part::OptionalName(" ", key),
@@ -354,12 +354,12 @@ impl Writer<'_> {
                 Part::Name(name),
                 Part::Text(" in "),
                 Part::Source(source),
-                Part::Optional(" max ", most),
+                Part::Optional(" max ", max),
             ]),
-            StatementKind::While { condition, most } => self.add(&[
+            StatementKind::While { condition, max } => self.add(&[
                 Part::Text("while "),
                 Part::Expression(condition),
-                Part::Optional(" max ", most),
+                Part::Optional(" max ", max),
             ]),
             StatementKind::Break => self.add(&[Part::Text("break")]),
             StatementKind::Continue => self.add(&[Part::Text("continue")]),
@@ -369,12 +369,12 @@ impl Writer<'_> {
             }
             StatementKind::Print {
                 items,
-                most,
+                max,
                 ends_line,
             } => self.add(&[
                 Part::Text(if ends_line { "print" } else { "write" }),
                 Part::Items(items),
-                Part::Optional(" max ", most),
+                Part::Optional(" max ", max),
             ]),
             _ => self.on_places(statement.kind),
         }
@@ -388,12 +388,12 @@ impl Writer<'_> {
                 operator,
                 operator_span: _,
                 items,
-                most,
+                max,
             } => self.add(&[
                 Part::Expression(place),
                 Part::Text(set_spelling(operator)),
                 Part::Items(items),
-                Part::Optional(" max ", most),
+                Part::Optional(" max ", max),
             ]),
             StatementKind::Call(call) => self.add(&[Part::Expression(call)]),
             StatementKind::Delete(place) => {
