@@ -130,7 +130,8 @@ pub fn tokens_of<A: Allocator>(
             tokens.push(Token { span, kind })?;
             // at the beginning of a line `--` is meant as a comment
             if span.line != last_line && is_two_minus_signs(kind) {
-                cursor.take(Class::Line.len(cursor.rest));
+                let rest = cursor.rest;
+                cursor.take(Class::Line.len(rest));
             }
             last_line = span.line;
         }
