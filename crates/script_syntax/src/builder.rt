@@ -132,9 +132,7 @@ impl<'a, A: Allocator> Builder<'a, A> {
             leaves: false,
         })
     }
-}
 
-impl<'a, A: Allocator> Builder<'a, A> {
     /// The tree and the errors.
     pub fn finish(self) -> (Tree<'a, A>, Vec<Error, A>) {
         let Builder {

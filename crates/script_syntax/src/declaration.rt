@@ -1,5 +1,5 @@
 use crate::builder::Builder;
-use crate::error::{Error, ErrorKind, Stop, Wanted};
+use crate::error::{Error, ErrorKind, ReadError, Wanted};
 use crate::expression::read_expression;
 use crate::token::TokenKind;
 use crate::tokens::Tokens;
@@ -38,36 +38,36 @@ pub fn read_declaration<A: Allocator>(
     word: Word,
     tokens: &mut Tokens<'_>,
     builder: &mut Builder<'_, A>,
-) -> Result<Option<Header>, Stop> {
+) -> Result<Option<Header>, ReadError> {
     let start = tokens.take().span;
     if word == Word::Fail {
         return Ok(Some(Header::Fail(start)));
     }
     let span = tokens.name(Wanted::Name)?;
     let kind = match word {
-        Word::Fn => return Ok(Some(function(span, tokens, builder)?)),
-        Word::Const => constant(tokens, builder)?,
-        Word::Struct => structure(tokens, builder)?,
-        Word::Object => object(tokens, builder)?,
-        Word::Family => family(tokens, builder)?,
-        _ => DeclarationKind::Unique(type_after_colon(tokens, builder)?),
+        Word::Fn => return Ok(Some(read_function(span, tokens, builder)?)),
+        Word::Const => read_constant(tokens, builder)?,
+        Word::Struct => read_struct(tokens, builder)?,
+        Word::Object => read_object(tokens, builder)?,
+        Word::Family => read_family(tokens, builder)?,
+        _ => DeclarationKind::Unique(read_type_after_colon(tokens, builder)?),
     };
     builder.declaration(Declaration { span, kind })?;
     Ok(None)
 }
 
-fn constant<A: Allocator>(
+fn read_constant<A: Allocator>(
     tokens: &mut Tokens<'_>,
     builder: &mut Builder<'_, A>,
-) -> Result<DeclarationKind, Stop> {
+) -> Result<DeclarationKind, ReadError> {
     tokens.expect(Word::Equal)?;
     Ok(DeclarationKind::Constant(read_expression(tokens, builder)?))
 }
 
-fn structure<A: Allocator>(
+fn read_struct<A: Allocator>(
     tokens: &mut Tokens<'_>,
     builder: &mut Builder<'_, A>,
-) -> Result<DeclarationKind, Stop> {
+) -> Result<DeclarationKind, ReadError> {
     tokens.expect(Word::BraceOpen)?;
     let first = builder.tree.fields.len();
     // each turn takes a token
@@ -76,22 +76,22 @@ fn structure<A: Allocator>(
             break;
         }
         let name = tokens.name(Wanted::Field)?;
-        let value_type = type_after_colon(tokens, builder)?;
+        let value_type = read_type_after_colon(tokens, builder)?;
         builder.field(Field { name, value_type })?;
-        let _ = tokens.accept(Word::Comma) || tokens.accept(Word::Semicolon);
+        let _ = tokens.accept(Word::Comma);
     }
     tokens.expect(Word::BraceClose)?;
     let end = builder.tree.fields.len();
     Ok(DeclarationKind::Struct(Range { first, end }))
 }
 
-fn object<A: Allocator>(
+fn read_object<A: Allocator>(
     tokens: &mut Tokens<'_>,
     builder: &mut Builder<'_, A>,
-) -> Result<DeclarationKind, Stop> {
-    let count = count(tokens, builder)?;
-    let value_type = type_after_colon(tokens, builder)?;
-    let segment_name = segment_name(tokens)?;
+) -> Result<DeclarationKind, ReadError> {
+    let count = read_count(tokens, builder)?;
+    let value_type = read_type_after_colon(tokens, builder)?;
+    let segment_name = read_segment_name(tokens)?;
     Ok(DeclarationKind::Object {
         value_type,
         count,
@@ -100,10 +100,10 @@ fn object<A: Allocator>(
 }
 
 /// Reads the number of an array's values in brackets, if that is next.
-fn count<A: Allocator>(
+fn read_count<A: Allocator>(
     tokens: &mut Tokens<'_>,
     builder: &mut Builder<'_, A>,
-) -> Result<Option<ExpressionAt>, Stop> {
+) -> Result<Option<ExpressionAt>, ReadError> {
     if !tokens.accept(Word::BracketOpen) {
         return Ok(None);
     }
@@ -112,28 +112,28 @@ fn count<A: Allocator>(
     Ok(Some(count))
 }
 
-fn family<A: Allocator>(
+fn read_family<A: Allocator>(
     tokens: &mut Tokens<'_>,
     builder: &mut Builder<'_, A>,
-) -> Result<DeclarationKind, Stop> {
-    let value_type = type_after_colon(tokens, builder)?;
-    let segment_name = segment_name(tokens)?;
+) -> Result<DeclarationKind, ReadError> {
+    let value_type = read_type_after_colon(tokens, builder)?;
+    let segment_name = read_segment_name(tokens)?;
     Ok(DeclarationKind::Family {
         value_type,
         segment_name,
     })
 }
 
-fn type_after_colon<A: Allocator>(
+fn read_type_after_colon<A: Allocator>(
     tokens: &mut Tokens<'_>,
     builder: &mut Builder<'_, A>,
-) -> Result<Type, Stop> {
+) -> Result<Type, ReadError> {
     tokens.expect(Word::Colon)?;
     read_type(tokens, builder)
 }
 
 /// Reads `as` and the name in the segment, if they are next.
-fn segment_name(tokens: &mut Tokens<'_>) -> Result<Option<Range>, Stop> {
+fn read_segment_name(tokens: &mut Tokens<'_>) -> Result<Option<Range>, ReadError> {
     if !tokens.accept(Word::As) {
         return Ok(None);
     }
@@ -143,17 +143,17 @@ fn segment_name(tokens: &mut Tokens<'_>) -> Result<Option<Range>, Stop> {
             tokens.take();
             Ok(Some(name))
         }
-        _ => Err(Stop::at(token, ErrorKind::SegmentNameWanted)),
+        _ => Err(ReadError::at(token, ErrorKind::SegmentNameWanted)),
     }
 }
 
-fn function<A: Allocator>(
+fn read_function<A: Allocator>(
     name: Span,
     tokens: &mut Tokens<'_>,
     builder: &mut Builder<'_, A>,
-) -> Result<Header, Stop> {
+) -> Result<Header, ReadError> {
     tokens.expect(Word::ParenOpen)?;
-    let parameters = parameters(tokens, builder)?;
+    let parameters = read_parameters(tokens, builder)?;
     let gives_number = tokens.accept(Word::Arrow);
     if gives_number {
         expect_int(tokens, builder)?;
@@ -165,10 +165,10 @@ fn function<A: Allocator>(
     })
 }
 
-fn parameters<A: Allocator>(
+fn read_parameters<A: Allocator>(
     tokens: &mut Tokens<'_>,
     builder: &mut Builder<'_, A>,
-) -> Result<Range, Stop> {
+) -> Result<Range, ReadError> {
     let first = builder.tree.fields.len();
     // each turn takes a token
     for _ in 0..tokens.left() {
@@ -177,7 +177,7 @@ fn parameters<A: Allocator>(
         }
         let name = tokens.name(Wanted::Parameter)?;
         let value_type = if tokens.is(Word::Colon) {
-            type_after_colon(tokens, builder)?
+            read_type_after_colon(tokens, builder)?
         } else {
             number_type(name)
         };
@@ -201,11 +201,11 @@ fn number_type(span: Span) -> Type {
 fn expect_int<A: Allocator>(
     tokens: &mut Tokens<'_>,
     builder: &mut Builder<'_, A>,
-) -> Result<(), Stop> {
+) -> Result<(), ReadError> {
     let found = read_type(tokens, builder)?;
     match found.base {
         BaseType::Int if found.containers.is_empty() => Ok(()),
-        _ => Err(Stop::Error(Error {
+        _ => Err(ReadError::Error(Error {
             span: found.span,
             kind: ErrorKind::FunctionType,
         })),

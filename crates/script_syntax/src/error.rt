@@ -4,11 +4,12 @@ use crate::word::Word;
 use std::alloc::AllocError;
 use std::{fmt, str};
 
-/// How deep the expressions of a program may be nested.
-pub const DEEPEST: u32 = 64;
+/// How many levels an expression may have. The expression is the first. Parentheses, an index, an argument, a sign, what
+/// follows `??` and the right side of an operator are a level each.
+pub const MAX_DEPTH: u32 = 64;
 
-/// How many operands and operators an expression may have, so that its tree isn't too high.
-pub const LARGEST: usize = 500;
+/// How many operands and operators an expression may have, so that its tree isn't too deep.
+pub const MAX_SIZE: usize = 500;
 
 /// What is wrong with a program, and where.
 #[derive(Clone, Copy)]
@@ -48,14 +49,14 @@ pub enum ErrorKind {
     MemberWanted,
     /// Code after the statement in this line, which leaves.
     Unreachable(usize),
-    LetGoesOn,
-    NewGoesOn,
-    UseGoesOn,
+    LetElseStays,
+    NewElseStays,
+    UseElseStays,
     TooDeep,
     TooLarge,
 }
 
-/// What is declared by a missing name.
+/// Which name is missing.
 #[derive(Clone, Copy)]
 pub enum Wanted {
     Name,
@@ -73,28 +74,28 @@ pub enum OtherType {
 
 /// Why a part of a program wasn't read.
 #[derive(Clone, Copy)]
-pub enum Stop {
+pub enum ReadError {
     Error(Error),
     Memory,
 }
 
-impl Stop {
+impl ReadError {
     /// An error at a token. If the token is wrong itself, that is the error.
-    pub fn at(token: Token, kind: ErrorKind) -> Stop {
+    pub fn at(token: Token, kind: ErrorKind) -> ReadError {
         let kind = match token.kind {
             TokenKind::Wrong(kind) => kind,
             _ => kind,
         };
-        Stop::Error(Error {
+        ReadError::Error(Error {
             span: token.span,
             kind,
         })
     }
 }
 
-impl From<AllocError> for Stop {
-    fn from(_: AllocError) -> Stop {
-        Stop::Memory
+impl From<AllocError> for ReadError {
+    fn from(_: AllocError) -> ReadError {
+        ReadError::Memory
     }
 }
 
@@ -134,11 +135,11 @@ impl Error {
             ),
             ErrorKind::ChainedComparisons => Some("write `a < b && b < c`"),
             ErrorKind::MisplacedTake => Some("`take` stands right behind `=`"),
-            ErrorKind::LetGoesOn => {
+            ErrorKind::LetElseStays => {
                 Some("end it with break, continue, return or stop, or write `if let`")
             }
-            ErrorKind::NewGoesOn => Some("end it with break, continue, return or stop"),
-            ErrorKind::UseGoesOn => {
+            ErrorKind::NewElseStays => Some("end it with break, continue, return or stop"),
+            ErrorKind::UseElseStays => {
                 Some("end it with break, continue, return or stop, or give `use` a block")
             }
             ErrorKind::TooDeep | ErrorKind::TooLarge => Some("name a part of it with `let`"),
@@ -159,42 +160,24 @@ impl fmt::Display for Message<'_> {
     fn fmt<W: fmt::Write>(&self, f: &mut fmt::Formatter<W>) -> fmt::Result {
         let word = Shown(self.word);
         match self.kind {
-            ErrorKind::BadEscape => write!(f, "`{word}` is no escape"),
+            ErrorKind::BadEscape => self.write_word("is no escape", f),
+            ErrorKind::TwoMinusSigns | ErrorKind::NoToken => {
+                self.write_word("means nothing here", f)
+            }
+            ErrorKind::OpenText => {
+                f.write_str("this text has no closing quotation mark in its line")
+            }
             ErrorKind::ByteLength(length) => write!(
                 f,
                 "a byte in single quotation marks is one byte, and this has {length}"
             ),
-            ErrorKind::TwoMinusSigns | ErrorKind::NoToken => {
-                write!(f, "`{word}` means nothing here")
-            }
+            ErrorKind::LargeNumber => f.write_str("a number has 64 bits at most"),
             ErrorKind::Reserved(wanted) => {
                 write!(
                     f,
                     "`{word}` is a word of the language, and {wanted} is wanted here"
                 )
             }
-            ErrorKind::NoType(_) => write!(f, "`{word}` is no type here"),
-            ErrorKind::NoStatement => write!(f, "`{word}` begins no statement"),
-            ErrorKind::Unreachable(line) => {
-                write!(f, "nothing comes here, since line {line} leaves")
-            }
-            ErrorKind::TooDeep => { write!(f, "expressions are nested at most {DEEPEST} deep") }
-            ErrorKind::TooLarge => {
-                write!(
-                    f,
-                    "an expression has at most {LARGEST} operands and operators"
-                )
-            }
-            _ => self.write_wanted(f),
-        }
-    }
-}
-
-impl Message<'_> {
-    /// Writes what is missing, and the token that is there instead.
-    fn write_wanted<W: fmt::Write>(&self, f: &mut fmt::Formatter<W>) -> fmt::Result {
-        let word = Shown(self.word);
-        match self.kind {
             ErrorKind::NameWanted(wanted) => {
                 write!(f, "{wanted} is wanted here, and this is `{word}`")
             }
@@ -209,37 +192,51 @@ impl Message<'_> {
                     "`<` is wanted here behind `{container}`, and this is `{word}`"
                 )
             }
-            ErrorKind::TypeWanted => write!(f, "a type is wanted here, and this is `{word}`"),
-            ErrorKind::StatementWanted => {
-                write!(f, "a statement is wanted here, and this is `{word}`")
+            ErrorKind::TypeWanted => self.write_wanted("a type", f),
+            ErrorKind::NoType(_) => self.write_word("is no type here", f),
+            ErrorKind::FunctionType => f.write_str("a function gives a number or nothing"),
+            ErrorKind::SegmentNameWanted => {
+                f.write_str("the name in the segment is wanted here, as a text")
             }
-            ErrorKind::ValueWanted | ErrorKind::MisplacedTake => {
-                write!(f, "a value is wanted here, and this is `{word}`")
+            ErrorKind::OpenBlock => f.write_str("this `{` is never closed"),
+            ErrorKind::NoStatement => self.write_word("begins no statement", f),
+            ErrorKind::StatementWanted => self.write_wanted("a statement", f),
+            ErrorKind::Increment => f.write_str("there is no `++`"),
+            ErrorKind::NothingDone => f.write_str("this says nothing to do"),
+            ErrorKind::ChainedComparisons => f.write_str("comparisons aren't chained"),
+            ErrorKind::ValueWanted | ErrorKind::MisplacedTake => self.write_wanted("a value", f),
+            ErrorKind::MemberWanted => {
+                f.write_str("the name of a field or a method is wanted here")
             }
-            _ => f.write_str(self.kind.sentence()),
+            ErrorKind::Unreachable(line) => {
+                write!(f, "nothing comes here, since line {line} leaves")
+            }
+            ErrorKind::LetElseStays | ErrorKind::NewElseStays => {
+                f.write_str("the else part of this `let` has to leave")
+            }
+            ErrorKind::UseElseStays => f.write_str("the else part of this `use` has to leave"),
+            ErrorKind::TooDeep => { write!(f, "expressions are nested at most {MAX_DEPTH} deep") }
+            ErrorKind::TooLarge => {
+                write!(
+                    f,
+                    "an expression has at most {MAX_SIZE} operands and operators"
+                )
+            }
         }
     }
 }
 
-impl ErrorKind {
-    /// The words of an error that don't depend on the program.
-    fn sentence(self) -> &'static str {
-        match self {
-            ErrorKind::OpenText => "this text has no closing quotation mark in its line",
-            ErrorKind::LargeNumber => "a number has 64 bits at most",
-            ErrorKind::FunctionType => "a function gives a number or nothing",
-            ErrorKind::SegmentNameWanted => "the name in the segment is wanted here, as a text",
-            ErrorKind::OpenBlock => "this `{` is never closed",
-            ErrorKind::Increment => "there is no `++`",
-            ErrorKind::NothingDone => "this says nothing to do",
-            ErrorKind::ChainedComparisons => "comparisons aren't chained",
-            ErrorKind::MemberWanted => "the name of a field or a method is wanted here",
-            ErrorKind::LetGoesOn | ErrorKind::NewGoesOn => {
-                "the else part of this `let` has to leave"
-            }
-            ErrorKind::UseGoesOn => "the else part of this `use` has to leave",
-            _ => "",
-        }
+impl Message<'_> {
+    /// Writes the wrong token, and the predicate after it.
+    fn write_word<W: fmt::Write>(&self, predicate: &str, f: &mut fmt::Formatter<W>) -> fmt::Result {
+        let word = Shown(self.word);
+        write!(f, "`{word}` {predicate}")
+    }
+
+    /// Writes what is missing, and the token that is there instead.
+    fn write_wanted<W: fmt::Write>(&self, wanted: &str, f: &mut fmt::Formatter<W>) -> fmt::Result {
+        let word = Shown(self.word);
+        write!(f, "{wanted} is wanted here, and this is `{word}`")
     }
 }
 

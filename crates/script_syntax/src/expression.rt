@@ -1,7 +1,7 @@
 ghost use Rattle.std.specs.Prelude.{◌<◌, IfOk, IfSome};
 
 use crate::builder::Builder;
-use crate::error::{DEEPEST, ErrorKind, LARGEST, Stop, Wanted};
+use crate::error::{Error, ErrorKind, MAX_DEPTH, MAX_SIZE, ReadError, Wanted};
 use crate::token::{Token, TokenKind};
 use crate::tokens::Tokens;
 use crate::tree::{
@@ -18,54 +18,66 @@ const COMPARISONS: u8 = 2;
 pub fn read_expression<A: Allocator>(
     tokens: &mut Tokens<'_>,
     builder: &mut Builder<'_, A>,
-) -> Result<ExpressionAt, Stop> {
+) -> Result<ExpressionAt, ReadError> {
     builder.begin_expression();
-    operators(tokens, builder, 0, DEEPEST)
+    read_operators(tokens, builder, 0, MAX_DEPTH)
 }
 
 /// Reads a place, or a call of a function.
 pub fn read_place<A: Allocator>(
     tokens: &mut Tokens<'_>,
     builder: &mut Builder<'_, A>,
-) -> Result<ExpressionAt, Stop> {
+) -> Result<ExpressionAt, ReadError> {
     builder.begin_expression();
-    place(tokens, builder, DEEPEST)
+    read_inner_place(tokens, builder, MAX_DEPTH)
 }
 
 /// The depth of an expression in an expression with this depth. The outermost has the largest.
-fn deeper(tokens: &Tokens<'_>, depth: u32) -> Result<u32, Stop>
+fn deeper(tokens: &Tokens<'_>, depth: u32) -> Result<u32, ReadError>
     ensures { IfOk result (λ less. less < depth) }
 {
     match depth {
-        0 => Err(Stop::at(tokens.peek(), ErrorKind::TooDeep)),
+        0 => Err(ReadError::at(tokens.peek(), ErrorKind::TooDeep)),
         _ => Ok(depth - 1),
     }
 }
 
+/// Adds an expression, after its operands.
+fn add_expression<A: Allocator>(
+    span: Span,
+    kind: ExpressionKind,
+    builder: &mut Builder<'_, A>,
+) -> Result<ExpressionAt, ReadError> {
+    if builder.expression_size() >= MAX_SIZE {
+        return Err(ReadError::Error(Error {
+            span,
+            kind: ErrorKind::TooLarge,
+        }));
+    }
+    Ok(builder.expression(Expression { span, kind })?)
+}
+
 /// Reads operands with the operators of this level and the levels above between them.
 #[cycle(expression)]
-fn operators<A: Allocator>(
+fn read_operators<A: Allocator>(
     tokens: &mut Tokens<'_>,
     builder: &mut Builder<'_, A>,
     lowest: u8,
     depth: u32,
-) -> Result<ExpressionAt, Stop> {
+) -> Result<ExpressionAt, ReadError> {
     let depth = deeper(tokens, depth)?;
-    let mut left = unary(tokens, builder, depth)?;
+    let mut left = read_unary(tokens, builder, depth)?;
     // each turn takes a token
     for _ in 0..tokens.left() {
         let Some((operator, level)) = operator_of(tokens.peek(), lowest) else {
             break;
         };
         let span = tokens.take().span;
-        let right = operators(tokens, builder, level + 1, depth)?;
+        let right = read_operators(tokens, builder, level + 1, depth)?;
         let kind = ExpressionKind::Binary(operator, left, right);
-        left = builder.expression(Expression { span, kind })?;
-        if builder.expression_size() > LARGEST {
-            return Err(Stop::at(tokens.peek(), ErrorKind::TooLarge));
-        }
+        left = add_expression(span, kind, builder)?;
         if level == COMPARISONS && operator_of(tokens.peek(), level).is_some() {
-            return Err(Stop::at(tokens.peek(), ErrorKind::ChainedComparisons));
+            return Err(ReadError::at(tokens.peek(), ErrorKind::ChainedComparisons));
         }
     }
     Ok(left)
@@ -73,33 +85,30 @@ fn operators<A: Allocator>(
 
 /// Reads an operand with the signs before it.
 #[cycle(expression)]
-fn unary<A: Allocator>(
+fn read_unary<A: Allocator>(
     tokens: &mut Tokens<'_>,
     builder: &mut Builder<'_, A>,
     depth: u32,
-) -> Result<ExpressionAt, Stop> {
+) -> Result<ExpressionAt, ReadError> {
     let token = tokens.peek();
     let operator = match token.kind {
         TokenKind::Word(Word::Minus) => UnaryOperator::Negative,
         TokenKind::Word(Word::Not) => UnaryOperator::Not,
-        _ => return operand(tokens, builder, depth),
+        _ => return read_operand(tokens, builder, depth),
     };
     tokens.take();
     let depth = deeper(tokens, depth)?;
-    let operand = unary(tokens, builder, depth)?;
+    let operand = read_unary(tokens, builder, depth)?;
     let kind = ExpressionKind::Unary(operator, operand);
-    Ok(builder.expression(Expression {
-        span: token.span,
-        kind,
-    })?)
+    add_expression(token.span, kind, builder)
 }
 
 #[cycle(expression)]
-fn operand<A: Allocator>(
+fn read_operand<A: Allocator>(
     tokens: &mut Tokens<'_>,
     builder: &mut Builder<'_, A>,
     depth: u32,
-) -> Result<ExpressionAt, Stop> {
+) -> Result<ExpressionAt, ReadError> {
     let token = tokens.peek();
     let kind = match token.kind {
         TokenKind::Number(value) => ExpressionKind::Number(value),
@@ -108,69 +117,66 @@ fn operand<A: Allocator>(
         TokenKind::Text(bytes) => ExpressionKind::Text(bytes),
         TokenKind::Word(Word::ParenOpen) => {
             tokens.take();
-            let inner = operators(tokens, builder, 0, depth)?;
+            let inner = read_operators(tokens, builder, 0, depth)?;
             tokens.expect(Word::ParenClose)?;
             return Ok(inner);
         }
-        TokenKind::Name => return with_default(tokens, builder, depth),
-        TokenKind::Word(Word::Take) => return Err(Stop::at(token, ErrorKind::MisplacedTake)),
-        _ => return Err(Stop::at(token, ErrorKind::ValueWanted)),
+        TokenKind::Name => return read_with_default(tokens, builder, depth),
+        TokenKind::Word(Word::Take) => return Err(ReadError::at(token, ErrorKind::MisplacedTake)),
+        _ => return Err(ReadError::at(token, ErrorKind::ValueWanted)),
     };
     tokens.take();
-    Ok(builder.expression(Expression {
-        span: token.span,
-        kind,
-    })?)
+    add_expression(token.span, kind, builder)
 }
 
 /// Reads a place with its `??`.
 #[cycle(expression)]
-fn with_default<A: Allocator>(
+fn read_with_default<A: Allocator>(
     tokens: &mut Tokens<'_>,
     builder: &mut Builder<'_, A>,
     depth: u32,
-) -> Result<ExpressionAt, Stop> {
+) -> Result<ExpressionAt, ReadError> {
     let span = tokens.peek().span;
-    let found = place(tokens, builder, depth)?;
+    let found = read_inner_place(tokens, builder, depth)?;
     if !tokens.accept(Word::OrElse) {
         return Ok(found);
     }
     let depth = deeper(tokens, depth)?;
-    let default = unary(tokens, builder, depth)?;
+    let default = read_unary(tokens, builder, depth)?;
     let kind = ExpressionKind::OrElse(found, default);
-    Ok(builder.expression(Expression { span, kind })?)
+    add_expression(span, kind, builder)
 }
 
 /// Reads a place, or a call of a function.
 #[cycle(expression)]
-fn place<A: Allocator>(
+fn read_inner_place<A: Allocator>(
     tokens: &mut Tokens<'_>,
     builder: &mut Builder<'_, A>,
     depth: u32,
-) -> Result<ExpressionAt, Stop> {
+) -> Result<ExpressionAt, ReadError> {
     let span = tokens.name(Wanted::Name)?;
     let kind = if tokens.accept(Word::ParenOpen) {
-        ExpressionKind::Call(arguments(tokens, builder, depth)?)
+        ExpressionKind::Call(read_arguments(tokens, builder, depth)?)
     } else {
-        ExpressionKind::Place(steps(tokens, builder, depth)?)
+        ExpressionKind::Place(read_steps(tokens, builder, depth)?)
     };
-    Ok(builder.expression(Expression { span, kind })?)
+    add_expression(span, kind, builder)
 }
 
 #[cycle(expression)]
-fn steps<A: Allocator>(
+fn read_steps<A: Allocator>(
     tokens: &mut Tokens<'_>,
     builder: &mut Builder<'_, A>,
     depth: u32,
-) -> Result<Range, Stop> {
+) -> Result<Range, ReadError> {
     let begin = builder.steps_begin();
     // each turn takes a token
     for _ in 0..tokens.left() {
         let token = tokens.peek();
         let step = if tokens.accept(Word::Dot) {
-            member(tokens, builder, depth)?
+            read_member(tokens, builder, depth)?
         } else if tokens.accept(Word::BracketOpen) {
-            index(tokens, builder, token.span, depth)?
+            read_index(tokens, builder, token.span, depth)?
         } else {
             break;
         };
@@ -181,13 +187,13 @@ fn steps<A: Allocator>(
 
 /// Reads what follows `[`.
 #[cycle(expression)]
-fn index<A: Allocator>(
+fn read_index<A: Allocator>(
     tokens: &mut Tokens<'_>,
     builder: &mut Builder<'_, A>,
     span: Span,
     depth: u32,
-) -> Result<Step, Stop> {
-    let index = operators(tokens, builder, 0, depth)?;
+) -> Result<Step, ReadError> {
+    let index = read_operators(tokens, builder, 0, depth)?;
     tokens.expect(Word::BracketClose)?;
     Ok(Step {
         span,
@@ -197,18 +203,18 @@ fn index<A: Allocator>(
 
 /// Reads the field or the method after a dot.
 #[cycle(expression)]
-fn member<A: Allocator>(
+fn read_member<A: Allocator>(
     tokens: &mut Tokens<'_>,
     builder: &mut Builder<'_, A>,
     depth: u32,
-) -> Result<Step, Stop> {
+) -> Result<Step, ReadError> {
     let token = tokens.peek();
     if !is_member(token) {
-        return Err(Stop::at(token, ErrorKind::MemberWanted));
+        return Err(ReadError::at(token, ErrorKind::MemberWanted));
     }
     tokens.take();
     let kind = if tokens.accept(Word::ParenOpen) {
-        StepKind::Method(arguments(tokens, builder, depth)?)
+        StepKind::Method(read_arguments(tokens, builder, depth)?)
     } else {
         StepKind::Field
     };
@@ -229,20 +235,21 @@ fn is_member(token: Token) -> bool {
 
 /// Reads the arguments after `(`, and the `)`.
 #[cycle(expression)]
-fn arguments<A: Allocator>(
+fn read_arguments<A: Allocator>(
     tokens: &mut Tokens<'_>,
     builder: &mut Builder<'_, A>,
     depth: u32,
-) -> Result<Range, Stop> {
+) -> Result<Range, ReadError> {
     let begin = builder.arguments_begin();
-    // each turn takes a token
-    for _ in 0..tokens.left() {
-        if tokens.is(Word::ParenClose) {
-            break;
+    if !tokens.is(Word::ParenClose) {
+        // each turn takes a token
+        for _ in 0..=tokens.left() {
+            let argument = read_operators(tokens, builder, 0, depth)?;
+            builder.argument(argument)?;
+            if !tokens.accept(Word::Comma) {
+                break;
+            }
         }
-        let argument = operators(tokens, builder, 0, depth)?;
-        builder.argument(argument)?;
-        let _ = tokens.accept(Word::Comma);
     }
     tokens.expect(Word::ParenClose)?;
     Ok(builder.arguments_end(begin)?)

@@ -133,7 +133,7 @@ impl<'a, A: Allocator> Tree<'a, A> {
                 leaves: false,
             });
         };
-        if let Some(error) = self.flaw(statement, rest) {
+        if let Some(error) = self.error_of(statement, rest) {
             errors.push(error)?;
         }
         if let Some(nested) = self.with_rest(statement, rest) {
@@ -155,7 +155,7 @@ impl<'a, A: Allocator> Tree<'a, A> {
     }
 
     /// What is wrong with a statement and the rest after it.
-    fn flaw(&self, statement: Statement, rest: Rest) -> Option<Error> {
+    fn error_of(&self, statement: Statement, rest: Rest) -> Option<Error> {
         let next = self.statements(rest.statements).first()?;
         if leaves(statement) {
             return Some(Error {
@@ -169,10 +169,10 @@ impl<'a, A: Allocator> Tree<'a, A> {
         }
         let kind = match statement.kind {
             StatementKind::Let { value, .. } => match value.kind {
-                ValueKind::New(_) => ErrorKind::NewGoesOn,
-                _ => ErrorKind::LetGoesOn,
+                ValueKind::New(_) => ErrorKind::NewElseStays,
+                _ => ErrorKind::LetElseStays,
             },
-            StatementKind::Use(_) if statement.body.is_none() => ErrorKind::UseGoesOn,
+            StatementKind::Use(_) if statement.body.is_none() => ErrorKind::UseElseStays,
             _ => return None,
         };
         Some(Error {

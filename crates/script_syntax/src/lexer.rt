@@ -49,8 +49,8 @@ impl<'a> Cursor<'a> {
 #[derive(Clone, Copy)]
 enum Class {
     Blank,
-    /// What a comment may have.
-    Comment,
+    /// All bytes but the end of a line.
+    Line,
     Name,
     Decimal,
     Hexadecimal,
@@ -62,7 +62,7 @@ impl Class {
     fn has(self, byte: u8) -> bool {
         match self {
             Class::Blank => matches!(byte, b' ' | b'\t' | b'\r' | b'\n'),
-            Class::Comment => byte != b'\n',
+            Class::Line => byte != b'\n',
             Class::Name => byte == b'_' || byte.is_ascii_alphanumeric(),
             Class::Decimal => byte == b'_' || byte.is_ascii_digit(),
             Class::Hexadecimal => byte == b'_' || byte.is_ascii_hexdigit(),
@@ -115,6 +115,7 @@ pub fn tokens_of<A: Allocator>(
         line: 1,
         column: 1,
     };
+    let mut last_line = 0;
     // each turn takes at least one byte
     for _ in 0..text.len() {
         let blank = blank_len(cursor.rest);
@@ -127,6 +128,12 @@ pub fn tokens_of<A: Allocator>(
             cursor.take(lexeme.after);
             let kind = lexeme.kind;
             tokens.push(Token { span, kind })?;
+            // at the beginning of a line `--` is meant as a comment
+            if span.line != last_line && is_two_minus_signs(kind) {
+                let rest = cursor.rest;
+                cursor.take(Class::Line.len(rest));
+            }
+            last_line = span.line;
         }
     }
     let span = cursor.take(0);
@@ -134,10 +141,14 @@ pub fn tokens_of<A: Allocator>(
     Ok((tokens, Token { span, kind }))
 }
 
+fn is_two_minus_signs(kind: TokenKind) -> bool {
+    matches!(kind, TokenKind::Wrong(ErrorKind::TwoMinusSigns))
+}
+
 /// The length of the blanks, or of the comment, that a text begins with.
 fn blank_len(text: &[u8]) -> usize {
     match text {
-        [b'#', ..] | [b'/', b'/', ..] => Class::Comment.len(text),
+        [b'#', ..] | [b'/', b'/', ..] => Class::Line.len(text),
         _ => Class::Blank.len(text),
     }
 }
@@ -184,24 +195,37 @@ fn sign(text: &[u8]) -> Lexeme {
 
 fn number(text: &[u8]) -> Lexeme {
     let (value, len) = match text {
-        [b'0', b'x', digits @ ..] => {
+        [b'0', b'x', digits @ ..] if has_digit(digits) => {
             let len = Class::Hexadecimal.len(digits);
-            (value(digits, len, 16), len.saturating_add(2))
+            (parse_digits(digits, len, 16), len.saturating_add(2))
         }
         _ => {
             let len = Class::Decimal.len(text);
-            (value(text, len, 10), len)
+            (parse_digits(text, len, 10), len)
         }
     };
+    // letters right after a number belong to the same token
+    let whole = Class::Name.len(text);
     let kind = match value {
+        _ if whole > len => TokenKind::Wrong(ErrorKind::NoToken),
         Some(value) => TokenKind::Number(value),
         None => TokenKind::Wrong(ErrorKind::LargeNumber),
     };
-    Lexeme::new(kind, len)
+    Lexeme::new(kind, whole)
+}
+
+/// Whether a hexadecimal digit comes first, after any `_`.
+fn has_digit(digits: &[u8]) -> bool {
+    for digit in digits {
+        if *digit != b'_' {
+            return digit.is_ascii_hexdigit();
+        }
+    }
+    false
 }
 
 /// The number that the first `len` of the digits spell, if it has at most 64 bits.
-fn value(digits: &[u8], len: usize, base: u64) -> Option<u64> {
+fn parse_digits(digits: &[u8], len: usize, base: u64) -> Option<u64> {
     let mut value = 0u64;
     for digit in digits.get(..len)? {
         if *digit != b'_' {
@@ -232,27 +256,38 @@ fn quoted<A: Allocator>(
     let others = text.get(1..).unwrap_or_default();
     let Some(spelling) = before_quote(others, quote) else {
         let kind = TokenKind::Wrong(ErrorKind::OpenText);
-        return Ok(Lexeme::new(kind, Class::Comment.len(text)));
+        return Ok(Lexeme::new(kind, Class::Line.len(text)));
     };
     let first = bytes.len();
     if let Some(left) = unescape(spelling, bytes)? {
-        return Ok(Lexeme {
-            kind: TokenKind::Wrong(ErrorKind::BadEscape),
-            before: spelling.len().saturating_sub(left).saturating_add(1),
-            len: 2,
-            after: left.saturating_sub(1),
-        });
+        bytes.truncate(first);
+        return Ok(bad_escape(text, spelling.len(), left));
     }
-    let range = Range {
-        first,
-        end: bytes.len(),
-    };
+    let len = spelling.len().saturating_add(2);
+    if quote == b'"' {
+        let end = bytes.len();
+        return Ok(Lexeme::new(TokenKind::Text(Range { first, end }), len));
+    }
     let kind = match bytes.get(first..).unwrap_or_default() {
-        _ if quote == b'"' => TokenKind::Text(range),
         [byte] => TokenKind::Number(u64::from(*byte)),
         other => TokenKind::Wrong(ErrorKind::ByteLength(other.len())),
     };
-    Ok(Lexeme::new(kind, spelling.len().saturating_add(2)))
+    bytes.truncate(first);
+    Ok(Lexeme::new(kind, len))
+}
+
+/// A text in quotation marks whose spelling has a bad escape. Its backslash is the first of the `left` last bytes of the
+/// spelling.
+fn bad_escape(text: &[u8], spelling: usize, left: usize) -> Lexeme {
+    let before = spelling.saturating_sub(left).saturating_add(1);
+    let others = text.get(before.saturating_add(2)..).unwrap_or_default();
+    let len = Class::Continuation.len(others).saturating_add(2);
+    Lexeme {
+        kind: TokenKind::Wrong(ErrorKind::BadEscape),
+        before,
+        len,
+        after: left.saturating_add(1).saturating_sub(len),
+    }
 }
 
 /// The bytes before the closing quotation mark of the line.

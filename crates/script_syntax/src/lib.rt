@@ -15,7 +15,7 @@ mod tree;
 mod types;
 mod word;
 
-pub use error::{DEEPEST, Error, ErrorKind, LARGEST, Message, OtherType, Wanted};
+pub use error::{Error, ErrorKind, MAX_DEPTH, MAX_SIZE, Message, OtherType, Wanted};
 pub use parser::{Failure, parse};
 pub use tree::{
     BaseType, BinaryOperator, Block, Container, Declaration, DeclarationKind, ElsePart, Expression,

@@ -1,6 +1,6 @@
 use crate::builder::Builder;
 use crate::declaration::{Header, begins_declaration, read_declaration};
-use crate::error::{Error, ErrorKind, Stop};
+use crate::error::{Error, ErrorKind, ReadError};
 use crate::lexer::tokens_of;
 use crate::statement::read_statement;
 use crate::token::{Token, TokenKind};
@@ -32,14 +32,17 @@ struct OpenBlock {
     owner: Owner,
     /// The beginning of its statements.
     begin: usize,
+    /// Its `{`, or for `ElseIf` the word `if`.
     brace: Span,
 }
 
 #[derive(Clone, Copy)]
 enum Owner {
     Body(Statement),
-    /// The code's name is the second.
-    Else(Statement, Option<Span>),
+    Else {
+        statement: Statement,
+        code: Option<Span>,
+    },
     ElseIf(Statement),
     Declaration(Header),
 }
@@ -80,13 +83,26 @@ fn read_program<A: Allocator>(
         }
     }
     for block in blocks.as_slice() {
-        builder.error(Error {
-            span: block.brace,
-            kind: ErrorKind::OpenBlock,
-        })?;
+        if is_unclosed(block, builder.errors.as_slice()) {
+            builder.error(Error {
+                span: block.brace,
+                kind: ErrorKind::OpenBlock,
+            })?;
+        }
     }
     builder.tree.body = builder.block_end(0)?;
     Ok(())
+}
+
+/// Whether a block that is open at the end of the program is an error. A `}` in a text without a closing quotation mark may
+/// be its own.
+fn is_unclosed(block: &OpenBlock, errors: &[Error]) -> bool {
+    for error in errors {
+        if matches!(error.kind, ErrorKind::OpenText) && error.span.start > block.brace.start {
+            return false;
+        }
+    }
+    !matches!(block.owner, Owner::ElseIf(_))
 }
 
 /// Reads a declaration, a statement up to its block, or the end of a block. After an error, continues at the next block or line.
@@ -96,16 +112,21 @@ fn read_or_recover<A: Allocator>(
     builder: &mut Builder<'_, A>,
     blocks: &mut Vec<OpenBlock, A>,
 ) -> Result<(), AllocError> {
+    let before = *tokens;
     let error = match read_next(token, tokens, builder, blocks) {
         Ok(()) => return Ok(()),
-        Err(Stop::Memory) => return Err(AllocError),
-        Err(Stop::Error(error)) => error,
+        Err(ReadError::Memory) => return Err(AllocError),
+        Err(ReadError::Error(error)) => error,
     };
     builder.error(error)?;
-    if token.kind.is(Word::Struct) {
-        skip_fields(tokens);
-    }
+    let has_brace = tokens.has_read(&before, Word::BraceOpen);
     skip_line(error.span, tokens, builder)?;
+    if token.kind.is(Word::Struct) {
+        let is_next = error.span.line == token.span.line && tokens.is(Word::BraceOpen);
+        if has_brace || is_next {
+            skip_fields(error.span, tokens, builder)?;
+        }
+    }
     let wrong = Statement {
         span: token.span,
         kind: StatementKind::Wrong,
@@ -119,41 +140,57 @@ fn read_or_recover<A: Allocator>(
     }
 }
 
-/// Skips the rest of a struct.
-fn skip_fields(tokens: &mut Tokens<'_>) {
-    for _ in 0..tokens.left() {
-        if tokens.take().kind.is(Word::BraceClose) {
-            break;
-        }
-    }
-}
-
-/// Skips the tokens of the line up to a brace. Adds their errors, except for the error that is added already.
-fn skip_line<A: Allocator>(
-    span: Span,
+/// Skips the rest of a struct, whose error is at `added`.
+fn skip_fields<A: Allocator>(
+    added: Span,
     tokens: &mut Tokens<'_>,
     builder: &mut Builder<'_, A>,
 ) -> Result<(), AllocError> {
     for _ in 0..tokens.left() {
         let token = tokens.peek();
-        if token.span.line != span.line
+        skip_token(added, tokens, builder)?;
+        if token.kind.is(Word::BraceClose) {
+            break;
+        }
+    }
+    Ok(())
+}
+
+/// Skips the tokens of the line of an error, up to a brace.
+fn skip_line<A: Allocator>(
+    added: Span,
+    tokens: &mut Tokens<'_>,
+    builder: &mut Builder<'_, A>,
+) -> Result<(), AllocError> {
+    for _ in 0..tokens.left() {
+        let token = tokens.peek();
+        if token.span.line != added.line
             || token.kind.is(Word::BraceOpen)
             || token.kind.is(Word::BraceClose)
         {
             break;
         }
-        tokens.take();
-        match token.kind {
-            TokenKind::Wrong(kind) if token.span.start != span.start => {
-                builder.error(Error {
-                    span: token.span,
-                    kind,
-                })?;
-            }
-            _ => {}
-        }
+        skip_token(added, tokens, builder)?;
     }
     Ok(())
+}
+
+/// Skips a token. Adds its error, unless that is the error at `added`.
+fn skip_token<A: Allocator>(
+    added: Span,
+    tokens: &mut Tokens<'_>,
+    builder: &mut Builder<'_, A>,
+) -> Result<(), AllocError> {
+    let token = tokens.take();
+    match token.kind {
+        TokenKind::Wrong(kind) if token.span.start != added.start => {
+            builder.error(Error {
+                span: token.span,
+                kind,
+            })
+        }
+        _ => Ok(()),
+    }
 }
 
 fn read_next<A: Allocator>(
@@ -161,7 +198,7 @@ fn read_next<A: Allocator>(
     tokens: &mut Tokens<'_>,
     builder: &mut Builder<'_, A>,
     blocks: &mut Vec<OpenBlock, A>,
-) -> Result<(), Stop> {
+) -> Result<(), ReadError> {
     match token.kind {
         TokenKind::Word(Word::Semicolon) => {
             tokens.take();
@@ -171,7 +208,7 @@ fn read_next<A: Allocator>(
             tokens.take();
             match blocks.pop() {
                 Some(block) => close_block(block, tokens, builder, blocks),
-                None => Err(Stop::at(token, ErrorKind::StatementWanted)),
+                None => Err(ReadError::at(token, ErrorKind::StatementWanted)),
             }
         }
         TokenKind::Word(word) if blocks.is_empty() && begins_declaration(word) => {
@@ -192,7 +229,7 @@ fn read_beginning<A: Allocator>(
     tokens: &mut Tokens<'_>,
     builder: &mut Builder<'_, A>,
     blocks: &mut Vec<OpenBlock, A>,
-) -> Result<(), Stop> {
+) -> Result<(), ReadError> {
     let kind = read_statement(tokens, builder)?;
     let statement = Statement {
         span: token.span,
@@ -220,7 +257,7 @@ fn read_else<A: Allocator>(
     tokens: &mut Tokens<'_>,
     builder: &mut Builder<'_, A>,
     blocks: &mut Vec<OpenBlock, A>,
-) -> Result<(), Stop> {
+) -> Result<(), ReadError> {
     if !can_have_else(statement.kind) || !tokens.accept(Word::Else) {
         return Ok(end_statement(statement, builder, blocks)?);
     }
@@ -235,8 +272,12 @@ fn read_else<A: Allocator>(
             .map_err(AllocError::from)?;
         return Ok(());
     }
-    let code = tokens.accept_name();
-    expect_block(Owner::Else(statement, code), tokens, builder, blocks)
+    let code = if can_have_code(statement.kind) {
+        tokens.accept_name()
+    } else {
+        None
+    };
+    expect_block(Owner::Else { statement, code }, tokens, builder, blocks)
 }
 
 fn can_have_else(kind: StatementKind) -> bool {
@@ -253,6 +294,14 @@ fn can_have_else(kind: StatementKind) -> bool {
     }
 }
 
+/// Whether a statement can fail with a code, which its `else` may name.
+fn can_have_code(kind: StatementKind) -> bool {
+    !matches!(
+        kind,
+        StatementKind::If(_) | StatementKind::For { .. } | StatementKind::While { .. }
+    )
+}
+
 /// Whether `else if` may follow a statement.
 fn is_if(kind: StatementKind) -> bool {
     matches!(
@@ -266,9 +315,9 @@ fn expect_block<A: Allocator>(
     tokens: &mut Tokens<'_>,
     builder: &Builder<'_, A>,
     blocks: &mut Vec<OpenBlock, A>,
-) -> Result<(), Stop> {
+) -> Result<(), ReadError> {
     if !tokens.is(Word::BraceOpen) {
-        return Err(Stop::at(tokens.peek(), ErrorKind::WordWanted(Word::BraceOpen)));
+        return Err(ReadError::at(tokens.peek(), ErrorKind::WordWanted(Word::BraceOpen)));
     }
     Ok(open_block(owner, tokens, builder, blocks)?)
 }
@@ -293,13 +342,13 @@ fn close_block<A: Allocator>(
     tokens: &mut Tokens<'_>,
     builder: &mut Builder<'_, A>,
     blocks: &mut Vec<OpenBlock, A>,
-) -> Result<(), Stop> {
+) -> Result<(), ReadError> {
     let block = builder.block_end(open.begin)?;
     match open.owner {
         Owner::Body(statement) => {
             read_else(with_body(statement, block), tokens, builder, blocks)
         }
-        Owner::Else(statement, code) => Ok(end_statement(
+        Owner::Else { statement, code } => Ok(end_statement(
             with_else(statement, code, block),
             builder,
             blocks,
@@ -321,7 +370,7 @@ fn end_statement<A: Allocator>(
 ) -> Result<(), AllocError> {
     builder.statement(statement)?;
     for _ in 0..blocks.len() {
-        let Some((outer, begin)) = last_else_if(blocks) else {
+        let Some((outer, begin)) = last_else_if(blocks.as_slice()) else {
             break;
         };
         let _ = blocks.pop();
@@ -332,8 +381,8 @@ fn end_statement<A: Allocator>(
 }
 
 /// The statement whose `else if` was read last, if that isn't complete, and where its block begins.
-fn last_else_if<A: Allocator>(blocks: &Vec<OpenBlock, A>) -> Option<(Statement, usize)> {
-    let last = blocks.as_slice().last()?;
+fn last_else_if(blocks: &[OpenBlock]) -> Option<(Statement, usize)> {
+    let last = blocks.last()?;
     match last.owner {
         Owner::ElseIf(statement) => Some((statement, last.begin)),
         _ => None,

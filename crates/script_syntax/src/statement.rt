@@ -1,5 +1,5 @@
 use crate::builder::Builder;
-use crate::error::{Error, ErrorKind, Stop, Wanted};
+use crate::error::{Error, ErrorKind, ReadError, Wanted};
 use crate::expression::{read_expression, read_place};
 use crate::token::{Token, TokenKind};
 use crate::tokens::Tokens;
@@ -15,47 +15,47 @@ use std::alloc::Allocator;
 pub fn read_statement<A: Allocator>(
     tokens: &mut Tokens<'_>,
     builder: &mut Builder<'_, A>,
-) -> Result<StatementKind, Stop> {
+) -> Result<StatementKind, ReadError> {
     let token = tokens.peek();
     match token.kind {
-        TokenKind::Name => named(tokens, builder),
+        TokenKind::Name => read_set_or_call(tokens, builder),
         TokenKind::Word(word) if word.is_reserved() => {
             tokens.take();
-            reserved(token, word, tokens, builder)
+            read_after_word(token, word, tokens, builder)
         }
-        _ => Err(Stop::at(token, ErrorKind::StatementWanted)),
+        _ => Err(ReadError::at(token, ErrorKind::StatementWanted)),
     }
 }
 
 /// Reads what follows the first word of a statement.
-fn reserved<A: Allocator>(
+fn read_after_word<A: Allocator>(
     token: Token,
     word: Word,
     tokens: &mut Tokens<'_>,
     builder: &mut Builder<'_, A>,
-) -> Result<StatementKind, Stop> {
+) -> Result<StatementKind, ReadError> {
     match word {
-        Word::Let => binding(tokens, builder),
-        Word::If => condition(tokens, builder),
-        Word::For => turns(tokens, builder),
-        Word::While => repeated(tokens, builder),
+        Word::Let => read_let(tokens, builder),
+        Word::If => read_if(tokens, builder),
+        Word::For => read_for(tokens, builder),
+        Word::While => read_while(tokens, builder),
         Word::Break => Ok(StatementKind::Break),
         Word::Continue => Ok(StatementKind::Continue),
         Word::Stop => Ok(StatementKind::Stop),
-        Word::Return => returned(token.span, tokens, builder),
-        Word::Print => printed(token.span, true, tokens, builder),
-        Word::Write => printed(token.span, false, tokens, builder),
-        _ => on_places(token, word, tokens, builder),
+        Word::Return => read_return(token.span, tokens, builder),
+        Word::Print => read_print(token.span, true, tokens, builder),
+        Word::Write => read_print(token.span, false, tokens, builder),
+        _ => read_on_places(token, word, tokens, builder),
     }
 }
 
 /// Reads what follows the first word of a statement about places.
-fn on_places<A: Allocator>(
+fn read_on_places<A: Allocator>(
     token: Token,
     word: Word,
     tokens: &mut Tokens<'_>,
     builder: &mut Builder<'_, A>,
-) -> Result<StatementKind, Stop> {
+) -> Result<StatementKind, ReadError> {
     match word {
         Word::Delete => Ok(StatementKind::Delete(read_place(tokens, builder)?)),
         Word::Clear => Ok(StatementKind::Clear(read_place(tokens, builder)?)),
@@ -72,28 +72,25 @@ fn on_places<A: Allocator>(
             let source = read_place(tokens, builder)?;
             Ok(StatementKind::Share { place, source })
         }
-        Word::Use => held(tokens, builder),
-        _ => Err(Stop::at(token, ErrorKind::NoStatement)),
+        Word::Use => read_use(tokens, builder),
+        _ => Err(ReadError::at(token, ErrorKind::NoStatement)),
     }
 }
 
-fn binding<A: Allocator>(
+fn read_let<A: Allocator>(
     tokens: &mut Tokens<'_>,
     builder: &mut Builder<'_, A>,
-) -> Result<StatementKind, Stop> {
+) -> Result<StatementKind, ReadError> {
     let name = tokens.name(Wanted::Name)?;
-    if tokens.accept(Word::Colon) {
-        let _ = read_type(tokens, builder)?;
-    }
     tokens.expect(Word::Equal)?;
     let value = read_value(tokens, builder)?;
     Ok(StatementKind::Let { name, value })
 }
 
-fn condition<A: Allocator>(
+fn read_if<A: Allocator>(
     tokens: &mut Tokens<'_>,
     builder: &mut Builder<'_, A>,
-) -> Result<StatementKind, Stop> {
+) -> Result<StatementKind, ReadError> {
     if !tokens.accept(Word::Let) {
         return Ok(StatementKind::If(read_expression(tokens, builder)?));
     }
@@ -103,10 +100,10 @@ fn condition<A: Allocator>(
     Ok(StatementKind::IfLet { name, value })
 }
 
-fn turns<A: Allocator>(
+fn read_for<A: Allocator>(
     tokens: &mut Tokens<'_>,
     builder: &mut Builder<'_, A>,
-) -> Result<StatementKind, Stop> {
+) -> Result<StatementKind, ReadError> {
     let first = tokens.name(Wanted::Name)?;
     let (key, name) = if tokens.accept(Word::Comma) {
         (Some(first), tokens.name(Wanted::Name)?)
@@ -114,20 +111,20 @@ fn turns<A: Allocator>(
         (None, first)
     };
     tokens.expect(Word::In)?;
-    let source = source(tokens, builder)?;
-    let most = read_most(tokens, builder)?;
+    let source = read_source(tokens, builder)?;
+    let max = read_max(tokens, builder)?;
     Ok(StatementKind::For {
         key,
         name,
         source,
-        most,
+        max,
     })
 }
 
-fn source<A: Allocator>(
+fn read_source<A: Allocator>(
     tokens: &mut Tokens<'_>,
     builder: &mut Builder<'_, A>,
-) -> Result<Source, Stop> {
+) -> Result<Source, ReadError> {
     let span = tokens.peek().span;
     if tokens.accept(Word::Input) {
         return Ok(Source::Input(span));
@@ -140,20 +137,20 @@ fn source<A: Allocator>(
     Ok(Source::Numbers(first, end))
 }
 
-fn repeated<A: Allocator>(
+fn read_while<A: Allocator>(
     tokens: &mut Tokens<'_>,
     builder: &mut Builder<'_, A>,
-) -> Result<StatementKind, Stop> {
+) -> Result<StatementKind, ReadError> {
     let condition = read_expression(tokens, builder)?;
-    let most = read_most(tokens, builder)?;
-    Ok(StatementKind::While { condition, most })
+    let max = read_max(tokens, builder)?;
+    Ok(StatementKind::While { condition, max })
 }
 
 /// Reads `max` and the number after it, if they are next.
-fn read_most<A: Allocator>(
+fn read_max<A: Allocator>(
     tokens: &mut Tokens<'_>,
     builder: &mut Builder<'_, A>,
-) -> Result<Option<ExpressionAt>, Stop> {
+) -> Result<Option<ExpressionAt>, ReadError> {
     if !tokens.accept(Word::Max) {
         return Ok(None);
     }
@@ -169,43 +166,49 @@ fn is_alone(span: Span, tokens: &Tokens<'_>) -> bool {
     }
 }
 
-fn returned<A: Allocator>(
+fn read_return<A: Allocator>(
     span: Span,
     tokens: &mut Tokens<'_>,
     builder: &mut Builder<'_, A>,
-) -> Result<StatementKind, Stop> {
+) -> Result<StatementKind, ReadError> {
     if is_alone(span, tokens) {
         return Ok(StatementKind::Return(None));
     }
     Ok(StatementKind::Return(Some(read_expression(tokens, builder)?)))
 }
 
-fn printed<A: Allocator>(
+fn read_print<A: Allocator>(
     span: Span,
     ends_line: bool,
     tokens: &mut Tokens<'_>,
     builder: &mut Builder<'_, A>,
-) -> Result<StatementKind, Stop> {
-    let items = if ends_line && is_alone(span, tokens) {
-        Range::NONE
-    } else {
-        read_items(tokens, builder)?
-    };
-    let most = read_most(tokens, builder)?;
+) -> Result<StatementKind, ReadError> {
+    if is_alone(span, tokens) {
+        if !ends_line {
+            return Err(ReadError::at(tokens.peek(), ErrorKind::ValueWanted));
+        }
+        return Ok(StatementKind::Print {
+            items: Range::NONE,
+            max: None,
+            ends_line,
+        });
+    }
+    let items = read_items(tokens, builder)?;
+    let max = read_max(tokens, builder)?;
     Ok(StatementKind::Print {
         items,
-        most,
+        max,
         ends_line,
     })
 }
 
-fn held<A: Allocator>(
+fn read_use<A: Allocator>(
     tokens: &mut Tokens<'_>,
     builder: &mut Builder<'_, A>,
-) -> Result<StatementKind, Stop> {
+) -> Result<StatementKind, ReadError> {
     let first = builder.tree.held.len();
     // each turn takes a token
-    for _ in 0..tokens.left() {
+    for _ in 0..=tokens.left() {
         let place = read_place(tokens, builder)?;
         let name = if tokens.accept(Word::As) {
             Some(tokens.name(Wanted::Name)?)
@@ -222,30 +225,33 @@ fn held<A: Allocator>(
 }
 
 /// Reads a statement that begins with a name.
-fn named<A: Allocator>(
+fn read_set_or_call<A: Allocator>(
     tokens: &mut Tokens<'_>,
     builder: &mut Builder<'_, A>,
-) -> Result<StatementKind, Stop> {
+) -> Result<StatementKind, ReadError> {
     let start = tokens.peek();
     let place = read_place(tokens, builder)?;
     let token = tokens.peek();
     if let Some(operator) = set_operator(token.kind) {
         tokens.take();
-        let items = set_items(tokens, builder)?;
-        let most = read_most(tokens, builder)?;
+        let items = read_set_items(tokens, builder)?;
+        let max = read_max(tokens, builder)?;
         return Ok(StatementKind::Set {
             place,
             operator,
             operator_span: token.span,
             items,
-            most,
+            max,
         });
     }
     if is_call(place, builder) {
         return Ok(StatementKind::Call(place));
     }
+    if matches!(token.kind, TokenKind::Wrong(_)) {
+        return Err(ReadError::at(token, ErrorKind::NothingDone));
+    }
     let is_increment = tokens.accept(Word::Plus) && tokens.accept(Word::Plus);
-    Err(Stop::Error(Error {
+    Err(ReadError::Error(Error {
         span: start.span,
         kind: if is_increment {
             ErrorKind::Increment
@@ -280,10 +286,10 @@ fn is_call<A: Allocator>(place: ExpressionAt, builder: &Builder<'_, A>) -> bool 
 }
 
 /// Reads what a place is set to: `new` or `take`, or one or more items.
-fn set_items<A: Allocator>(
+fn read_set_items<A: Allocator>(
     tokens: &mut Tokens<'_>,
     builder: &mut Builder<'_, A>,
-) -> Result<Range, Stop> {
+) -> Result<Range, ReadError> {
     if !tokens.is(Word::New) && !tokens.is(Word::Take) {
         return read_items(tokens, builder);
     }
@@ -298,7 +304,7 @@ fn set_items<A: Allocator>(
 fn read_items<A: Allocator>(
     tokens: &mut Tokens<'_>,
     builder: &mut Builder<'_, A>,
-) -> Result<Range, Stop> {
+) -> Result<Range, ReadError> {
     let first = builder.tree.items.len();
     // each turn takes a token
     for _ in 0..=tokens.left() {
@@ -323,7 +329,7 @@ fn read_items<A: Allocator>(
 fn read_value<A: Allocator>(
     tokens: &mut Tokens<'_>,
     builder: &mut Builder<'_, A>,
-) -> Result<Value, Stop> {
+) -> Result<Value, ReadError> {
     let span = tokens.peek().span;
     let kind = if tokens.accept(Word::New) {
         ValueKind::New(read_type(tokens, builder)?)

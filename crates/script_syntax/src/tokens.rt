@@ -1,4 +1,4 @@
-use crate::error::{ErrorKind, Stop, Wanted};
+use crate::error::{ErrorKind, ReadError, Wanted};
 use crate::token::{Token, TokenKind};
 use crate::tree::Span;
 use crate::word::Word;
@@ -19,6 +19,17 @@ impl<'t> Tokens<'t> {
     /// How many tokens are left: an upper bound of the turns of a loop that reads a token in each turn.
     pub fn left(&self) -> usize {
         self.rest.len()
+    }
+
+    /// Whether this word was read since `earlier`.
+    pub fn has_read(&self, earlier: &Tokens<'t>, word: Word) -> bool {
+        let len = earlier.left().saturating_sub(self.left());
+        for token in earlier.rest.get(..len).unwrap_or_default() {
+            if token.kind.is(word) {
+                return true;
+            }
+        }
+        false
     }
 
     /// The next token.
@@ -51,28 +62,28 @@ impl<'t> Tokens<'t> {
     }
 
     /// Takes this word.
-    pub fn expect(&mut self, word: Word) -> Result<Span, Stop> {
+    pub fn expect(&mut self, word: Word) -> Result<Span, ReadError> {
         let token = self.peek();
         if !token.kind.is(word) {
-            return Err(Stop::at(token, ErrorKind::WordWanted(word)));
+            return Err(ReadError::at(token, ErrorKind::WordWanted(word)));
         }
         self.take();
         Ok(token.span)
     }
 
     /// Takes a name.
-    pub fn name(&mut self, wanted: Wanted) -> Result<Span, Stop> {
+    pub fn name(&mut self, wanted: Wanted) -> Result<Span, ReadError> {
         let token = self.peek();
         match token.kind {
             TokenKind::Name => {
                 self.take();
                 Ok(token.span)
             }
-            TokenKind::Word(word) if word.is_reserved() => Err(Stop::at(
+            TokenKind::Word(word) if word.is_reserved() => Err(ReadError::at(
                 token,
                 ErrorKind::Reserved(wanted),
             )),
-            _ => Err(Stop::at(token, ErrorKind::NameWanted(wanted))),
+            _ => Err(ReadError::at(token, ErrorKind::NameWanted(wanted))),
         }
     }
 

@@ -20,7 +20,7 @@ pub struct Range {
 
 /// An expression of a tree. The operands of an expression come before it.
 #[derive(Clone, Copy, PartialEq, Eq)]
-pub struct ExpressionAt(pub usize);
+pub struct ExpressionAt(pub(crate) usize);
 
 #[derive(Clone, Copy)]
 pub struct Expression {
@@ -114,7 +114,7 @@ pub enum BaseType {
 /// The right side of a `let`, an `if let` or an assignment.
 #[derive(Clone, Copy)]
 pub struct Value {
-    /// The word `new` or `take`, or the expression's span.
+    /// The first word or sign.
     pub span: Span,
     pub kind: ValueKind,
 }
@@ -149,7 +149,8 @@ pub struct Block {
     /// The statements after the statement that has this block, if `parse` moved them into it. What the statement or
     /// `statements` declare isn't visible there, unless the statement is a `let` or a `use` without a block.
     pub following: Range,
-    /// Whether every way through the block ends in `break`, `continue`, `return` or `stop`.
+    /// Whether the last statement is known to leave: `break`, `continue`, `return`, `stop`, or an `if` or `let` both of whose
+    /// parts leave.
     pub leaves: bool,
 }
 
@@ -171,6 +172,7 @@ pub struct Statement {
     pub otherwise: Option<ElsePart>,
 }
 
+/// A statement without its blocks. Instead of a place, the expression may also be a call of a function.
 #[derive(Clone, Copy)]
 pub enum StatementKind {
     Let {
@@ -187,11 +189,11 @@ pub enum StatementKind {
         key: Option<Span>,
         name: Span,
         source: Source,
-        most: Option<ExpressionAt>,
+        max: Option<ExpressionAt>,
     },
     While {
         condition: ExpressionAt,
-        most: Option<ExpressionAt>,
+        max: Option<ExpressionAt>,
     },
     Break,
     Continue,
@@ -199,7 +201,7 @@ pub enum StatementKind {
     Return(Option<ExpressionAt>),
     Print {
         items: Range,
-        most: Option<ExpressionAt>,
+        max: Option<ExpressionAt>,
         /// Whether it is `print`, and not `write`.
         ends_line: bool,
     },
@@ -209,7 +211,7 @@ pub enum StatementKind {
         operator_span: Span,
         /// One or more. `new` and `take` are the only item.
         items: Range,
-        most: Option<ExpressionAt>,
+        max: Option<ExpressionAt>,
     },
     /// A call of a function or of a method.
     Call(ExpressionAt),
@@ -247,6 +249,7 @@ pub enum Source {
     Input(Span),
     /// From the first number to before the second.
     Numbers(ExpressionAt, ExpressionAt),
+    /// Any other expression. Only a place has items to go through.
     Place(ExpressionAt),
 }
 
@@ -307,7 +310,7 @@ pub struct Tree<'a, A: Allocator> {
 }
 
 impl Range {
-    pub const NONE: Range = Range { first: 0, end: 0 };
+    pub(crate) const NONE: Range = Range { first: 0, end: 0 };
 
     pub fn is_empty(&self) -> bool {
         self.end <= self.first
@@ -315,7 +318,7 @@ impl Range {
 }
 
 impl Block {
-    pub const EMPTY: Block = Block {
+    pub(crate) const EMPTY: Block = Block {
         statements: Range::NONE,
         following: Range::NONE,
         leaves: false,
@@ -393,7 +396,7 @@ impl<'a, A: Allocator> Tree<'a, A> {
 
 impl Container {
     /// The container with this word.
-    pub fn named(word: &[u8]) -> Option<Container> {
+    pub(crate) fn named(word: &[u8]) -> Option<Container> {
         match word {
             b"vec" => Some(Container::Vec),
             b"list" => Some(Container::List),

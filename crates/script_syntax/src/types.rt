@@ -1,5 +1,5 @@
 use crate::builder::Builder;
-use crate::error::{ErrorKind, OtherType, Stop};
+use crate::error::{ErrorKind, OtherType, ReadError};
 use crate::token::{Token, TokenKind};
 use crate::tokens::Tokens;
 use crate::tree::{BaseType, Container, Range, Type};
@@ -9,7 +9,7 @@ use std::alloc::Allocator;
 pub fn read_type<A: Allocator>(
     tokens: &mut Tokens<'_>,
     builder: &mut Builder<'_, A>,
-) -> Result<Type, Stop> {
+) -> Result<Type, ReadError> {
     let span = tokens.peek().span;
     let first = builder.tree.containers.len();
     let base = read_base(tokens, builder)?;
@@ -28,7 +28,7 @@ pub fn read_type<A: Allocator>(
 fn read_base<A: Allocator>(
     tokens: &mut Tokens<'_>,
     builder: &mut Builder<'_, A>,
-) -> Result<BaseType, Stop> {
+) -> Result<BaseType, ReadError> {
     // each turn takes a token
     for _ in 0..tokens.left() {
         let token = type_word(tokens)?;
@@ -38,21 +38,21 @@ fn read_base<A: Allocator>(
         };
         builder.container(container)?;
         if !tokens.accept(Word::Less) {
-            return Err(Stop::at(tokens.peek(), ErrorKind::ItemTypeWanted(container)));
+            return Err(ReadError::at(tokens.peek(), ErrorKind::ItemTypeWanted(container)));
         }
     }
-    Err(Stop::at(tokens.peek(), ErrorKind::TypeWanted))
+    Err(ReadError::at(tokens.peek(), ErrorKind::TypeWanted))
 }
 
-fn type_word(tokens: &mut Tokens<'_>) -> Result<Token, Stop> {
+fn type_word(tokens: &mut Tokens<'_>) -> Result<Token, ReadError> {
     let token = tokens.peek();
     match token.kind {
         TokenKind::Name => Ok(tokens.take()),
-        _ => Err(Stop::at(token, ErrorKind::TypeWanted)),
+        _ => Err(ReadError::at(token, ErrorKind::TypeWanted)),
     }
 }
 
-fn base_type(token: Token, word: &[u8]) -> Result<BaseType, Stop> {
+fn base_type(token: Token, word: &[u8]) -> Result<BaseType, ReadError> {
     let other = match word {
         b"int" => return Ok(BaseType::Int),
         b"text" => return Ok(BaseType::Text),
@@ -61,5 +61,5 @@ fn base_type(token: Token, word: &[u8]) -> Result<BaseType, Stop> {
         b"float" => OtherType::Float,
         _ => return Ok(BaseType::Struct(token.span)),
     };
-    Err(Stop::at(token, ErrorKind::NoType(other)))
+    Err(ReadError::at(token, ErrorKind::NoType(other)))
 }

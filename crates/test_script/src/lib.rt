@@ -1,4 +1,4 @@
-//! Tests of the language for clients: what is read from programs, and how their errors are told.
+//! Tests of the language for clients: the trees of programs, and the errors that are reported.
 #![tactic(auto)]
 
 #[cfg(test)]

@@ -1,7 +1,9 @@
 mod programs;
+mod trees;
+mod written;
 
 use programs::PROGRAMS;
-use script_syntax::{Error, Failure, StatementKind, parse};
+use script_syntax::{Error, Failure, parse};
 use std::alloc::{AllocError, Global};
 use std::fmt::Write;
 use std::process::Abort;
@@ -33,23 +35,26 @@ fn add_line(lines: &mut String, text: &str, error: &Error) -> Result<(), AllocEr
     writeln!(lines, "{line}:{column}: {message} / {hint}")
 }
 
-/// Checks how the errors of programs are told.
+/// Checks which errors of programs are reported.
 fn check_errors(
     rt: &(impl Abort + AllocGlobal),
     programs: &[(&str, &str)],
 ) -> Result<(), AllocError> {
-    for (program, told) in programs {
-        assert_eq!(rt; errors_of(rt.alloc(), program)?.as_str(), *told);
+    for (program, reported) in programs {
+        assert!(rt; errors_of(rt.alloc(), program)?.as_str() == *reported);
     }
     Ok(())
 }
 
 #[test]
 fn programs_are_read(rt: HostRuntime) -> Result<(), Fail> {
-    Ok(check_errors(&rt, &PROGRAMS)?)
+    for program in &PROGRAMS {
+        assert!(rt; errors_of(rt.alloc(), program)?.as_str() == "none");
+    }
+    Ok(())
 }
 
-/// Programs with an error each, and how it is told.
+/// Programs with one of each error, and its report.
 static WRONG: [(&str, &str); 36] = [
     (
         r#"print "\q""#,
@@ -180,8 +185,151 @@ static WRONG: [(&str, &str); 36] = [
 ];
 
 #[test]
-fn errors_are_told(rt: HostRuntime) -> Result<(), Fail> {
+fn errors_are_reported(rt: HostRuntime) -> Result<(), Fail> {
     Ok(check_errors(&rt, &WRONG)?)
+}
+
+/// Programs with wrong words, numbers and texts.
+static WRONG_WORDS: [(&str, &str); 20] = [
+    ("x = 0x", "1:5: `0x` means nothing here / -\n"),
+    ("x = 0x_", "1:5: `0x_` means nothing here / -\n"),
+    ("x = 0x1g", "1:5: `0x1g` means nothing here / -\n"),
+    ("x = 1y = 2", "1:5: `1y` means nothing here / -\n"),
+    ("let a = 0b1 = 2", "1:9: `0b1` means nothing here / -\n"),
+    (
+        "x = 0x1_0000_0000_0000_0000",
+        "1:5: a number has 64 bits at most / -\n",
+    ),
+    (
+        "x = ''",
+        "1:5: a byte in single quotation marks is one byte, and this has 0 / texts stand in double quotation marks\n",
+    ),
+    (
+        "print \"\\é\"",
+        "1:8: `\\é` is no escape / the escapes are \\n \\t \\r \\0 \\\\ \\\" \\' and \\x with two hexadecimal digits\n",
+    ),
+    (
+        r#"print "a\x41\q""#,
+        "1:13: `\\q` is no escape / the escapes are \\n \\t \\r \\0 \\\\ \\\" \\' and \\x with two hexadecimal digits\n",
+    ),
+    (
+        r#"print "\x4""#,
+        "1:8: `\\x` is no escape / the escapes are \\n \\t \\r \\0 \\\\ \\\" \\' and \\x with two hexadecimal digits\n",
+    ),
+    (
+        r#"print "abc\""#,
+        "1:7: this text has no closing quotation mark in its line / write a line end as \\n\n",
+    ),
+    (
+        "if a { print \"no }",
+        "1:14: this text has no closing quotation mark in its line / write a line end as \\n\n",
+    ),
+    (
+        "x--",
+        "1:2: `--` means nothing here / a comment begins with `#` or `//`; for the negative of a negative number use parentheses\n",
+    ),
+    (
+        "-- a { b\nx = 1",
+        "1:1: `--` means nothing here / a comment begins with `#` or `//`; for the negative of a negative number use parentheses\n",
+    ),
+    ("x @ 3", "1:3: `@` means nothing here / -\n"),
+    ("naïve = 1", "1:3: `ï` means nothing here / -\n"),
+    ("print \"é\", @", "1:12: `@` means nothing here / -\n"),
+    ("\tx = @", "1:6: `@` means nothing here / -\n"),
+    ("x = 1\r\ny = @\r\n", "2:5: `@` means nothing here / -\n"),
+    ("# é\nx = @", "2:5: `@` means nothing here / -\n"),
+];
+
+#[test]
+fn wrong_words_are_reported(rt: HostRuntime) -> Result<(), Fail> {
+    Ok(check_errors(&rt, &WRONG_WORDS)?)
+}
+
+/// Programs that the grammar doesn't have.
+static WRONG_GRAMMAR: [(&str, &str); 21] = [
+    (
+        "use",
+        "1:4: a name is wanted here, and this is `the end` / -\n",
+    ),
+    (
+        "use a,",
+        "1:7: a name is wanted here, and this is `the end` / -\n",
+    ),
+    (
+        "let x: text = 3",
+        "1:6: `=` is wanted here, and this is `:` / -\n",
+    ),
+    ("f(1 2)", "1:5: `)` is wanted here, and this is `2` / -\n"),
+    (
+        "f(1, 2,)",
+        "1:8: a value is wanted here, and this is `)` / -\n",
+    ),
+    (
+        "struct S { a: int; b: int }",
+        "1:18: the name of a field is wanted here, and this is `;` / -\n",
+    ),
+    (
+        "fn f(let) { }",
+        "1:6: `let` is a word of the language, and the name of a parameter is wanted here / -\n",
+    ),
+    (
+        "object x: list<int",
+        "1:19: `>` is wanted here, and this is `the end` / -\n",
+    ),
+    (
+        "if a { } else why { }",
+        "1:15: `{` is wanted here, and this is `why` / -\n",
+    ),
+    (
+        "for i in 0..3 { } else why { }",
+        "1:24: `{` is wanted here, and this is `why` / -\n",
+    ),
+    (
+        "while a max 3 { } else why { }",
+        "1:24: `{` is wanted here, and this is `why` / -\n",
+    ),
+    (
+        "if a { } else if b { print",
+        "1:20: this `{` is never closed / -\n",
+    ),
+    (
+        "write\nf(3)",
+        "2:1: a value is wanted here, and this is `f` / -\n",
+    ),
+    ("print\nmax 5", "2:1: `max` begins no statement / -\n"),
+    (
+        "print max 5",
+        "1:7: a value is wanted here, and this is `max` / -\n",
+    ),
+    (
+        "struct S\nfn f() { if a { print } }",
+        "2:1: `{` is wanted here, and this is `fn` / -\n",
+    ),
+    (
+        "struct S 3 { a: int }\nprint $",
+        "1:10: `{` is wanted here, and this is `3` / -\n2:7: `$` means nothing here / -\n",
+    ),
+    (
+        "struct S { a: @, b: $ }",
+        "1:15: `@` means nothing here / -\n1:21: `$` means nothing here / -\n",
+    ),
+    (
+        "struct S {\n a: @\n b: $\n}\nprint",
+        "2:5: `@` means nothing here / -\n3:5: `$` means nothing here / -\n",
+    ),
+    (
+        "if a { struct S { b: int } print",
+        "1:6: this `{` is never closed / -\n1:8: `struct` begins no statement / -\n",
+    ),
+    (
+        "let x = @\nlet y = $",
+        "1:9: `@` means nothing here / -\n2:9: `$` means nothing here / -\n",
+    ),
+];
+
+#[test]
+fn wrong_grammar_is_reported(rt: HostRuntime) -> Result<(), Fail> {
+    Ok(check_errors(&rt, &WRONG_GRAMMAR)?)
 }
 
 const SEVERAL: &str = "let x = \nif x == { print @ }\nstruct S {\n    a: itn b\n}\nprint $, %\n";
@@ -193,22 +341,101 @@ const EACH: &str = "2:1: a value is wanted here, and this is `if` / -
 ";
 
 #[test]
-fn all_errors_are_told(rt: HostRuntime) -> Result<(), Fail> {
-    assert_eq!(rt; errors_of(rt.alloc(), SEVERAL)?.as_str(), EACH);
+fn all_errors_are_reported(rt: HostRuntime) -> Result<(), Fail> {
+    assert!(rt; errors_of(rt.alloc(), SEVERAL)?.as_str() == EACH);
     Ok(())
 }
 
-/// `print` follows an `if` whose body leaves, so it is in the `if`'s else part.
-#[test]
-fn the_rest_goes_into_the_other_part(rt: HostRuntime) -> Result<(), Fail> {
-    let Ok(tree) = parse(rt.alloc(), b"if x { stop }\nprint") else {
-        return Err(Fail::from("no tree"));
+/// Whether the first error of a program is about this word.
+fn is_about(alloc: Global, program: &str, word: &str) -> bool {
+    let Some(Failure::Errors(errors)) = parse(alloc, program.as_bytes()).err() else {
+        return false;
     };
-    let statements = tree.statements(tree.body().statements);
-    assert_eq!(rt; statements.len(), 1);
-    let otherwise = statements[0].otherwise.ok_or("no else part")?;
-    let moved = tree.statements(otherwise.block.following);
-    assert_eq!(rt; moved.len(), 1);
-    assert!(rt; matches!(moved[0].kind, StatementKind::Print { .. }));
+    let Some(error) = errors.first() else {
+        return false;
+    };
+    let found = program.as_bytes().get(error.span.start..error.span.end);
+    found.unwrap_or_default() == word.as_bytes()
+}
+
+/// Programs, and the part of each that its error is about.
+static WRONG_PARTS: [(&str, &str); 8] = [
+    ("print \"\\é\"", "\\é"),
+    ("x = 0x_ + 1", "0x_"),
+    ("let max = 3", "max"),
+    ("if a <= b <= c { }", "<="),
+    ("x = \"é b\nprint", "\"é b"),
+    ("x = 'ab' + 1", "'ab'"),
+    ("x = é + 1", "é"),
+    ("let x = ", ""),
+];
+
+#[test]
+fn an_error_ends_with_its_word(rt: HostRuntime) -> Result<(), Fail> {
+    for (program, word) in &WRONG_PARTS {
+        assert!(rt; is_about(rt.alloc(), program, word));
+    }
+    Ok(())
+}
+
+/// Adds a text to a program this number of times.
+fn repeat(program: &mut String, text: &str, times: usize) -> Result<(), AllocError> {
+    for _ in 0..times {
+        program.push_str(text)?;
+    }
+    Ok(())
+}
+
+/// The errors of `let x = ` with an expression that has a text this number of times before it, and another one behind it.
+fn errors_around(
+    alloc: Global,
+    before: &str,
+    expression: &str,
+    behind: &str,
+    times: usize,
+) -> Result<String, AllocError> {
+    let mut program = String::from_str(alloc, "let x = ")?;
+    repeat(&mut program, before, times)?;
+    program.push_str(expression)?;
+    repeat(&mut program, behind, times)?;
+    errors_of(alloc, program.as_str())
+}
+
+const TOO_DEEP: &str =
+    "1:73: expressions are nested at most 64 deep / name a part of it with `let`\n";
+
+/// The expression is the first of its levels, so 63 parentheses or signs are allowed.
+#[test]
+fn depth_has_a_limit(rt: HostRuntime) -> Result<(), Fail> {
+    let alloc = rt.alloc();
+    assert!(rt; errors_around(alloc, "(", "1", ")", 63)?.as_str() == "none");
+    assert!(rt; errors_around(alloc, "(", "1", ")", 64)?.as_str() == TOO_DEEP);
+    assert!(rt; errors_around(alloc, "!", "1", "", 63)?.as_str() == "none");
+    assert!(rt; errors_around(alloc, "!", "1", "", 64)?.as_str() == TOO_DEEP);
+    Ok(())
+}
+
+/// The error of an expression whose last operator, in this column, is the 501st of its operands and operators.
+fn too_large(alloc: Global, column: u32) -> Result<String, AllocError> {
+    let mut line = String::new(alloc);
+    writeln!(
+        line,
+        "1:{column}: an expression has at most 500 operands and operators / name a part of it with `let`"
+    )?;
+    Ok(line)
+}
+
+/// Signs, calls and arguments count too: 250 operands with 249 `+` between them, and one sign or one argument, are 500.
+#[test]
+fn size_has_a_limit(rt: HostRuntime) -> Result<(), Fail> {
+    let alloc = rt.alloc();
+    assert!(rt; errors_around(alloc, "", "-1", " + 1", 249)?.as_str() == "none");
+    assert!(rt; errors_around(alloc, "", "f(1)", " + 1", 249)?.as_str() == "none");
+    let found = errors_around(alloc, "", "1", " + 1", 250)?;
+    assert!(rt; found.as_str() == too_large(alloc, 1007)?.as_str());
+    let found = errors_around(alloc, "", "- -1", " + 1", 249)?;
+    assert!(rt; found.as_str() == too_large(alloc, 1006)?.as_str());
+    let found = errors_around(alloc, "", "f(1, 2)", " + 1", 249)?;
+    assert!(rt; found.as_str() == too_large(alloc, 1009)?.as_str());
     Ok(())
 }

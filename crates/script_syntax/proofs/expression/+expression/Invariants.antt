@@ -1,29 +1,29 @@
 use Rattle.std.proofs.Common.{◌+◌, ◌*◌}
 use Rattle.script_syntax.proofs.expression.+expression.Given as goal
 
-abbrev pub decreases-operators : goal.decreases-operators
-decreases-operators g l = 8 * l.depth
+abbrev pub decreases-read_operators : goal.decreases-read_operators
+decreases-read_operators g l = 8 * l.depth
 
-abbrev pub decreases-unary : goal.decreases-unary
-decreases-unary g l = 8 * l.depth + 7
+abbrev pub decreases-read_unary : goal.decreases-read_unary
+decreases-read_unary g l = 8 * l.depth + 7
 
-abbrev pub decreases-operand : goal.decreases-operand
-decreases-operand g l = 8 * l.depth + 6
+abbrev pub decreases-read_operand : goal.decreases-read_operand
+decreases-read_operand g l = 8 * l.depth + 6
 
-abbrev pub decreases-with_default : goal.decreases-with_default
-decreases-with_default g l = 8 * l.depth + 5
+abbrev pub decreases-read_with_default : goal.decreases-read_with_default
+decreases-read_with_default g l = 8 * l.depth + 5
 
-abbrev pub decreases-place : goal.decreases-place
-decreases-place g l = 8 * l.depth + 4
+abbrev pub decreases-read_inner_place : goal.decreases-read_inner_place
+decreases-read_inner_place g l = 8 * l.depth + 4
 
-abbrev pub decreases-steps : goal.decreases-steps
-decreases-steps g l = 8 * l.depth + 3
+abbrev pub decreases-read_steps : goal.decreases-read_steps
+decreases-read_steps g l = 8 * l.depth + 3
 
-abbrev pub decreases-member : goal.decreases-member
-decreases-member g l = 8 * l.depth + 2
+abbrev pub decreases-read_member : goal.decreases-read_member
+decreases-read_member g l = 8 * l.depth + 2
 
-abbrev pub decreases-index : goal.decreases-index
-decreases-index g l = 8 * l.depth + 1
+abbrev pub decreases-read_index : goal.decreases-read_index
+decreases-read_index g l = 8 * l.depth + 1
 
-abbrev pub decreases-arguments : goal.decreases-arguments
-decreases-arguments g l = 8 * l.depth + 1
+abbrev pub decreases-read_arguments : goal.decreases-read_arguments
+decreases-read_arguments g l = 8 * l.depth + 1
