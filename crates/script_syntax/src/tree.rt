@@ -350,47 +350,41 @@ impl<'a, A: Allocator> Tree<'a, A> {
     }
 
     pub fn statements(&self, range: Range) -> &[Statement] {
-        self.statements
-            .get(range.first..range.end)
-            .unwrap_or_default()
+        part(self.statements.as_slice(), range)
     }
 
     /// The bytes of a text, without its quotation marks and escapes.
     pub fn bytes(&self, range: Range) -> &[u8] {
-        self.bytes.get(range.first..range.end).unwrap_or_default()
+        part(self.bytes.as_slice(), range)
     }
 
     /// The arguments of a function or a method.
     pub fn arguments(&self, range: Range) -> &[ExpressionAt] {
-        self.arguments
-            .get(range.first..range.end)
-            .unwrap_or_default()
+        part(self.arguments.as_slice(), range)
     }
 
     /// The steps of a place.
     pub fn steps(&self, range: Range) -> &[Step] {
-        self.steps.get(range.first..range.end).unwrap_or_default()
+        part(self.steps.as_slice(), range)
     }
 
     /// The containers of a type, from the outermost.
     pub fn containers(&self, range: Range) -> &[Container] {
-        self.containers
-            .get(range.first..range.end)
-            .unwrap_or_default()
+        part(self.containers.as_slice(), range)
     }
 
     pub fn items(&self, range: Range) -> &[Item] {
-        self.items.get(range.first..range.end).unwrap_or_default()
+        part(self.items.as_slice(), range)
     }
 
     /// The places of a `use`.
     pub fn held(&self, range: Range) -> &[Held] {
-        self.held.get(range.first..range.end).unwrap_or_default()
+        part(self.held.as_slice(), range)
     }
 
     /// The fields of a struct, or the parameters of a function.
     pub fn fields(&self, range: Range) -> &[Field] {
-        self.fields.get(range.first..range.end).unwrap_or_default()
+        part(self.fields.as_slice(), range)
     }
 }
 
@@ -418,4 +412,9 @@ impl Container {
             Container::Shared => "shared",
         }
     }
+}
+
+/// The items of a list in a range, or none if the list ends before it does.
+fn part<T>(list: &[T], range: Range) -> &[T] {
+    list.get(range.first..range.end).unwrap_or_default()
 }
