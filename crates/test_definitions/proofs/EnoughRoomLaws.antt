@@ -1,5 +1,5 @@
--- No outcome of two clients is out of memory: a text with room for a byte gets it, and a free block
--- that is large enough for a new object and its entry is taken.
+-- Two clients can run, and no outcome of them is out of memory: a text with room for a byte gets it,
+-- and a free block that is large enough for a new object and its entry is taken.
 use Rattle.std.proofs.Common.{◌≡◌, ℕ, ◌+◌, ◌*◌, true, false, Bool, List, [], ◌∷◌, length, replicate, codes, pos, Option, Some, None, inl, inr, refl, sym, ◌∙◌, ap, subst, lit≤, arith}
 use Rattle.std.specs.Prelude.{option_map, slice_index_or, if◌then◌else◌}
 use Rattle.std.proofs.lemmas.List.Elements.{All-nil, All-cons}
@@ -30,12 +30,14 @@ use Rattle.client_spec.specs.Trees.{unfolded_register, unfolded_object}
 use Rattle.client_spec.specs.Pictures.{Pictures, PicturesTrees, root_at, object_of, meaning_in}
 use Rattle.client_spec.specs.Asks.{Denies, cell_asks, if_absent}
 use Rattle.client_spec.specs.OnImages.{Situation, Given, Left, RowOn}
-use Rattle.client_spec.specs.Outcome.{given_first}
+use Rattle.client_spec.specs.Typed.{RegisterType, rule, sharing_rule, types_by}
+use Rattle.client_spec.specs.Clients.{IsVerified}
+use Rattle.client_spec.specs.Outcome.{CanRun, given_first}
 use Rattle.client_spec.specs.Fixtures.{at, do_one, no_names}
 use Rattle.client_spec.proofs.Unfolded.UnfoldedStateLaws.{register_same}
 use Rattle.test_definitions.specs.RefusedOutcomes.{IsOutcomeOf, add_a_byte, make_y}
 use Rattle.test_definitions.proofs.ImageEvaluationLaws.{live_evaluated, numbers-valid, texts-valid}
-use Rattle.test_definitions.proofs.SoundImages.{empty_held, empty_tiles, empty_fill, empty_headers, greeting_held}
+use Rattle.test_definitions.proofs.SoundImages.{empty_held, empty_tiles, empty_fill, empty_headers, empty_sound, greeting_held, greeting_sound}
 use Rattle.client_sim.proofs.Names.OnePictureLaws.{Held-one}
 use Rattle.test_definitions.proofs.OneRow.{none_and_some, pair_is}
 use Rattle.test_definitions.proofs.OneClientLaws.{one_run, first_image}
@@ -72,6 +74,19 @@ make_spelled = record {
     code = make_code;
   };
   spelled = refl;
+}
+
+make_verified : IsVerified empty_picture.table make_y
+unfolding types_by rule sharing_rule
+make_verified = record { agree = refl; typed = (replicate 16 RegisterType.Undefined, refl); bounded = lit≤ tt }
+
+pub make_can_run : CanRun empty (client_bytes make_y ∷ []) 2048 0 []
+unfolding empty empty_sound
+make_can_run = record {
+  can_move = record { lies = record { size = record { not_small = lit≤ tt; not_large = lit≤ tt; whole_units = refl }; room_fits = lit≤ tt; placed = (refl, lit≤ tt, lit≤ tt) }; fit = tt };
+  sound = empty_sound;
+  clients = make_y ∷ [];
+  accepted = (make_spelled, make_verified, tt);
 }
 
 abbrev making : Instruction
@@ -181,6 +196,19 @@ add_spelled = record {
     code = add_code;
   };
   spelled = refl;
+}
+
+add_verified : IsVerified greeting_picture.table add_a_byte
+unfolding types_by rule sharing_rule
+add_verified = record { agree = refl; typed = (RegisterType.Undefined ∷ RegisterType.Int ∷ replicate 14 RegisterType.Undefined, refl); bounded = lit≤ tt }
+
+pub add_can_run : CanRun greeting (client_bytes add_a_byte ∷ []) 2048 0 []
+unfolding greeting greeting_sound
+add_can_run = record {
+  can_move = record { lies = record { size = record { not_small = lit≤ tt; not_large = lit≤ tt; whole_units = refl }; room_fits = lit≤ tt; placed = (refl, lit≤ tt, lit≤ tt) }; fit = tt };
+  sound = greeting_sound;
+  clients = add_a_byte ∷ [];
+  accepted = (add_spelled, add_verified, tt);
 }
 
 abbrev adding : Instruction

@@ -216,7 +216,7 @@ pub greeting_counted : AreCounted (word greeting next_word) greeting_picture
 unfolding names_in names_each
 greeting_counted = unshared (word greeting next_word) greeting_picture refl refl
 
-pub greeting_sound : IsSound greeting
+unfoldable pub greeting_sound : IsSound greeting
 greeting_sound = record { picture = greeting_picture; held = greeting_held; counted = greeting_counted; none_loose = refl }
 
 -- ---- no object, and one gap
@@ -271,7 +271,7 @@ empty_held = record {
   owners = λ h. subst (λ bs. times h (positions bs) ≡ 0) (sym (live_evaluated empty empty_tiles empty_fill empty_headers)) refl;
 }
 
-pub empty_sound : IsSound empty
+unfoldable pub empty_sound : IsSound empty
 empty_sound = record { picture = empty_picture; held = empty_held; counted = unshared (word empty next_word) empty_picture refl refl; none_loose = refl }
 
 -- ---- no object, and one gap
