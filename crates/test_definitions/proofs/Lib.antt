@@ -14,6 +14,10 @@ pub mod IncrementLaws
 pub mod StoppedRunLaws
 pub mod RunNumberLaws
 pub mod KeptImageLaws
+pub mod OnePlaceLaws
+pub mod OneReturnLaws
+pub mod OneFrozenLaws
+pub mod FrozenOrderLaws
 pub mod FrozenRowLaws
 pub mod OwnerTieLaws
 pub mod OneState
