@@ -109,7 +109,8 @@ module _ (theirs : ℕ → List ℕ) (h : ℕ) where
       let ng = names_in g.value in
       let after_f : g.count - times_named g.at (gone ++ nf) ≡ g.count - times_named g.at gone = (let a = named-append g.at gone nf in let e = apart.first in omega arith) in
       let after_g : f.count - times_named f.at (gone ++ ng) ≡ f.count - times_named f.at gone = (let a = named-append f.at gone ng in let e = apart.second in omega arith) in
-      let both = freed_same ((gone ++ nf) ++ ng) ((gone ++ ng) ++ nf) rest (λ p. (let a = named-append p (gone ++ nf) ng in let b = named-append p gone nf in let c = named-append p (gone ++ ng) nf in let d = named-append p gone ng in omega arith)) in
+      let both = freed_same ((gone ++ nf) ++ ng) ((gone ++ ng) ++ nf) rest
+      (λ p. (let a = named-append p (gone ++ nf) ng in let b = named-append p gone nf in let c = named-append p (gone ++ ng) nf in let d = named-append p gone ng in omega arith)) in
       ap (λ n. By (freed_with f (f.count - times_named f.at gone) (freed_with g n (freed ((gone ++ nf) ++ ng) rest) (freed (gone ++ nf) rest)) (freed gone (g ∷ rest)))) after_f
       ∙ cases (f.count - times_named f.at gone) (g.count - times_named g.at gone) _ _ (freed (gone ++ nf) rest) (freed (gone ++ ng) rest) (freed gone rest) both
       ∙ sym (ap (λ n. By (freed_with g (g.count - times_named g.at gone) (freed_with f n (freed ((gone ++ ng) ++ nf) rest) (freed (gone ++ ng) rest)) (freed gone (f ∷ rest)))) after_g)

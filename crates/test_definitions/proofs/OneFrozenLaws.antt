@@ -155,7 +155,14 @@ record WasRaised (p : ℕ) (x : Frozen) (fs : List Frozen) : Type 0 where
 was_raised : (p : ℕ) (x : Frozen) (fs : List Frozen) → IsOneOf x (raised p fs) → WasRaised p x fs
 unfolding raised_one
 was_raised p x [] i = absurd i
-was_raised p x (f ∷ fs) (inl e) = record { before = f; among = inl refl; is = e; at = ap (λ (y : Frozen). y.at) e ∙ at_is (eqb f.at p); number = ap (λ (y : Frozen). y.number) e ∙ number_is (eqb f.at p); value = ap (λ (y : Frozen). y.value) e ∙ value_is (eqb f.at p) }
+was_raised p x (f ∷ fs) (inl e) = record {
+  before = f;
+  among = inl refl;
+  is = e;
+  at = ap (λ (y : Frozen). y.at) e ∙ at_is (eqb f.at p);
+  number = ap (λ (y : Frozen). y.number) e ∙ number_is (eqb f.at p);
+  value = ap (λ (y : Frozen). y.value) e ∙ value_is (eqb f.at p);
+}
   where
     at_is : (b : Bool) → (cond b (with_count f (suc f.count)) f).at ≡ f.at
     at_is true = refl

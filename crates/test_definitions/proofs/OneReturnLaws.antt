@@ -207,8 +207,11 @@ module _ (constants : List Constant) (i : Instruction) {others : List Root} {s :
       let forms : a.form ≡ b.form = (let e : Some a.form ≡ Some b.form = sym a.form_is ∙ b.form_is in cc) in
       let opened : a.opened ≡ b.opened = Opens-one bytes s.types place b.form a.opened b.opened (subst (λ (f : Form). Opens bytes s.types place f a.opened) forms a.opens) b.opens in
       let parts : a.part ≡ b.part = (let e : Some a.part ≡ Some b.part = sym a.part_is ∙ ap (λ (o : Opened). slice_get o.parts j) opened ∙ b.part_is in cc) in
-      let one = Holds-one bytes s.types (subst (λ z. Holds bytes s.types z a.value a.blocks) parts a.holds) b.holds in
-      (one.0, a.gives_are ∙ ap (λ (f : Form). item_node f a.opened.blocks j ++ a.blocks) forms ∙ ap (λ (o : Opened). item_node b.form o.blocks j ++ a.blocks) opened ∙ ap (λ zs. item_node b.form b.opened.blocks j ++ zs) one.1 ∙ sym b.gives_are)
+      let one = Holds-one bytes s.types (subst (λ z. Holds bytes s.types z a.value a.blocks) parts a.holds) b.holds in (
+        one.0,
+        a.gives_are ∙ ap (λ (f : Form). item_node f a.opened.blocks j ++ a.blocks) forms ∙ ap (λ (o : Opened). item_node b.form o.blocks j ++ a.blocks) opened
+            ∙ ap (λ zs. item_node b.form b.opened.blocks j ++ zs) one.1 ∙ sym b.gives_are,
+      )
 
   part_goes : (place other : Place) (j k : ℕ) (xs ys : List ℕ) → place ≡ other → j ≡ k → PartGoes constants i p place j xs → PartGoes constants i q other k ys → SameBlocks xs ys
   part_goes place other j k xs ys e f a b =
