@@ -14,7 +14,10 @@ pub mod IncrementLaws
 pub mod StoppedRunLaws
 pub mod RunNumberLaws
 pub mod KeptImageLaws
+pub mod AlikeRootLaws
+pub mod AlikePlaceLaws
 pub mod OnePlaceLaws
+pub mod PlaceRowLaws
 pub mod OneReturnLaws
 pub mod OneFrozenLaws
 pub mod FrozenOrderLaws

@@ -11,13 +11,11 @@ use Rattle.seg_spec.specs.Index.{Root}
 use Rattle.seg_spec.specs.Frozen.{Frozen, root_of_frozen, blocks_by}
 use Rattle.seg_spec.specs.Sound.{Picture, IsHeld, IsPlain, frozen_roots, kind_with, HoldsRoot, HoldsRoots, holds_no_root, holds_more_roots, times, positions}
 use Rattle.seg_spec.specs.Shared.{names_in, times_named, IsBelow, AreDistinct, IsCounted, IsFalling, freed_with, freed, with_count, raised, raised_by}
-use Rattle.seg_spec.specs.Destroying.{HoldFrozen}
 use Rattle.seg_spec.specs.Counting.{AreCounted}
 use Rattle.seg_spec.proofs.Heap.LiveBlockLaws.{times-append, times-same, times-other, there}
 use Rattle.seg_spec.proofs.Values.OneValueLaws.{Holds-one}
 use Rattle.seg_spec.proofs.Values.PlaceFrameLaws.{each_left, each_right, each_weaker}
 use Rattle.seg_spec.proofs.Images.RootLaws.{HoldsRoots-split}
-use Rattle.seg_spec.proofs.Images.RootChangeLaws.{HoldsRoot_blocks-one}
 use Rattle.seg_spec.proofs.Frozen.ReleaseLaws.{IsFrozenThere, frozen_there}
 use Rattle.seg_spec.proofs.Frozen.CountIncreaseLaws.{falling_raised}
 use Rattle.seg_spec.proofs.Frozen.OneMoreCellLaws.{distinct_raised}
@@ -61,7 +59,7 @@ record IsFrozenAt (h : ℕ) (fs : List Frozen) : Type 0 where
   among : IsOneOf object fs
   block_is : block_of object.at ≡ h
 
-among_frozen : (f : Frozen) (fs : List Frozen) → IsOneOf f fs → IsAmong (root_of_frozen f) (map root_of_frozen fs)
+pub among_frozen : (f : Frozen) (fs : List Frozen) → IsOneOf f fs → IsAmong (root_of_frozen f) (map root_of_frozen fs)
 among_frozen f [] i = absurd i
 among_frozen f (g ∷ gs) (inl e) = inl (ap root_of_frozen e)
 among_frozen f (g ∷ gs) (inr i) = inr (among_frozen f gs i)
@@ -232,6 +230,9 @@ point_lower next fs cells c f g i j no_higher = none (names_in f.value) (each_of
     none [] a = refl
     none (q ∷ qs) a = times-other g.at q.at (map (λ (r : Place). r.at) qs) (apart f.number fs q no_higher c.distinct j a.0) ∙ none qs a.1
 
+pub reordered_then : {fs gs hs : List Frozen} → Reordered fs gs → Reordered gs hs → Reordered fs hs
+reordered_then a b = record { forth = λ x i. b.forth x (a.forth x i); back = λ x i. a.back x (b.back x i); distinct = a.distinct; falling = a.falling; lower = a.lower; distinct_too = b.distinct_too; falling_too = b.falling_too }
+
 pub reordered : (bytes : List ℕ) (next : ℕ) (p q : Picture) → IsHeld bytes p → IsHeld bytes q → AreCounted next p → AreCounted next q → Reordered p.frozen q.frozen
 reordered bytes next p q h k a b = record {
   forth = in_both bytes p q h k;
@@ -274,12 +275,9 @@ raised_by_each P (q ∷ names) fs a = raised_each P q.at (raised_by names fs) (r
 
 -- The objects that are freed have the same blocks, whatever the order of the lists. The counts of
 -- some may have been raised before.
-pub freed_blocks : (bytes : List ℕ) (table : Table) (names gone : List Place) (fs gs : List Frozen) (theirs others : ℕ → List ℕ) → Reordered fs gs → HoldFrozen bytes table theirs fs → HoldFrozen bytes table others gs
+pub freed_blocks : (names gone : List Place) (fs gs : List Frozen) (theirs others : ℕ → List ℕ) → Reordered fs gs → ((f : Frozen) → IsOneOf f gs → theirs f.at ≡ others f.at)
     → (h : ℕ) → times h (blocks_by theirs (freed gone (raised_by names fs))) ≡ times h (blocks_by others (freed gone (raised_by names gs)))
-freed_blocks bytes table names gone fs gs theirs others order hold hold_too h =
-    let same : (f : Frozen) → IsOneOf f gs → theirs f.at ≡ others f.at = λ f i. HoldsRoot_blocks-one bytes table (root_of_frozen f) (theirs f.at) (others f.at)
-    (each_of (λ (g : Frozen). HoldsRoot bytes table (root_of_frozen g) (theirs g.at)) f fs (order.back f i) hold)
-    (each_of (λ (g : Frozen). HoldsRoot bytes table (root_of_frozen g) (others g.at)) f gs i hold_too) in
+freed_blocks names gone fs gs theirs others order same h =
     let each = raised_by_each (λ p. theirs p ≡ others p) names gs (each_from (λ (f : Frozen). theirs f.at ≡ others f.at) gs same) in
     let r = raised_by_both names fs gs order in
     freed_in_any_order theirs h gone (raised_by names fs) (raised_by names gs) r.distinct r.falling r.lower r.distinct_too r.falling_too r.forth r.back

@@ -1,5 +1,5 @@
 -- The bytes of an image determine its state, except for the objects that registers own. Their
--- positions determine these.
+-- positions determine these. Images that are alike have the same state.
 use Rattle.std.proofs.Common.{◌≡◌, ℕ, List, [], ◌∷◌, ◌++◌, map, refl, sym, ap, ◌∙◌, subst}
 use Rattle.std.specs.Prelude.{option_map, option_and_then}
 use Rattle.std.specs.List.{AllByRecursion}
@@ -9,7 +9,7 @@ use Rattle.seg_spec.specs.Types.{Table}
 use Rattle.seg_spec.specs.Value.{Value, nil, cons, nth}
 use Rattle.seg_spec.specs.Index.{Root, root_named, root_of_type}
 use Rattle.seg_spec.specs.Roots.{SamePicture}
-use Rattle.seg_spec.specs.Sound.{IsPlain, HoldsRoots, holds_more_roots, frozen_roots}
+use Rattle.seg_spec.specs.Sound.{Picture, IsHeld, IsPlain, HoldsRoots, holds_more_roots, frozen_roots}
 use Rattle.seg_spec.proofs.Values.PlaceFrameLaws.{each_right}
 use Rattle.seg_spec.proofs.Images.RootLaws.{HoldsRoots-split}
 use Rattle.client_spec.specs.Machine.{Register, State}
@@ -17,6 +17,7 @@ use Rattle.client_spec.specs.Trees.{unfolded_register}
 use Rattle.client_spec.specs.Pictures.{AreOwned, Pictures, PicturesTrees, meaning_in, object_of}
 use Rattle.client_spec.specs.Ties.{places_of}
 use Rattle.client_sim.proofs.Names.OnePictureLaws.{plain-one, Held-one}
+use Rattle.test_definitions.specs.Alike.{AreAlike}
 
 -- roots without a name are determined by their positions
 roots_one : (bytes : List ℕ) (table : Table) (rs qs : List Root) (xs ys : List ℕ) → places_of rs ≡ places_of qs → HoldsRoots bytes table rs xs → HoldsRoots bytes table qs ys → AllByRecursion IsPlain rs → AllByRecursion IsPlain qs → rs ≡ qs
@@ -63,36 +64,50 @@ record HoldsOwned (bytes : List ℕ) (table : Table) (owned : List Root) : Type 
   holds : HoldsRoots bytes table owned blocks
   plain : AllByRecursion IsPlain owned
 
-holds_owned : (others : List Root) (s : State) (bytes : List ℕ) (p : Pictures others s bytes) → HoldsOwned bytes p.picture.table p.owned
-holds_owned others s bytes p =
-    let r = p.picture in
-    let a = HoldsRoots-split bytes r.table r.names (r.uniques ++ (r.loose ++ frozen_roots r)) p.held.root_blocks p.held.roots in
+holds_owned : (others owned : List Root) (bytes : List ℕ) (r : Picture) → IsHeld bytes r → r.loose ≡ others ++ owned → HoldsOwned bytes r.table owned
+holds_owned others owned bytes r held loose_are =
+    let a = HoldsRoots-split bytes r.table r.names (r.uniques ++ (r.loose ++ frozen_roots r)) held.root_blocks held.roots in
     let b = HoldsRoots-split bytes r.table r.uniques (r.loose ++ frozen_roots r) a.right a.rights in
     let c = HoldsRoots-split bytes r.table r.loose (frozen_roots r) b.right b.rights in
-    let d = HoldsRoots-split bytes r.table others p.owned c.left (subst (λ roots. HoldsRoots bytes r.table roots c.left) p.loose c.lefts) in
-    let loose = each_right IsPlain r.uniques r.loose p.held.laid_out.plain in
-    record { blocks = d.right; holds = d.rights; plain = each_right IsPlain others p.owned (subst (AllByRecursion IsPlain) p.loose loose) }
+    let d = HoldsRoots-split bytes r.table others owned c.left (subst (λ roots. HoldsRoots bytes r.table roots c.left) loose_are c.lefts) in
+    let loose = each_right IsPlain r.uniques r.loose held.laid_out.plain in
+    record { blocks = d.right; holds = d.rights; plain = each_right IsPlain others owned (subst (AllByRecursion IsPlain) loose_are loose) }
 
 extend : {A B : Type 0} (f g : A → B) → ((x : A) → f x ≡ g x) → f ≡ g
 extend f g p = λ i x. p x i
 
-module _ (others : List Root) (s : State) (bytes : List ℕ) (p q : PicturesTrees others s bytes) (places : places_of p.pictured.owned ≡ places_of q.pictured.owned) where
-  same : SamePicture p.pictured.picture q.pictured.picture
-  same = Held-one bytes p.pictured.picture q.pictured.picture p.pictured.held q.pictured.held
+-- the objects that registers own, by their positions
+owned_one : (others own : List Root) (bytes : List ℕ) {s : State} (p : Pictures others s bytes) (r : Picture) → IsHeld bytes r → r.loose ≡ others ++ own → places_of p.owned ≡ places_of own → p.owned ≡ own
+owned_one others own bytes p r held loose at =
+    let a = holds_owned others p.owned bytes p.picture p.held p.loose in
+    let b = holds_owned others own bytes r held loose in
+    let same = Held-one bytes p.picture r p.held held in
+    roots_one bytes p.picture.table p.owned own a.blocks b.blocks at a.holds (subst (λ (t : Table). HoldsRoots bytes t own b.blocks) (sym same.table) b.holds) a.plain b.plain
 
-  pub owned_same : p.pictured.owned ≡ q.pictured.owned
-  owned_same =
-      let a = holds_owned others p.plain bytes p.pictured in
-      let b = holds_owned others q.plain bytes q.pictured in
-      roots_one bytes p.pictured.picture.table p.pictured.owned q.pictured.owned a.blocks b.blocks places
-      a.holds (subst (λ (t : Table). HoldsRoots bytes t q.pictured.owned b.blocks) (sym same.table) b.holds) a.plain b.plain
+-- two pictures of images that are alike
+pub record AsPictured {others : List Root} {s t : State} {first second : List ℕ} (p : Pictures others s first) (q : Pictures others t second) : Type 0 where
+  pub same : SamePicture p.picture q.picture
+  pub owned : p.owned ≡ q.owned
+
+pub as_pictured : (others : List Root) (places first second : List ℕ) (alike : AreAlike others places first second) {s t : State} (p : Pictures others s first) (q : Pictures others t second) → places_of p.owned ≡ places → places_of q.owned ≡ places
+    → AsPictured p q × (p.owned ≡ alike.own)
+as_pictured others places first second alike p q at at_too =
+    let a = Held-one first p.picture alike.picture p.held alike.held in
+    let b = Held-one second alike.picture q.picture alike.held_too q.held in
+    let left = owned_one others alike.own first p alike.picture alike.held alike.loose (at ∙ sym alike.owned_are) in
+    let right = owned_one others alike.own second q alike.picture alike.held_too alike.loose (at_too ∙ sym alike.owned_are) in
+    (record { same = record { table = a.table ∙ b.table; names = a.names ∙ b.names; uniques = a.uniques ∙ b.uniques }; owned = left ∙ sym right }, left)
+
+module _ (others : List Root) (s : State) (first second : List ℕ) (p : PicturesTrees others s first) (q : PicturesTrees others s second) (both : AsPictured p.pictured q.pictured) where
+  same : SamePicture p.pictured.picture q.pictured.picture
+  same = both.same
 
   registers_same : p.plain.registers ≡ q.plain.registers
   registers_same =
-      let m = meaning_in (word bytes next_word) p.pictured.picture in
-      let n = meaning_in (word bytes next_word) q.pictured.picture in
+      let m = meaning_in (word first next_word) p.pictured.picture in
+      let n = meaning_in (word second next_word) q.pictured.picture in
       registers_one m n p.plain.registers q.plain.registers q.pictured.owned
-      (subst (AreOwned p.plain.registers) owned_same p.pictured.are_owned) q.pictured.are_owned (sym (ap (λ (z : State). z.registers) p.trees) ∙ ap (λ (z : State). z.registers) q.trees)
+      (subst (AreOwned p.plain.registers) both.owned p.pictured.are_owned) q.pictured.are_owned (sym (ap (λ (z : State). z.registers) p.trees) ∙ ap (λ (z : State). z.registers) q.trees)
 
   pub plain_same : p.plain ≡ q.plain
   plain_same =
