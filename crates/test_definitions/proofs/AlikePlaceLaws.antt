@@ -88,7 +88,8 @@ buffer_blocks bytes table place opened (Form.vec U) h o = ap (λ (x : Opened). x
 buffer_blocks bytes table place opened (Form.flat_map U) h o = ap (λ (x : Opened). x.blocks) o.opened_is
 buffer_blocks bytes table place opened form h o = cc
 
-pub same_pointer : (first second : List ℕ) (at kind each kind' each' : ℕ) → NamesRoom first at kind each → NamesRoom second at kind' each' → named second at ≡ named first at → count_at second at ≡ count_at first at → SameCell first second at
+pub same_pointer : (first second : List ℕ) (at kind each kind' each' : ℕ) → NamesRoom first at kind each → NamesRoom second at kind' each' → named second at ≡ named first at
+    → count_at second at ≡ count_at first at → SameCell first second at
 same_pointer first second at kind each kind' each' a b blocks n = record { pointer = one_target (target second at) (target first at) (room_above second at kind' each' b) (room_above first at kind each a) blocks; count = n }
 
 module _ (first second : List ℕ) (table : Table) (place : Place) (opened : Opened) where
@@ -97,6 +98,10 @@ module _ (first second : List ℕ) (table : Table) (place : Place) (opened : Ope
 
   pub buffer_cell : (form : Form) → has_buffer (Some form) ≡ true → Two form → SameCell first second place.at
   buffer_cell Form.str h o = same_pointer first second place.at _ _ _ _ o.0.named_room o.1.named_room (sym (buffer_blocks second table place opened Form.str refl o.1) ∙ buffer_blocks first table place opened Form.str refl o.0) o.2
-  buffer_cell (Form.vec U) h o = same_pointer first second place.at _ _ _ _ o.0.named_room o.1.named_room (sym (buffer_blocks second table place opened (Form.vec U) refl o.1) ∙ buffer_blocks first table place opened (Form.vec U) refl o.0) o.2
-  buffer_cell (Form.flat_map U) h o = same_pointer first second place.at _ _ _ _ o.0.named_room o.1.named_room (sym (buffer_blocks second table place opened (Form.flat_map U) refl o.1) ∙ buffer_blocks first table place opened (Form.flat_map U) refl o.0) o.2
+  buffer_cell (Form.vec U) h o =
+      same_pointer first second place.at _ _ _ _ o.0.named_room o.1.named_room
+      (sym (buffer_blocks second table place opened (Form.vec U) refl o.1) ∙ buffer_blocks first table place opened (Form.vec U) refl o.0) o.2
+  buffer_cell (Form.flat_map U) h o =
+      same_pointer first second place.at _ _ _ _ o.0.named_room o.1.named_room
+      (sym (buffer_blocks second table place opened (Form.flat_map U) refl o.1) ∙ buffer_blocks first table place opened (Form.flat_map U) refl o.0) o.2
   buffer_cell form h o = cc

@@ -187,7 +187,8 @@ module _ {others : List Root} {places first second : List ℕ} (alike : AreAlike
       entries_as_many bytes (x ∷ es) [] e = absurd e
       entries_as_many bytes (x ∷ es) (r ∷ names) e = ap suc (entries_as_many bytes es names e.1)
 
-      counted : (bytes : List ℕ) (index : Index) → AreEntries bytes index.entries alike.picture.names → index ≡ record { blocks = named bytes index_cell; entries = spaced (start bytes index_cell) 8 (count_at bytes index_cell) } → count_at bytes index_cell ≡ length alike.picture.names
+      counted : (bytes : List ℕ) (index : Index) → AreEntries bytes index.entries alike.picture.names
+          → index ≡ record { blocks = named bytes index_cell; entries = spaced (start bytes index_cell) 8 (count_at bytes index_cell) } → count_at bytes index_cell ≡ length alike.picture.names
       counted bytes index e is = sym (length-spaced _ _ _) ∙ sym (ap (λ (x : Index). length x.entries) is) ∙ entries_as_many bytes index.entries alike.picture.names e
   one_entry root (suc k) index other o o' e e' are are' xs ys a b =
       let ns = nodes_of o.tree in
@@ -326,7 +327,8 @@ module _ (constants : List Constant) (i : Instruction) {others : List Root} {s :
       let one = one_part_blocks place k a'.own b'.own like a'.part b'.part in
       with_frozen (names_in a'.part.value) (names_in b'.part.value) a'.own b'.own xs ys (ap names_in one.0) one.1 a'.gives_are b'.gives_are
 
-  pop_goes : (place other : Place) (form form' : Form) (j k : ℕ) (xs ys : List ℕ) → AlikeAt first second s.types place → place ≡ other → form ≡ form' → j ≡ k → PopGoes constants i p place form j xs → PopGoes constants i q other form' k ys → SameBlocks xs ys
+  pop_goes : (place other : Place) (form form' : Form) (j k : ℕ) (xs ys : List ℕ) → AlikeAt first second s.types place → place ≡ other → form ≡ form' → j ≡ k → PopGoes constants i p place form j xs
+      → PopGoes constants i q other form' k ys → SameBlocks xs ys
   pop_goes place other form form' j k xs ys like e f g a b = by form' (subst (λ z. PopGoes constants i p place z j xs) f a) b
     where
       by : (form : Form) → PopGoes constants i p place form j xs → PopGoes constants i q other form k ys → SameBlocks xs ys
@@ -403,7 +405,10 @@ module _ (constants : List Constant) (i : Instruction) {others : List Root} {s :
       go (Some name) e = among_left x r.names (r.uniques ++ (r.loose ++ frozen_roots r)) (subst (IsAmong x) common.names (looked_up name x p.picture.names (killed_is (root_named p.picture.names name) (type_operand i.number) x e)).0)
 
   unique_among : (x : Root) → root_of_type p.picture.uniques (nat_abs i.number) ≡ Some x → IsAmong x (roots_of alike.picture)
-  unique_among x e = (let r = alike.picture in among_right x r.names (r.uniques ++ (r.loose ++ frozen_roots r)) (among_left x r.uniques (r.loose ++ frozen_roots r) (subst (IsAmong x) common.uniques (of_type p.picture.uniques (nat_abs i.number) x e))))
+  unique_among x e =
+      let r = alike.picture in
+      let unique = subst (IsAmong x) common.uniques (of_type p.picture.uniques (nat_abs i.number) x e) in
+      among_right x r.names (r.uniques ++ (r.loose ++ frozen_roots r)) (among_left x r.uniques (r.loose ++ frozen_roots r) unique)
 
   owned_among : (r : ℕ) (x : Root) → root_of_register s.registers p.owned r ≡ Some x → IsAmong x (roots_of alike.picture)
   owned_among n x e =
@@ -422,9 +427,15 @@ module _ (constants : List Constant) (i : Instruction) {others : List Root} {s :
   one_led found = led_one constants i alike p q at at_too found
 
   pub returns_by : (o : Operation) → i.operation ≡ o → (xs ys : List ℕ) → ReturnsBy constants i p o xs → ReturnsBy constants i q o ys → SameBlocks xs ys
-  returns_by Operation.Kill is xs ys a b = named_goes constants i alike p q at at_too _ _ xs ys (named_among constants i alike p q at at_too) (ap (λ (rs : List Root). name_operand constants i s >>= λ name. killed (root_named rs name) (type_operand i.number)) (pictures constants i alike p q at at_too).same.names) a b
-  returns_by Operation.KillUnique is xs ys a b = root_goes constants i alike p q at at_too _ _ xs ys (unique_among constants i alike p q at at_too) (ap (λ (rs : List Root). root_of_type rs (nat_abs i.number)) (pictures constants i alike p q at at_too).same.uniques) a b
-  returns_by Operation.Drop is xs ys a b = root_goes constants i alike p q at at_too _ _ xs ys (owned_among constants i alike p q at at_too i.b) (ap (λ (rs : List Root). root_of_register s.registers rs i.b) (pictures constants i alike p q at at_too).owned) a b
+  returns_by Operation.Kill is xs ys a b =
+      named_goes constants i alike p q at at_too _ _ xs ys (named_among constants i alike p q at at_too)
+      (ap (λ (rs : List Root). name_operand constants i s >>= λ name. killed (root_named rs name) (type_operand i.number)) (pictures constants i alike p q at at_too).same.names) a b
+  returns_by Operation.KillUnique is xs ys a b =
+      root_goes constants i alike p q at at_too _ _ xs ys (unique_among constants i alike p q at at_too)
+      (ap (λ (rs : List Root). root_of_type rs (nat_abs i.number)) (pictures constants i alike p q at at_too).same.uniques) a b
+  returns_by Operation.Drop is xs ys a b =
+      root_goes constants i alike p q at at_too _ _ xs ys (owned_among constants i alike p q at at_too i.b)
+      (ap (λ (rs : List Root). root_of_register s.registers rs i.b) (pictures constants i alike p q at at_too).owned) a b
   returns_by Operation.Put is xs ys a b = place_goes constants i alike p q at at_too a.0 b.0 xs ys (alike_at (there (ap at_place is)) a.0 a.1 a.2) (one_led (there (ap at_place is)) a.0 b.0 a.1 b.1 a.2 b.2).0 a.3 b.3
   returns_by Operation.Clear is xs ys a b = place_goes constants i alike p q at at_too a.0 b.0 xs ys (alike_at (there (ap at_place is)) a.0 a.1 a.2) (one_led (there (ap at_place is)) a.0 b.0 a.1 b.1 a.2 b.2).0 a.3 b.3
   returns_by Operation.Freeze is xs ys a b = refreezes constants i alike p q at at_too a.0 b.0 xs ys (alike_at (there (ap at_place is)) a.0 a.1 a.2) (one_led (there (ap at_place is)) a.0 b.0 a.1 b.1 a.2 b.2).0 a.3 b.3
@@ -432,7 +443,8 @@ module _ (constants : List Constant) (i : Instruction) {others : List Root} {s :
   returns_by Operation.PopBack is xs ys a b =
       let one = one_led (there (ap at_place is)) a.0 b.0 a.1 b.1 a.2 b.2 in
       let like = alike_at (there (ap at_place is)) a.0 a.1 a.2 in
-      pop_goes constants i alike p q at at_too a.0 b.0 a.1 b.1 (count_at first a.0.at - 1) (count_at second b.0.at - 1) xs ys like one.0 one.1 (ap (λ n. n - 1) (sym (count_alike like)) ∙ ap (λ (z : Place). count_at second z.at - 1) one.0) a.3 b.3
+      pop_goes constants i alike p q at at_too a.0 b.0 a.1 b.1 (count_at first a.0.at - 1) (count_at second b.0.at - 1) xs ys like one.0 one.1
+      (ap (λ n. n - 1) (sym (count_alike like)) ∙ ap (λ (z : Place). count_at second z.at - 1) one.0) a.3 b.3
   returns_by Operation.PopFront is xs ys a b =
       let one = one_led (there (ap at_place is)) a.0 b.0 a.1 b.1 a.2 b.2 in
       pop_goes constants i alike p q at at_too a.0 b.0 a.1 b.1 0 0 xs ys (alike_at (there (ap at_place is)) a.0 a.1 a.2) one.0 one.1 refl a.3 b.3

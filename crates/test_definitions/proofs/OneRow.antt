@@ -100,7 +100,8 @@ itself others places bytes p at = record {
     roots_itself (r ∷ roots) blocks (holds_more_roots {rest = rest} h hs) = (each_itself bytes p.picture.table h.values, roots_itself roots rest hs)
 
 -- FREEZE requests a block only if a number is left
-numbers_left : (constants : List Constant) (i : Instruction) {others : List Root} {bytes : List ℕ} {s : State} (p : Pictures others s bytes) (answer : Answer) (new : List ℕ) → i.operation ≡ Operation.Freeze → (answer ≡ success) ⊎ (answer ≡ bad_alloc)
+numbers_left : (constants : List Constant) (i : Instruction) {others : List Root} {bytes : List ℕ} {s : State} (p : Pictures others s bytes) (answer : Answer) (new : List ℕ)
+    → i.operation ≡ Operation.Freeze → (answer ≡ success) ⊎ (answer ≡ bad_alloc)
     → ChangesBlocks constants i p answer new → suc (word bytes next_word) < 2 ^ 32
 numbers_left constants i p answer new is (inl e) c =
     let d = subst (λ o. ChangesOnSuccess constants i p o new) is (subst (λ a. ChangesBlocks constants i p a new) e c) in
@@ -119,7 +120,8 @@ record Row (constants : List Constant) (others : List Root) (i : Instruction) (s
   owned : places_of before.pictured.owned ≡ places
 
 module _ (constants : List Constant) (others : List Root) (i : Instruction) (s : State) (places : List ℕ) where
-  module _ (first second : List ℕ) (alike : AreAlike others places first second) (a b : Answer) (t u : State) (new other : List ℕ) (x : Row constants others i s places first a t new) (y : Row constants others i s places second b u other) where
+  module _ (first second : List ℕ) (alike : AreAlike others places first second) (a b : Answer) (t u : State) (new other : List ℕ)
+      (x : Row constants others i s places first a t new) (y : Row constants others i s places second b u other) where
     plain : x.before.plain ≡ y.before.plain
     plain = plain_same others s first second x.before y.before (as_pictured others places first second alike x.before.pictured y.before.pictured x.owned y.owned).0
 
@@ -174,7 +176,8 @@ module _ (constants : List Constant) (others : List Root) (i : Instruction) (s :
         subst (λ z. (q : Pictures others z second) → places_of q.owned ≡ places → ChangesBlocks constants i q b other → live new ≡ live other) plain
         (λ q at d. one_live constants i alike x.before.pictured q x.owned at there cuts b new other c d) y.before.pictured y.owned y.blocks
 
-  one_answer : (first second : List ℕ) → AreAlike others places first second → (a b : Answer) (t u : State) (new other : List ℕ) → Row constants others i s places first a t new → Row constants others i s places second b u other → (a ≡ b) × (t ≡ u)
+  one_answer : (first second : List ℕ) → AreAlike others places first second → (a b : Answer) (t u : State) (new other : List ℕ)
+      → Row constants others i s places first a t new → Row constants others i s places second b u other → (a ≡ b) × (t ≡ u)
   one_answer first second alike a b t u new other x y = by x.row y.row
     where
       by : RowWith constants i first s a t → RowWith constants i second s b u → (a ≡ b) × (t ≡ u)

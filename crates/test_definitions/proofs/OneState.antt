@@ -89,7 +89,8 @@ pub record AsPictured {others : List Root} {s t : State} {first second : List �
   pub same : SamePicture p.picture q.picture
   pub owned : p.owned ≡ q.owned
 
-pub as_pictured : (others : List Root) (places first second : List ℕ) (alike : AreAlike others places first second) {s t : State} (p : Pictures others s first) (q : Pictures others t second) → places_of p.owned ≡ places → places_of q.owned ≡ places
+pub as_pictured : (others : List Root) (places first second : List ℕ) (alike : AreAlike others places first second) {s t : State} (p : Pictures others s first) (q : Pictures others t second)
+    → places_of p.owned ≡ places → places_of q.owned ≡ places
     → AsPictured p q × (p.owned ≡ alike.own)
 as_pictured others places first second alike p q at at_too =
     let a = Held-one first p.picture alike.picture p.held alike.held in

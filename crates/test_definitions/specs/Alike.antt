@@ -1,12 +1,12 @@
--- Two images that no client can tell apart. They have the same objects at the same positions, down to
--- each buffer and node. They may differ in free memory, in the bytes after the values of a buffer or
--- an object, and in the shapes of trees.
---     AlikeAt first second table place      the place opens in the same way in both, with the same count,
---                                           and so do the places inside
---     AlikeEach first second table places   each of the places does
---     AlikeRoot first second table root     each of the root's values does
---     AreAlike others places first second   the images have the same header, allocated blocks, index and
---                                           roots; registers own the objects at these positions
+-- Two images that no client can tell apart. They have the same objects at the same positions, down
+-- to each buffer and node. They may differ in free memory, in the bytes after the values of a buffer
+-- or an object, and in the shapes of trees.
+--     AlikeAt first second table place     the place opens in the same way in both, with the same
+--                                          count, and so do the places inside
+--     AlikeEach first second table places  each of the places does
+--     AlikeRoot first second table root    each of the root's values does
+--     AreAlike others places first second  the images have the same header, allocated blocks, index
+--                                          and roots; registers own the objects at these positions
 use Rattle.std.specs.Prelude.{◌≡◌, ℕ, List, [], ◌∷◌, ◌++◌, length, Some}
 use Rattle.std.specs.List.{AllByRecursion}
 use Rattle.seg_spec.specs.Bytes.{word}
