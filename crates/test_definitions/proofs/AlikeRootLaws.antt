@@ -20,7 +20,7 @@ use Rattle.client_spec.specs.Machine.{◌>>=◌, Register, Origin, Path, State, 
 use Rattle.client_spec.specs.Pictures.{root_of_register, object_of, Pictures, root_at, LeadsInImage}
 use Rattle.client_spec.specs.Ties.{places_of}
 use Rattle.client_sim.proofs.Names.OnePictureLaws.{Held-one}
-use Rattle.client_sim.proofs.Names.NamePositionLaws.{IsAmong, each_among, among_left, among_right, counts, owns, looked_up}
+use Rattle.test_definitions.proofs.RootMemberLaws.{IsAmong, each_among, among_left, among_right, counts, owns, looked_up}
 use Rattle.test_definitions.specs.Alike.{AlikeAt, AlikeRoot, AreAlike}
 use Rattle.test_definitions.proofs.AlikePlaceLaws.{nth_alike, leads_alike}
 use Rattle.test_definitions.proofs.OneState.{AsPictured, as_pictured}

@@ -16,6 +16,9 @@ pub mod RunNumberLaws
 pub mod KeptImageLaws
 pub mod AlikeRootLaws
 pub mod AlikePlaceLaws
+pub mod BlockKindLaws
+pub mod RootMemberLaws
+pub mod PathOriginLaws
 pub mod OnePlaceLaws
 pub mod PlaceRowLaws
 pub mod OneReturnLaws

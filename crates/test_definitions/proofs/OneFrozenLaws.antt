@@ -20,8 +20,8 @@ use Rattle.seg_spec.proofs.Frozen.ReleaseLaws.{IsFrozenThere, frozen_there}
 use Rattle.seg_spec.proofs.Frozen.CountIncreaseLaws.{falling_raised}
 use Rattle.seg_spec.proofs.Frozen.OneMoreCellLaws.{distinct_raised}
 use Rattle.client_sim.proofs.Names.OnePictureLaws.{Held-one}
-use Rattle.client_sim.proofs.Names.BlockKindLaws.{OfValues, Tagged, value_tagged, roots_tagged}
-use Rattle.client_sim.proofs.Names.NamePositionLaws.{IsAmong, among_right, counts, owns, index_tagged, names_plain}
+use Rattle.test_definitions.proofs.BlockKindLaws.{OfValues, Tagged, value_tagged, roots_tagged}
+use Rattle.test_definitions.proofs.RootMemberLaws.{IsAmong, among_right, counts, owns, index_tagged, names_plain}
 use Rattle.test_definitions.proofs.FrozenOrderLaws.{IsOneOf, each_of, PointLower, freed_in_any_order}
 
 -- ---- where frozen objects are

@@ -29,8 +29,8 @@ use Rattle.client_spec.specs.Ties.{places_of}
 use Rattle.seg_spec.proofs.SliceLaws.{IsSame-part}
 use Rattle.seg_spec.proofs.Values.PlaceFrameLaws.{word-same}
 use Rattle.seg_spec.proofs.Values.ValueTypeLaws.{length-spaced}
-use Rattle.client_sim.proofs.Names.NamePositionLaws.{as_many, index_live}
-use Rattle.client_sim.proofs.Names.PathOriginLaws.{at_place}
+use Rattle.test_definitions.proofs.RootMemberLaws.{as_many, index_live}
+use Rattle.test_definitions.proofs.PathOriginLaws.{at_place}
 use Rattle.test_definitions.specs.Alike.{AreAlike}
 use Rattle.test_definitions.proofs.AlikePlaceLaws.{SameCell, same_pointer, open_alike, buffer_cell, buffer_blocks}
 use Rattle.test_definitions.proofs.AlikeRootLaws.{same_units, LeadsInBoth, leads_in_both}

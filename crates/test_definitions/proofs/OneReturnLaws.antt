@@ -37,9 +37,9 @@ use Rattle.client_spec.specs.Pictures.{root_of_register, Pictures, part_through,
 use Rattle.client_spec.specs.Ties.{places_of}
 use Rattle.client_spec.specs.Asks.{LedTo, GrantsAsks, CutsBuffer, ChangesOnSuccess, ChangesBlocks, name_operand, WithFrozen, PlaceGoes, PartGoes, PopGoes, KeyGoes, RootGoes, NamedGoes, Refreezes, Renames, ReturnsBy, found_key}
 use Rattle.client_sim.proofs.Names.OnePictureLaws.{OpensIndex-one, Held-one}
-use Rattle.client_sim.proofs.Names.NamePositionLaws.{IsAmong, each_among, among_left, among_right, times_in, index_live, names_once, looked_up}
+use Rattle.test_definitions.proofs.RootMemberLaws.{IsAmong, each_among, among_left, among_right, times_in, index_live, names_once, looked_up}
 use Rattle.test_definitions.proofs.FrozenOrderLaws.{IsOneOf, each_of}
-use Rattle.client_sim.proofs.Names.PathOriginLaws.{at_place}
+use Rattle.test_definitions.proofs.PathOriginLaws.{at_place}
 use Rattle.test_definitions.specs.Alike.{AlikeAt, opens_alike, AlikeRoot, AreAlike}
 use Rattle.test_definitions.proofs.AlikePlaceLaws.{open_alike, holds_alike, each_alike, nth_alike}
 use Rattle.test_definitions.proofs.AlikeRootLaws.{both, of_type, of_register}

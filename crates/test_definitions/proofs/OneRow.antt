@@ -26,7 +26,7 @@ use Rattle.seg_spec.specs.Sound.{roots_of, HoldsRoots, holds_no_root, holds_more
 use Rattle.std.specs.List.{AllByRecursion}
 use Rattle.seg_spec.proofs.Values.PlaceFrameLaws.{each_weaker}
 use Rattle.client_spec.specs.Asks.{LedTo}
-use Rattle.client_sim.proofs.Names.PathOriginLaws.{at_place}
+use Rattle.test_definitions.proofs.PathOriginLaws.{at_place}
 use Rattle.test_definitions.specs.Alike.{AlikeAt, opens_alike, AlikeEach, none_alike, more_alike, AlikeRoot, AreAlike}
 use Rattle.test_definitions.proofs.AlikePlaceLaws.{each_itself}
 use Rattle.test_definitions.proofs.OneState.{as_pictured, plain_same}

@@ -22,7 +22,7 @@ use Rattle.client_spec.proofs.Unfolded.UnfoldedStateLaws.{register_same, origin_
 use Rattle.client_spec.proofs.TypedStates.PictureLaws.{unique_one, option_some}
 use Rattle.client_spec.proofs.TypedStates.ValueLaws.{Some_inj, bind_some}
 use Rattle.client_sim.proofs.Objects.OwnedRootLaws.{owned_split}
-use Rattle.client_sim.proofs.Names.PathOriginLaws.{at_place, begins_there, shrinks_buffer, type_led}
+use Rattle.test_definitions.proofs.PathOriginLaws.{at_place, begins_there, shrinks_buffer, type_led}
 use Rattle.test_definitions.proofs.OnePlaceLaws.{RefersTo}
 
 path_unfolded : (m : ℕ → Value) (x : Register) (path : Path) → path_in x ≡ Some path → path_in (unfolded_register m x) ≡ Some path
