@@ -276,7 +276,8 @@ laws Operation.Kill = record {
       let g = kept.gives_from types constants ks b class (ended E ks) a RegisterType.Int good bad refl p.2 in
       kept.not_ended types constants ks b class E ks good bad g.0 g.1 still;
   same = kill_same;
-  follows = λ constants s a b c number room. follow.bound_as (slice_get constants (constant_operand number) >>= λ k. constant_name k (register s b)) _ (λ name is. follow.destroys a name (type_operand number) (s.names name) (name, is, refl));
+  follows = λ constants s a b c number room. follow.bound_as (slice_get constants (constant_operand number) >>= λ k. constant_name k (register s b)) _
+      (λ name is. follow.destroys a name (type_operand number) (s.names name) (name, is, refl));
 }
 laws Operation.MakeUnique = record {
   goes = λ types constants one ks s h a b c number m good bad room. umake_goes types constants one ks s h a b c number good bad room (type_of_id types constants b number m);

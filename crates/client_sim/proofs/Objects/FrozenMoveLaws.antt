@@ -207,7 +207,7 @@ module _ {others : List Root} {s : State} {bytes : List ℕ} (pictured : Picture
           to = record {
             later = held_by looks held_then counted_then;
             table_is = same_table;
-            objects = objects_then pictured led old_value f new w looks (λ o. o ≡ Origin.Owned c) (λ name e. cc) (λ U e. cc) begins;
+            objects = objects_then pictured led old_value f new w looks (λ o. o ≡ Origin.Owned c) (λ o e. (c, e)) begins;
             leads = leads_then pictured led old_value f new w looks held_then counted_then (λ o. o ≡ Origin.Owned c) same_table beside begins;
           };
           frozen_is = refl;

@@ -161,23 +161,26 @@ module _ {others : List Root} {s : State} {bytes : List ℕ} (pictured : Picture
           → Leads new looks.picture.table (item_of looks.picture.table root i) selectors target
       on_table root i {selectors = selectors} {target = target} k = subst (λ (t : Table). Leads new t (item_of t root i) selectors target) (sym same) k
 
-  -- named and unique objects stay, if only origins of registers end
-  pub objects_then : {s' : State} (looks : Looks others s') (Ends : Origin → Type 0) → ((name : List ℕ) → Ends (Origin.Name name 0) → ⊥) → ((T : ℕ) → Ends (Origin.Unique T) → ⊥) → BeginsThen looks Ends → ObjectsStay pictured.picture looks.picture
-  objects_then looks Ends no_name no_unique begins = objects_at (looks_of pictured) looks Ends (λ o r i e. elim (begins o r i e) [
+  -- only paths from registers end
+  abbrev pub OfRegisters : (Origin → Type 0) → Type 0
+  OfRegisters Ends = (o : Origin) → Ends o → (r : ℕ) × (o ≡ Origin.Owned r)
+
+  pub objects_then : {s' : State} (looks : Looks others s') (Ends : Origin → Type 0) → OfRegisters Ends → BeginsThen looks Ends → ObjectsStay pictured.picture looks.picture
+  objects_then looks Ends owned begins = objects_at (looks_of pictured) looks Ends (λ o r i e. elim (begins o r i e) [
     | inl ends ↦ inl ends
     | inr (inl p) ↦ inr (changed, p.2, subst (λ q. HasFace q changed) (sym p.0) (faced led.root led.item change))
     | inr (inr p) ↦ inr (r, p.1, face_same r)
-  ]) (λ name e. absurd (no_name name e)) (λ T e. absurd (no_unique T e))
+  ]) (λ name e. let o = (owned (Origin.Name name 0) e).1 in cc) (λ T e. let o = (owned (Origin.Unique T) e).1 in cc)
 
-  paths_then : {s' : State} (looks : Looks others s') (held : IsHeld new looks.picture) (counted : AreCounted (word new next_word) looks.picture) (Ends : Origin → Type 0) → ((name : List ℕ) → Ends (Origin.Name name 0) → ⊥) → ((T : ℕ) → Ends (Origin.Unique T) → ⊥) → looks.picture.table ≡ table
+  paths_then : {s' : State} (looks : Looks others s') (held : IsHeld new looks.picture) (counted : AreCounted (word new next_word) looks.picture) (Ends : Origin → Type 0) → OfRegisters Ends → looks.picture.table ≡ table
       → KeepsFrozen bytes new table pictured.picture.frozen looks.picture.frozen → KeepsPathsBeside bytes new table led.root led.item path.selectors → BeginsThen looks Ends
       → (m : Moved pictured led old_value f new s' Ends) × ((o : Origin) (r : Root) (i : ℕ) → root_in looks o ≡ Some (r, i) → root_at m.to.later o ≡ Some (r, i))
-  paths_then looks held counted Ends no_name no_unique same stays beside begins = (
+  paths_then looks held counted Ends owned same stays beside begins = (
     record {
       to = record {
         later = held_by looks held counted;
         table_is = same;
-        objects = objects_then looks Ends no_name no_unique begins;
+        objects = objects_then looks Ends owned begins;
         leads = leads_then looks held counted Ends same beside begins;
       };
       stays = stays;
@@ -234,7 +237,8 @@ module _ {others : List Root} {s : State} {bytes : List ℕ} (pictured : Picture
       let state : put_origin (set_register s c Register.Undefined) path.origin whole_then ≡ set_register (put_at s path w) c Register.Undefined =
       put_order s c Register.Undefined path.origin whole_then apart ∙ ap (λ z. set_register z c Register.Undefined) (sym (put_at_is s path f.whole w f.type f.at)) in
       subst (λ z. Moved pictured led old_value f new z (λ o. o ≡ Origin.Owned c)) state
-      (paths_then looks there counted (λ o. o ≡ Origin.Owned c) (λ name e. cc) (λ T e. cc) same (subst (KeepsFrozen bytes new table picture.frozen) (sym (ap (left gone) same_frozen)) (frozen_left pictured new theirs shared gone clears.shared_kept)) beside
+      (paths_then looks there counted (λ o. o ≡ Origin.Owned c) (λ o e. (c, e)) same
+      (subst (KeepsFrozen bytes new table picture.frozen) (sym (ap (left gone) same_frozen)) (frozen_left pictured new theirs shared gone clears.shared_kept)) beside
       (λ o r i e. elim (l.begins o r i e) [
         | inl g ↦ inl g
         | inr g ↦ elim (put.begins o r i g) [
@@ -286,7 +290,7 @@ module _ {others : List Root} {s : State} {bytes : List ℕ} (pictured : Picture
       let counted = counted_on bytes new other changes.back_kept
       (counted_moved led.root led.item f.whole f.root.item_is path.selectors old_value f.value_is (word bytes next_word) picture other [] (root ∷ []) rest w order owners [] cells
       (same_frozen ∙ sym (none_gone picture.frozen pictured.counted.counted.some)) pictured.counted) in
-      let moved = paths_then l.later there counted (λ o. ⊥) (λ name e. e) (λ T e. e) same stay beside (λ o r i e. elim (put.begins o r i e) [
+      let moved = paths_then l.later there counted (λ o. ⊥) (λ o e. absurd e) same stay beside (λ o r i e. elim (put.begins o r i e) [
         | inl p ↦ inr (inl (p.0, p.1, l.begins o changed i p.2))
         | inr p ↦ inr (inr (each_among (KeepsPaths bytes new table) rest r p.0 paths, l.begins o r i p.1))
       ]) in
