@@ -178,7 +178,7 @@ module _ (name : List ℕ) where
   }
 
   name_kept : (constants : List Constant) (i : Instruction) (s : State) (bytes : List ℕ) (answer : Answer) (s' : State) → keeps_name constants name i ≡ true → RowWith constants i bytes s answer s' → HasName s → HasName s'
-  name_kept constants i s bytes answer s' keeps (inl r) has = elim (((rows s constants i.operation i.a i.b i.c i.number r.0).remain answer s' r.1).names name has.0 has.1) [
+  name_kept constants i s bytes answer s' keeps (inl r) has = elim (((rows s constants i.operation i.a i.b i.c i.number r.0).each answer s' r.1).names name has.0 has.1) [
     | inl gone ↦ absurd (name_not_destroyed constants name i.operation i.a i.b i.c i.number s keeps gone)
     | inr still ↦ still
   ]
@@ -216,7 +216,7 @@ module _ (T : ℕ) where
   }
 
   unique_kept : (constants : List Constant) (i : Instruction) (s : State) (bytes : List ℕ) (answer : Answer) (s' : State) → keeps_unique T i ≡ true → RowWith constants i bytes s answer s' → HasUnique s → HasUnique s'
-  unique_kept constants i s bytes answer s' keeps (inl r) has = elim (((rows s constants i.operation i.a i.b i.c i.number r.0).remain answer s' r.1).uniques T has.0 has.1) [
+  unique_kept constants i s bytes answer s' keeps (inl r) has = elim (((rows s constants i.operation i.a i.b i.c i.number r.0).each answer s' r.1).uniques T has.0 has.1) [
     | inl gone ↦ absurd (unique_not_destroyed constants T i.operation i.a i.b i.c i.number s keeps gone)
     | inr still ↦ still
   ]

@@ -26,12 +26,7 @@ onward s t u f g = record { types = g.types ∙ f.types; more = f.more ++ g.more
 pub set_follows : (s s' : State) (a : ℕ) (x : Register) → Writes s s' → Writes s (set_register s' a x)
 set_follows s s' a x h = record { types = h.types; more = h.more; output = h.output }
 
--- ---- the objects
-
--- each named and each unique object is still there, unless its origin is `gone`
-pub record Remain (gone : Origin → Type 0) (s s' : State) : Type 0 where
-  pub names : (name : List ℕ) (x : Object) → s.names name ≡ Some x → gone (Origin.Name name 0) ⊎ ((y : Object) × (s'.names name ≡ Some y))
-  pub uniques : (T : ℕ) (v : Value) → s.uniques T ≡ Some v → gone (Origin.Unique T) ⊎ ((w : Value) × (s'.uniques T ≡ Some w))
+-- ---- outcomes
 
 -- the origin of the object that an instruction destroys
 abbrev pub Destroyed : List Constant → Operation → ℕ → ℤ → State → Origin → Type 0
@@ -39,91 +34,78 @@ Destroyed constants Operation.Kill b number s o = (name : List ℕ) × ((slice_g
 Destroyed constants Operation.KillUnique b number s o = o ≡ Origin.Unique (nat_abs number)
 Destroyed constants operation b number s o = ⊥
 
-pub record Frames (gone : Origin → Type 0) (s s' : State) : Type 0 where
+-- what a row keeps: each named and each unique object is still there, unless its origin is `gone`
+pub record RowFrame (gone : Origin → Type 0) (s s' : State) : Type 0 where
   pub writes : Writes s s'
-  pub remain : Remain gone s s'
+  pub names : (name : List ℕ) (x : Object) → s.names name ≡ Some x → gone (Origin.Name name 0) ⊎ ((y : Object) × (s'.names name ≡ Some y))
+  pub uniques : (T : ℕ) (v : Value) → s.uniques T ≡ Some v → gone (Origin.Unique T) ⊎ ((w : Value) × (s'.uniques T ≡ Some w))
 
 pub record Fine (gone : Origin → Type 0) (s : State) (o : Outcome) : Type 0 where
-  pub each : (code : Answer) (s' : State) → o ≡ Some (code, s') → Writes s s'
-  pub remain : (code : Answer) (s' : State) → o ≡ Some (code, s') → Remain gone s s'
+  pub each : (code : Answer) (s' : State) → o ≡ Some (code, s') → RowFrame gone s s'
 
 module _ {gone : Origin → Type 0} {s : State} where
   -- the objects are the same
-  pub framed : (s' : State) → Writes s s' → s'.names ≡ s.names → s'.uniques ≡ s.uniques → Frames gone s s'
-  framed s' w names uniques = record {
-    writes = w;
-    remain = record { names = λ name x e. inr (x, ap (λ f. f name) names ∙ e); uniques = λ T v e. inr (v, ap (λ f. f T) uniques ∙ e) };
-  }
+  pub framed : (s' : State) → Writes s s' → s'.names ≡ s.names → s'.uniques ≡ s.uniques → RowFrame gone s s'
+  framed s' w names uniques = record { writes = w; names = λ name x e. inr (x, ap (λ f. f name) names ∙ e); uniques = λ T v e. inr (v, ap (λ f. f T) uniques ∙ e) }
 
-  pub same : (s' : State) → s'.types ≡ s.types → s'.output ≡ s.output → s'.names ≡ s.names → s'.uniques ≡ s.uniques → Frames gone s s'
+  pub same : (s' : State) → s'.types ≡ s.types → s'.output ≡ s.output → s'.names ≡ s.names → s'.uniques ≡ s.uniques → RowFrame gone s s'
   same s' types output names uniques = framed s' (alike s s' types output) names uniques
 
-  pub nothing : Frames gone s s
+  pub nothing : RowFrame gone s s
   nothing = framed s (still s) refl refl
 
-  pub sets : (s' : State) (a : ℕ) (x : Register) → Frames gone s s' → Frames gone s (set_register s' a x)
-  sets s' a x h = record { writes = set_follows s s' a x h.writes; remain = record { names = h.remain.names; uniques = h.remain.uniques } }
+  pub sets : (s' : State) (a : ℕ) (x : Register) → RowFrame gone s s' → RowFrame gone s (set_register s' a x)
+  sets s' a x h = record { writes = set_follows s s' a x h.writes; names = h.names; uniques = h.uniques }
 
   -- a name gets an object, or another one
-  pub names : (name : List ℕ) (x : Object) → Frames gone s (record s { names = with_name s.names name (Some x) })
+  pub names : (name : List ℕ) (x : Object) → RowFrame gone s (record s { names = with_name s.names name (Some x) })
   names name x = record {
     writes = alike s _ refl refl;
-    remain = record {
-      names = λ m y e. elim (name_at s.names name (Some x) m) [ inl p ↦ inr (x, p.1) | inr p ↦ inr (y, p ∙ e) ];
-      uniques = λ T v e. inr (v, e);
-    };
+    names = λ m y e. elim (name_at s.names name (Some x) m) [ inl p ↦ inr (x, p.1) | inr p ↦ inr (y, p ∙ e) ];
+    uniques = λ T v e. inr (v, e);
   }
 
-  pub uniques : (t : ℕ) (v : Value) → Frames gone s (record s { uniques = with_unique s.uniques t (Some v) })
+  pub uniques : (t : ℕ) (v : Value) → RowFrame gone s (record s { uniques = with_unique s.uniques t (Some v) })
   uniques t v = record {
     writes = alike s _ refl refl;
-    remain = record {
-      names = λ m y e. inr (y, e);
-      uniques = λ T w e. elim (unique_at s.uniques t (Some v) T) [ inl p ↦ inr (v, p.1) | inr p ↦ inr (w, p ∙ e) ];
-    };
+    names = λ m y e. inr (y, e);
+    uniques = λ T w e. elim (unique_at s.uniques t (Some v) T) [ inl p ↦ inr (v, p.1) | inr p ↦ inr (w, p ∙ e) ];
   }
 
   -- an object is destroyed
-  name_goes : (name : List ℕ) → gone (Origin.Name name 0) → Frames gone s (record s { names = with_name s.names name None })
+  name_goes : (name : List ℕ) → gone (Origin.Name name 0) → RowFrame gone s (record s { names = with_name s.names name None })
   name_goes name g = record {
     writes = alike s _ refl refl;
-    remain = record {
-      names = λ m y e. elim (name_at s.names name None m) [ inl p ↦ inl (subst (λ n. gone (Origin.Name n 0)) p.0 g) | inr p ↦ inr (y, p ∙ e) ];
-      uniques = λ T v e. inr (v, e);
-    };
+    names = λ m y e. elim (name_at s.names name None m) [ inl p ↦ inl (subst (λ n. gone (Origin.Name n 0)) p.0 g) | inr p ↦ inr (y, p ∙ e) ];
+    uniques = λ T v e. inr (v, e);
   }
 
-  pub unique_goes : (t : ℕ) → gone (Origin.Unique t) → Frames gone s (record s { uniques = with_unique s.uniques t None })
+  pub unique_goes : (t : ℕ) → gone (Origin.Unique t) → RowFrame gone s (record s { uniques = with_unique s.uniques t None })
   unique_goes t g = record {
     writes = alike s _ refl refl;
-    remain = record {
-      names = λ m y e. inr (y, e);
-      uniques = λ T w e. elim (unique_at s.uniques t None T) [ inl p ↦ inl (subst (λ n. gone (Origin.Unique n)) p.0 g) | inr p ↦ inr (w, p ∙ e) ];
-    };
+    names = λ m y e. inr (y, e);
+    uniques = λ T w e. elim (unique_at s.uniques t None T) [ inl p ↦ inl (subst (λ n. gone (Origin.Unique n)) p.0 g) | inr p ↦ inr (w, p ∙ e) ];
   }
 
-  chosen : {A : Type 0} (f : A → State) (o : Option A) (d : State) → ((x : A) → Frames gone s (f x)) → Frames gone s d → Frames gone s (option_map_or f o d)
+  chosen : {A : Type 0} (f : A → State) (o : Option A) (d : State) → ((x : A) → RowFrame gone s (f x)) → RowFrame gone s d → RowFrame gone s (option_map_or f o d)
   chosen f None d h g = g
   chosen f (Some x) d h g = h x
 
-  origin_follows : (r : Origin) (v : Value) → Frames gone s (put_origin s r v)
+  origin_follows : (r : Origin) (v : Value) → RowFrame gone s (put_origin s r v)
   origin_follows (Origin.Name name i) v = chosen _ (s.names name) s (λ o. names name _) nothing
   origin_follows (Origin.Unique t) v = uniques t v
   origin_follows (Origin.Owned r) v = same _ refl refl refl refl
 
-  pub put_follows : (p : Path) (v : Value) → Frames gone s (put_at s p v)
+  pub put_follows : (p : Path) (v : Value) → RowFrame gone s (put_at s p v)
   put_follows p v = chosen _ (at_origin s p.origin) s (λ found. origin_follows p.origin _) nothing
 
   -- ---- outcomes
 
   pub none : Fine gone s None
-  none = record { each = λ code s' e. absurd (let f : None ≡ Some (code, s') = e in cc); remain = λ code s' e. absurd (let f : None ≡ Some (code, s') = e in cc) }
+  none = record { each = λ code s' e. absurd (let f : None ≡ Some (code, s') = e in cc) }
 
-  pub some : (code : Answer) (s' : State) → Frames gone s s' → Fine gone s (Some (code, s'))
-  some code s' h = record {
-    each = λ code' t e. subst (Writes s) (ap (λ (p : Answer × State). p.1) (Some_inj e)) h.writes;
-    remain = λ code' t e. subst (Remain gone s) (ap (λ (p : Answer × State). p.1) (Some_inj e)) h.remain;
-  }
+  pub some : (code : Answer) (s' : State) → RowFrame gone s s' → Fine gone s (Some (code, s'))
+  some code s' h = record { each = λ code' t e. subst (RowFrame gone s) (ap (λ (p : Answer × State). p.1) (Some_inj e)) h }
 
   -- the rest of a row may use what was found
   pub bound_as : {A : Type 0} (o : Option A) (f : A → Outcome) → ((x : A) → o ≡ Some x → Fine gone s (f x)) → Fine gone s (o >>= f)
@@ -145,7 +127,7 @@ module _ {gone : Origin → Type 0} {s : State} where
   shown true o f = f
   shown false o f = none
 
-  pub answered : (code : Answer) (a : ℕ) (x : Register) (s' : State) → Frames gone s s' → Fine gone s (answer code a x s')
+  pub answered : (code : Answer) (a : ℕ) (x : Register) (s' : State) → RowFrame gone s s' → Fine gone s (answer code a x s')
   answered code a x s' h = either (λ _. None) (owned_by (register s' a)) (Some (code, set_register s' a x)) (λ _. none) (some code _ (sets s' a x h))
 
   -- a row may set register a, and change nothing else
