@@ -1,6 +1,6 @@
 -- The positions of named and unique objects before and after a run.
 --     code_passes test code         each instruction of the code passes the test
---     keeps_name constants name i   the instruction isn't a KILL that can name this object
+--     keeps_name constants name i   the instruction isn't a KILL of the name or of its family
 --     keeps_unique T i              the instruction isn't a KILLU of this type
 --     Stays find old new            what is found in one image is found in the other, where it was
 --     NameStays old new name, UniqueStays old new T
@@ -32,7 +32,7 @@ is_prefix [] ys = true
 is_prefix (x ∷ xs) [] = false
 is_prefix (x ∷ xs) (y ∷ ys) = (x == y) && is_prefix xs ys
 
--- the constant can spell the name: it is the name, or a family to which the name belongs
+-- the constant is the name, or the family of the name
 abbrev pub can_spell : List ℕ → Constant → Bool
 can_spell name (Constant.Text bytes) = false
 can_spell name (Constant.Name other) = same_name other name

@@ -40,7 +40,7 @@ prefix_joined : (xs ys zs : List ℕ) → is_prefix (xs ++ ys) (xs ++ (ys ++ zs)
 prefix_joined [] ys zs = refl
 prefix_joined (x ∷ xs) ys zs = ap (λ b. b && is_prefix (xs ++ ys) (xs ++ (ys ++ zs))) (eq-eqb x x refl) ∙ prefix_joined xs ys zs
 
--- a constant can spell each name that it spells
+-- a constant spells its own name, or names of its family
 spelled : (k : Constant) (x : Register) (name : List ℕ) → constant_name k x ≡ Some name → can_spell name k ≡ true
 spelled (Constant.Text bytes) x name e = absurd (let f : None ≡ Some name = e in cc)
 spelled (Constant.Name other) x name e = subst (λ n. same_name other n ≡ true) (Some_inj e) (same_name_refl other)
