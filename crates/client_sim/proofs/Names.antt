@@ -1,9 +1,3 @@
--- Named objects stay where they are.
+-- An image has one list of names and unique objects, and a client leaves them where they are.
 pub mod OnePictureLaws
-pub mod BlockKindLaws
-pub mod NamePositionLaws
-pub mod ClearPlaceLaws
-pub mod AllocatedBlockLaws
-pub mod PathOriginLaws
-pub mod NameRowLaws
-pub mod NameRunLaws
+pub mod ObjectRunLaws

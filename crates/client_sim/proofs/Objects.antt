@@ -3,6 +3,7 @@ pub mod OwnedPlaceLaws
 pub mod FirstRootLaws
 pub mod OwnedRootLaws
 pub mod PictureLaws
+pub mod ObjectPlaceLaws
 pub mod ObjectChangeLaws
 pub mod NamedChangeLaws
 pub mod NameByteLaws

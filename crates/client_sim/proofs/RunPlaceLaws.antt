@@ -69,6 +69,7 @@ module _ (constants : List Constant) (others : List Root) (moves other : List Mo
     owned_before = w.owned_before;
     owned_after = w.owned_after;
     owners_stay = w.owners_stay;
+    objects_stay = w.objects_stay;
   }
 
   picked_follows : (a b c d : Way Situation) → Follows a c → Follows b d → (answer : Answer) → Follows (picked answer a b) (picked answer c d)
@@ -158,6 +159,7 @@ client_anywhere client given left r moves host base =
           output = f.output;
           pictured = f.pictured;
           types_alone = f.types_alone;
+          objects_stay = f.objects_stay;
           host = refl;
           base = refl;
           steps = f.steps;
@@ -184,6 +186,7 @@ client_anywhere client given left r moves host base =
           counted = l.counted;
           types = l.types;
           objects = l.objects;
+          objects_stay = l.objects_stay;
           loose = l.loose;
           read_there = l.read_there;
           input = l.input;

@@ -5,7 +5,8 @@
 --     kept      the row keeps shared cells, if no reference of their class ends
 --     spared    a class does not end if a read-only reference of it stays known
 --     same      the row from a state is also the row from its trees
---     follows   the row keeps the types, and writes at the output's end only
+--     follows   the row keeps the types and each object that it doesn't destroy, and writes at the
+--               output's end only
 use Rattle.std.proofs.Common.{◌≡◌, ℕ, ℤ, pos, negsuc, ◌<◌, List, length, Bool, refl, sym, ◌∙◌, ap, subst}
 use Rattle.std.specs.Prelude.{⊤, Ok, Err, not, slice_get, slice_set, nat_abs, ◌==◌}
 use Rattle.seg_spec.specs.Value.{Value, Full, count}
@@ -39,7 +40,7 @@ use Rattle.client_spec.proofs.Rows.BareLaws.{known_bare, bare_others, copy_bare,
 use Rattle.client_spec.proofs.Rows.BareLaws as bare
 use Rattle.client_spec.proofs.Rows.SharedCellLaws.{Keeps, Spared, StillRead, spelled}
 use Rattle.client_spec.proofs.Rows.SharedCellLaws as kept
-use Rattle.client_spec.proofs.Rows.RowFrameLaws.{Fine}
+use Rattle.client_spec.proofs.Rows.RowFrameLaws.{Destroyed, Fine}
 use Rattle.client_spec.proofs.Rows.RowFrameLaws as follow
 use Rattle.client_spec.proofs.Unfolded.UnfoldedRowLaws.{RowSame, const_same, mov_same, add_same, sub_same, mul_same, less_same, equal_same, branch_same, while_same, else_same, end_same}
 use Rattle.client_spec.proofs.Unfolded.UnfoldedRowLaws.{out_number_same, out_text_same, out_constant_same, byte_same, make_same, find_same, find_or_make_same, count_row_same, kill_same}
@@ -74,7 +75,7 @@ pub record Laws (op : Operation) : Type 0 where
   pub spared : (types : Table) (constants : List Constant) (ks : RegisterTypes) (class : Class) (one : OneEach constants) (s : State) (h : IsAsKnown types constants (bare ks) s) (a b c : ℕ) (number : ℤ) (good bad : RegisterTypes)
       → rule types constants op a b c number ks ≡ Ok (good, bad) → BareThere op (known ks b) → StillRead types constants ks b class good bad → Spared constants one (Class.Frozen class) types (bare ks) s h b op c number
   pub same : (m : ℕ → Value) (constants : List Constant) (s : State) → RowSame m constants s op
-  pub follows : (constants : List Constant) (s : State) (a b c : ℕ) (number : ℤ) (room : Bool) → Fine s (effect constants op a b c number room s)
+  pub follows : (constants : List Constant) (s : State) (a b c : ℕ) (number : ℤ) (room : Bool) → Fine (Destroyed constants op b number s) s (effect constants op a b c number room s)
 
 pub laws : (op : Operation) → Laws op
 unfolding rule effect
@@ -153,7 +154,7 @@ laws Operation.If = record {
   kept = λ types constants one ks s h class a b c number room good bad e far. kept.bound s (integer_at s b) _ (λ x _. kept.some s _ s (kept.still constants one class s));
   spared = λ types constants ks class one s h a b c number good bad e b_is still. tt;
   same = branch_same;
-  follows = λ constants s a b c number room. follow.bound (integer_at s b) _ (λ x. follow.some _ s (follow.still s));
+  follows = λ constants s a b c number room. follow.bound (integer_at s b) _ (λ x. follow.some _ s (follow.nothing));
 }
 laws Operation.While = record {
   goes = λ types constants one ks s h a b c number m good bad room e. cc;
@@ -275,7 +276,8 @@ laws Operation.Kill = record {
       let g = kept.gives_from types constants ks b class (ended E ks) a RegisterType.Int good bad refl p.2 in
       kept.not_ended types constants ks b class E ks good bad g.0 g.1 still;
   same = kill_same;
-  follows = λ constants s a b c number room. follow.bound (slice_get constants (constant_operand number) >>= λ k. constant_name k (register s b)) _ (λ name. follow.destroys a name (type_operand number) (s.names name));
+  follows = λ constants s a b c number room. follow.bound_as (slice_get constants (constant_operand number) >>= λ k. constant_name k (register s b)) _
+      (λ name is. follow.destroys a name (type_operand number) (s.names name) (name, is, refl));
 }
 laws Operation.MakeUnique = record {
   goes = λ types constants one ks s h a b c number m good bad room. umake_goes types constants one ks s h a b c number good bad room (type_of_id types constants b number m);
@@ -315,7 +317,7 @@ laws Operation.KillUnique = record {
       let g = kept.gives_from types constants ks b class (ended E ks) a RegisterType.Int good bad refl e in
       kept.not_ended types constants ks b class E ks good bad g.0 g.1 still;
   same = kill_unique_same;
-  follows = λ constants s a b c number room. follow.tested _ _ _ (follow.answered success a _ _ (follow.alike s _ refl refl)) (follow.given success a _);
+  follows = λ constants s a b c number room. follow.tested _ _ _ (follow.answered success a _ _ (follow.unique_goes (nat_abs number) refl)) (follow.given success a _);
 }
 laws Operation.New = record {
   goes = λ types constants one ks s h a b c number m good bad room. new_goes types constants one ks s h a b c number good bad room (type_of_id types constants b number m);
@@ -341,7 +343,7 @@ laws Operation.Drop = record {
       let back = from_set b RegisterType.Undefined (ended E ks) (ended E ks) refl (kept.itself (ended E ks)) in
       kept.not_ended types constants ks b class E ks good bad (λ r z u f. back r z u (g.0 r z u f)) (λ r z u f. back r z u (g.1 r z u f)) still;
   same = drop_same;
-  follows = λ constants s a b c number room. follow.bound (owned_by (register s b)) _ (λ o. follow.some success _ (follow.alike s _ refl refl));
+  follows = λ constants s a b c number room. follow.bound (owned_by (register s b)) _ (λ o. follow.some success _ (follow.same _ refl refl refl refl));
 }
 laws Operation.Ref = record {
   goes = λ types constants one ks s h a b c number m. ref_goes types constants one ks s h a b c number;
@@ -391,7 +393,7 @@ laws Operation.Put = record {
       );
   same = put_same;
   follows = λ constants s a b c number room. follow.bound (path_of s b) _ (λ p. follow.bound (path_form s p >>= owned_type) _ (λ t. follow.bound (owned_by (register s c)) _ (λ new. follow.bound
-      (path_value s p >>= content_in) _ (λ o. follow.shown _ _ (follow.some success _ (follow.set_follows s _ c Register.Undefined (follow.put_follows p _)))))));
+      (path_value s p >>= content_in) _ (λ o. follow.shown _ _ (follow.some success _ (follow.sets _ c Register.Undefined (follow.put_follows p _)))))));
 }
 laws Operation.Take = record {
   goes = λ types constants one ks s h a b c number m. take_goes types constants one ks s h a b c number;
@@ -435,7 +437,7 @@ laws Operation.Forget = record {
       kept.either s _ (owned_by (register s b)) _ (λ o _. kept.none s) (λ free. kept.some s success _ (kept.by_register constants one class s b Register.Undefined free));
   spared = λ types constants ks class one s h a b c number good bad e b_is still. tt;
   same = forget_same;
-  follows = λ constants s a b c number room. follow.either _ (owned_by (register s b)) _ (λ o. follow.none) (follow.some success _ (follow.alike s _ refl refl));
+  follows = λ constants s a b c number room. follow.either _ (owned_by (register s b)) _ (λ o. follow.none) (follow.some success _ (follow.same _ refl refl refl refl));
 }
 laws Operation.Load = record {
   goes = λ types constants one ks s h a b c number m. load_goes types constants ks s h a b c number;
@@ -583,7 +585,7 @@ laws Operation.Shrink = record {
       (kept.still constants one class s)))));
   spared = λ types constants ks class one s h a b c number good bad e b_is still. tt;
   same = shrink_same;
-  follows = λ constants s a b c number room. follow.bound (path_of s b) _ (λ p. follow.bound (path_form s p) _ (λ k. follow.bound (path_value s p) _ (λ v. follow.shown _ _ (follow.some success s (follow.still s)))));
+  follows = λ constants s a b c number room. follow.bound (path_of s b) _ (λ p. follow.bound (path_form s p) _ (λ k. follow.bound (path_value s p) _ (λ v. follow.shown _ _ (follow.some success s (follow.nothing)))));
 }
 laws Operation.GetKey = record {
   goes = λ types constants one ks s h a b c number m. getk_goes types constants one ks s h a b c number;
@@ -657,7 +659,7 @@ laws Operation.Freeze = record {
   spared = λ types constants ks class one s h a b c number good bad e b_is still. absurd (let f : Err Reason.WrongOperand ≡ Ok (good, bad) = e in cc);
   same = freeze_same;
   follows = λ constants s a b c number room. follow.bound (path_of s b) _ (λ p. follow.bound (path_form s p >>= shared_type) _ (λ t. follow.bound (owned_by (register s c)) _ (λ own. follow.bound (path_value s p) _
-      (λ v. follow.shown _ _ (follow.roomy room a _ (follow.answered success a _ _ (follow.set_follows s _ c Register.Undefined (follow.put_follows p _))))))));
+      (λ v. follow.shown _ _ (follow.roomy room a _ (follow.answered success a _ _ (follow.sets _ c Register.Undefined (follow.put_follows p _))))))));
 }
 laws Operation.Share = record {
   goes = λ types constants one ks s h a b c number m good bad room e. cc;
@@ -686,7 +688,7 @@ module _ (types : Table) (constants : List Constant) (ks : RegisterTypes) (b : �
       → Spared constants one (Class.Frozen class) types (bare ks) s h b op c number
   spared op a c number = (laws op).spared types constants ks class one s h a b c number
 
-pub rows : (s : State) (constants : List Constant) (op : Operation) (a b c : ℕ) (number : ℤ) (room : Bool) → Fine s (effect constants op a b c number room s)
+pub rows : (s : State) (constants : List Constant) (op : Operation) (a b c : ℕ) (number : ℤ) (room : Bool) → Fine (Destroyed constants op b number s) s (effect constants op a b c number room s)
 rows s constants op = (laws op).follows constants s
 
 -- if the row forgets what is in b, its rule makes b undefined and does nothing else

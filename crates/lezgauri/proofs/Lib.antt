@@ -8,6 +8,6 @@ pub use Rattle.client_vm.proofs.TogetherLaws
 pub use Rattle.seg_image.proofs.WholeRegionLaws
 -- an image keeps its size
 pub use Rattle.client_sim.proofs.ImageSizeLaws
--- named objects stay where they are
+-- named and unique objects stay where they are
 pub mod StayingLaws
-pub use Rattle.client_sim.proofs.Names.NamePositionLaws
+pub use Rattle.client_sim.proofs.Names.ObjectRunLaws

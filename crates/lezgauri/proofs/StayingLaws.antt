@@ -1,20 +1,19 @@
--- A run of a client without MAKE, FINDOR and KILL leaves named objects where they are.
-use Rattle.std.proofs.Common.{◌≡◌, ℕ, List, true, Option, sym, ◌∙◌, subst}
-use Rattle.seg_spec.specs.Types.{Table, Agree}
+-- A run of a client leaves the objects that its code can't destroy where they are.
+use Rattle.std.proofs.Common.{◌≡◌, ℕ, List, true, Option}
+use Rattle.seg_spec.specs.Types.{Table}
 use Rattle.seg_spec.specs.Window.{Placement}
 use Rattle.seg_spec.specs.Index.{Root}
 use Rattle.client_spec.specs.Syntax.{Client}
 use Rattle.client_spec.specs.OnImages.{Move}
 use Rattle.client_output.specs.declared.report.Report.{Report}
-use Rattle.client_sim.specs.Staying.{code_keeps_names, NamesStay}
-use Rattle.client_sim.proofs.Names.OnePictureLaws.{Held-one}
-use Rattle.client_sim.proofs.Names.NameRunLaws.{client_stays}
-use Rattle.client_vm.specs.Runs.{given_of, left_of, MayRun, HasRun}
+use Rattle.client_sim.specs.Staying.{code_passes, keeps_name, keeps_unique, NameStays, UniqueStays}
+use Rattle.client_sim.proofs.Names.ObjectRunLaws.{client_keeps_name, client_keeps_unique}
+use Rattle.client_vm.specs.Runs.{given_of, left_of, HasRun}
 
-pub run_stays : {allocator : ℕ} {client : Client} {others : List Root} {moves : List Move} {input : List ℕ} {old new : Placement} {types types_then : Table} {taken taken_then : Option (List ℕ)} {report : Report}
-    → MayRun allocator others old types client moves → HasRun allocator client others moves input old types taken new types_then taken_then report → code_keeps_names client.code ≡ true → NamesStay old.bytes new.bytes
-run_stays {client = client} {others = others} {moves = moves} {input = input} {old = old} {new = new} {report = report} may ran keeps =
-    let first = ran.runs.is_first in
-    let same = (Held-one old.bytes first.picture may.ready.picture first.held may.ready.held).table in
-    client_stays client (given_of others moves input old) (left_of report ran.output new) ran.runs
-    (subst (λ (t : Table). Agree t client.types) (sym (same ∙ may.ready.table_is)) may.agree) keeps
+module _ {allocator : ℕ} {client : Client} {others : List Root} {moves : List Move} {input : List ℕ} {old new : Placement} {types types_then : Table} {taken taken_then : Option (List ℕ)} {report : Report}
+    (ran : HasRun allocator client others moves input old types taken new types_then taken_then report) where
+  pub name_stays : (name : List ℕ) → code_passes (keeps_name client.constants name) client.code ≡ true → NameStays old.bytes new.bytes name
+  name_stays name = client_keeps_name name client (given_of others moves input old) (left_of report ran.output new) ran.runs
+
+  pub unique_stays : (T : ℕ) → code_passes (keeps_unique T) client.code ≡ true → UniqueStays old.bytes new.bytes T
+  unique_stays T = client_keeps_unique T client (given_of others moves input old) (left_of report ran.output new) ran.runs

@@ -11,7 +11,7 @@ ghost use Rattle.client_code.specs.Clients.{OfTree, bytes_of};
 ghost use Rattle.client_verify.specs.Accepted.{client_of};
 ghost use Rattle.client_vm.specs.ReadyClients.{client_in};
 ghost use Rattle.client_vm.specs.Runs.{MayRun, HasRun};
-ghost use Rattle.client_sim.specs.Staying.{code_keeps_names, NamesStay};
+ghost use Rattle.client_sim.specs.Staying.{code_passes, keeps_name, keeps_unique, NameStays, UniqueStays};
 ghost use Rattle.client_verify.specs.Texts.{IsWrongText};
 ghost use Rattle.seg_image.specs.Images.{segment_of, allocator_of};
 
@@ -34,8 +34,9 @@ pub fn verify<'c, A: Allocator>(image: &Image<A>, client: &'c [u8]) -> Result<Ve
 
 /// Adds a client's types to an image, and runs the client on it, to the end of its code or to an output that fails. A run takes
 /// at most [`Verified::bound`] steps, and no host memory. Clients can run one after the other, each any number of times. A client
-/// without `MAKE`, `FINDOR` and `KILL` leaves each named object where it is, so that the host can keep the places that it found.
-/// Fails with `TypeMismatch` if the client was verified against other types; then nothing changes.
+/// leaves a named object where it is if it has no `KILL` of its name or family, and the unique object of a type if it has no
+/// `KILLU` of the type, so that the host can keep the places that it found. Fails with `TypeMismatch` if the client was verified
+/// against other types; then nothing changes.
 pub fn run<A: Allocator, B: Allocator, W: Sink>(
     image: &mut Image<A>,
     client: &Ready<B>,
@@ -59,8 +60,15 @@ pub fn run<A: Allocator, B: Allocator, W: Sink>(
     ensures names_stay { IfOk result (λ _. OfTree (client_in client.now)
         (λ tree. (others : List Root) → MayRun (allocator_of image.old) others
         (segment_of image.old).window (segment_of image.old).types tree [] →
-        code_keeps_names tree.code ≡ true →
-        NamesStay (segment_of image.old).window.bytes (segment_of image.new).window.bytes)) }
+        (name : List ℕ) → code_passes (keeps_name tree.constants name) tree.code ≡ true →
+        NameStays (segment_of image.old).window.bytes (segment_of image.new).window.bytes
+        name)) }
+    ensures uniques_stay { IfOk result (λ _. OfTree (client_in client.now)
+        (λ tree. (others : List Root) → MayRun (allocator_of image.old) others
+        (segment_of image.old).window (segment_of image.old).types tree [] →
+        (T : ℕ) → code_passes (keeps_unique T) tree.code ≡ true →
+        UniqueStays (segment_of image.old).window.bytes (segment_of image.new).window.bytes
+        T)) }
     ensures allocator { allocator_of image.new ≡ allocator_of image.old }
     ensures home { (segment_of image.new).window.home ≡ (segment_of image.old).window.home }
     ensures differs { IfErr result (λ fault. OfTree (client_in client.now)

@@ -1,4 +1,5 @@
 pub mod CountLaws
+pub mod NumberLaws
 pub mod TableLaws
 pub mod SettingsLaws
 pub mod CacheLaws

@@ -1,4 +1,5 @@
 pub mod Counts
+pub mod Numbers
 pub mod Tables
 pub mod Settings
 pub mod Caches

@@ -6,5 +6,5 @@ mod counter;
 mod settings;
 
 pub use cache::Cache;
-pub use counter::{count, new_counter};
+pub use counter::{count, new_counter, number_after};
 pub use settings::{Settings, read_settings, write_settings};

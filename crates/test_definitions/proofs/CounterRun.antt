@@ -16,7 +16,7 @@ use Rattle.seg_spec.specs.Counting.{AreCounted}
 use Rattle.seg_spec.specs.Images.{upgraded}
 use Rattle.seg_spec.specs.Sound.{Picture, IsHeld, holds_no_root}
 use Rattle.seg_spec.specs.Faulty.{IsImageLength}
-use Rattle.seg_spec.specs.Roots.{Listed}
+use Rattle.seg_spec.specs.Roots.{Listed, HasFace}
 use Rattle.seg_spec.specs.Fixtures.{counter, counter_picture}
 use Rattle.test_definitions.proofs.ImageEvaluationLaws.{live_evaluated, unshared}
 use Rattle.test_definitions.proofs.SoundImages.{counter_tiles, counter_fill, counter_headers, counter_held, counter_counted}
@@ -39,7 +39,7 @@ use Rattle.client_spec.proofs.TypedStates.ValueLaws.{Some_inj}
 use Rattle.client_spec.proofs.TypedStates.PictureLaws.{owned_one}
 use Rattle.client_spec.proofs.Unfolded.PictureTreeLaws.{own_trees}
 use Rattle.client_spec.specs.Asks.{LedTo}
-use Rattle.client_spec.specs.Ties.{places_of, OwnersStay, FrozenKept, spot_of, Changes}
+use Rattle.client_spec.specs.Ties.{places_of, OwnersStay, ObjectsStay, FrozenKept, spot_of, Changes}
 use Rattle.client_spec.specs.OnImages.{Situation, image_machine, RowOn, Given, Left, IsFirst, IsLeftAfter, RunsClient}
 use Rattle.client_spec.specs.Clients.{AreAccepted}
 use Rattle.client_spec.specs.Outcome.{given_first, IsOutcome}
@@ -47,6 +47,8 @@ use Rattle.client_spec.specs.Fixtures.{at, increment, counted, x}
 use Rattle.client_sim.specs.Shows.{ChangesImage}
 use Rattle.client_sim.proofs.ImageChangeLaws.{kept_nowhere, unchanged}
 use Rattle.client_sim.proofs.Places.PathPlaceLaws.{PlaceFound, place_found}
+use Rattle.client_sim.proofs.Names.OnePictureLaws.{Held-one}
+use Rattle.client_sim.proofs.Objects.ObjectPlaceLaws.{objects_alike}
 use Rattle.test_definitions.proofs.IncrementLaws.{increment_spelled, same_x}
 
 -- ---- the states and the image
@@ -199,6 +201,29 @@ no_frozen_here : (rs : List Register) (a : AreOwned rs []) → (pictured rs a).p
 unfolding pictured own_trees plain_pictured
 no_frozen_here rs a = refl
 
+picture_here : (rs : List Register) (a : AreOwned rs []) → (pictured rs a).pictured.picture ≡ counter_picture
+unfolding pictured own_trees plain_pictured
+picture_here rs a = refl
+
+picture_then : (output : List ℕ) → (pictured_then output).pictured.picture ≡ picture
+unfolding pictured_then own_trees plain_pictured_then
+picture_then output = refl
+
+-- an image has one list of names
+still_there : (bytes : List ℕ) (p q : Picture) → IsHeld bytes p → IsHeld bytes q → ObjectsStay p q
+still_there bytes p q held held' = let same = Held-one bytes p q held held' in objects_alike (sym same.names) (sym same.uniques)
+
+-- the number changes, and x stays where it is
+x_stays : ObjectsStay counter_picture picture
+x_stays = record { names = λ name a b was is. choose (same_name name (codes "x")) a b was is; uniques = λ T a b was is. cc }
+  where
+    face : HasFace (plain_root (codes "x") 720 0 (cons (Int (pos 41)) nil)) (plain_root (codes "x") 720 0 (cons (Int (pos 42)) nil))
+    face = record { same_name = refl; same_words = refl; same_at = refl; same_type = refl; same_count = refl }
+
+    choose : (t : Bool) (a b : Root) → (if t then Some (plain_root (codes "x") 720 0 (cons (Int (pos 41)) nil)) else None) ≡ Some a → (if t then Some (plain_root (codes "x") 720 0 (cons (Int (pos 42)) nil)) else None) ≡ Some b → HasFace a b
+    choose true a b was is = subst (λ r. HasFace r b) (Some_inj was) (subst (HasFace (plain_root (codes "x") 720 0 (cons (Int (pos 41)) nil))) (Some_inj is) face)
+    choose false a b was is = cc
+
 no_frozen_then : (output : List ℕ) → (pictured_then output).pictured.picture.frozen ≡ []
 unfolding pictured_then own_trees plain_pictured_then
 no_frozen_then output = refl
@@ -225,6 +250,7 @@ kept_row i s t host n row before after none_before none_after no_frozen changes 
   owned_before = none_before;
   owned_after = none_after;
   owners_stay = none_stay before.pictured after.pictured none_before;
+  objects_stay = still_there start before.pictured.picture after.pictured.picture before.pictured.held after.pictured.held;
 }
 
 header_kept : IsSame start image 0 24
@@ -345,6 +371,7 @@ module _ (h : List ℕ) where
     owned_before = none_here added.registers tt;
     owned_after = none_then [];
     owners_stay = none_stay (pictured added.registers tt).pictured (pictured_then []).pictured (none_here added.registers tt);
+    objects_stay = subst (λ p. ObjectsStay p (pictured_then []).pictured.picture) (sym (picture_here added.registers tt)) (subst (ObjectsStay counter_picture) (sym (picture_then [])) x_stays);
   }
 
   prints : Row (at Operation.OutInt 0 1 0 (pos 0)) (situation (more []) image h5 5) (situation (more (codes "42\n")) image h6 6)
@@ -362,6 +389,7 @@ module _ (h : List ℕ) where
     owned_before = none_then [];
     owned_after = none_then (codes "42\n");
     owners_stay = none_stay (pictured_then []).pictured (pictured_then (codes "42\n")).pictured (none_then []);
+    objects_stay = still_there image _ _ (pictured_then []).pictured.held (pictured_then (codes "42\n")).pictured.held;
   }
 
   none : (s : Situation) → Nothing Situation s s 0 finished
@@ -426,6 +454,7 @@ is_first = record {
   output = refl;
   pictured = pictured counted.registers tt;
   types_alone = record { length_kept = refl; others = λ p m apart. refl };
+  objects_stay = still_there start _ _ start_held (pictured counted.registers tt).pictured.held;
   host = refl;
   base = refl;
   steps = refl;
@@ -453,6 +482,7 @@ is_left = record {
   counted = image_counted;
   types = refl;
   objects = record { names = trees_left; uniques = λ T. refl };
+  objects_stay = still_there image _ _ (pictured_then (codes "42\n")).pictured.held held;
   loose = refl;
   read_there = lit≤ tt;
   input = refl;

@@ -71,7 +71,7 @@ row_owns constants i bytes s answer s' owns (inl w) h = (owns s h w.0).each answ
 row_owns constants i bytes s answer s' owns (inr u) h = subst (λ (t : State). OwnNone t.registers) (sym u.0.state) (set_none s.registers i.a _ refl h)
 
 row_types : (constants : List Constant) (i : Instruction) (bytes : List ℕ) (s : State) (answer : Answer) (s' : State) → RowWith constants i bytes s answer s' → s'.types ≡ s.types
-row_types constants i bytes s answer s' (inl w) = ((rows s constants i.operation i.a i.b i.c i.number w.0).each answer s' w.1).types
+row_types constants i bytes s answer s' (inl w) = ((rows s constants i.operation i.a i.b i.c i.number w.0).each answer s' w.1).writes.types
 row_types constants i bytes s answer s' (inr u) = ap (λ (t : State). t.types) u.0.state
 
 only_form : (T : ℕ) (form : Form) → form_at (Form.i64 ∷ []) T ≡ Some form → form_at (Form.i64 ∷ []) T ≡ Some Form.i64

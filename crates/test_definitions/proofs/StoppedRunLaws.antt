@@ -100,7 +100,7 @@ module _ (constants : List Constant) where
   picked_is first second f g numbers_used_up = g
 
   row_writes : (i : Instruction) (s : State) (answer : Answer) (s' : State) → (plain_machine constants).row i s answer s' → Writes s s'
-  row_writes i s answer s' (inl w) = (rows s constants i.operation i.a i.b i.c i.number w.0).each answer s' w.1
+  row_writes i s answer s' (inl w) = ((rows s constants i.operation i.a i.b i.c i.number w.0).each answer s' w.1).writes
   row_writes i s answer s' (inr u) = subst (Writes s) (sym u.state) (set_follows s s i.a (Register.Int (pos (answer_number numbers_used_up))) (still s))
 
   performs_is : (i : Instruction) (first second : Way State) → Way_is first → Way_is second → Total (Performs State (plain_machine constants) i first second) → Way_is (Performs State (plain_machine constants) i first second)

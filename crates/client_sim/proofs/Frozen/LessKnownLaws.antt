@@ -108,7 +108,7 @@ module _ (others : List Root) (types : Table) (constants : List Constant) (first
     anchored = λ r x T k. h.anchored r x T (read_before types constants ks after less r x T k);
   }
 
-  pub less_frozen : (ks after : RegisterTypes) (t : State) (w : World) (less : Less ks after) (h : Sees others types constants first allocator ks t w)
-      → (sees_less ks after t w less h).shows.pictured.picture.frozen ≡ h.shows.pictured.picture.frozen
+  pub less_picture : (ks after : RegisterTypes) (t : State) (w : World) (less : Less ks after) (h : Sees others types constants first allocator ks t w)
+      → (sees_less ks after t w less h).shows.pictured.picture ≡ h.shows.pictured.picture
   unfolding sees_less shows_less
-  less_frozen ks after t w less h = refl
+  less_picture ks after t w less h = refl

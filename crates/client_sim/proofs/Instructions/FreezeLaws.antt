@@ -23,7 +23,7 @@ use Rattle.seg_spec.specs.Shared.{names_in, IsBelow, AreDistinct, value_at_posit
 use Rattle.seg_spec.specs.Shared as Shared
 use Rattle.seg_spec.specs.Sharing.{FrozenBeside, frozen_now, Freezes}
 use Rattle.seg_spec.specs.Index.{Root}
-use Rattle.seg_spec.specs.Sound.{HoldsRoot, times}
+use Rattle.seg_spec.specs.Sound.{HoldsRoot, times, Picture}
 use Rattle.seg_spec.proofs.Frozen.PictureCountLaws.{left_and_freed}
 use Rattle.seg_spec.proofs.Heap.FreeOrderLaws.{in_any_order}
 use Rattle.seg_spec.specs.Destroying.{HoldFrozen}
@@ -33,7 +33,7 @@ use Rattle.seg_spec.proofs.Frozen.OneMoreObjectLaws.{not_there}
 use Rattle.client_spec.specs.Machine.{◌>>=◌, Origin, Path, Register, State, register, set_register, owned_by, path_value, put_at}
 use Rattle.client_spec.specs.Grammar.{IsInstruction}
 use Rattle.client_spec.specs.Asks.{LedTo, Asks, Refreezes}
-use Rattle.client_spec.specs.Ties.{spot_of, OfRoot, OfOwner, FrozenKept, Changes}
+use Rattle.client_spec.specs.Ties.{spot_of, OfRoot, OfOwner, FrozenKept, Changes, ObjectsStay}
 use Rattle.seg_spec.specs.Apart.{KeepsBlockAround}
 use Rattle.client_spec.specs.Bare.{bare, bare_one}
 use Rattle.client_spec.specs.Pictures.{Pictures, meaning_in, trees_of}
@@ -78,15 +78,16 @@ use Rattle.client_sim.proofs.Objects.OwnedObjectLaws.{OwnsHere, owns_here, owns_
 use Rattle.client_sim.proofs.Places.PathPlaceLaws.{shared_here, frozen_apart}
 use Rattle.client_sim.proofs.Instructions.PutLaws.{begins_elsewhere}
 use Rattle.client_sim.proofs.GrantLaws.{denies}
-use Rattle.client_sim.proofs.Frozen.ReadOnlyResultLaws.{in_words, words_frozen, sees_number, number_frozen}
+use Rattle.client_sim.proofs.Frozen.ReadOnlyResultLaws.{in_words, words_picture, sees_number, number_picture}
 use Rattle.client_sim.proofs.UnchangedImageLaws.{set_there, set_beside}
 use Rattle.client_sim.proofs.FrameLaws.{owns_nothing, owner_apart}
 use Rattle.client_sim.proofs.Frozen.FrozenFrameLaws.{left_value, StayNamed, paths_at}
 use Rattle.client_sim.proofs.Frozen.AnchorLaws.{still_anchored}
 use Rattle.client_sim.proofs.Frozen.FrozenPathLaws.{kept_with_new, kept_same_image}
-use Rattle.client_sim.proofs.Frozen.LessKnownLaws.{IsLess, Less, less_then, less_without, sees_less, less_frozen}
+use Rattle.client_sim.proofs.Frozen.LessKnownLaws.{IsLess, Less, less_then, less_without, sees_less, less_picture}
 use Rattle.client_sim.proofs.Instructions.ShareLaws.{CellSeen, of_led, plain_led, shared_is}
-use Rattle.client_sim.proofs.Objects.MoveWorldLaws.{with_owning, shows_moved, frozen_moved, put_known, stays, stays_released}
+use Rattle.client_sim.proofs.Objects.MoveWorldLaws.{with_owning, shows_moved, picture_moved, put_known, stays, stays_released}
+use Rattle.client_sim.proofs.Objects.ObjectPlaceLaws.{objects_same}
 use Rattle.client_sim.proofs.Instructions.NumberLaws.{with_number}
 
 module _ (allocator : ℕ) (constants : List Constant) (role : Role) (a b c : ℕ) (number : ℤ) (w : World) (new : List ℕ) where
@@ -253,9 +254,9 @@ module _ (allocator : ℕ) (constants : List Constant) (role : Role) (a b c : �
       seen : Sees others types constants first allocator between t w
       seen = sees_less others types constants first allocator ks between t w less h
 
-      seen_frozen : seen.shows.pictured.picture.frozen ≡ frozen
+      seen_picture : seen.shows.pictured.picture ≡ pictured.picture
       unfolding seen
-      seen_frozen = less_frozen others types constants first allocator ks between t w less h
+      seen_picture = less_picture others types constants first allocator ks between t w less h
 
       abbrev full : Value
       full = Full (replaced m o.value)
@@ -293,13 +294,15 @@ module _ (allocator : ℕ) (constants : List Constant) (role : Role) (a b c : �
       failed code row changes =
           let n = pos (answer_number code) in
           let g = sees_number seen a valid.a freed.2 n in
+          let same = number_picture seen a valid.a freed.2 n ∙ seen_picture in
           subst (λ zs. SeenActs others types constants first allocator freeze code zs t w (with_number w a n)) (sym freed.3) (record {
             then = code_in code;
             row = row;
             before = record { plain = h.plain; pictured = pictured; trees = h.trees };
             after = record { plain = g.plain; pictured = g.shows.pictured; trees = g.trees };
             changes = changes;
-            frozen_kept = kept_same_image pictured (number_frozen seen a valid.a freed.2 n ∙ seen_frozen);
+            frozen_kept = kept_same_image pictured (ap (λ (p : Picture). p.frozen) same);
+            objects_stay = objects_same same;
             length_kept = refl;
             header_kept = refl;
             owning = owning h.shows g.shows (λ r had has. refl);
@@ -461,11 +464,11 @@ module _ (allocator : ℕ) (constants : List Constant) (role : Role) (a b c : �
         frozen_then : FrozenKept w.image new table frozen (frozen_now z.payload f.held next o.value ∷ left gone frozen)
         frozen_then = kept_with_new (frozen_now z.payload f.held next o.value) elsewhere moved.keeps.kept
 
-        frozen_released : sees_released.shows.pictured.picture.frozen ≡ frozen_now z.payload f.held next o.value ∷ left gone frozen
+        picture_released : sees_released.shows.pictured.picture ≡ then_pictured.picture
         unfolding sees_released shows plainly plain_between
-        frozen_released =
-            words_frozen bare_is plainly ∙ frozen_moved one h.shows b f.class f.type known_before l cell fits new c Register.Undefined (λ (q : Origin). q ≡ Origin.Owned c) moved.to RegisterType.Undefined
-            (ended (Class.Register c) (others_ended f.class b (bare ks))) false w.positions w.type_ids _ _ _ _ _ _ _ _ _ ∙ moved.frozen_is
+        picture_released =
+            words_picture bare_is plainly ∙ picture_moved one h.shows b f.class f.type known_before l cell fits new c Register.Undefined (λ (q : Origin). q ≡ Origin.Owned c) moved.to RegisterType.Undefined
+            (ended (Class.Register c) (others_ended f.class b (bare ks))) false w.positions w.type_ids _ _ _ _ _ _ _ _ _
 
         -- ---- the row, and the blocks
 
@@ -551,13 +554,15 @@ module _ (allocator : ℕ) (constants : List Constant) (role : Role) (a b c : �
         acts : SeenActs others types constants first allocator freeze success good t w world_frozen
         acts =
             let g = sees_number sees_released a valid.a freed.0 (pos 1) in
+            let same = number_picture sees_released a valid.a freed.0 (pos 1) ∙ picture_released in
             subst (λ zs. SeenActs others types constants first allocator freeze success zs t w world_frozen) (sym freed.1) (record {
               then = set_register state a (Register.Int (pos 1));
               row = inl (true, row);
               before = record { plain = h.plain; pictured = pictured; trees = h.trees };
               after = record { plain = g.plain; pictured = g.shows.pictured; trees = g.trees };
               changes = changes;
-              frozen_kept = subst (FrozenKept w.image new table frozen) (sym (number_frozen sees_released a valid.a freed.0 (pos 1) ∙ frozen_released)) frozen_then;
+              frozen_kept = subst (FrozenKept w.image new table frozen) (sym (ap (λ (p : Picture). p.frozen) same ∙ moved.frozen_is)) frozen_then;
+              objects_stay = subst (ObjectsStay pictured.picture) (sym same) moved.to.objects;
               length_kept = z.length_kept;
               header_kept = z.front_kept;
               owning = owning h.shows g.shows (λ r had has. refl);

@@ -33,7 +33,7 @@ use Rattle.client_spec.specs.Typed.{Class, RegisterType, RegisterTypes, known, i
 use Rattle.client_spec.specs.Typed as typed
 use Rattle.client_spec.specs.Meaning.{IsNamedBy, InClass, LeadsToType, IsAsKnown}
 use Rattle.client_spec.specs.Pictures.{Pictures, LeadsInImage, object_of}
-use Rattle.client_spec.specs.Ties.{nowhere, OfRoot, Changes}
+use Rattle.client_spec.specs.Ties.{nowhere, OfRoot, Changes, ObjectsStay}
 use Rattle.client_spec.specs.Asks.{NamedGoes, GrantsAsks, Denies, named_asks, name_operand, new_count, if_absent}
 use Rattle.client_spec.proofs.TypedStates.ValueFormLaws.{first_of_many}
 use Rattle.client_spec.proofs.TypedStates.KnowledgeChangeLaws.{agrees_make, agrees_kill}
@@ -56,7 +56,8 @@ use Rattle.client_sim.proofs.Places.LeafPutLaws.{with_image}
 use Rattle.client_sim.proofs.Objects.NameByteLaws.{name_right}
 use Rattle.client_sim.proofs.Objects.NamedChangeLaws.{Comes, Goes, Stays, named_comes, named_goes, picture_stays}
 use Rattle.client_sim.proofs.Instructions.NumberLaws.{with_number, quiet, gives_both, number_shown, unowned}
-use Rattle.client_sim.proofs.Objects.ObjectChangeLaws.{BeginsFrom, KeepsRoots, Remains, SameBesides, all_paths, other_paths, shows_rooted, pictured_rooted, frame_rooted}
+use Rattle.client_sim.proofs.Objects.ObjectChangeLaws.{BeginsFrom, KeepsRoots, Remains, SameBesides, all_paths, other_paths, shows_rooted, pictured_rooted, frame_rooted, objects_rooted}
+use Rattle.client_sim.proofs.Objects.ObjectPlaceLaws.{objects_same}
 
 -- ---- contracts of calls
 
@@ -224,11 +225,11 @@ module _ {others : List Root} {types : Table} {constants : List Constant} {first
   pub frame_but_class : (one : OneEach constants) (class : Class) (Ends : Origin → Type 0) (ending : (o : Origin) → Ends o → InClass constants class o) (none : (r : ℕ) → InClass constants class (Origin.Owned r) → ⊥)
       (s' : State) (new : List ℕ) (later : Pictures others s' new) (keeps : KeepsRoots h.pictured later Ends) (front : KeepsFront w.image new) (as_known : IsAsKnown types constants (ended (sharing class) ks) s')
       (registers : s'.registers ≡ s.registers) (besides : SameBesides w (with_image w new) s s')
-      → KeepsFrozen w.image new h.pictured.picture.table h.pictured.picture.frozen later.picture.frozen
+      → KeepsFrozen w.image new h.pictured.picture.table h.pictured.picture.frozen later.picture.frozen → ObjectsStay h.pictured.picture later.picture
       → Frame (ended (sharing class) ks) w (with_image w new) h.pictured (all_but_class one class Ends ending none s' new later keeps front as_known registers besides).pictured
   unfolding all_but_class
-  frame_but_class one class Ends ending none s' new later keeps front as_known registers besides stays =
-      frame_rooted h (ended (sharing class) ks) s' (with_image w new) later Ends keeps front _ _ _ _ _ stays (unknown_same (ended (sharing class) ks) s s' w new registers) (λ r had has. refl)
+  frame_but_class one class Ends ending none s' new later keeps front as_known registers besides stays objects =
+      frame_rooted h (ended (sharing class) ks) s' (with_image w new) later Ends keeps front _ _ _ _ _ stays (unknown_same (ended (sharing class) ks) s s' w new registers) (λ r had has. refl) objects
 
 -- ---- a new object, or none
 
@@ -285,7 +286,12 @@ module _ {others : List Root} {types : Table} {constants : List Constant} {first
       (shows_reference others types constants first allocator ks (state_then n) (with_image w new) shows.0 a (Class.Name k) T path place within free by typed_so refl
       (subst (λ p. LeadsInImage p path place) (sym shows.1) led))
       (frame_reference others types constants first allocator ks (state_then n) (with_image w new) shows.0 a _ _ _ _ _ _ _ _ _ _
-      (subst (λ p. Frame ks w (with_image w new) h.pictured p) (sym shows.1) (record { frozen = comes.stays; unknown = unknown_same ks s (state_then n) w new refl; owners = λ r had has. refl })))
+      (subst (λ p. Frame ks w (with_image w new) h.pictured p) (sym shows.1) (record {
+        frozen = comes.stays;
+        unknown = unknown_same ks s (state_then n) w new refl;
+        owners = λ r had has. refl;
+        objects = objects_rooted comes.keeps (λ name e. absurd e) (λ U e. absurd e);
+      })))
 
   pub not_made : (n code : ℕ) → code ≡ answer_number bad_alloc → IsDenied allocator w.image s.types bytes T h.pictured.picture h.pictured.held.index_blocks new n
       → outcome constants i false s ≡ fail a bad_alloc s → ChangesImage constants i h.pictured bad_alloc new
@@ -301,7 +307,12 @@ module _ {others : List Root} {types : Table} {constants : List Constant} {first
       (row ∙ answer_is types constants ks s h.as_known bad_alloc a x free) changes d.long d.front refl
       (shows_number others types constants first allocator ks s (with_image w new) shows.0 a (pos 2) within free)
       (frame_number others types constants first allocator ks s (with_image w new) shows.0 a _ _ _
-      (subst (λ p. Frame ks w (with_image w new) h.pictured p) (sym shows.1) (record { frozen = stays.stays; unknown = unknown_same ks s s w new refl; owners = λ r had has. refl }))))
+      (subst (λ p. Frame ks w (with_image w new) h.pictured p) (sym shows.1) (record {
+        frozen = stays.stays;
+        unknown = unknown_same ks s s w new refl;
+        owners = λ r had has. refl;
+        objects = objects_rooted stays.keeps (λ name e. absurd e) (λ U e. absurd e);
+      }))))
 
   -- register a gets an error code, and nothing else changes
   pub refused : (answer : Answer) (code : ℕ) → code ≡ answer_number answer → new ≡ w.image → outcome constants i true s ≡ fail a answer s → ChangesImage constants i h.pictured answer w.image
@@ -348,7 +359,8 @@ module _ {others : List Root} {types : Table} {constants : List Constant} {first
       acts_so others types constants first allocator ks s w h i success true (slice_set (ended (sharing class) ks) a RegisterType.Int) (set_register state_after a (Register.Int (pos 1))) (with_number (with_image w new) a (pos 1))
       (row ∙ answer_is types constants (ended (sharing class) ks) state_after known_now success a (Register.Int (pos 1)) free) changes m.long m.front refl
       (shows_number others types constants first allocator (ended (sharing class) ks) state_after (with_image w new) shows a (pos 1) within free)
-      (frame_number others types constants first allocator _ state_after (with_image w new) shows a _ _ _ (frame_but_class h one class paths_end _ _ state_after new goes.later goes.keeps m.front known_now _ _ goes.stays))
+      (frame_number others types constants first allocator _ state_after (with_image w new) shows a _ _ _ (frame_but_class h one class paths_end _ _ state_after new goes.later goes.keeps m.front known_now _ _ goes.stays
+      (objects_rooted goes.keeps (λ name e. subst (λ n. root_named goes.later.picture.names n ≡ None) (let f : bytes ≡ name = (let g = e.1 in cc) in f) goes.none) (λ U e. (let g = e.1 in cc)))))
 
   -- if there is no such object, KILL gives 0, and the references end nevertheless
   pub not_lost : outcome constants i true s ≡ give_count a 0 s → ChangesImage constants i h.pictured success w.image
@@ -363,7 +375,7 @@ module _ {others : List Root} {types : Table} {constants : List Constant} {first
       (row ∙ answer_is types constants (ended (sharing class) ks) s known_now success a (Register.Int (pos 0)) free) changes refl refl refl
       (shows_number others types constants first allocator (ended (sharing class) ks) s w shows a (pos 0) within free)
       (frame_number others types constants first allocator _ s w shows a _ _ _
-      (frame_but_class h one class paths_end _ _ s w.image h.pictured keeps refl known_now _ _ (frozen_same_image h.pictured)))
+      (frame_but_class h one class paths_end _ _ s w.image h.pictured keeps refl known_now _ _ (frozen_same_image h.pictured) (objects_same refl)))
 
 -- ---- the instructions
 

@@ -53,7 +53,7 @@ use Rattle.client_sim.proofs.Instructions.NumberLaws.{with_number, unowned}
 use Rattle.client_sim.proofs.EffectLaws.{acts_so, refuses_with, place_one, place_there}
 use Rattle.client_sim.proofs.GrantLaws.{grants_spent, denies}
 use Rattle.client_sim.proofs.Places.RootPutLaws.{root_of_pair}
-use Rattle.client_sim.proofs.Objects.ObjectChangeLaws.{shows_rooted, all_paths, other_paths, frame_rooted}
+use Rattle.client_sim.proofs.Objects.ObjectChangeLaws.{shows_rooted, all_paths, other_paths, frame_rooted, objects_rooted}
 use Rattle.client_sim.proofs.Instructions.FindLaws.{OfPicture, of_picture, first_place}
 use Rattle.client_sim.proofs.Objects.OwnedChangeLaws.{OwnedComes, owned_comes, OwnedGoes, owned_goes}
 use Rattle.client_sim.proofs.EndedReferenceLaws.{LeavesPicture, type_known, ended_shown}
@@ -131,7 +131,7 @@ module _ {others : List Root} {types : Table} {constants : List Constant} (one :
           register_is = set_beside s.registers a r (Register.Owner v place.type) Register.Undefined far;
           place_is = (place_one others types constants first allocator ks s w h a place).places_kept r far;
           owns_is = set_beside w.owns a r true false far;
-        }) (λ r had has. ap (λ (p : Place). p.at) ((place_one others types constants first allocator ks s w h a place).places_kept r (owner_elsewhere h a free r had)))
+        }) (λ r had has. ap (λ (p : Place). p.at) ((place_one others types constants first allocator ks s w h a place).places_kept r (owner_elsewhere h a free r had))) (objects_rooted c.keeps (λ name e. absurd e) (λ T e. absurd e))
 
   -- ---- it no longer owns it
 
@@ -167,7 +167,7 @@ module _ {others : List Root} {types : Table} {constants : List Constant} (one :
     unfolding shows_released
     frame_released T is = frame_rooted h ks_released (set_register s b Register.Undefined) released c.later (λ o. o ≡ Origin.Owned b) c.keeps front _ _ _ _ _ c.stays (λ r e o.
         let far = owner_apart h b T r is o in
-        record { register_is = set_beside s.registers b r Register.Undefined Register.Undefined far; place_is = refl; owns_is = set_beside w.owns b r false false far }) (λ r had has. refl)
+        record { register_is = set_beside s.registers b r Register.Undefined Register.Undefined far; place_is = refl; owns_is = set_beside w.owns b r false false far }) (λ r had has. refl) (objects_rooted c.keeps (λ name e. cc) (λ T e. cc))
 
   -- an empty path from a register's object refers to its root
   pub owned_root : (b : ℕ) (place : Place) → LeadsInImage h.pictured (path_from (Origin.Owned b)) place → (root : Root) × (root_of_register s.registers h.pictured.owned b ≡ Some root) × (root.at ≡ place.at)

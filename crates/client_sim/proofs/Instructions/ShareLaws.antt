@@ -384,6 +384,7 @@ module _ (allocator : ℕ) (constants : List Constant) (role : Role) (a b c : �
         after = record { plain = state; pictured = plainly.pictured; trees = then_is ∙ trees_one put.later plainly.pictured };
         changes = changes;
         frozen_kept = frame.frozen.kept;
+        objects_stay = frame.objects;
         length_kept = s.clears.changes.length_kept;
         header_kept = s.clears.changes.front_kept;
         owning = owning h.shows plainly (λ r had has. refl);

@@ -45,11 +45,12 @@ use Rattle.client_sim.proofs.EffectLaws.{acts_so, refuses_with, with_place, show
 use Rattle.client_sim.proofs.FrameLaws.{Frame, frame_same, unknown_same}
 use Rattle.client_sim.proofs.Frozen.FrozenPathLaws.{frozen_same_image}
 use Rattle.client_sim.proofs.GrantLaws.{grants_spent, denies}
-use Rattle.client_sim.proofs.Objects.ObjectChangeLaws.{shows_rooted, pictured_rooted, frame_rooted}
+use Rattle.client_sim.proofs.Objects.ObjectChangeLaws.{shows_rooted, pictured_rooted, frame_rooted, objects_rooted}
 use Rattle.client_sim.proofs.Instructions.FindLaws.{OfPicture, of_picture, begins_unique, type_number, unique_found, none_unique, leads_unique, unique_typed}
 use Rattle.client_sim.proofs.EndedReferenceLaws.{LeavesPicture, type_known, ended_shown}
 use Rattle.client_sim.proofs.Instructions.OwnerLaws.{new_object, LeavesWithout, root_touched, paths_with, frozen_with, paths_without, frozen_without, gone_with}
 use Rattle.client_sim.proofs.Objects.UniqueChangeLaws.{UniqueComes, unique_comes, UniqueGoes, unique_goes}
+use Rattle.client_sim.proofs.Objects.ObjectPlaceLaws.{objects_same}
 
 -- the type has no unique object, and a new one is added
 pub record JoinsUniques (allocator : ℕ) (old new : List ℕ) (table : Table) (picture : Picture) (T at : ℕ) : Type 0 where
@@ -104,7 +105,7 @@ module _ {others : List Root} {types : Table} {constants : List Constant} (one :
 
     pub frame_more : Frame ks w (with_image w new) h.pictured shows_more.pictured
     unfolding shows_more
-    frame_more = frame_rooted h ks s_more (with_image w new) c.later (λ o. ⊥) c.keeps front _ _ _ _ _ c.stays (unknown_same ks s s_more w new refl) (λ r had has. refl)
+    frame_more = frame_rooted h ks s_more (with_image w new) c.later (λ o. ⊥) c.keeps front _ _ _ _ _ c.stays (unknown_same ks s s_more w new refl) (λ r had has. refl) (objects_rooted c.keeps (λ name e. absurd e) (λ U e. absurd e))
 
     pub more_there : begins_unique shows_more.pictured.picture T ≡ Some root.at
     unfolding shows_more
@@ -132,6 +133,7 @@ module _ {others : List Root} {types : Table} {constants : List Constant} (one :
     pub frame_less : Frame ks_less w (with_image w new) h.pictured shows_less.pictured
     unfolding shows_less
     frame_less = frame_rooted h ks_less s_less (with_image w new) c.later (λ o. o ≡ Origin.Unique T) c.keeps front _ _ _ _ _ c.stays (unknown_same ks_less s s_less w new refl) (λ r had has. refl)
+        (objects_rooted c.keeps (λ name e. cc) (λ U e. subst (λ V. root_of_type c.later.picture.uniques V ≡ None) (let f : T ≡ U = cc in f) c.none))
 
   -- ---- references of a class end, and nothing else changes
 
@@ -145,7 +147,7 @@ module _ {others : List Root} {types : Table} {constants : List Constant} (one :
   pub frame_ended : (class : Class) → Frame (ended (sharing class) ks) w w h.pictured (shows_ended class).pictured
   unfolding shows_ended
   frame_ended class = frame_rooted h (ended (sharing class) ks) s w h.pictured (λ o. ⊥) _ refl _ _ _ _ _ (frozen_same_image h.pictured)
-      (unknown_same (ended (sharing class) ks) s s w w.image refl) (λ r had has. refl)
+      (unknown_same (ended (sharing class) ks) s s w w.image refl) (λ r had has. refl) (objects_same refl)
 
 none_begins : (o : Option Root) → option_map {T = Root} {U = ℕ} (λ r. r.at) o ≡ None → o ≡ None
 none_begins None e = refl

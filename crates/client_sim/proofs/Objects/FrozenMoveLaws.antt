@@ -37,7 +37,7 @@ use Rattle.client_sim.proofs.Places.RootPutLaws.{all_others}
 use Rattle.client_sim.proofs.Places.PathPlaceLaws.{PlaceFound}
 use Rattle.client_sim.proofs.Places.RootChangeLaws.{Reorders, order_same, order_then, order_back, frozen_first, from_frozen_first}
 use Rattle.client_sim.proofs.Places.RootChangeLaws.{beside_others, index_kept, beside_kept, paths_kept, moved_held, other_cells, names_now, names_after}
-use Rattle.client_sim.proofs.Objects.OwnedMoveLaws.{put_order, MovedPaths, OwnedBeside, owned_beside, leads_then}
+use Rattle.client_sim.proofs.Objects.OwnedMoveLaws.{put_order, MovedPaths, OwnedBeside, owned_beside, BeginsThen, objects_then, leads_then}
 
 one_name : (T p : ℕ) → names_in (node (Label.shared T p) nil) ≡ record { at = p; type = T } ∷ []
 unfolding names_in names_each
@@ -194,19 +194,21 @@ module _ {others : List Root} {s : State} {bytes : List ℕ} (pictured : Picture
         place led.leads old_value f.blocks f.holds_it all_blocks goes_out new w [] final_blocks moved_place in
         let paths = paths_kept bytes picture pictured.held led.root (root ∷ frozen_roots picture) rest order led.item f.within path.selectors
         place led.leads old_value f.blocks f.holds_it all_blocks goes_out new w [] final_blocks moved_place in
+        let begins : BeginsThen pictured led old_value f new w looks (λ o. o ≡ Origin.Owned c) = λ o r i e. elim (b.without.begins o r i e) [
+          | inl g ↦ inl g
+          | inr g ↦ elim (put.begins o r i g) [
+            | inl p ↦ inr (inl (p.0, p.1, sym (begins_with final put.later o) ∙ p.2))
+            | inr p ↦ inr (inr (each_among (KeepsPaths bytes new table) rest r p.0 paths, sym (begins_with final put.later o) ∙ p.1))
+          ]
+        ] in
         let state : put_origin (set_register s c Register.Undefined) path.origin (change f.whole) ≡ set_register (put_at s path w) c Register.Undefined =
         put_order s c Register.Undefined path.origin (change f.whole) apart ∙ ap (λ z. set_register z c Register.Undefined) (sym (put_at_is s path f.whole w f.type f.at)) in
         subst (λ z. MovedFrozen pictured led old_value f new z (λ o. o ≡ Origin.Owned c) final) state (record {
           to = record {
             later = held_by looks held_then counted_then;
             table_is = same_table;
-            leads = leads_then pictured led old_value f new w looks held_then counted_then (λ o. o ≡ Origin.Owned c) same_table beside (λ o r i e. elim (b.without.begins o r i e) [
-              | inl g ↦ inl g
-              | inr g ↦ elim (put.begins o r i g) [
-                | inl p ↦ inr (inl (p.0, p.1, sym (begins_with final put.later o) ∙ p.2))
-                | inr p ↦ inr (inr (each_among (KeepsPaths bytes new table) rest r p.0 paths, sym (begins_with final put.later o) ∙ p.1))
-              ]
-            ]);
+            objects = objects_then pictured led old_value f new w looks (λ o. o ≡ Origin.Owned c) (λ o e. (c, e)) begins;
+            leads = leads_then pictured led old_value f new w looks held_then counted_then (λ o. o ≡ Origin.Owned c) same_table beside begins;
           };
           frozen_is = refl;
           keeps = frozen_left pictured new theirs shared (names_in old_value) z.shared_kept;

@@ -162,13 +162,13 @@ module _ {others : List Root} {types : Table} {constants : List Constant} (one :
           let long : length put_then.registers ≡ length s.registers = ap (λ (z : State). length z.registers) (put_at_is s l.path l.found.whole v l.found.type l.found.at) ∙ n in
           set_there put_then.registers a y Register.Undefined (omega (arith, long, h.as_known.count, h.sixteen, within))
 
-  -- its picture has the frozen objects that the call left
-  pub frozen_moved : (k : RegisterType) (ks' : RegisterTypes) (owns : Bool) (positions type_ids : List ℕ) (within : a < 16) (sixteen : length ks' ≡ 16) (at_length : length positions ≡ 17) (id_length : length type_ids ≡ 17)
+  -- its picture is the one after the call
+  pub picture_moved : (k : RegisterType) (ks' : RegisterTypes) (owns : Bool) (positions type_ids : List ℕ) (within : a < 16) (sixteen : length ks' ≡ 16) (at_length : length positions ≡ 17) (id_length : length type_ids ≡ 17)
       (places : (r : ℕ) → a ≢ r → place_in (with_owning w new a owns positions type_ids) r ≡ place_in w r) (front : KeepsFront w.image new) (as_known : IsAsKnown types constants (slice_set ks' a k) moved_then)
       (rest : (r : ℕ) → a ≢ r → Stays r (known ks r) (known ks' r)) (here : Shown m.later (with_owning w new a owns positions type_ids) a k y)
-      → (shows_moved k ks' owns positions type_ids within sixteen at_length id_length places front as_known rest here).pictured.picture.frozen ≡ m.later.picture.frozen
+      → (shows_moved k ks' owns positions type_ids within sixteen at_length id_length places front as_known rest here).pictured.picture ≡ m.later.picture
   unfolding shows_moved
-  frozen_moved k ks' owns positions type_ids within sixteen at_length id_length places front as_known rest here = refl
+  picture_moved k ks' owns positions type_ids within sixteen at_length id_length places front as_known rest here = refl
 
   pub frame_moved : (k : RegisterType) (ks' : RegisterTypes) (owns : Bool) (positions type_ids : List ℕ) (within : a < 16) (sixteen : length ks' ≡ 16) (at_length : length positions ≡ 17) (id_length : length type_ids ≡ 17)
       (places : (r : ℕ) → a ≢ r → place_in (with_owning w new a owns positions type_ids) r ≡ place_in w r) (front : KeepsFront w.image new) (as_known : IsAsKnown types constants (slice_set ks' a k) moved_then)
@@ -180,6 +180,7 @@ module _ {others : List Root} {types : Table} {constants : List Constant} (one :
   frame_moved k ks' owns positions type_ids within sixteen at_length id_length places front as_known rest here apart frozen owners = record {
     frozen = frozen;
     owners = owners;
+    objects = m.objects;
     unknown = λ r e o.
         let far = apart r e o in
         record { register_is = stays r far (register s r) refl (owns_nothing h r o); place_is = places r far; owns_is = set_beside w.owns a r owns false far };

@@ -231,6 +231,7 @@ module _ {others : List Root} {s : State} {old : List ℕ} (pictured : Pictures 
   pub record Goes : Type 0 where
     pub later : Pictures others state_without new
     pub keeps : KeepsRoots pictured later EndsAt
+    pub none : root_named later.picture.names name ≡ None
     pub stays : KeepsFrozen old new pictured.picture.table pictured.picture.frozen later.picture.frozen
 
   name_is : root.name ≡ name
@@ -297,4 +298,4 @@ module _ {others : List Root} {s : State} {old : List ℕ} (pictured : Pictures 
             inr (ap (named_place k) (others_without m g) ∙ e, kept r (subst (λ rs. Among rs r) (append_assoc before after rest) (among_left (before ++ after) rest r here)))
 
     pub named_goes : Goes
-    named_goes = record { later = without_then; stays = frozen; keeps = record { table = refl; begins = begins_without } }
+    named_goes = record { later = without_then; none = none_left; stays = frozen; keeps = record { table = refl; begins = begins_without } }

@@ -1,6 +1,6 @@
 -- Adding and removing objects: each path that still has a root refers to the same place, and a
 -- world that represented the state represents the one with or without the object.
-use Rattle.std.proofs.Common.{◌≡◌, ℕ, ◌≤◌, ◌+◌, ◌⊎◌, inl, inr, List, [], ◌∷◌, ◌++◌, length, drop, Option, Some, refl, sym, ◌∙◌, ap, subst, arith}
+use Rattle.std.proofs.Common.{◌≡◌, ℕ, ◌≤◌, ◌+◌, ◌⊎◌, inl, inr, List, [], ◌∷◌, ◌++◌, length, drop, Option, Some, None, refl, sym, ◌∙◌, ap, subst, arith}
 use Rattle.std.specs.List.{AllByRecursion}
 use Rattle.seg_spec.specs.Bytes.{word}
 use Rattle.seg_spec.specs.Header.{allocator_word, free_word, KeepsFront}
@@ -9,7 +9,7 @@ use Rattle.seg_spec.specs.Value.{Value}
 use Rattle.seg_spec.specs.Value as values
 use Rattle.seg_spec.specs.Heap.{live}
 use Rattle.seg_spec.specs.Block.{block_of, KeepsBlock}
-use Rattle.seg_spec.specs.Index.{Root}
+use Rattle.seg_spec.specs.Index.{Root, root_named, root_of_type}
 use Rattle.seg_spec.specs.Reads.{Place, Leads}
 use Rattle.seg_spec.specs.Sound.{payload_of, Picture, frozen_roots, HoldsRoot, HoldsRoots, IsHeld, times, positions}
 use Rattle.seg_spec.specs.Frozen.{blocks_by}
@@ -33,7 +33,10 @@ use Rattle.client_spec.specs.Answer.{path_from}
 use Rattle.client_spec.specs.Meaning.{InClass, IsAsKnown, Meets}
 use Rattle.client_spec.specs.Pictures.{Pictures, LeadsInImage, root_at}
 use Rattle.client_spec.specs.Typed.{RegisterType, RegisterTypes, known}
+use Rattle.client_spec.specs.Ties.{ObjectsStay}
 use Rattle.client_sim.proofs.Objects.OwnedPlaceLaws.{KeepsOwners}
+use Rattle.client_sim.proofs.Objects.ObjectPlaceLaws.{face_same, objects_at}
+use Rattle.client_sim.proofs.Objects.PictureLaws.{looks_of, begins_in}
 use Rattle.client_sim.specs.Writes.{Took}
 use Rattle.client_sim.specs.Shows.{World, number_in, place_in, owns_in, HasRegisters, Shown, Shows}
 use Rattle.client_sim.proofs.Frozen.FrozenPathLaws.{KeepsFrozen}
@@ -97,6 +100,15 @@ leads_on {new = new} pictured later Ends k path place x there led = elim (k.begi
     leads = subst (λ table. Leads new table (item_of table led.root led.item) path.selectors place) (sym k.table) (p.1 led.item path.selectors place (item_within pictured path place x there led) led.leads);
   })
 ]
+
+-- named and unique objects stay, except for those whose paths end
+pub objects_rooted : {others : List Root} {s s' : State} {old new : List ℕ} {pictured : Pictures others s old} {later : Pictures others s' new} {Ends : Origin → Type 0} → KeepsRoots pictured later Ends
+    → ((name : List ℕ) → Ends (Origin.Name name 0) → root_named later.picture.names name ≡ None) → ((T : ℕ) → Ends (Origin.Unique T) → root_of_type later.picture.uniques T ≡ None)
+    → ObjectsStay pictured.picture later.picture
+objects_rooted {pictured = pictured} {later = later} {Ends = Ends} keeps = objects_at (looks_of pictured) (looks_of later) Ends (λ o r i e. elim (keeps.begins o r i (begins_in pictured o ∙ e)) [
+  | inl ends ↦ inl ends
+  | inr p ↦ inr (r, sym (begins_in later o) ∙ p.0, face_same r)
+])
 
 -- ---- worlds
 
@@ -174,6 +186,7 @@ module _ {others : List Root} {types : Table} {constants : List Constant} {first
   pub frame_rooted : {s₀ : State} {w₀ : World} {before : Pictures others s₀ w₀.image} (front : KeepsFront w.image w'.image) (as_known : IsAsKnown types constants ks' s') (sixteen : length ks' ≡ 16) (registers : HasRegisters w')
       (besides : SameBesides w w' s s') (each : (r : ℕ) → Remains constants Ends ks ks' s s' w w' r ⊎ Shown later w' r (known ks' r) (register s' r))
       → KeepsFrozen w₀.image w'.image before.picture.table before.picture.frozen later.picture.frozen → KeepsUnknown ks' s₀ s' w₀ w' → KeepsOwners w₀ w'
+      → ObjectsStay before.picture later.picture
       → Frame ks' w₀ w' before (shows_rooted front as_known sixteen registers besides each).pictured
   unfolding shows_rooted
-  frame_rooted front as_known sixteen registers besides each stays kept owners = record { frozen = stays; unknown = kept; owners = owners }
+  frame_rooted front as_known sixteen registers besides each stays kept owners objects = record { frozen = stays; unknown = kept; owners = owners; objects = objects }

@@ -18,7 +18,7 @@ use Rattle.seg_spec.specs.Sound.{Picture, frozen_roots, IsPlain, roots_of, Holds
 use Rattle.seg_spec.specs.Destroying.{HoldFrozen}
 use Rattle.seg_spec.specs.Clearing.{ClearsPlace}
 use Rattle.seg_spec.specs.Counting.{cells_in, owners_in, AreCounted}
-use Rattle.seg_spec.specs.Roots.{roots_before, item_of, with_item, KeepsPaths, KeepsPathsBeside, ChangesPlace, MovesPlace}
+use Rattle.seg_spec.specs.Roots.{roots_before, item_of, with_item, KeepsPaths, KeepsPathsBeside, ChangesPlace, MovesPlace, HasFace}
 use Rattle.seg_spec.proofs.Values.PlaceFrameLaws.{each_left}
 use Rattle.seg_spec.proofs.Frozen.ReleaseOrderLaws.{none_gone}
 use Rattle.seg_spec.proofs.Frozen.PictureCountLaws.{roots_held}
@@ -30,6 +30,7 @@ use Rattle.seg_spec.proofs.Images.RootWriteLaws.{faced}
 use Rattle.seg_spec.proofs.Frozen.KeptCountLaws.{counted_on}
 use Rattle.client_spec.specs.Machine.{Origin, Path, Register, Object, State, with_name, register, set_register, owned_by, with_owned, replace_item, at_origin, path_value, put_origin, put_at}
 use Rattle.client_spec.specs.Pictures.{root_of_register, Pictures, LeadsInImage, root_at}
+use Rattle.client_spec.specs.Ties.{ObjectsStay}
 use Rattle.client_spec.proofs.TypedStates.PutLaws.{put_at_is, put_length}
 use Rattle.client_spec.proofs.TypedStates.StateLaws.{register_set}
 use Rattle.client_sim.proofs.Objects.FirstRootLaws.{each_among}
@@ -38,6 +39,7 @@ use Rattle.client_sim.proofs.Objects.PictureLaws.{Looks, root_in, looks_of, look
 use Rattle.client_sim.proofs.Places.RootPutLaws.{RootFound, root_for, all_others}
 use Rattle.client_sim.proofs.Places.PathPlaceLaws.{PlaceFound, owners_split, item_within, frozen_aside}
 use Rattle.client_sim.proofs.Objects.OwnedPictureLaws.{Without, goes, comes}
+use Rattle.client_sim.proofs.Objects.ObjectPlaceLaws.{objects_at, face_same}
 use Rattle.client_sim.proofs.Places.RootChangeLaws.{Reorders, order_same, order_then, order_under, order_first, order_back, order_exchanged, frozen_first, frozen_last, from_frozen_first, from_frozen_last}
 use Rattle.client_sim.proofs.Places.RootChangeLaws.{index_kept, beside_kept, paths_kept, moved_held, counted_moved}
 
@@ -106,6 +108,7 @@ module _ {others : List Root} {s : State} {bytes : List ℕ} (pictured : Picture
   pub record MovedPaths (s' : State) (Ends : Origin → Type 0) : Type 0 where
     pub later : Pictures others s' new
     pub table_is : later.picture.table ≡ pictured.picture.table
+    pub objects : ObjectsStay pictured.picture later.picture
     pub leads : (other : Path) (target : Place) (x : Value) → path_value s other ≡ Some x → LeadsInImage pictured other target
         → Ends other.origin ⊎ (((other.origin ≡ path.origin) × GoesOnAfter path.selectors other.selectors) ⊎ LeadsInImage later other target)
 
@@ -158,11 +161,30 @@ module _ {others : List Root} {s : State} {bytes : List ℕ} (pictured : Picture
           → Leads new looks.picture.table (item_of looks.picture.table root i) selectors target
       on_table root i {selectors = selectors} {target = target} k = subst (λ (t : Table). Leads new t (item_of t root i) selectors target) (sym same) k
 
-  paths_then : {s' : State} (looks : Looks others s') (held : IsHeld new looks.picture) (counted : AreCounted (word new next_word) looks.picture) (Ends : Origin → Type 0) → looks.picture.table ≡ table
+  -- only paths from registers end
+  abbrev pub OfRegisters : (Origin → Type 0) → Type 0
+  OfRegisters Ends = (o : Origin) → Ends o → (r : ℕ) × (o ≡ Origin.Owned r)
+
+  pub objects_then : {s' : State} (looks : Looks others s') (Ends : Origin → Type 0) → OfRegisters Ends → BeginsThen looks Ends → ObjectsStay pictured.picture looks.picture
+  objects_then looks Ends owned begins = objects_at (looks_of pictured) looks Ends (λ o r i e. elim (begins o r i e) [
+    | inl ends ↦ inl ends
+    | inr (inl p) ↦ inr (changed, p.2, subst (λ q. HasFace q changed) (sym p.0) (faced led.root led.item change))
+    | inr (inr p) ↦ inr (r, p.1, face_same r)
+  ]) (λ name e. let o = (owned (Origin.Name name 0) e).1 in cc) (λ T e. let o = (owned (Origin.Unique T) e).1 in cc)
+
+  paths_then : {s' : State} (looks : Looks others s') (held : IsHeld new looks.picture) (counted : AreCounted (word new next_word) looks.picture) (Ends : Origin → Type 0) → OfRegisters Ends → looks.picture.table ≡ table
       → KeepsFrozen bytes new table pictured.picture.frozen looks.picture.frozen → KeepsPathsBeside bytes new table led.root led.item path.selectors → BeginsThen looks Ends
       → (m : Moved pictured led old_value f new s' Ends) × ((o : Origin) (r : Root) (i : ℕ) → root_in looks o ≡ Some (r, i) → root_at m.to.later o ≡ Some (r, i))
-  paths_then looks held counted Ends same stays beside begins = (
-    record { to = record { later = held_by looks held counted; table_is = same; leads = leads_then looks held counted Ends same beside begins }; stays = stays },
+  paths_then looks held counted Ends owned same stays beside begins = (
+    record {
+      to = record {
+        later = held_by looks held counted;
+        table_is = same;
+        objects = objects_then looks Ends owned begins;
+        leads = leads_then looks held counted Ends same beside begins;
+      };
+      stays = stays;
+    },
     (λ o r i e. sym (begins_at looks held counted o) ∙ e),
   )
 
@@ -215,7 +237,8 @@ module _ {others : List Root} {s : State} {bytes : List ℕ} (pictured : Picture
       let state : put_origin (set_register s c Register.Undefined) path.origin whole_then ≡ set_register (put_at s path w) c Register.Undefined =
       put_order s c Register.Undefined path.origin whole_then apart ∙ ap (λ z. set_register z c Register.Undefined) (sym (put_at_is s path f.whole w f.type f.at)) in
       subst (λ z. Moved pictured led old_value f new z (λ o. o ≡ Origin.Owned c)) state
-      (paths_then looks there counted (λ o. o ≡ Origin.Owned c) same (subst (KeepsFrozen bytes new table picture.frozen) (sym (ap (left gone) same_frozen)) (frozen_left pictured new theirs shared gone clears.shared_kept)) beside
+      (paths_then looks there counted (λ o. o ≡ Origin.Owned c) (λ o e. (c, e)) same
+      (subst (KeepsFrozen bytes new table picture.frozen) (sym (ap (left gone) same_frozen)) (frozen_left pictured new theirs shared gone clears.shared_kept)) beside
       (λ o r i e. elim (l.begins o r i e) [
         | inl g ↦ inl g
         | inr g ↦ elim (put.begins o r i g) [
@@ -267,7 +290,7 @@ module _ {others : List Root} {s : State} {bytes : List ℕ} (pictured : Picture
       let counted = counted_on bytes new other changes.back_kept
       (counted_moved led.root led.item f.whole f.root.item_is path.selectors old_value f.value_is (word bytes next_word) picture other [] (root ∷ []) rest w order owners [] cells
       (same_frozen ∙ sym (none_gone picture.frozen pictured.counted.counted.some)) pictured.counted) in
-      let moved = paths_then l.later there counted (λ o. ⊥) same stay beside (λ o r i e. elim (put.begins o r i e) [
+      let moved = paths_then l.later there counted (λ o. ⊥) (λ o e. absurd e) same stay beside (λ o r i e. elim (put.begins o r i e) [
         | inl p ↦ inr (inl (p.0, p.1, l.begins o changed i p.2))
         | inr p ↦ inr (inr (each_among (KeepsPaths bytes new table) rest r p.0 paths, l.begins o r i p.1))
       ]) in

@@ -112,6 +112,7 @@ module _ {others : List Root} {s : State} {old : List ℕ} (pictured : Pictures 
   pub record UniqueGoes (T : ℕ) (new : List ℕ) : Type 0 where
     pub later : Pictures others (record s { uniques = with_unique s.uniques T None }) new
     pub keeps : KeepsRoots pictured later (λ o. o ≡ Origin.Unique T)
+    pub none : root_of_type later.picture.uniques T ≡ None
     pub stays : KeepsFrozen old new pictured.picture.table pictured.picture.frozen later.picture.frozen
 
   pub unique_goes : (T : ℕ) (root : Root) → root_of_type pictured.picture.uniques T ≡ Some root → (before after : List Root) → pictured.picture.uniques ≡ before ++ root ∷ after → (new : List ℕ)
@@ -139,6 +140,7 @@ module _ {others : List Root} {s : State} {old : List ℕ} (pictured : Pictures 
       let among : roots_before picture Listed.by_type before ++ owners_after picture Listed.by_type after ≡ owners_in later.picture = sym (owners_with picture Listed.by_type before [] after) in
       record {
         later = later;
+        none = none;
         stays = frozen;
         keeps = keeps_others pictured later (λ o. o ≡ Origin.Unique T) refl
             (found_again pictured later (λ o. o ≡ Origin.Unique T) (λ name i r e. inr e) (λ U r e. again U r e (beside U) (U == T) refl) (λ q r e. inr e)) (subst (AllByRecursion (KeepsPaths old new picture.table)) among paths);

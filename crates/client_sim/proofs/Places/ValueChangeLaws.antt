@@ -112,7 +112,7 @@ module _ {others : List Root} {types : Table} {constants : List Constant} (one :
 
   pub frame_changed : Frame (others_ended class b ks) w (with_image w new) h.pictured shows_changed.pictured
   unfolding shows_changed
-  frame_changed = record { frozen = put.stays; unknown = λ r e o. record { register_is = owner_changed h r state_then root_then o (registers_are r); place_is = refl; owns_is = refl }; owners = λ r had has. refl }
+  frame_changed = record { frozen = put.stays; unknown = λ r e o. record { register_is = owner_changed h r state_then root_then o (registers_are r); place_is = refl; owns_is = refl }; owners = λ r had has. refl; objects = put.objects }
 
   -- the path refers to the same place, which has the new value
   pub leads_changed : LeadsInImage shows_changed.pictured l.path (place_in w b)
