@@ -1,1 +1,2 @@
 pub mod RefusedOutcomes
+pub mod MovedBuffers
