@@ -1,6 +1,7 @@
 -- A key is added to a flat map, or removed, from how the steps of the calls change the bytes.
-use Rattle.std.proofs.Common.{◌≡◌, ◌≢◌, ℕ, zero, suc, ◌+◌, ◌*◌, ◌%◌, ◌^◌, ◌<◌, ◌≤◌, inl, inr, ⊎_elim, ℤ, Bool, true, false, List, [], ◌∷◌, ◌++◌, length, map, Some, None, Result, Ok, refl, sym, ap, ◌∙◌, subst, arith}
+use Rattle.std.proofs.Common.{◌≡◌, ◌≢◌, ℕ, zero, suc, ◌+◌, ◌-◌, ◌*◌, ◌%◌, ◌^◌, ◌<◌, ◌≤◌, inl, inr, ⊎_elim, ℤ, Bool, true, false, List, [], ◌∷◌, ◌++◌, length, map, Some, None, Result, Ok, refl, sym, ap, ◌∙◌, subst, arith}
 use Rattle.std.specs.Prelude.{insert, remove, int_lt, unwrap_or, slice_get}
+use Rattle.std.specs.List.{AllByRecursion}
 use Rattle.std.proofs.Math.Nat.{zero-mul, mul-le-mul_right}
 use Rattle.std.proofs.lemmas.List.Sums.{count_by-le-length}
 use Rattle.seg_spec.specs.Bytes.{signed, signed_long, ChangesOnly, IsSame}
@@ -8,7 +9,8 @@ use Rattle.seg_spec.specs.Types.{Form, Table, form_at, size}
 use Rattle.seg_spec.specs.Value.{Value, Values, nil, cons, Map, IsAscending, Selector, nth, change_nth, default_of, with_value_at}
 use Rattle.seg_spec.specs.Heap.{live}
 use Rattle.seg_spec.specs.Block.{IsInside, block_of}
-use Rattle.seg_spec.specs.Reads.{Place, count_at, named, start, spaced, places_of, Holds, Leads}
+use Rattle.seg_spec.specs.Reads.{Place, count_at, named, start, spaced, places_of, keys_at, Holds, HoldsEach, Leads}
+use Rattle.seg_spec.specs.Parts.{PartsStay, KeepsParts}
 use Rattle.seg_spec.specs.Apart.{Separate, ComesApart}
 use Rattle.seg_spec.specs.Cells.{IsWithin}
 use Rattle.seg_spec.specs.Sound.{times}
@@ -29,6 +31,9 @@ use Rattle.seg_spec.proofs.Tables.TypeSizeLaws.{size_large}
 use Rattle.seg_spec.proofs.Values.CellChangeLaws.{ChangesOnly-wider, size_aligned}
 use Rattle.seg_spec.proofs.Heap.LiveBlockLaws.{times-same, times-append}
 use Rattle.seg_spec.proofs.Values.PathSplitLaws.{Middle, middle}
+use Rattle.seg_spec.proofs.Values.BufferLaws.{parts_stay}
+use Rattle.seg_spec.proofs.Values.PersistenceLaws.{parts_around, parts_again}
+use Rattle.seg_value.proofs.Runs.{Run, run_values, run_long, runs_joined, each_run, parts, the_one}
 use Rattle.seg_spec.proofs.Values.OneValueLaws.{Holds-one}
 use Rattle.seg_cells.specs.Entries.{IsEntryOf}
 use Rattle.seg_value.specs.Entries.{OpensEntry, ClosesEntry, flat_asks, flat_value}
@@ -52,7 +57,9 @@ module _ (allocator : ℕ) (old opened stored new : List ℕ) (table : Table) (p
     (at_is : at ≡ start opened place.at + index * (8 + size table U)) (within : IsWithin opened at (8 + size table U)) (apart : Separate at (8 + size table U) place.at (size table place.type))
     (becomes : (written : List ℕ) (w : Value) → ChangesOnly opened written at (8 + size table U) → IsAscending (insert keys index (signed_long written at)) →
     Holds written table (value_of U (start opened place.at + index * (8 + size table U) + 8)) w [] →
-    Succeeds allocator old written table place (Map (insert keys index (signed_long written at)) (insert_nth vs index w)) asks [] blocks others) where
+    Succeeds allocator old written table place (Map (insert keys index (signed_long written at)) (insert_nth vs index w)) asks [] blocks others)
+    (stay : (written : List ℕ) (w : Value) → ChangesOnly opened written at (8 + size table U) → IsAscending (insert keys index (signed_long written at)) →
+    Holds written table (value_of U (start opened place.at + index * (8 + size table U) + 8)) w [] → KeepsParts old written table place index 0 1) where
   eight : 8 ≤ size table place.type
   eight = size_large table s.is_table place.type
 
@@ -96,6 +103,7 @@ module _ (allocator : ℕ) (old opened stored new : List ℕ) (table : Table) (p
     added p p_is = record {
       others = others;
       succeeds = subst (λ i. Succeeds allocator old new table place (Map (insert keys i key) (insert_nth vs i (default_of table U))) asks [] blocks others) index_is came_at;
+      parts = subst (λ i. KeepsParts old new table place i 0 1) index_is (stay new (default_of table U) all_changes ascends fresh);
       stands_at =
           let same : p ≡ start new place.at + index * (8 + size table U) + 8 = p_is ∙ ap (λ q. q + 8) at_is ∙ ap (λ q. q + index * (8 + size table U) + 8) (sym start_same) in
           subst (λ q. Leads new table place (Selector.key key ∷ []) (value_of U q)) (sym same) leads;
@@ -128,7 +136,7 @@ module _ (allocator : ℕ) (old opened stored new : List ℕ) (table here : Tabl
       let below : value.type_id < length here = let t = s.is_table.forms T (Form.flat_map U) f in let l = ap length same in omega arith in
       let filled : ChangesOnly stored new value.at (size table value.type_id) = subst (λ t. ChangesOnly stored new value.at (size t value.type_id)) same (fills within) in
       let held : Holds new table (place_of value) (default_of table value.type_id) [] = subst (λ t. Holds new t (place_of value) (default_of t value.type_id) []) same (holds_it within below) in
-      added allocator old opened stored new table (object_at cell T) U keys vs blocks f s entry e key index at (flat_asks old table cell U) o.others missing index_is o.at_is o.within o.apart o.becomes
+      added allocator old opened stored new table (object_at cell T) U keys vs blocks f s entry e key index at (flat_asks old table cell U) o.others missing index_is o.at_is o.within o.apart o.becomes o.parts
       (place_of value) changes (key_is (omega (arith, o.within.fits)) ∙ back) at_is type_is filled held p (p_is ∙ value_at)
     where
       known : (x y : code.Place) → Some x ≡ Some y → x ≡ y
@@ -265,6 +273,82 @@ module _ (allocator : ℕ) (old : List ℕ) (table : Table) (place : Place) (U :
         part.beside_paths allocator old table place (Map keys vs) blocks s inner (Selector.key key ∷ []) led (block_of b.p) inside mine aligned theirs now final fits mid w change sooner own.value own.zs own.holds_it
         (value_inside j (omega arith)) (inl (omega arith)) others
 
+  -- ---- the values before and after the removed one
+
+  -- the number of values after it
+  after_it : (k : ℕ) × (count_at old place.at ≡ i + (1 + k))
+  after_it = (count_at old place.at - (i + 1), let l = below in omega arith)
+
+  abbrev k : ℕ
+  k = after_it.0
+
+  abbrev q : ℕ
+  q = start old place.at + i * (8 + size table U)
+
+  record Sides : Type 0 where
+    left : Values
+    right : Values
+    xs : List ℕ
+    zs : List ℕ
+    ys : List ℕ
+    lefts : HoldsEach old table (run_values table U (start old place.at) i) left xs
+    rights : HoldsEach old table (run_values table U (q + (8 + size table U)) k) right ys
+    its_are : c.its ≡ zs
+    blocks_are : blocks ≡ named old place.at ++ (xs ++ (zs ++ ys))
+
+  sides : Sides
+  sides =
+      let whole : HoldsEach old table (run_values table U (start old place.at) (i + (1 + k))) vs (its allocator old table place U keys vs blocks f s).owned =
+      subst (λ n. HoldsEach old table (run_values table U (start old place.at) n) vs (its allocator old table place U keys vs blocks f s).owned) after_it.1 (holds_each allocator old table place U keys vs blocks f s) in
+      let r : Run old table U (start old place.at) (i + (1 + k)) (keys_at old (spaced (start old place.at) (8 + size table U) (i + (1 + k)))) vs (its allocator old table place U keys vs blocks f s).owned =
+      record { keys_are = refl; values = whole } in
+      let a = parts old table U (start old place.at) i (1 + k) q (keys_at old (spaced (start old place.at) (8 + size table U) (i + (1 + k)))) vs (its allocator old table place U keys vs blocks f s).owned refl r in
+      let d = parts old table U q 1 k (q + (8 + size table U)) a.next_keys a.next_values a.next_owned (omega arith) a.next in
+      let one = the_one old table U q d.first_keys d.first_values d.first_owned d.first in
+      record {
+        left = a.first_values;
+        right = d.next_values;
+        xs = a.first_owned;
+        zs = d.first_owned;
+        ys = d.next_owned;
+        lefts = a.first.values;
+        rights = d.next.values;
+        its_are = (Holds-one old table c.holds_it one.holds_it).1;
+        blocks_are = (its allocator old table place U keys vs blocks f s).blocks_are ∙ ap (λ os. named old place.at ++ os) (a.owned_are ∙ ap (λ os. a.first_owned ++ os) d.owned_are);
+      }
+
+  -- the blocks of the other values are among the other blocks, and aren't the buffer's
+  side_blocks : (h : ℕ) → 1 ≤ times h sides.xs + times h sides.ys → (1 ≤ times h rest) × (h ≢ block_of b.p)
+  side_blocks h some =
+      let t = sides in
+      let all = ap (times h) t.blocks_are in
+      let first = times-append h (named old place.at) (t.xs ++ (t.zs ++ t.ys)) in
+      let second = times-append h t.xs (t.zs ++ t.ys) in
+      let third = times-append h t.zs t.ys in
+      let its_here = ap (times h) t.its_are in
+      let once = part.blocks_once allocator old table place (Map keys vs) blocks s inner (Selector.key key ∷ []) led h in
+      let counts = part.counts allocator old table place (Map keys vs) blocks s inner (Selector.key key ∷ []) led h in (
+        omega arith,
+        λ e. let one : times (block_of b.p) (named old place.at) ≡ 1 = rw b.names (times-same (block_of b.p) []) in
+            let here : times h (named old place.at) ≡ 1 = subst (λ x. times x (named old place.at) ≡ 1) (sym e) one in omega arith,
+      )
+
+  abbrev IsBeside : Place → Type 0
+  IsBeside other = IsInside old (block_of b.p) other.at (size table other.type) × Separate other.at (size table other.type) inner.at (size table inner.type)
+
+  lefts_beside : AllByRecursion IsBeside (run_values table U (start old place.at) i)
+  lefts_beside = each_run IsBeside table U (start old place.at) i (λ j l.
+      let less : suc j * each ≤ i * each = mul-le-mul_right each l in
+      let more : suc j * each ≡ j * each + each = grind arith in
+      let few = below in
+      (value_inside j (omega arith), inl (omega arith)))
+
+  rights_beside : AllByRecursion IsBeside (run_values table U (q + (8 + size table U)) k)
+  rights_beside = each_run IsBeside table U (q + (8 + size table U)) k (λ j l.
+      let at : start old place.at + (i + 1 + j) * (8 + size table U) + 8 ≡ q + (8 + size table U) + j * (8 + size table U) + 8 = grind arith in
+      let counted = after_it.1 in
+      (subst (λ p. IsInside old (block_of b.p) p (size table U)) at (value_inside (i + 1 + j) (omega arith)), inr (omega arith)))
+
   pub inner_stands : Stands allocator old table inner c.value c.its
   inner_stands = part.inner_stands allocator old table place (Map keys vs) blocks s inner (Selector.key key ∷ []) led (block_of b.p) inside mine aligned
 
@@ -314,6 +398,28 @@ module _ (allocator : ℕ) (old : List ℕ) (table : Table) (place : Place) (U :
         let count = cell-count old mid place.at cell_same in
         closes changed rest stands_mid (let l = below in omega arith) (w, value)
 
+    -- the other values persist while this one is cleared
+    others_stay : KeepsParts old mid table place i 1 1
+    others_stay =
+        let t = sides in
+        let first = part.beside_persist allocator old table place (Map keys vs) blocks s inner (Selector.key key ∷ []) led (block_of b.p) inside mine aligned theirs now final fits mid w change
+        (run_values table U (start old place.at) i) t.left t.xs t.lefts lefts_beside (λ h some. side_blocks h (omega arith)) in
+        let next = part.beside_persist allocator old table place (Map keys vs) blocks s inner (Selector.key key ∷ []) led (block_of b.p) inside mine aligned theirs now final fits mid w change
+        (run_values table U (q + (8 + size table U)) k) t.right t.ys t.rights rights_beside (λ h some. side_blocks h (omega arith)) in
+        let one = run_values table U q 1 in
+        let before : run_values table U (start old place.at) (count_at old place.at) ≡ run_values table U (start old place.at) i ++ (one ++ run_values table U (q + (8 + size table U)) k) =
+        rw after_it.1 (runs_joined table U (start old place.at) i (1 + k) q refl ∙ ap (λ ps. run_values table U (start old place.at) i ++ ps) (runs_joined table U q 1 k (q + (8 + size table U)) (omega arith))) in
+        let after : run_values table U (start mid place.at) (count_at mid place.at) ≡ run_values table U (start old place.at) i ++ (one ++ run_values table U (q + (8 + size table U)) k) =
+        ap (λ a. run_values table U a (count_at mid place.at)) start_kept ∙ ap (run_values table U (start old place.at)) (cell-count old mid place.at cell_same) ∙ before in
+        let around = parts_around old mid table (Form.flat_map U) (run_values table U (start old place.at) i) one (run_values table U (q + (8 + size table U)) k) (run_values table U (start old place.at) i) one
+        (run_values table U (q + (8 + size table U)) k) (λ e. absurd (cc)) first next in
+        parts_stay old mid table place (Form.flat_map U) (Map keys vs) (Map keys changed) blocks rest f refl s.holds_it stands_mid.holds_it i 1 1
+        (subst (λ n. PartsStay old mid table (Form.flat_map U) (run_values table U (start old place.at) (count_at old place.at)) (run_values table U (start mid place.at) (count_at mid place.at)) n 1 1)
+        (run_long table U (start old place.at) i)
+        (subst (λ ps. PartsStay old mid table (Form.flat_map U) ps (run_values table U (start mid place.at) (count_at mid place.at)) (length (run_values table U (start old place.at) i)) 1 1) (sym before)
+        (subst (λ ps. PartsStay old mid table (Form.flat_map U) (run_values table U (start old place.at) i ++ (one ++ run_values table U (q + (8 + size table U)) k)) ps (length (run_values table U (start old place.at) i)) 1 1)
+        (sym after) around)))
+
     pub keeps_lower : Closes → KeepsLowerKeys old new table place key
     keeps_lower closes other path goal lower way =
         let g = goes_on old table place U keys vs blocks f s.holds_it other path goal way in
@@ -348,6 +454,7 @@ module _ (allocator : ℕ) (old : List ℕ) (table : Table) (place : Place) (U :
             others = rest;
             blocks_are = λ h. part.counts allocator old table place (Map keys vs) blocks s inner (Selector.key key ∷ []) led h ∙ sym (times-append h c.its rest);
             clears = part.cleared allocator old table place (Map keys vs) blocks s inner (Selector.key key ∷ []) led (block_of b.p) inside mine aligned theirs now final fits mid w change new (without_entry (keys, vs) i) last';
+            parts = parts_again old mid new table place i 1 1 0 others_stay (last closes).parts;
           };
           kept = keeps_lower closes;
         }

@@ -9,8 +9,10 @@ use Rattle.seg_spec.specs.Block.{Kind, tag_of, block_of, KeepsBlock}
 use Rattle.seg_spec.specs.Shapes.{Tree, nodes_of, IsTree, IsRedBlack}
 use Rattle.seg_spec.specs.Reads.{Place, Opened, count_at, keys_at, places_of, AreNodes, Opens, OpensTree, Holds, holds, HoldsEach, holds_none, holds_more, Leads, here, into}
 use Rattle.std.specs.Prelude.{slice_get}
+use Rattle.seg_spec.specs.Parts.{PersistEach, KeepsParts}
 use Rattle.seg_map.specs.Maps.{value_of}
 use Rattle.seg_spec.proofs.Values.PlaceFrameLaws.{SamePlace}
+use Rattle.seg_spec.proofs.Values.PersistenceLaws.{parts_around}
 use Rattle.seg_spec.proofs.Values.OneValueLaws.{Opens-one}
 use Rattle.seg_spec.proofs.Values.PathFrameLaws.{Leads-each}
 use Rattle.seg_map.proofs.TreeMaps.{IsTreeMap, same_form, mapped_at}
@@ -94,6 +96,29 @@ module _ (bytes : List ℕ) (table : Table) where
       let opened : Opened = record { label = Label.map (keys_at bytes (map (λ p. p + 16) (nodes_of tree))); blocks = map block_of (nodes_of tree); parts = value_places U (nodes_of tree) } in
       let o : OpensTree bytes table place.at (tag_of Kind.node place.type) U opened = record { tree = tree; is_tree = t; red_black = b; counted = c; are_nodes = n; ascending = a; opened_is = refl } in
       into (Form.map U) opened i (value_of U (node + 24)) f o e (mapped_at (value_of U) (map (λ p. p + 24) (nodes_of tree)) i (node + 24) (mapped_at (λ p. p + 24) (nodes_of tree) i node at)) l
+
+-- ---- values that stay in their nodes
+
+module _ (old new : List ℕ) (table : Table) (place : Place) (U : ℕ) (f : form_at table place.type ≡ Some (Form.map U)) (before after : Opened) (b : OpensTree old table place.at (tag_of Kind.node place.type) U before)
+    (a : OpensTree new table place.at (tag_of Kind.node place.type) U after) where
+  -- some values stay in their nodes, some go, some come, and the rest stay
+  pub tree_parts : (front went came rest : List ℕ) → nodes_of b.tree ≡ front ++ (went ++ rest) → nodes_of a.tree ≡ front ++ (came ++ rest) → PersistEach old new table (value_places U front) (value_places U front)
+      → PersistEach old new table (value_places U rest) (value_places U rest) → KeepsParts old new table place (length front) (length went) (length came)
+  tree_parts front went came rest was is first others =
+      let split : (xs ys zs : List ℕ) → value_places U (xs ++ (ys ++ zs)) ≡ value_places U xs ++ (value_places U ys ++ value_places U zs) =
+      λ xs ys zs. places_joined U xs (ys ++ zs) ∙ ap (λ ps. value_places U xs ++ ps) (places_joined U ys zs) in
+      let around = parts_around old new table (Form.map U) (value_places U front) (value_places U went) (value_places U rest) (value_places U front) (value_places U came) (value_places U rest) (λ e. (refl, refl)) first others in
+      let befores : before.parts ≡ value_places U front ++ (value_places U went ++ value_places U rest) = ap (λ (r : Opened). r.parts) b.opened_is ∙ ap (value_places U) was ∙ split front went rest in
+      let afters : after.parts ≡ value_places U front ++ (value_places U came ++ value_places U rest) = ap (λ (r : Opened). r.parts) a.opened_is ∙ ap (value_places U) is ∙ split front came rest in
+      record {
+        form = Form.map U;
+        form_is = f;
+        before = before;
+        opens_before = b;
+        after = after;
+        opens_after = a;
+        stay = rw (befores, afters, ← places_long U front, ← places_long U went, ← places_long U came) around;
+      }
 
 -- ---- paths through a map
 

@@ -10,15 +10,16 @@ use Rattle.std.specs.declared.cmp.Ordering.TheVariants.{Less, Equal, Greater}
 use Rattle.seg_spec.specs.Bytes.{set_word, signed_long, IsSame}
 use Rattle.seg_spec.specs.Pointer.{target}
 use Rattle.seg_spec.specs.Types.{Form, Table, form_at, size}
-use Rattle.seg_spec.specs.Value.{Selector, Values, count, append, cons, Map, IsAscending, default_of}
+use Rattle.seg_spec.specs.Value.{Label, Selector, Values, count, append, cons, Map, IsAscending, default_of}
 use Rattle.seg_spec.specs.Heap.{live, heap_start, IsHeap}
 use Rattle.seg_spec.specs.Block.{Kind, tag_of, IsBlock, IsInside, KeepsBlock, block_of}
 use Rattle.seg_spec.specs.Apart.{KeepsBlockAround}
 use Rattle.seg_spec.specs.Shapes.{Tree, nodes_of}
 use Rattle.seg_spec.specs.Search.{Ascend, IsSearchTree}
 use Rattle.seg_spec.specs.Items.{key_place, keys_below, with_entry, insert_nth}
-use Rattle.seg_spec.specs.Reads.{Place, count_at, keys_at, AreNodes, Holds, HoldsEach, holds_more, Leads}
+use Rattle.seg_spec.specs.Reads.{Place, Opened, count_at, keys_at, AreNodes, OpensTree, Holds, HoldsEach, holds_more, Leads}
 use Rattle.seg_spec.specs.Sound.{times, positions}
+use Rattle.seg_spec.specs.Parts.{KeepsParts}
 use Rattle.seg_spec.specs.Owning.{Stands}
 use Rattle.seg_spec.specs.Roots.{ChangesPlace}
 use Rattle.seg_spec.specs.Shrinking.{KeepsPathsInside}
@@ -28,7 +29,7 @@ use Rattle.seg_spec.proofs.Tables.TypeSizeLaws.{size-form}
 use Rattle.seg_spec.proofs.Heap.BlockFrameLaws.{kept_twice, around_twice, around_kept}
 use Rattle.seg_spec.proofs.Values.PlaceWriteLaws.{home_live, owned_live, owned_other}
 use Rattle.seg_spec.proofs.Values.CallPlaceLaws.{same_place}
-use Rattle.seg_spec.proofs.Values.PlaceFrameLaws.{each_map, each_of_map, each_weaker, each_both, each_left, each_right, signed_long-same, cell-target, cell-count, nodes-same, shorter, IsTree-same, SamePlace, Holds-kept, HoldsEach-kept}
+use Rattle.seg_spec.proofs.Values.PlaceFrameLaws.{each_map, each_of_map, each_weaker, each_both, each_left, each_right, signed_long-same, cell-target, cell-count, nodes-same, shorter, IsTree-same, SamePlace, Holds-kept, HoldsEach-kept, PersistEach-kept}
 use Rattle.seg_spec.proofs.Heap.LiveBlockLaws.{times-append, times-same, times-other, times-more, there, each_there, LiesIn, live-lie, live-once}
 use Rattle.seg_rbtree.specs.declared.path.Path.{Path}
 use Rattle.seg_rbtree.specs.Ways.{LeadsTo}
@@ -39,7 +40,7 @@ use Rattle.seg_map.specs.Maps.{AddsKey, value_of}
 use Rattle.seg_map.proofs.KeyOrder.{ascend_of, Apart, apart_at, more_keys, place_of_more, comes_between, ascends_with, place_after, equal_self, place_of, key_of_place, still_among}
 use Rattle.seg_map.proofs.TreeMaps.{key_at, keys_low, IsTreeMap, its, IsNode, are_nodes, low, few_nodes, is_search_tree, keys_are}
 use Rattle.seg_map.proofs.TreeWriteLaws.{IsTouched, Remade, remade, count_before, stand_apart as nodes_stand_apart}
-use Rattle.seg_map.proofs.MapValueLaws.{value_places, places_joined, places_long, inserted_nth, Parts, parts, joined, map_of, map_leads, passes, paths_by}
+use Rattle.seg_map.proofs.MapValueLaws.{value_places, places_joined, places_long, inserted_nth, Parts, parts, joined, map_of, map_leads, passes, paths_by, tree_parts}
 use Rattle.seg_map.proofs.NewNodeLaws.{Entered}
 
 -- what adding a node at the end of a path ensures, in any total order for which the path is the
@@ -389,10 +390,28 @@ module _ (allocator : ℕ) (old mid : List ℕ) (table : Table) (place : Place) 
           there_it_is [] = refl
           there_it_is (x ∷ xs) = there_it_is xs
 
+      -- the other values stay in their nodes
+      parts_more : KeepsParts old new table place (keys_below keys key) 0 1
+      parts_more =
+          let was : HoldsEach old table (value_places U front ++ value_places U back) vs m.owned = subst (λ ps. HoldsEach old table ps vs m.owned) (ap (value_places U) between.nodes_are ∙ places_joined U front back) m.each in
+          let two = parts old table (value_places U front) (value_places U back) vs m.owned was in
+          let places : AllByRecursion (SamePlace old new table) (value_places U front ++ value_places U back) =
+          subst (AllByRecursion (SamePlace old new table)) (ap (value_places U) between.nodes_are ∙ places_joined U front back) values_same in
+          let kept : AllByRecursion (KeepsBlock old new) (two.xs ++ two.ys) = subst (AllByRecursion (KeepsBlock old new)) two.blocks_are owned_kept in
+          let opened : Opened = record { label = Label.map (keys_at new (map (λ p. p + 16) (nodes_of made.tree))); blocks = map block_of (nodes_of made.tree); parts = value_places U (nodes_of made.tree) } in
+          let opens : OpensTree new table place.at (tag_of Kind.node place.type) U opened =
+          record { tree = made.tree; is_tree = made.is_tree; red_black = made.red_black; counted = long_now; are_nodes = blocks_now; ascending = subst IsAscending more more_ascend; opened_is = refl } in
+          let k = tree_parts old new table place U f m.opened opened m.opens opens front [] (node ∷ []) back between.nodes_are now_are
+          (PersistEach-kept old new table s.is_table two.lefts (each_left _ (value_places U front) (value_places U back) places) (each_left _ two.xs two.ys kept))
+          (PersistEach-kept old new table s.is_table two.rights (each_right _ (value_places U front) (value_places U back) places) (each_right _ two.xs two.ys kept)) in
+          let at : keys_below keys key ≡ length front = ap (λ ks. keys_below ks key) keys_parts ∙ place_of_more (key_at mid) key front back between.low between.high in
+          subst (λ n. KeepsParts old new table place n 0 1) (sym at) k
+
       pub adds_key : AddsKey allocator old new table place U keys vs key blocks (block_for (24 + size table U) ∷ []) (node + 24)
       adds_key = record {
         others = others;
         succeeds = record { left = live new; left_is = e.spent_is ∙ ap Some (sym made.live_is); changes = changes };
+        parts = parts_more;
         stands_at = map_leads new table place U made.tree f made.is_tree made.red_black long_now blocks_now (subst IsAscending more more_ascend) key (length front) node place_now.0 place_now.1 Rattle.seg_spec.specs.Reads.here;
       }
 

@@ -7,13 +7,13 @@ use Rattle.std.specs.List.{AllByRecursion}
 use Rattle.std.specs.Ordering.{int_cmp}
 use Rattle.seg_spec.specs.Bytes.{word, set_word, signed_long, IsSame}
 use Rattle.seg_spec.specs.Types.{Form, Table, form_at, size}
-use Rattle.seg_spec.specs.Value.{Selector, Value, Values, nth, count, append, cons, Map, IsAscending, default_of}
+use Rattle.seg_spec.specs.Value.{Label, Selector, Value, Values, nth, count, append, cons, Map, IsAscending, default_of}
 use Rattle.seg_spec.specs.Heap.{Span, units_at, live, heap_start, IsHeap, IsLive, Gives}
 use Rattle.seg_spec.specs.Block.{Kind, tag_of, IsBlock, IsInside, KeepsBlock, IsOwnable, block_of, payload_size}
 use Rattle.seg_spec.specs.Apart.{Separate, KeepsBlockAround}
 use Rattle.seg_spec.specs.Shapes.{nodes_of}
 use Rattle.seg_spec.specs.Items.{key_place, without_entry, remove_nth}
-use Rattle.seg_spec.specs.Reads.{Place, Opened, count_at, keys_at, AreNodes, Opens, Holds, HoldsEach, holds_more, Leads}
+use Rattle.seg_spec.specs.Reads.{Place, Opened, count_at, keys_at, AreNodes, OpensTree, Opens, Holds, HoldsEach, holds_more, Leads}
 use Rattle.seg_spec.specs.Sound.{times, positions}
 use Rattle.seg_spec.specs.Frozen.{Frozen, blocks_by}
 use Rattle.seg_spec.specs.Shared.{named_in}
@@ -21,6 +21,7 @@ use Rattle.seg_spec.specs.Destroying.{KeepFrozen}
 use Rattle.seg_spec.specs.Clearing.{SharedBeside, ClearsPlace}
 use Rattle.seg_spec.proofs.Frozen.FrozenBlockLaws.{hold_kept, frozen_twice, frozen_kept, left_fewer}
 use Rattle.seg_spec.proofs.Frozen.FrozenFrameLaws.{shared_still}
+use Rattle.seg_spec.specs.Parts.{KeepsParts}
 use Rattle.seg_spec.specs.Owning.{Stands}
 use Rattle.seg_spec.specs.Demand.{after_gives}
 use Rattle.seg_spec.specs.Spending.{PartBlocks, item_node}
@@ -33,7 +34,8 @@ use Rattle.seg_spec.proofs.Values.PlaceWriteLaws.{home_live, owned_live, owned_o
 use Rattle.seg_spec.proofs.Values.CallPlaceLaws.{same_place, stands_still, still_home, left_kept, left_stands, left_frames}
 use Rattle.seg_spec.proofs.Values.PathFrameLaws.{Leads-kept}
 use Rattle.seg_spec.proofs.Values.PathSplitLaws.{nth-append}
-use Rattle.seg_spec.proofs.Values.PlaceFrameLaws.{each_map, each_weaker, each_both, each_left, each_right, word-same, signed_long-same, SamePlace, Holds-kept, HoldsEach-kept}
+use Rattle.seg_spec.proofs.Values.PlaceFrameLaws.{each_map, each_weaker, each_both, each_left, each_right, word-same, signed_long-same, SamePlace, Holds-kept, HoldsEach-kept, PersistEach-kept, all_parts_kept}
+use Rattle.seg_spec.proofs.Values.PersistenceLaws.{parts_then}
 use Rattle.seg_spec.proofs.Heap.LiveBlockLaws.{times-append, times-same, times-more, times-without, there, each_there, LiesIn, live-lie, live-apart, live-once, OneOrApart}
 use Rattle.seg_rbtree.specs.Changes.{StandApart, without_node, Leaves}
 use Rattle.seg_rbtree.proofs.NodeRemovalLaws.{each_without}
@@ -42,7 +44,7 @@ use Rattle.seg_map.proofs.KeyOrder.{Around, ascend_of, same_of_equal, fewer_keys
 use Rattle.seg_map.specs.Trees.{KeepsOtherKeys}
 use Rattle.seg_map.proofs.TreeMaps.{key_at, keys_low, IsTreeMap, its, nodes, IsNode, are_nodes, low, few_nodes, ascend, keys_are, mapped_at}
 use Rattle.seg_map.proofs.TreeWriteLaws.{IsTouched, Remade, remade, count_before, stand_apart}
-use Rattle.seg_map.proofs.MapValueLaws.{value_places, places_joined, places_long, removed_nth, parts, joined, map_of, map_leads, passes}
+use Rattle.seg_map.proofs.MapValueLaws.{value_places, places_joined, places_long, removed_nth, parts, joined, map_of, map_leads, passes, tree_parts}
 
 -- a value, and the values before and after it
 pub record Cut (bytes : List ℕ) (table : Table) (before after : List Place) (part : Place) (vs : Values) (blocks : List ℕ) : Type 0 where
@@ -311,6 +313,16 @@ module _ (allocator : ℕ) (old : List ℕ) (table : Table) (place : Place) (U :
 
     holds_less : Holds mid table place (without_entry (keys, vs) i) others
     holds_less = map_of mid table place U made.tree (remove keys i) (remove_nth vs i) (k.xs ++ k.ys) f made.is_tree made.red_black long_now blocks_now (keys_less ∙ sym keys_mid) still_ascend values_less
+
+    -- the other values stay in their nodes
+    parts_mid : KeepsParts old mid table place i 1 0
+    parts_mid =
+        let opened : Opened = record { label = Label.map (keys_at mid (map (λ p. p + 16) (nodes_of made.tree))); blocks = map block_of (nodes_of made.tree); parts = value_places U (nodes_of made.tree) } in
+        let opens : OpensTree mid table place.at (tag_of Kind.node place.type) U opened =
+        record { tree = made.tree; is_tree = made.is_tree; red_black = made.red_black; counted = long_now; are_nodes = blocks_now; ascending = subst IsAscending (keys_less ∙ sym keys_mid) still_ascend; opened_is = refl } in
+        tree_parts old mid table place U f m.opened opened m.opens opens a.front (node ∷ []) [] a.back a.nodes_are now_are
+        (PersistEach-kept old mid table s.is_table k.lefts (values_same a.front (each_left _ a.front (node ∷ a.back) both_nodes)) (each_left _ k.xs (k.zs ++ k.ys) owned_kept))
+        (PersistEach-kept old mid table s.is_table k.rights (values_same a.back (each_right _ a.front (node ∷ a.back) both_nodes).1) (each_right _ k.zs k.ys (each_right _ k.xs (k.zs ++ k.ys) owned_kept)))
 
     -- a path through another key still reaches the same place
     path_mid : (other : ℤ) (path : List Selector) (inner : Place) → other ≢ key → Leads old table place (Selector.key other ∷ path) inner → Leads mid table place (Selector.key other ∷ path) inner
@@ -606,6 +618,10 @@ module _ (allocator : ℕ) (old : List ℕ) (table : Table) (place : Place) (U :
         keeps_others other path inner ne way =
             Leads-kept mid new table s.is_table (path_mid other path inner ne way) holds_less cell_kept (each_there (KeepsBlock mid new) others (λ h some. block_kept h (omega (arith, times-more h s.home others))))
 
+        parts_less : KeepsParts old new table place i 1 0
+        parts_less = parts_then old mid new table place i 1 0 parts_mid
+            (all_parts_kept mid new table s.is_table holds_less cell_kept (each_there (KeepsBlock mid new) others (λ h some. block_kept h (omega (arith, times-more h s.home others)))))
+
         pub takes_key : TakesKey old new table place keys vs blocks (KeepsOtherKeys old new table place key) i theirs now final
         takes_key = record {
           loses = record {
@@ -614,6 +630,7 @@ module _ (allocator : ℕ) (old : List ℕ) (table : Table) (place : Place) (U :
             others = others;
             blocks_are = λ h. omega (arith, shares h, others_are h, times-append h (block_of node ∷ k.zs) others);
             clears = clears;
+            parts = parts_less;
           };
           kept = keeps_others;
         }

@@ -16,8 +16,9 @@
 use Rattle.std.specs.Prelude.{◌≡◌, ◌-◌, ◌<ℤ◌, ℕ, Bool, true, false, ℤ, int_lt, List, [], ◌∷◌, length, filter, slice_get, Option, Some, None, MatchOption, Result, MatchResult}
 use Rattle.seg_spec.specs.Types.{Form, Table, form_at}
 use Rattle.seg_spec.specs.Value.{Value, Values, Map, Selector, nth, default_of}
-use Rattle.seg_spec.specs.Items.{key_place, with_entry, without_entry}
+use Rattle.seg_spec.specs.Items.{key_place, keys_below, with_entry, without_entry}
 use Rattle.seg_spec.specs.Reads.{Place, Leads}
+use Rattle.seg_spec.specs.Parts.{KeepsParts}
 use Rattle.seg_spec.specs.Calls.{Refuses}
 use Rattle.seg_spec.specs.Demand.{Ask}
 use Rattle.seg_spec.specs.Clearing.{BesideShared, LosesPart}
@@ -55,13 +56,14 @@ abbrev pub FindsValue : List ℕ → Table → Place → ℕ → List ℤ → �
 FindsValue bytes table map U keys key found = MatchOption found (key_place keys key ≡ None)
     (λ p. Leads bytes table map (Selector.key key ∷ []) (value_of U p))
 
--- the map has one key more, with a default value at position p
+-- The map has one key more, with a default value at position p. Its other values stay.
 pub record AddsKey (allocator : ℕ) (old new : List ℕ) (table : Table) (map : Place) (U : ℕ)
     (keys : List ℤ) (vs : Values) (key : ℤ) (blocks : List ℕ) (asks : List Ask)
     (p : ℕ) : Type 0 where
   pub others : List ℕ
   pub succeeds : Succeeds allocator old new table map
       (with_entry (keys, vs) key (default_of table U)) asks [] blocks others
+  pub parts : KeepsParts old new table map (keys_below keys key) 0 1
   pub stands_at : Leads new table map (Selector.key key ∷ []) (value_of U p)
 
 -- The result of `put`, by the index of the key among the map's keys. Nothing changes if the map has

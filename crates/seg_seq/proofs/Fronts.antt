@@ -12,9 +12,11 @@ use Rattle.seg_spec.specs.Reads.{Place, AreNodes, HoldsEach, holds_more, holds_n
 use Rattle.seg_spec.specs.Shapes.{IsRing}
 use Rattle.seg_spec.specs.Sound.{times, positions}
 use Rattle.seg_spec.specs.Roots.{ChangesPlace}
+use Rattle.seg_spec.specs.Parts.{PersistEach, persist_none, KeepsParts}
 use Rattle.seg_spec.specs.Owning.{Stands}
 use Rattle.seg_spec.proofs.BytesLaws.{number-set_other}
-use Rattle.seg_spec.proofs.Values.PlaceFrameLaws.{SamePlace, each_weaker, each_left, each_right, IsRing-same, Holds-kept, HoldsEach-kept, nodes-same, inner-same, shorter}
+use Rattle.seg_spec.proofs.Values.PlaceFrameLaws.{SamePlace, each_weaker, each_left, each_right, IsRing-same, Holds-kept, HoldsEach-kept, PersistEach-kept, nodes-same, inner-same, shorter}
+use Rattle.seg_spec.proofs.Values.PersistenceLaws.{persist_then}
 use Rattle.seg_spec.proofs.Heap.BlockFrameLaws.{around_twice}
 use Rattle.seg_spec.proofs.Heap.LiveBlockLaws.{times-same, times-append, there}
 use Rattle.seg_spec.proofs.Tables.TypeSizeLaws.{size-form}
@@ -33,7 +35,7 @@ use Rattle.seg_seq.specs.declared.ring.Way.TheVariants as way
 use Rattle.seg_seq.proofs.RingWalkLaws.{neighbour_named, around_less, starts, backward_is}
 use Rattle.seg_spec.specs.Items.{remove_nth, without_last}
 use Rattle.seg_seq.proofs.Homes.{are_spread}
-use Rattle.seg_seq.proofs.ListNodeLaws.{values_in, value_in, value_at_index, ListOf, list_of, holds_list, leads_on, item_leads}
+use Rattle.seg_seq.proofs.ListNodeLaws.{values_in, value_in, value_at_index, ListOf, list_of, holds_list, leads_on, item_leads, length_values, list_parts, appended}
 use Rattle.seg_seq.proofs.NodeRemovalLaws.{SplitAt, split_at}
 use Rattle.seg_seq.proofs.ListRemovalLaws.{node_split, index_back, leads_nowhere}
 
@@ -56,12 +58,8 @@ module _ (allocator : ℕ) (bytes : List ℕ) (table : Table) (list : Place) (U 
       let a = times-append h (map block_of its_list.nodes) its_list.owned in
       omega arith)
 
-  length_values : (xs : List ℕ) → length (values_in U xs) ≡ length xs
-  length_values [] = refl
-  length_values (x ∷ xs) = ap suc (length_values xs)
-
   pub its_count : length its_list.nodes ≡ count vs
-  its_count = sym (length_values its_list.nodes) ∙ count_is bytes table its_list.each
+  its_count = sym (length_values U its_list.nodes) ∙ count_is bytes table its_list.each
 
   -- the place of an item is in the item's node
   pub node_of_item : (i at : ℕ) → Leads bytes table list (Selector.item i ∷ []) (record { at = at; type = U }) → (node : ℕ) × (slice_get its_list.nodes i ≡ Some node) × (at ≡ node + 8)
@@ -303,6 +301,14 @@ module _ (allocator : ℕ) (mid : List ℕ) (table : Table) (list : Place) (U no
       leads_on new table list U f (cons v vs) turned l_new (suc i) n.node path inner found
       (Leads-each mid new table t.is_table (value_in U n.node) i p.lefts (value_at_index U xs i n.node found) lefts_same front_kept n.rest)
 
+  -- the other items stay in their nodes
+  items_stay : PersistEach mid new table (values_in U xs) (values_in U xs)
+  items_stay = PersistEach-kept mid new table t.is_table p.lefts lefts_same front_kept
+
+  first_node : l_new.nodes ≡ node ∷ xs
+  unfolding l_new
+  first_node = refl
+
   first_stands : Leads new table list (Selector.item 0 ∷ []) (record { at = node + 8; type = U })
   unfolding l_new
   first_stands = leads_on new table list U f (cons v vs) turned l_new 0 node [] (value_in U node) refl here
@@ -352,6 +358,12 @@ item_fronted allocator old mid table list U at node f vs v blocks s a node_is =
               (k.kept h (let x = c.live_are h in omega arith) refl);
         };
       };
+      parts =
+          let before = its_list allocator old table list U f vs blocks s in
+          let k = appended old mid table list U f vs (append vs (cons v nil)) blocks a.others before l d.before n.0 l_is (subst (λ m. KeepsParts old mid table list m 0 1) (sym front) a.parts) in
+          list_parts old (set_pointer mid list.at (Some n.0)) table list U f vs (cons v vs) blocks (turned allocator mid table list U n.0 d.before f vs v a.others t l l_is spread front) before
+          (l_new allocator mid table list U n.0 d.before f vs v a.others t l l_is spread front) [] [] (n.0 ∷ []) d.before k.nodes_are (first_node allocator mid table list U n.0 d.before f vs v a.others t l l_is spread front)
+          persist_none (persist_then old mid (set_pointer mid list.at (Some n.0)) table k.stay (items_stay allocator mid table list U n.0 d.before f vs v a.others t l l_is spread front));
       stands = subst (λ q. Leads (set_pointer mid list.at (Some n.0)) table list (Selector.item 0 ∷ []) (record { at = q; type = U })) (sym at_is)
           (first_stands allocator mid table list U n.0 d.before f vs v a.others t l l_is spread front);
       moves = λ i path inner lead.

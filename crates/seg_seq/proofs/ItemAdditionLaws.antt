@@ -11,6 +11,7 @@ use Rattle.seg_spec.specs.Block.{Kind, tag_of, block_of, IsInside, KeepsBlock, p
 use Rattle.seg_spec.specs.Reads.{Place, count_at, named, start, items, NamesRoom, Holds, HoldsEach, holds_none, Leads}
 use Rattle.seg_spec.specs.Cells.{IsWithin}
 use Rattle.seg_spec.specs.Sound.{times}
+use Rattle.seg_spec.specs.Parts.{PersistEach, KeepsParts}
 use Rattle.seg_spec.specs.Owning.{Stands}
 use Rattle.seg_spec.specs.Growing.{Succeeds, Reserves}
 use Rattle.seg_spec.specs.Demand.{Ask}
@@ -20,7 +21,8 @@ use Rattle.seg_spec.proofs.Heap.LiveBlockLaws.{times-same, times-more, each_ther
 use Rattle.seg_spec.proofs.Heap.BlockFrameLaws.{kept_twice}
 use Rattle.seg_spec.proofs.Values.PathSplitLaws.{count_is, each_joined}
 use Rattle.seg_spec.proofs.Values.CallPlaceLaws.{stands_after}
-use Rattle.seg_spec.proofs.Values.BufferLaws.{holds_buffered, entries_kept}
+use Rattle.seg_spec.proofs.Values.BufferLaws.{holds_buffered, entries_stay, entries_kept, entries_come, each_entry_persists}
+use Rattle.seg_spec.proofs.Values.PersistenceLaws.{persist_then}
 use Rattle.seg_seq.proofs.CallPlaceLaws.{Leaves, begun, ended}
 use Rattle.seg_seq.proofs.CountWriteLaws as counting
 use Rattle.seg_seq.proofs.Rooms.{block_again, its, Reaches, reaches}
@@ -164,11 +166,20 @@ module _ (allocator : ℕ) (old mid : List ℕ) (table : Table) (place : Place) 
               let twice : 2 ≤ times (block_of p) r.others = rw others_are (let again : 1 ≤ times (block_of p) e.owned = subst (λ x. 1 ≤ times x e.owned) same some in omega (arith, times-same (block_of p) e.owned)) in
               omega (arith, l.owned (block_of p), times-more (block_of p) l.home r.others, live-once mid allocator l.heap (block_of p))))
 
+      mid_items : HoldsEach mid table (items table p U n) vs e.owned
+      mid_items = subst (λ k. HoldsEach mid table (items table p U k) vs e.owned) same_count
+          (subst (λ a. HoldsEach mid table (items table a U (count_at mid place.at)) vs e.owned) was_there e.each)
+
+      -- the items persist from the old buffer to the new one
+      items_persist : PersistEach old new table (items table (start old place.at) U n) (items table p U n)
+      items_persist =
+          let first = each_entry_persists old mid table place (Form.vec U) (Seq vs) (Seq vs) blocks r.others f refl s.holds_it t.holds_it r.parts in
+          let to_mid : PersistEach old mid table (items table (start old place.at) U n) (items table p U n) = rw (was_there, same_count) at first in
+          persist_then old mid new table to_mid (entries_stay mid new table s.is_table (Form.vec U) p n (Seq vs) e.owned first_now owned_kept (vs, refl, mid_items))
+
       old_items : HoldsEach new table (items table p U n) vs e.owned
       old_items =
-          let was : HoldsEach mid table (items table p U n) vs e.owned = subst (λ k. HoldsEach mid table (items table p U k) vs e.owned) same_count
-          (subst (λ a. HoldsEach mid table (items table a U (count_at mid place.at)) vs e.owned) was_there e.each) in
-          let k = entries_kept mid new table s.is_table (Form.vec U) p n (Seq vs) e.owned first_now owned_kept (vs, refl, was) in
+          let k = entries_kept mid new table s.is_table (Form.vec U) p n (Seq vs) e.owned first_now owned_kept (vs, refl, mid_items) in
           subst (λ ws. HoldsEach new table (items table p U n) ws e.owned) (sym (same_items vs k.0 k.1)) k.2
 
       all_items : HoldsEach new table (items table p U (n + 1)) (append vs (cons v nil)) e.owned
@@ -198,6 +209,14 @@ module _ (allocator : ℕ) (old mid : List ℕ) (table : Table) (place : Place) 
         left_is = r.succeeds.left_is;
         changes = ended allocator old new table place blocks r.others r.succeeds.left ln (Seq (append vs (cons v nil))) holds_them;
       }
+
+      pub item_parts : KeepsParts old new table place (count vs) 0 1
+      item_parts =
+          let c : count vs ≡ n = (has_each allocator old table place U vs blocks f s).counts in
+          let all : items table (start new place.at) U (count_at new place.at) ≡ items table p U n ++ record { at = q; type = U } ∷ [] = rw (now_there, counts) (one_more table U p n) in
+          let k = entries_come old new table place (Form.vec U) (Seq vs) (Seq (append vs (cons v nil))) blocks r.others f refl s.holds_it holds_them
+          (record { at = q; type = U } ∷ []) (items table p U n) items_persist all in
+          subst (λ m. KeepsParts old new table place m 0 1) (how_many table U (start old place.at) n ∙ sym c) k
 
       pub item_stands : Leads new table place (Selector.item (count vs) ∷ []) (record { at = q; type = U })
       item_stands =

@@ -25,7 +25,7 @@ use Rattle.seg_seq.specs.Buffers.{NamesNone}
 use Rattle.seg_seq.specs.Sequences.{HasItems, IsFull, LacksRoom, CountsItem, PushesItem, PushesBack, PopsBack, push_asks}
 use Rattle.seg_seq.proofs.Rooms.{entries_fit}
 use Rattle.seg_seq.proofs.ItemRemovalLaws.{some_buffer, last, value_is, item_stands as item_stands_there, item_beside, item_lost}
-use Rattle.seg_seq.proofs.ItemAdditionLaws.{has_each, count_few, has_buffer_now, item_within, item_added, item_stands}
+use Rattle.seg_seq.proofs.ItemAdditionLaws.{has_each, count_few, has_buffer_now, item_within, item_added, item_parts, item_stands}
 
 -- the entries of a vector's buffer are values of the item type
 pub vector_entry : (table : Table) (T U : ℕ) (content : Content) → form_at table T ≡ Some (Form.vec U) → NamesBuffer table T content → IsEntryOf table 0 U content.entry
@@ -79,6 +79,7 @@ module _ (allocator : ℕ) (old : Stored) (cell T U : ℕ) (vs : Values) (blocks
             others = r'.others;
             succeeds = item_added allocator old.window.bytes mid.window.bytes old.types (object_at cell T) U vs blocks h.form_is h.stands (push_asks old (object_at cell T) U) r' counted.window.bytes c' b.0 b.1 new.window.bytes v done it;
           };
+          parts = item_parts allocator old.window.bytes mid.window.bytes old.types (object_at cell T) U vs blocks h.form_is h.stands (push_asks old (object_at cell T) U) r' counted.window.bytes c' b.0 b.1 new.window.bytes v done it;
           leads = item_stands allocator old.window.bytes mid.window.bytes old.types (object_at cell T) U vs blocks h.form_is h.stands (push_asks old (object_at cell T) U) r' counted.window.bytes c' b.0 b.1 new.window.bytes v done it;
         })
 

@@ -4,6 +4,7 @@ use Rattle.std.proofs.Common.{◌≡◌, ◌≢◌, ℕ, ◌+◌, ◌*◌, ◌/�
 use Rattle.std.specs.Prelude.{option_map, option_to_list}
 use Rattle.std.specs.List.{AllByRecursion}
 use Rattle.std.proofs.lemmas.Bool.{cases_eq}
+use Rattle.std.proofs.lemmas.List.{append-nil}
 use Rattle.seg_spec.specs.Bytes.{set_word, IsSame}
 use Rattle.seg_spec.specs.Pointer.{target}
 use Rattle.seg_spec.specs.Types.{Form, Table, form_at, size}
@@ -14,6 +15,7 @@ use Rattle.seg_spec.specs.Block.{Kind, tag_of, block_of, IsBlock, IsInside, Keep
 use Rattle.seg_spec.specs.Reads.{Place, count_at, named, start, items, NamesRoom, Holds, HoldsEach}
 use Rattle.seg_spec.specs.Apart.{Separate, KeepsBlockAround}
 use Rattle.seg_spec.specs.Sound.{times, positions}
+use Rattle.seg_spec.specs.Parts.{persist_none, PartsStay, KeepsParts}
 use Rattle.seg_spec.specs.Owning.{Stands}
 use Rattle.seg_spec.specs.Demand.{after_gives}
 use Rattle.seg_spec.specs.Spending.{PartBlocks}
@@ -30,7 +32,8 @@ use Rattle.seg_spec.proofs.Frozen.FrozenBlockLaws.{hold_kept, frozen_twice, froz
 use Rattle.seg_spec.proofs.Deallocation.SharedDestructionLaws.{shared_fewer}
 use Rattle.seg_spec.proofs.Values.PathSplitLaws.{count_is, nth-append}
 use Rattle.seg_spec.proofs.Values.PlaceWriteLaws.{home_live}
-use Rattle.seg_spec.proofs.Values.BufferLaws.{holds_buffered, entries_kept}
+use Rattle.seg_spec.proofs.Values.BufferLaws.{holds_buffered, entries_stay, entries_kept, parts_stay}
+use Rattle.seg_spec.proofs.Values.PersistenceLaws.{parts_around}
 use Rattle.seg_seq.proofs.CallPlaceLaws.{Leaves, ended}
 use Rattle.seg_seq.proofs.CountWriteLaws as counting
 use Rattle.seg_seq.proofs.Rooms.{block_again, Reaches, reaches, none_counted}
@@ -305,6 +308,18 @@ module _ (allocator : ℕ) (old : List ℕ) (table : Table) (place : Place) (U :
             let own : block_of p ∷ last.xs ≡ named new place.at ++ last.xs = ap (λ o. option_to_list (option_map block_of o) ++ last.xs) (sym names) in
             rw own (holds_buffered new table place (Form.vec U) (Seq last.left) last.xs f refl room_now (last.left, refl, each))
 
+        -- the other items stay
+        parts_left : KeepsParts old new table place n 1 0
+        parts_left =
+            let stay = entries_stay old new table s.is_table (Form.vec U) p n (Seq last.left) last.xs first_same stay_kept (last.left, refl, last.lefts) in
+            let before : items table (start old place.at) U (count_at old place.at) ≡ items table p U n ++ item ∷ [] = rw (there_is, more) (one_more table U p n) in
+            let after : items table (start new place.at) U (count_at new place.at) ≡ items table p U n ++ [] = rw (names, counts) (sym (append-nil (items table p U n))) in
+            let around = parts_around old new table (Form.vec U) (items table p U n) (item ∷ []) [] (items table p U n) [] [] (λ e. (refl, refl)) stay persist_none in
+            parts_stay old new table place (Form.vec U) (Seq vs) (Seq last.left) blocks others f refl s.holds_it holds_them n 1 0
+            (subst (λ ps. PartsStay old new table (Form.vec U) ps (items table (start new place.at) U (count_at new place.at)) n 1 0) (sym before)
+            (subst (λ ps. PartsStay old new table (Form.vec U) (items table p U n ++ item ∷ []) ps n 1 0) (sym after)
+            (subst (λ k. PartsStay old new table (Form.vec U) (items table p U n ++ item ∷ []) (items table p U n ++ []) k 1 0) (how_many table U p n) around)))
+
         left_kept : (h : ℕ) → 1 ≤ times h left → KeepsBlock mid new h
         left_kept h some = kept_count h (omega (arith, times-append h others left))
 
@@ -323,4 +338,5 @@ module _ (allocator : ℕ) (old : List ℕ) (table : Table) (place : Place) (U :
                 shared_kept = frozen_twice old mid new theirs final c.shared_kept (frozen_kept allocator mid new lm.heap theirs final left_mid left_kept);
                 holds = hold_kept mid new table s.is_table theirs final left_kept c.holds;
               };
+              parts = parts_left;
             })

@@ -10,6 +10,7 @@ use Rattle.seg_spec.specs.Items.{remove_nth}
 use Rattle.seg_spec.specs.Heap.{IsHeap, IsLive, Gives}
 use Rattle.seg_spec.specs.Block.{Kind, tag_of, block_of}
 use Rattle.seg_spec.specs.Reads.{Place, AreNodes, HoldsEach, Leads, here}
+use Rattle.seg_spec.specs.Parts.{KeepsParts}
 use Rattle.seg_spec.specs.Owning.{Stands}
 use Rattle.seg_spec.specs.Frozen.{Frozen}
 use Rattle.seg_spec.specs.Shared.{named_in}
@@ -18,8 +19,8 @@ use Rattle.seg_spec.proofs.Heap.LiveBlockLaws.{times-same, times-append, there}
 use Rattle.seg_spec.proofs.Values.PathSplitLaws.{nth-append}
 use Rattle.seg_seq.specs.Rings.{AreSpread, HasRing, Relinks}
 use Rattle.seg_seq.specs.Lists.{MovesItems, without_index, RemovesItem, LosesItem}
-use Rattle.seg_seq.proofs.ListNodeLaws.{values_in, value_in, value_at_index, ListOf, list_of, opened_of, opens_list, leads_on, item_leads, index_front, index_after}
-use Rattle.seg_seq.proofs.NodeRemovalLaws.{SplitAt, split_at, remove_nth-append, dropped_spread, item_stands, item_beside, two_heap, node_live_still, list_new, new_nodes, dropped_blocks, dropped, lefts_lead, rights_lead}
+use Rattle.seg_seq.proofs.ListNodeLaws.{values_in, value_in, value_at_index, ListOf, list_of, opened_of, opens_list, leads_on, item_leads, index_front, index_after, list_parts}
+use Rattle.seg_seq.proofs.NodeRemovalLaws.{SplitAt, split_at, remove_nth-append, dropped_spread, item_stands, item_beside, two_heap, node_live_still, list_new, new_nodes, dropped_blocks, dropped, lefts_lead, rights_lead, lefts_stay, rights_stay}
 
 -- ---- lists of nodes
 
@@ -171,6 +172,16 @@ module _ (allocator : ℕ) (old one two new : List ℕ) (table : Table) (list : 
           (cases_eq i j))
           (cases_lt i j)
 
+      -- the other items stay in their nodes
+      parts_left : KeepsParts old new table list j 1 0
+      unfolding m
+      parts_left =
+          let k = list_parts old new table list U f vs ws blocks left_blocks l m xs (node ∷ []) [] ys parts.nodes_are
+          (new_nodes allocator old table list U node xs ys f vs blocks l.owned s are_nodes blocks_are values one r theirs now final beside.owned two c new g)
+          (lefts_stay allocator old table list U node xs ys f vs blocks l.owned s are_nodes blocks_are values one r theirs now final beside.owned two c new g)
+          (rights_stay allocator old table list U node xs ys f vs blocks l.owned s are_nodes blocks_are values one r theirs now final beside.owned two c new g) in
+          subst (λ n. KeepsParts old new table list n 1 0) parts.at_is k
+
       removes : RemovesItem old new table list (remove_nth vs j) blocks j theirs now final
       removes = rw values_are (record {
         loses = record {
@@ -190,6 +201,7 @@ module _ (allocator : ℕ) (old one two new : List ℕ) (table : Table) (list : 
           others = left_blocks;
           blocks_are = λ h. dropped_blocks allocator old table list U node xs ys f vs blocks l.owned s are_nodes blocks_are values h ∙ sym (times-append h (block_of node ∷ values.its) left_blocks);
           clears = dropped allocator old table list U node xs ys f vs blocks l.owned s are_nodes blocks_are values one r theirs now final beside.owned two c new g;
+          parts = parts_left;
         };
         moves = moves;
       })

@@ -12,8 +12,10 @@ use Rattle.seg_spec.specs.Reads.{Place, HoldsEach, holds_none, here}
 use Rattle.seg_spec.specs.Apart.{KeepsBlockAround}
 use Rattle.seg_spec.specs.Sound.{times, positions}
 use Rattle.seg_spec.specs.Roots.{ChangesPlace}
+use Rattle.seg_spec.specs.Parts.{persist_none, KeepsParts}
 use Rattle.seg_spec.specs.Owning.{Stands}
-use Rattle.seg_spec.proofs.Values.PlaceFrameLaws.{SamePlace, each_map, each_weaker, Holds-kept, HoldsEach-kept}
+use Rattle.seg_spec.proofs.Values.PlaceFrameLaws.{SamePlace, each_map, each_weaker, Holds-kept, HoldsEach-kept, PersistEach-kept}
+use Rattle.seg_spec.proofs.Values.PersistenceLaws.{persist_then}
 use Rattle.seg_spec.proofs.Heap.BlockFrameLaws.{around_twice, around_kept}
 use Rattle.seg_spec.proofs.Heap.LiveBlockLaws.{times-same, times-more, times-append, there, each_there, LiesIn, live-lie, live-once}
 use Rattle.seg_spec.proofs.Tables.TypeSizeLaws.{size-form}
@@ -24,7 +26,7 @@ use Rattle.seg_seq.specs.Rings.{AreSpread, HasRing, Relinks}
 use Rattle.seg_seq.specs.Lists.{MovesItems, AddsItem}
 use Rattle.seg_seq.proofs.SeveralWriteLaws.{heap_same, live_same, ownable_same, low_same, block_there}
 use Rattle.seg_seq.proofs.Homes.{are_spread, are_home, node_live, other_kept, home_kept, value_kept}
-use Rattle.seg_seq.proofs.ListNodeLaws.{values_in, value_in, values_append, mapped_append, value_at_index, ListOf, list_of, holds_list, leads_on, item_leads, index_front, index_middle}
+use Rattle.seg_seq.proofs.ListNodeLaws.{values_in, value_in, values_append, mapped_append, value_at_index, ListOf, list_of, holds_list, leads_on, item_leads, index_front, index_middle, length_values, list_parts, nodes_again}
 use Rattle.seg_seq.proofs.NewNodeLaws.{taken_counts, taken_spent, taken_stands, taken_home}
 
 module _ (allocator : ℕ) (old mid : List ℕ) (table : Table) (list : Place) (U payload : ℕ) (f : form_at table list.type ≡ Some (Form.list U)) (vs : Values) (blocks : List ℕ) (s : Stands allocator old table list (Seq vs) blocks)
@@ -173,30 +175,42 @@ module _ (allocator : ℕ) (old mid : List ℕ) (table : Table) (list : Place) (
       kept = λ h some none. rw eight (kept_around h some none);
     }
 
+    count_nodes : count vs ≡ length nodes
+    count_nodes = sym (count_is mid table l.each) ∙ length_values U nodes
+
+    kept_mid : AllByRecursion (KeepsBlock old mid) blocks
+    kept_mid = each_there (KeepsBlock old mid) blocks (λ h some. (given.kept h (let o = s.owned h in omega arith)).0)
+
+    place_mid : IsSame old mid list.at (size table list.type)
+    place_mid =
+        let home_whole = (given.kept s.home (let o = s.owned s.home in let k = times-same s.home blocks in omega arith)).0 in
+        Rattle.seg_spec.proofs.Values.CallPlaceLaws.same_place allocator old table list (Seq vs) blocks s mid home_whole
+
+    -- the other items stay in their nodes
+    item_parts : KeepsParts old new table list (count vs) 0 1
+    unfolding m
+    item_parts =
+        let before = list_of old table list U f vs blocks s.holds_it in
+        let again = nodes_again old mid table s.is_table list U f vs blocks before l place_mid kept_mid in
+        let stay = persist_then old mid new table again.stay (PersistEach-kept mid new table s.is_table l.each values_same owned_kept) in
+        let k = list_parts old new table list U f vs (append vs (cons (default_of table U) nil)) blocks others before m nodes [] (payload ∷ []) [] (again.nodes_are ∙ sym (append-nil nodes)) refl stay persist_none in
+        subst (λ n. KeepsParts old new table list n 0 1) (sym count_nodes) k
+
     moved : MovesItems old new table list (λ i. Some i)
     unfolding m
     moved i path inner p =
-        let kept = each_there (KeepsBlock old mid) blocks (λ h some. (given.kept h (let o = s.owned h in omega arith)).0) in
-        let home_whole = (given.kept s.home (let o = s.owned s.home in let k = times-same s.home blocks in omega arith)).0 in
-        let same = Rattle.seg_spec.proofs.Values.CallPlaceLaws.same_place allocator old table list (Seq vs) blocks s mid home_whole in
-        let q = Leads-kept old mid table s.is_table p s.holds_it same kept in
+        let q = Leads-kept old mid table s.is_table p s.holds_it place_mid kept_mid in
         let n = item_leads mid table list U f vs blocks l i path inner q in
         let at = value_at_index U nodes i n.node n.node_is in
         let rest = Leads-each mid new table s.is_table (value_in U n.node) i l.each at values_same owned_kept n.rest in
         leads_on new table list U f (append vs (cons (default_of table U) nil)) others m i n.node path inner (index_front nodes (payload ∷ []) i n.node n.node_is) rest
-
-    count_nodes : count vs ≡ length nodes
-    count_nodes = sym (count_is mid table l.each) ∙ length_values nodes
-      where
-        length_values : (xs : List ℕ) → length (values_in U xs) ≡ length xs
-        length_values [] = refl
-        length_values (x ∷ xs) = ap Rattle.std.proofs.Common.suc (length_values xs)
 
     pub item_added : AddsItem allocator old new table list U (append vs (cons (default_of table U) nil)) blocks (count vs) (payload + 8) (λ i. Some i)
     unfolding m
     item_added = record {
       others = others;
       succeeds = record { left = live mid; left_is = taken_spent allocator old mid table list U payload f (Seq vs) blocks s given; changes = added_changes };
+      parts = item_parts;
       stands = leads_on new table list U f (append vs (cons (default_of table U) nil)) others m (count vs) payload [] (value_in U payload) (rw count_nodes (index_middle nodes payload [])) here;
       moves = moved;
     }

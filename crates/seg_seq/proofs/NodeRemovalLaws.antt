@@ -17,10 +17,11 @@ use Rattle.seg_spec.specs.Roots.{ChangesPlace}
 use Rattle.seg_spec.specs.Frozen.{Frozen, blocks_by}
 use Rattle.seg_spec.specs.Destroying.{AreLive}
 use Rattle.seg_spec.specs.Clearing.{SharedBeside, ClearsPlace}
+use Rattle.seg_spec.specs.Parts.{PersistEach}
 use Rattle.seg_spec.specs.Owning.{Stands}
 use Rattle.seg_spec.specs.Demand.{after_gives}
 use Rattle.seg_spec.specs.Pointer.{target}
-use Rattle.seg_spec.proofs.Values.PlaceFrameLaws.{SamePlace, each_map, each_weaker, Holds-kept, HoldsEach-kept, IsBlock-kept, IsRing-same, cell-target, cell-count, payload-same, word-same}
+use Rattle.seg_spec.proofs.Values.PlaceFrameLaws.{SamePlace, each_map, each_weaker, Holds-kept, HoldsEach-kept, PersistEach-kept, IsBlock-kept, IsRing-same, cell-target, cell-count, payload-same, word-same}
 use Rattle.seg_spec.proofs.SliceLaws.{IsSame-part}
 use Rattle.seg_spec.proofs.Heap.BlockFrameLaws.{kept_twice, around_twice, around_kept}
 use Rattle.seg_spec.proofs.Heap.LiveBlockLaws.{times-same, times-more, times-append, times-without, there, each_there, LiesIn, live-lie, live-apart, live-once, OneOrApart}
@@ -516,3 +517,10 @@ module _ (allocator : ℕ) (old : List ℕ) (table : Table) (list : Place) (U no
 
           pub rights_lead : (i q : ℕ) (path : List Selector) (inner : Place) → slice_get ys i ≡ Some q → Leads old table (value_in U q) path inner → Leads new table (value_in U q) path inner
           rights_lead i q path inner e m = Leads-each old new table s.is_table (value_in U q) i p.rights (value_at_index U ys i q e) ys_new back_new m
+
+          -- the other items stay
+          pub lefts_stay : PersistEach old new table (values_in U xs) (values_in U xs)
+          lefts_stay = PersistEach-kept old new table s.is_table p.lefts xs_new front_new
+
+          pub rights_stay : PersistEach old new table (values_in U ys) (values_in U ys)
+          rights_stay = PersistEach-kept old new table s.is_table p.rights ys_new back_new

@@ -15,6 +15,7 @@ use Rattle.seg_spec.specs.Types.{Form, Table, form_at, size}
 use Rattle.seg_spec.specs.Value.{Value, Values, Seq, nth, Selector}
 use Rattle.seg_spec.specs.Block.{Kind, tag_of}
 use Rattle.seg_spec.specs.Reads.{Place, Leads}
+use Rattle.seg_spec.specs.Parts.{KeepsParts}
 use Rattle.seg_spec.specs.Demand.{block_for}
 use Rattle.seg_spec.specs.Growing.{Succeeds}
 use Rattle.seg_spec.specs.Clearing.{BesideShared, LosesPart}
@@ -47,13 +48,14 @@ MovesItems old new table list to = (i : ℕ) (path : List Selector) (inner : Pla
 abbrev pub without_index : ℕ → ℕ → Option ℕ
 without_index j i = if i == j then None else Some (if nat_lt i j then i else i - 1)
 
--- The list now has these items. Item i is new, at this position, in a new node. The others didn't
--- move.
+-- The list now has these items. Item i is new, at this position, in a new node. The others stay in
+-- their nodes.
 pub record AddsItem (allocator : ℕ) (old new : List ℕ) (table : Table) (list : Place) (U : ℕ)
     (items : Values) (blocks : List ℕ) (i at : ℕ) (to : ℕ → Option ℕ) : Type 0 where
   pub others : List ℕ
   pub succeeds : Succeeds allocator old new table list (Seq items)
       (block_for (8 + size table U) ∷ []) [] blocks others
+  pub parts : KeepsParts old new table list i 0 1
   pub stands : Leads new table list (Selector.item i ∷ []) (record { at = at; type = U })
   pub moves : MovesItems old new table list to
 

@@ -30,6 +30,7 @@ use Rattle.seg_spec.specs.Bytes.{byte, set_word}
 use Rattle.seg_spec.specs.Types.{Form, form_at, size}
 use Rattle.seg_spec.specs.Value.{Value, Values, nil, cons, Int, Text, Seq, count, nth, append, default_of, Selector}
 use Rattle.seg_spec.specs.Reads.{Place, count_at, start, Leads}
+use Rattle.seg_spec.specs.Parts.{KeepsParts}
 use Rattle.seg_spec.specs.Calls.{Refuses}
 use Rattle.seg_spec.specs.Demand.{Ask}
 use Rattle.seg_spec.specs.Growing.{Succeeds, Reserves}
@@ -128,11 +129,12 @@ pub record CountsItem (allocator : ℕ) (old new : Stored) (place : Place) (U : 
   pub at_is : at
       ≡ (start mid place.at + count_at old.window.bytes place.at * size old.types U) % 2 ^ 32
 
--- an item was appended, at the position p
+-- An item was appended, at the position p. The other items stay.
 pub record PushesItem (item : Value) (allocator : ℕ) (old new : Stored) (place : Place) (U : ℕ)
     (vs : Values) (blocks : List ℕ) (p : ℕ) : Type 0 where
   pub holds_it : ComesToHold allocator old new place (Seq (append vs (cons item nil)))
       (push_asks old place U) [] blocks
+  pub parts : KeepsParts old.window.bytes new.window.bytes old.types place (count vs) 0 1
   pub leads : Leads new.window.bytes old.types place (Selector.item (count vs) ∷ [])
       (record { at = p; type = U })
 

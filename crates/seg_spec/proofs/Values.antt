@@ -1,6 +1,7 @@
 -- Values in places: paths to their parts, their cells, their buffers, and calls on them.
 pub mod PlaceFrameLaws
 pub mod OneValueLaws
+pub mod PersistenceLaws
 pub mod PathSplitLaws
 pub mod PartPositionLaws
 pub mod PutLaws

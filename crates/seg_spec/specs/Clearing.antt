@@ -16,6 +16,7 @@ use Rattle.seg_spec.specs.Types.{Table}
 use Rattle.seg_spec.specs.Value.{Value}
 use Rattle.seg_spec.specs.Heap.{live}
 use Rattle.seg_spec.specs.Reads.{Place}
+use Rattle.seg_spec.specs.Parts.{KeepsParts}
 use Rattle.seg_spec.specs.Demand.{after_gives}
 use Rattle.seg_spec.specs.Spending.{PartBlocks}
 use Rattle.seg_spec.specs.Roots.{ChangesPlace}
@@ -53,7 +54,7 @@ pub record ClearsPlace (old new : List ℕ) (table : Table) (place : Place) (w :
   pub holds : HoldFrozen new table theirs final
 
 -- The place lost part j, an item or the value of a key, with its node and everything that it owned.
--- It contains w with the other blocks.
+-- It contains w with the other blocks. The other parts stay.
 pub record LosesPart (old new : List ℕ) (table : Table) (place : Place) (w : Value) (j : ℕ)
     (blocks : List ℕ) (theirs : ℕ → List ℕ) (now final : List Frozen) : Type 0 where
   pub lost : List ℕ
@@ -61,3 +62,4 @@ pub record LosesPart (old new : List ℕ) (table : Table) (place : Place) (w : V
   pub others : List ℕ
   pub blocks_are : SameBlocks blocks (lost ++ others)
   pub clears : ClearsPlace old new table place w blocks others theirs now final
+  pub parts : KeepsParts old new table place j 1 0

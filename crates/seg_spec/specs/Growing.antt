@@ -12,6 +12,7 @@ use Rattle.seg_spec.specs.Value.{Value}
 use Rattle.seg_spec.specs.Heap.{Span, live}
 use Rattle.seg_spec.specs.Block.{block_of, payload_size}
 use Rattle.seg_spec.specs.Reads.{Place, named}
+use Rattle.seg_spec.specs.Parts.{KeepsAllParts}
 use Rattle.seg_spec.specs.Roots.{ChangesPlace}
 use Rattle.seg_spec.specs.Demand.{Ask, after_gives}
 use Rattle.seg_spec.specs.Spending.{spent}
@@ -33,6 +34,7 @@ pub record Reserves (allocator : ℕ) (old new : List ℕ) (table : Table) (plac
     (blocks : List ℕ) (asks : List Ask) (n : ℕ) : Type 0 where
   pub others : List ℕ
   pub succeeds : Succeeds allocator old new table place v asks [] blocks others
+  pub parts : KeepsAllParts old new table place
   pub room : HasRoomFor new place.at n
 
 -- The buffer of a place moved to a block of u units that was allocated before. The old buffer was
@@ -42,4 +44,5 @@ pub record MovesBuffer (allocator : ℕ) (old taken new : List ℕ) (table : Tab
   pub others : List ℕ
   pub changes : ChangesPlace old new table place v others
       (after_gives (live taken) (named old place.at)) blocks others
+  pub parts : KeepsAllParts old new table place
   pub room : HasRoomFor new place.at (16 * u - 16)

@@ -9,6 +9,7 @@ pub mod Heap
 pub mod Value
 pub mod Block
 pub mod Reads
+pub mod Parts
 pub mod Fresh
 pub mod Apart
 pub mod Index

@@ -1,13 +1,14 @@
 -- The result of a call that cuts a buffer to the size that it needs.
 --     KeepsPathsInside old new table place       each path from a place still reaches the same place
 --     ShrinksPlace old new table place form v blocks others
---         the value is kept, and so is each path into it
+--         the value and its parts are kept, and so is each path into it
 use Rattle.std.specs.Prelude.{ℕ, ◌*◌, List, length}
 use Rattle.seg_spec.specs.Pointer.{target}
 use Rattle.seg_spec.specs.Types.{Form, Table}
 use Rattle.seg_spec.specs.Value.{Value, Selector}
 use Rattle.seg_spec.specs.Heap.{live}
 use Rattle.seg_spec.specs.Reads.{Place, count_at, Leads}
+use Rattle.seg_spec.specs.Parts.{KeepsAllParts}
 use Rattle.seg_spec.specs.Roots.{ChangesPlace}
 use Rattle.seg_spec.specs.Spending.{units_named, item_size, cut_to}
 
@@ -25,3 +26,4 @@ pub record ShrinksPlace (old new : List ℕ) (table : Table) (place : Place) (fo
       (count_at old place.at * item_size table form))
       blocks others
   pub paths : KeepsPathsInside old new table place
+  pub parts : KeepsAllParts old new table place

@@ -14,6 +14,7 @@ use Rattle.seg_spec.specs.Apart.{Separate}
 use Rattle.seg_spec.specs.Cells.{IsWithin, Shifts}
 use Rattle.seg_spec.specs.Sound.{times, positions}
 use Rattle.seg_spec.specs.Roots.{ChangesPlace}
+use Rattle.seg_spec.specs.Parts.{PersistEach, PartsStay, KeepsParts}
 use Rattle.seg_spec.specs.Owning.{Stands, StandsBeside}
 use Rattle.seg_spec.specs.Growing.{Reserves}
 use Rattle.seg_spec.specs.Items.{insert_nth, remove_nth, without_entry}
@@ -30,9 +31,10 @@ use Rattle.seg_spec.proofs.Images.RootWriteLaws.{set_number-changes}
 use Rattle.seg_spec.proofs.Heap.LiveBlockLaws.{times-same, times-other, times-more, times-append, there, each_there, LiesIn, live-lie, live-apart, OneOrApart, live-once}
 use Rattle.seg_spec.proofs.Values.PlaceWriteLaws.{home_live, owned_live, owned_other, place_within}
 use Rattle.seg_spec.proofs.Values.CallPlaceLaws.{Frames, frames_twice, stands_after}
-use Rattle.seg_spec.proofs.Values.BufferLaws.{HoldsEntries, Buffered, buffered, holds_buffered}
+use Rattle.seg_spec.proofs.Values.BufferLaws.{HoldsEntries, Buffered, buffered, holds_buffered, parts_stay}
+use Rattle.seg_spec.proofs.Values.PersistenceLaws.{persist_then, parts_around, parts_first}
 use Rattle.seg_value.proofs.Inside.{changes_twice, wrote_heap, wrote_live, wrote_ownable, wrote_other, wrote_block, frames_beside, frames_around}
-use Rattle.seg_value.proofs.Runs.{Run, run_kept, run_paths, run_moved, parts, joined, alone, keys_long, the_one, insert_between, remove_between, insert_key, remove_key, ascending_after, ascending_without}
+use Rattle.seg_value.proofs.Runs.{Run, run_values, run_long, runs_joined, run_kept, run_stays, run_persists, run_paths, run_moved, parts, joined, alone, keys_long, the_one, insert_between, remove_between, insert_key, remove_key, ascending_after, ascending_without}
 use Rattle.seg_cells.proofs.Shifts.{moved_changes}
 
 both : (ks ls : List ℤ) (us ws : Values) → Map ks us ≡ Map ls ws → (ks ≡ ls) × (us ≡ ws)
@@ -152,7 +154,7 @@ module _ (allocator : ℕ) (old : List ℕ) (table : Table) (place : Place) (U :
   -- ---- entries move in the buffer, and the cell's count changes
 
   -- the first a entries stay, k entries were moved, and the cell now counts c
-  pub record Moved (new : List ℕ) (a to k c : ℕ) (k1 k2 : List ℤ) (v1 v2 : Values) (o1 o2 : List ℕ) : Type 0 where
+  pub record Moved (new : List ℕ) (a from to k c : ℕ) (k1 k2 : List ℤ) (v1 v2 : Values) (o1 o2 : List ℕ) : Type 0 where
     pub heap : IsHeap allocator new
     pub live_is : live new ≡ live old
     pub ownable : AllByRecursion (λ b. IsOwnable new table b.at) (live new)
@@ -162,6 +164,8 @@ module _ (allocator : ℕ) (old : List ℕ) (table : Table) (place : Place) (U :
     pub block : (n : ℕ) → n ≤ payload_size old (block_of p) → IsBlock new p (tag_of Kind.buffer place.type) n
     pub first : Run new table U p a k1 v1 o1
     pub next : Run new table U to k k2 v2 o2
+    pub first_stays : PersistEach old new table (run_values table U p a) (run_values table U p a)
+    pub next_stays : PersistEach old new table (run_values table U from k) (run_values table U to k)
     pub paths : (i : ℕ) → i < a → KeepsPathsInside old new table (record { at = p + i * (8 + size table U) + 8; type = U })
 
   module _ (a k from to c : ℕ) (moved new : List ℕ) (shifts : Shifts old moved table 8 U (8 + size table U) from to k) (new_is : new ≡ set_word moved (place.at + 4) c) (c_small : c < 2 ^ 32) (even : to % 8 ≡ 0)
@@ -193,10 +197,11 @@ module _ (allocator : ℕ) (old : List ℕ) (table : Table) (place : Place) (U :
     first_moved = run_kept old moved table s.is_table U p a k1 v1 o1 (moves.others p (a * each) (inl before))
         (each_there (KeepsBlock old moved) o1 (λ h some. let i = inner h (ours_first h some) in moved_other h i.is_live i.not_buffer)) first
 
+    next_beside : StandsBeside old (block_of p) to (k * each) o2
+    next_beside = record { inside = inside; home_live = g_live; others = λ h some. let i = inner h (ours_next h some) in (i.is_live, i.not_buffer) }
+
     next_moved : Run moved table U to k k2 v2 o2
-    next_moved =
-        let beside : StandsBeside old (block_of p) to (k * each) o2 = record { inside = inside; home_live = g_live; others = λ h some. let i = inner h (ours_next h some) in (i.is_live, i.not_buffer) } in
-        run_moved old moved table s.is_table U allocator (block_of p) from to k k2 v2 o2 s.heap even from_in to_in beside shifts ascending next
+    next_moved = run_moved old moved table s.is_table U allocator (block_of p) from to k k2 v2 o2 s.heap even from_in to_in next_beside shifts ascending next
 
     -- the cell is in a block that is still allocated
 
@@ -279,7 +284,7 @@ module _ (allocator : ℕ) (old : List ℕ) (table : Table) (place : Place) (U :
         let long = moves.length_kept in
         ap (λ b. count_at b place.at) new_is ∙ number-set_same 4 moved (place.at + 4) c (omega arith) (omega arith)
 
-    pub moved_entries : Moved new a to k c k1 k2 v1 v2 o1 o2
+    pub moved_entries : Moved new a from to k c k1 k2 v1 v2 o1 o2
     moved_entries = record {
       heap = new_heap;
       live_is = new_live;
@@ -290,6 +295,13 @@ module _ (allocator : ℕ) (old : List ℕ) (table : Table) (place : Place) (U :
       block = new_block;
       first = first_new;
       next = next_new;
+      first_stays = persist_then old moved new table
+          (run_stays old moved table s.is_table U p a k1 v1 o1 (moves.others p (a * each) (inl before))
+          (each_there (KeepsBlock old moved) o1 (λ h some. let i = inner h (ours_first h some) in moved_other h i.is_live i.not_buffer)) first)
+          (run_stays moved new table s.is_table U p a k1 v1 o1 (buffer_same p (a * each) (omega arith) (omega arith)) (new_inner o1 ours_first) first_moved);
+      next_stays = persist_then old moved new table
+          (run_persists old moved table s.is_table U allocator (block_of p) from to k k2 v2 o2 s.heap even from_in next_beside shifts ascending next)
+          (run_stays moved new table s.is_table U to k k2 v2 o2 (buffer_same to (k * each) (omega arith) (omega arith)) (new_inner o2 ours_next) next_moved);
       paths = λ i below path goal way. run_paths moved new table s.is_table U p a k1 v1 o1 (buffer_same p (a * each) (omega arith) (omega arith)) (new_inner o1 ours_first) first_moved i below path goal
           (run_paths old moved table s.is_table U p a k1 v1 o1 (moves.others p (a * each) (inl before))
           (each_there (KeepsBlock old moved) o1 (λ h some. let j = inner h (ours_first h some) in moved_other h j.is_live j.not_buffer)) first i below path goal way);
@@ -315,6 +327,23 @@ module _ (allocator : ℕ) (old : List ℕ) (table : Table) (place : Place) (U :
       (new_is : new ≡ set_word moved (place.at + 4) (index + k)) (nothing : PlaceBlocks old table (record { at = p + index * (8 + size table U) + 8; type = U }) []) where
     q : ℕ
     q = p + index * (8 + size table U)
+
+    -- the values of the other entries stay
+    entry_gone : (w : Value) (new : List ℕ) → Holds new table place w blocks → start new place.at ≡ p → count_at new place.at ≡ index + k → PersistEach old new table (run_values table U p index) (run_values table U p index)
+        → PersistEach old new table (run_values table U (p + index * (8 + size table U) + (8 + size table U)) k) (run_values table U (p + index * (8 + size table U)) k) → KeepsParts old new table place index 1 0
+    entry_gone w new holding starts counts first next =
+        let spot = p + index * (8 + size table U) in
+        let one = run_values table U spot 1 in
+        let start_is : start old place.at ≡ p = ap (λ o. unwrap_or o 0) named_is in
+        let before : run_values table U (start old place.at) (count_at old place.at) ≡ run_values table U p index ++ (one ++ run_values table U (spot + (8 + size table U)) k) =
+        rw (start_is, counted) (runs_joined table U p index (1 + k) spot refl ∙ ap (λ ps. run_values table U p index ++ ps) (runs_joined table U spot 1 k (spot + (8 + size table U)) (omega arith))) in
+        let after : run_values table U (start new place.at) (count_at new place.at) ≡ run_values table U p index ++ ([] ++ run_values table U spot k) = rw (starts, counts) (runs_joined table U p index k spot refl) in
+        let around = parts_around old new table (Form.flat_map U) (run_values table U p index) one (run_values table U (spot + (8 + size table U)) k) (run_values table U p index) [] (run_values table U spot k)
+        (λ e. absurd (cc)) first next in
+        parts_stay old new table place (Form.flat_map U) (Map keys vs) w blocks blocks f refl s.holds_it holding index 1 0
+        (subst (λ n. PartsStay old new table (Form.flat_map U) (run_values table U (start old place.at) (count_at old place.at)) (run_values table U (start new place.at) (count_at new place.at)) n 1 0) (run_long table U p index)
+        (subst (λ ps. PartsStay old new table (Form.flat_map U) ps (run_values table U (start new place.at) (count_at new place.at)) (length (run_values table U p index)) 1 0) (sym before)
+        (subst (λ ps. PartsStay old new table (Form.flat_map U) (run_values table U p index ++ (one ++ run_values table U (spot + (8 + size table U)) k)) ps (length (run_values table U p index)) 1 0) (sym after) around)))
 
     pub closed : ClosesEntry old new table place U keys vs blocks index
     unfolding q
@@ -348,6 +377,7 @@ module _ (allocator : ℕ) (old : List ℕ) (table : Table) (place : Place) (U :
         record {
           changes = changes;
           start_kept = ap (λ o. unwrap_or o 0) m.named_then ∙ sym start_is;
+          parts = entry_gone (without_entry (keys, vs) index) new changes.holds_it (ap (λ o. unwrap_or o 0) m.named_then) m.counted m.first_stays m.next_stays;
           paths = λ i below. subst (λ x. KeepsPathsInside old new table (record { at = x + i * (8 + size table U) + 8; type = U })) (sym start_is) (m.paths i below);
         }
 
@@ -389,7 +419,7 @@ module _ (allocator : ℕ) (old : List ℕ) (table : Table) (place : Place) (U :
       owned_are : owned ≡ o1 ++ o2
       keys_count : index ≡ length k1
       values_count : index ≡ count v1
-      moved_to : Moved new index (p + index * each + each) k (index + (1 + k)) k1 k2 v1 v2 o1 o2
+      moved_to : Moved new index (p + index * each) (p + index * each + each) k (index + (1 + k)) k1 k2 v1 v2 o1 o2
 
     came : Came
     came =
@@ -416,7 +446,7 @@ module _ (allocator : ℕ) (old : List ℕ) (table : Table) (place : Place) (U :
           moved_to = m;
         }
 
-    then : Moved new index (p + index * each + each) k (index + (1 + k)) came.k1 came.k2 came.v1 came.v2 came.o1 came.o2
+    then : Moved new index (p + index * each) (p + index * each + each) k (index + (1 + k)) came.k1 came.k2 came.v1 came.v2 came.o1 came.o2
     then = came.moved_to
 
     pub g_there : 1 ≤ times (block_of p) (positions (live new))
@@ -507,6 +537,28 @@ module _ (allocator : ℕ) (old : List ℕ) (table : Table) (place : Place) (U :
           (wrote_ownable allocator new written table (block_of p) spot each then.heap writes new_inside g_there then.ownable) frames
           (cell-target new written place.at place_written ∙ then.named_then) (cell-count new written place.at place_written ∙ then.counted) block run ascend in
           rw (new_keys, new_values) done
+
+      -- the values of the other entries stay
+      pub opened_parts : KeepsParts old written table place index 0 1
+      opened_parts =
+          let c = came in
+          let first = persist_then old new written table then.first_stays (run_stays new written table s.is_table U p index c.k1 c.v1 c.o1 (writes.others p (index * each) (inl (omega arith)))
+          (inner_written c.o1 (λ h some. rw c.owned_are (omega (arith, times-append h c.o1 c.o2)))) then.first) in
+          let next = persist_then old new written table then.next_stays (run_stays new written table s.is_table U (spot + each) k c.k2 c.v2 c.o2 (writes.others (spot + each) (k * each) (inr (omega arith)))
+          (inner_written c.o2 (λ h some. rw c.owned_are (omega (arith, times-append h c.o1 c.o2)))) then.next) in
+          let starts : start written place.at ≡ p = ap (λ o. unwrap_or o 0) (cell-target new written place.at place_written ∙ then.named_then) in
+          let counts : count_at written place.at ≡ index + (1 + k) = cell-count new written place.at place_written ∙ then.counted in
+          let start_is : start old place.at ≡ p = ap (λ o. unwrap_or o 0) named_is in
+          let one = run_values table U spot 1 in
+          let before : run_values table U (start old place.at) (count_at old place.at) ≡ run_values table U p index ++ ([] ++ run_values table U spot k) = rw (start_is, counted) (runs_joined table U p index k spot refl) in
+          let after : run_values table U (start written place.at) (count_at written place.at) ≡ run_values table U p index ++ (one ++ run_values table U (spot + each) k) =
+          rw (starts, counts) (runs_joined table U p index (1 + k) spot refl ∙ ap (λ ps. run_values table U p index ++ ps) (runs_joined table U spot 1 k (spot + each) (omega arith))) in
+          let around = parts_around old written table (Form.flat_map U) (run_values table U p index) [] (run_values table U spot k) (run_values table U p index) one (run_values table U (spot + each) k) (λ e. absurd (cc)) first next in
+          parts_stay old written table place (Form.flat_map U) (Map keys vs) (Map (insert keys index (signed_long written (p + index * (8 + size table U)))) (insert_nth vs index w)) blocks blocks f refl s.holds_it opened.holds_it index 0 1
+          (subst (λ n. PartsStay old written table (Form.flat_map U) (run_values table U (start old place.at) (count_at old place.at)) (run_values table U (start written place.at) (count_at written place.at)) n 0 1)
+          (run_long table U p index)
+          (subst (λ ps. PartsStay old written table (Form.flat_map U) ps (run_values table U (start written place.at) (count_at written place.at)) (length (run_values table U p index)) 0 1) (sym before)
+          (subst (λ ps. PartsStay old written table (Form.flat_map U) (run_values table U p index ++ ([] ++ run_values table U spot k)) ps (length (run_values table U p index)) 0 1) (sym after) around)))
 
   -- ---- from the steps of the calls
 
@@ -603,6 +655,8 @@ module _ (allocator : ℕ) (old : List ℕ) (table : Table) (place : Place) (U :
                   (there_then.allocator_is ∙ sym s.allocator_is) there_then.heap r.succeeds.changes
                   (rw at_is (opened allocator mid table place U keys vs r.others there_then f p e index k counted room moved new shifted set written w (rw at_is at writes) (rw at_is at ascending) (rw starts at holding))));
             };
+            parts = λ written w writes ascending holding. parts_first old mid written table place index 0 1 r.parts
+                (opened_parts allocator mid table place U keys vs r.others there_then f p e index k counted room moved new shifted set written w (rw at_is at writes) (rw at_is at ascending) (rw starts at holding));
           }
 
   count_fits : count_at old place.at * (8 + size table U) ≤ 2 ^ 30

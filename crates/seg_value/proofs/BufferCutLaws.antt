@@ -18,6 +18,7 @@ use Rattle.seg_spec.specs.Reads.{Place, Opened, count_at, start, named, spaced, 
 use Rattle.seg_spec.specs.Sound.{times, positions}
 use Rattle.seg_spec.specs.Roots.{ChangesPlace}
 use Rattle.seg_spec.specs.Demand.{need}
+use Rattle.seg_spec.specs.Parts.{PersistEach, persist_none, KeepsAllParts}
 use Rattle.seg_spec.specs.Owning.{Stands}
 use Rattle.seg_spec.specs.Spending.{item_size, units_named, cut_to}
 use Rattle.seg_spec.specs.Shrinking.{KeepsPathsInside, ShrinksPlace}
@@ -25,7 +26,7 @@ use Rattle.seg_spec.proofs.BytesLaws.{slice-agrees, number-agrees, number-set_ot
 use Rattle.seg_spec.proofs.SliceLaws.{IsSame-part, IsSame-none}
 use Rattle.seg_spec.proofs.PointerLaws.{target-set_same}
 use Rattle.seg_spec.proofs.Tables.TypeSizeLaws.{size_large}
-use Rattle.seg_spec.proofs.Values.PlaceFrameLaws.{SamePlace, cell-target, cell-count, keys_at-same, spaced-same, inner-same, places-same, shorter, HoldsEach-kept}
+use Rattle.seg_spec.proofs.Values.PlaceFrameLaws.{SamePlace, cell-target, cell-count, keys_at-same, spaced-same, inner-same, places-same, shorter, HoldsEach-kept, PersistEach-kept, parts_unchanged}
 use Rattle.seg_spec.proofs.Heap.LiveBlockLaws.{times-same, times-other, times-append, times-more, times-without, there, each_there, LiesIn, live-lie, live-once, positions-resized}
 use Rattle.seg_spec.proofs.Heap.KeptBlockLaws.{each_contained, StatesSpan, live_stated, block_kept, block_ownable, front_kept}
 use Rattle.seg_spec.proofs.Deallocation.BlockFreeLaws.{found}
@@ -36,10 +37,10 @@ use Rattle.seg_spec.proofs.Heap.BlockFrameLaws.{around_kept}
 use Rattle.seg_spec.proofs.Values.PlaceWriteLaws.{home_live, owned_live, owned_other, place_within, live_then, whole_then, changes_place}
 use Rattle.seg_spec.proofs.Values.PathSplitLaws.{opened_as}
 use Rattle.seg_spec.proofs.Values.PathFrameLaws.{Leads-each}
-use Rattle.seg_spec.proofs.Values.CallPlaceLaws.{Frames, frames_twice, each_live_at, live_at, same_place, written_stands, written_frames, written_home, left_stands, left_frames, changes_of}
+use Rattle.seg_spec.proofs.Values.CallPlaceLaws.{Frames, frames_twice, each_live_at, live_at, same_place, written_stands, written_frames, written_home, left_stands, left_place, left_frames, changes_of}
 use Rattle.seg_cells.specs.declared.content.Content.{Content}
 use Rattle.seg_cells.specs.Contents.{ContentOf}
-use Rattle.seg_spec.proofs.Values.BufferLaws.{HoldsEntries, Buffered, buffered, holds_buffered, entries_kept, entries_none}
+use Rattle.seg_spec.proofs.Values.BufferLaws.{HoldsEntries, Buffered, buffered, holds_buffered, entry_places, entries_kept, entries_none, no_places, opens_entries, all_entries_stay}
 
 -- ---- entries that don't move
 
@@ -147,6 +148,7 @@ module _ (allocator : ℕ) (old : List ℕ) (table : Table) (place : Place) (for
       changes = subst (λ bs. ChangesPlace old old table place v blocks bs blocks blocks) (sym nothing)
           (changes_place allocator old table place v blocks s old (ChangesOnly-none old place.at (size table place.type)) v blocks blocks s.holds_it);
       paths = λ path inner l. l;
+      parts = parts_unchanged old table s.is_table s.holds_it;
     },
   )
     where
@@ -284,6 +286,20 @@ module _ (allocator : ℕ) (old : List ℕ) (table : Table) (place : Place) (for
           into form opened i part f r.opens index is
           (Leads-each old new table s.is_table part i as_opened.each is r.parts (inside_kept opened as_opened.owned o' as_opened.blocks_are) rest)
 
+      parts_now : KeepsAllParts old new table place
+      parts_now =
+          let o = opens_entries old table place form v blocks f b s.holds_it in
+          let as_opened = opened_as old table form o.opened f o.opens s.holds_it in
+          let r = again o.opened o.opens in
+          let n = opens_entries new table place form v blocks f b holds_now in
+          let each : PersistEach old new table o.opened.parts o.opened.parts =
+          PersistEach-kept old new table s.is_table as_opened.each r.parts (inside_kept o.opened as_opened.owned o.opens as_opened.blocks_are) in
+          let there_too : entry_places table form (start new place.at) (count_at new place.at) ≡ entry_places table form (start old place.at) (count_at old place.at) =
+          rw (cell-target old new place.at cell_same, cell-count old new place.at cell_same) refl in
+          all_entries_stay old new table place form v v blocks blocks f b s.holds_it holds_now
+          (subst (λ ps. PersistEach old new table (entry_places table form (start old place.at) (count_at old place.at)) ps) (sym there_too)
+          (subst (λ ps. PersistEach old new table ps ps) o.parts_are each))
+
       front : KeepsFront old new × KeepsBack old new
       front =
           let l = there (LiesIn old heap_start (length old)) (block_of p) (positions (live old)) (live-lie old allocator s.heap) buffer_live in
@@ -315,6 +331,7 @@ module _ (allocator : ℕ) (old : List ℕ) (table : Table) (place : Place) (for
             kept = λ h there_is away. around_kept old new place.at (size table place.type) h (let t = solid h there_is in omega arith) (other_kept h there_is (not_it h away));
           };
           paths = paths_now;
+          parts = parts_now;
         },
       )
         where
@@ -426,9 +443,24 @@ module _ (allocator : ℕ) (old : List ℕ) (table : Table) (place : Place) (for
               (given.given ∙ ap (without (block_of p)) unnamed_live ∙ sym spans_are)
               (λ h. rw spans_are (omega (arith, blocks_count h, times-without h (block_of p) (live old) buffer_live)));
           paths = paths_now;
+          parts = parts_now;
         },
       )
         where
+          stands_left : Stands allocator new table place v its.owned
+          stands_left = left_stands allocator unnamed table place v its.owned stands_unnamed new (block_of p) given still_live unowned
+
+          -- there is no part before or after
+          parts_now : KeepsAllParts old new table place
+          parts_now =
+              let same = left_place allocator unnamed table place v its.owned stands_unnamed new (block_of p) given still_live unowned in
+              let large = size_large table s.is_table place.type in
+              let counted : count_at new place.at ≡ 0 = cell-count unnamed new place.at (IsSame-part unnamed new place.at (size table place.type) place.at 8 (omega arith) (omega arith) same) ∙ unnamed_count in
+              let before : entry_places table form (start old place.at) (count_at old place.at) ≡ [] = ap (entry_places table form (start old place.at)) empty ∙ no_places table form (start old place.at) in
+              let after : entry_places table form (start new place.at) (count_at new place.at) ≡ [] = ap (entry_places table form (start new place.at)) counted ∙ no_places table form (start new place.at) in
+              all_entries_stay old new table place form v v blocks its.owned f b s.holds_it stands_left.holds_it
+              (subst (λ ps. PersistEach old new table ps (entry_places table form (start new place.at) (count_at new place.at))) (sym before) (subst (λ ps. PersistEach old new table [] ps) (sym after) persist_none))
+
           spans_are : cut_to (live old) (length old) (target old place.at) (units_named old place.at) (count_at old place.at * item_size table form) ≡ without (block_of p) (live old)
           spans_are =
               let none : count_at old place.at * item_size table form ≡ 0 = ap (λ k. k * item_size table form) empty ∙ zero-mul (item_size table form) in

@@ -21,7 +21,7 @@ use Rattle.seg_spec.specs.Growing.{Reserves, MovesBuffer}
 use Rattle.seg_spec.proofs.Heap.LiveBlockLaws.{times-same, there, LiesIn, live-lie, positions-resized}
 use Rattle.seg_spec.proofs.Heap.KeptBlockLaws.{each_contained, StatesSpan, live_stated}
 use Rattle.seg_spec.proofs.Deallocation.BlockFreeLaws.{found}
-use Rattle.seg_spec.proofs.Values.PlaceFrameLaws.{cell-target}
+use Rattle.seg_spec.proofs.Values.PlaceFrameLaws.{cell-target, parts_unchanged}
 use Rattle.seg_spec.proofs.SliceLaws.{IsSame-part}
 use Rattle.seg_spec.proofs.Tables.TypeSizeLaws.{size_large}
 use Rattle.seg_spec.proofs.Values.CellChangeLaws.{ChangesOnly-none}
@@ -29,7 +29,7 @@ use Rattle.seg_spec.proofs.Values.PlaceWriteLaws.{owned_live, changes_place}
 use Rattle.seg_spec.proofs.Values.CallPlaceLaws.{changes_of}
 use Rattle.seg_spec.proofs.Values.BufferLaws.{Buffered, buffered, MovesEntries}
 use Rattle.seg_spec.proofs.Values.BufferMoveLaws.{MovesFrom, less_room, old_count, block_small, from_within, to_within, pointed_stands, old_live, moves}
-use Rattle.seg_spec.proofs.Values.BufferGrowthLaws.{grown_stands, grown_frames, grown_place, grown_units}
+use Rattle.seg_spec.proofs.Values.BufferGrowthLaws.{grown_stands, grown_frames, grown_parts, grown_place, grown_units}
 use Rattle.seg_spec.proofs.Heap.GrantLaws.{GrewTo, spent_same, spent_fresh}
 use Rattle.seg_block.specs.Blocks.{IsSized, IsLiveBlock}
 use Rattle.seg_block.specs.Tags.{word_of}
@@ -207,6 +207,7 @@ module _ (allocator : ℕ) (old : List ℕ) (table : Table) (cell T : ℕ) (v : 
       left_is = ap (λ asks. spent allocator (live old) (length old) asks []) (asks_nothing allocator old cell content.entry.size limit room e l);
       changes = changes_place allocator old table (object_at cell T) v blocks s old (ChangesOnly-none old cell (size table T)) v blocks blocks s.holds_it;
     };
+    parts = parts_unchanged old table s.is_table s.holds_it;
     room = go (target old cell) refl;
   }
     where
@@ -334,6 +335,7 @@ module _ (allocator : ℕ) (old : List ℕ) (table : Table) (cell T : ℕ) (v : 
           changes = changes_of allocator old mid table (object_at cell T) v blocks blocks after s.allocator_is stands frames live_is
               (λ h. ap (λ ps. times h ps + times h blocks) (ap positions g.after_is ∙ positions-resized (block_of p) g.units (live old)));
         };
+        parts = grown_parts allocator old table (object_at cell T) v blocks s mid heap kept (block_of p) x g.units it g.no_fewer is;
         room = rw names (omega arith);
       }
 
@@ -383,5 +385,6 @@ module _ (allocator : ℕ) (old : List ℕ) (table : Table) (cell T : ℕ) (v : 
           left_is = spent_fresh allocator (live old) (live mid) (length old) g (ask allocator old cell content.entry.size limit) n.granted;
           changes = m.changes;
         };
+        parts = m.parts;
         room = less_room new cell (16 * n.units - 16) (limit * content.entry.size) (omega arith) m.room;
       }

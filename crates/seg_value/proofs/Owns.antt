@@ -11,7 +11,7 @@ use Rattle.seg_spec.specs.Reads.{Place}
 use Rattle.seg_spec.specs.Sound.{times, positions}
 use Rattle.seg_spec.specs.Owning.{Stands}
 use Rattle.seg_spec.proofs.Values.PlaceFrameLaws.{Holds-kept, IsBlock-kept, payload-same}
-use Rattle.seg_spec.proofs.Heap.LiveBlockLaws.{times-more}
+use Rattle.seg_spec.proofs.Heap.LiveBlockLaws.{times-more, there}
 use Rattle.seg_spec.proofs.Tables.TypeSizeLaws.{size-form}
 use Rattle.seg_spec.proofs.Values.PlaceWriteLaws.{place_within, blocks_then, live_then, changes_place}
 use Rattle.seg_spec.proofs.Deallocation.OwnLaws.{FullOwn, full_own, null_own, cell_changes, cell_names, cell_counts}
@@ -50,6 +50,7 @@ module _ (allocator : ℕ) (old : List ℕ) (table : Table) (own : Place) (U : �
           owned = λ h. rw (live_then allocator old table own (Full v) blocks s then changed) (owned_still h);
         };
         changes = changes_place allocator old table own (Full v) blocks s then changed _ [] blocks (null_own then table own U f none zero_count);
+        kept = λ h some. there (KeepsBlock old then) h blocks (blocks_then allocator old table own (Full v) blocks s then changed) some;
       }
     where
       owned_still : (h : ℕ) → times h (block_of full.object ∷ full.inside) ≤ times h (positions (live old))

@@ -9,12 +9,13 @@ use Rattle.seg_spec.specs.Items.{insert_nth, remove_nth}
 use Rattle.seg_spec.specs.Heap.{IsHeap}
 use Rattle.seg_spec.specs.Block.{KeepsBlock}
 use Rattle.seg_spec.specs.Reads.{Place, spaced, places_of, keys_at, Holds, HoldsEach, holds_none, holds_more}
+use Rattle.seg_spec.specs.Parts.{PersistEach}
 use Rattle.seg_spec.specs.Cells.{IsWithin, Shifts}
 use Rattle.seg_spec.specs.Owning.{StandsBeside}
 use Rattle.seg_spec.specs.Shrinking.{KeepsPathsInside}
 use Rattle.seg_spec.proofs.Values.PathFrameLaws.{Leads-each}
-use Rattle.seg_spec.proofs.Values.PlaceFrameLaws.{keys_at-same, spaced-same, inner-same, shorter, HoldsEach-kept}
-use Rattle.seg_spec.proofs.Values.BufferLaws.{HoldsEntries, entries_moved}
+use Rattle.seg_spec.proofs.Values.PlaceFrameLaws.{keys_at-same, spaced-same, inner-same, shorter, HoldsEach-kept, PersistEach-kept}
+use Rattle.seg_spec.proofs.Values.BufferLaws.{HoldsEntries, entries_moved, entries_persist}
 
 -- ---- places in a row
 
@@ -76,6 +77,32 @@ ascending_without (a ∷ []) (b ∷ more) k h = (below a k b h.0 h.1.0, h.1.1)
 ascending_without (a ∷ b ∷ ks) more k h = (h.0, ascending_without (b ∷ ks) more k h.1)
 
 -- ---- runs
+
+-- the places of the values in n entries from a position on
+abbrev pub run_values : Table → ℕ → ℕ → ℕ → List Place
+run_values table U at n = places_of U (map (λ p. p + 8) (spaced at (8 + size table U) n))
+
+pub run_long : (table : Table) (U at n : ℕ) → length (run_values table U at n) ≡ n
+run_long table U at zero = refl
+run_long table U at (suc n) = ap suc (run_long table U (at + (8 + size table U)) n)
+
+pub runs_joined : (table : Table) (U at n m q : ℕ) → q ≡ at + n * (8 + size table U) → run_values table U at (n + m) ≡ run_values table U at n ++ run_values table U q m
+runs_joined table U at zero m q e = let here : q ≡ at = omega arith in let all : 0 + m ≡ m = omega arith in rw (here, all) refl
+runs_joined table U at (suc n) m q e =
+    let more : suc n * (8 + size table U) ≡ (8 + size table U) + n * (8 + size table U) = grind arith in
+    let all : suc n + m ≡ suc (n + m) = omega arith in
+    rw all (ap (λ ps. record { at = at + 8; type = U } ∷ ps) (runs_joined table U (at + (8 + size table U)) n m q (omega arith)))
+
+-- a fact about the value in each entry
+pub each_run : (P : Place → Type 0) (table : Table) (U at n : ℕ) → ((i : ℕ) → i < n → P (record { at = at + i * (8 + size table U) + 8; type = U })) → AllByRecursion P (run_values table U at n)
+each_run P table U at zero h = tt
+each_run P table U at (suc n) h = (first, each_run P table U (at + (8 + size table U)) n (λ i l. next i (h (suc i) (omega arith))))
+  where
+    first : P (record { at = at + 8; type = U })
+    first = let e : at + 0 * (8 + size table U) + 8 ≡ at + 8 = omega arith in subst (λ q. P (record { at = q; type = U })) e (h 0 (omega arith))
+
+    next : (i : ℕ) → P (record { at = at + suc i * (8 + size table U) + 8; type = U }) → P (record { at = at + (8 + size table U) + i * (8 + size table U) + 8; type = U })
+    next i p = let e : at + suc i * (8 + size table U) + 8 ≡ at + (8 + size table U) + i * (8 + size table U) + 8 = grind arith in subst (λ q. P (record { at = q; type = U })) e p
 
 -- n entries from a position on have these keys, and contain these values, which own these blocks
 pub record Run (bytes : List ℕ) (table : Table) (U at n : ℕ) (keys : List ℤ) (vs : Values) (owned : List ℕ) : Type 0 where
@@ -217,6 +244,12 @@ module _ (old new : List ℕ) (table : Table) (valid : IsTable table) (U : ℕ) 
         values = HoldsEach-kept old new table valid r.values (inner-same old new table valid U 8 (8 + size table U) entries (omega arith) all) kept;
       }
 
+  -- and so the values persist
+  pub run_stays : (at n : ℕ) (keys : List ℤ) (vs : Values) (owned : List ℕ) → IsSame old new at (n * (8 + size table U)) → AllByRecursion (KeepsBlock old new) owned
+      → Run old table U at n keys vs owned → PersistEach old new table (run_values table U at n) (run_values table U at n)
+  run_stays at n keys vs owned same kept r =
+      PersistEach-kept old new table valid r.values (inner-same old new table valid U 8 (8 + size table U) (spaced at (8 + size table U) n) (omega arith) (spaced-same old new at (8 + size table U) n same)) kept
+
   -- each path from a value of the run still reaches the same place
   pub run_paths : (at n : ℕ) (keys : List ℤ) (vs : Values) (owned : List ℕ) → IsSame old new at (n * (8 + size table U)) → AllByRecursion (KeepsBlock old new) owned
       → Run old table U at n keys vs owned → (i : ℕ) → i < n → KeepsPathsInside old new table (record { at = at + i * (8 + size table U) + 8; type = U })
@@ -226,6 +259,13 @@ module _ (old new : List ℕ) (table : Table) (valid : IsTable table) (U : ℕ) 
       let value : ℕ → Place = λ q. record { at = q; type = U } in
       let here_it_is = map_get value (map (λ q. q + 8) entries) i (at + i * (8 + size table U) + 8) (map_get (λ q. q + 8) entries i (at + i * (8 + size table U)) (spaced_get at (8 + size table U) n i below)) in
       Leads-each old new table valid (value (at + i * (8 + size table U) + 8)) i r.values here_it_is (inner-same old new table valid U 8 (8 + size table U) entries (omega arith) all) kept way
+
+  pub run_persists : (allocator home from to n : ℕ) (keys : List ℤ) (vs : Values) (owned : List ℕ) → IsHeap allocator old → to % 8 ≡ 0 → IsWithin old from (n * (8 + size table U))
+      → StandsBeside old home to (n * (8 + size table U)) owned → Shifts old new table 8 U (8 + size table U) from to n → IsAscending keys → Run old table U from n keys vs owned
+      → PersistEach old new table (run_values table U from n) (run_values table U to n)
+  run_persists allocator home from to n keys vs owned heap even from_in beside shifts ascending r =
+      let e : HoldsEntries old table (Form.flat_map U) from n (Map keys vs) owned = (vs, ap (λ ks. Map ks vs) r.keys_are, subst IsAscending r.keys_are ascending, r.values) in
+      entries_persist old new table valid from to n allocator home heap even (Form.flat_map U) (Map keys vs) owned from_in beside shifts e
 
   pub run_moved : (allocator home from to n : ℕ) (keys : List ℤ) (vs : Values) (owned : List ℕ) → IsHeap allocator old → to % 8 ≡ 0 → IsWithin old from (n * (8 + size table U)) → to + n * (8 + size table U) ≤ length old
       → StandsBeside old home to (n * (8 + size table U)) owned → Shifts old new table 8 U (8 + size table U) from to n → IsAscending keys → Run old table U from n keys vs owned → Run new table U to n keys vs owned

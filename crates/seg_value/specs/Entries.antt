@@ -15,6 +15,7 @@ use Rattle.seg_spec.specs.Demand.{Ask}
 use Rattle.seg_spec.specs.Growing.{Succeeds}
 use Rattle.seg_spec.specs.Heap.{live}
 use Rattle.seg_spec.specs.Items.{insert_nth, without_entry}
+use Rattle.seg_spec.specs.Parts.{KeepsParts}
 use Rattle.seg_spec.specs.Reads.{Place, count_at, start, Holds}
 use Rattle.seg_spec.specs.Roots.{ChangesPlace}
 use Rattle.seg_spec.specs.Shrinking.{KeepsPathsInside}
@@ -43,7 +44,7 @@ flat_asks bytes table cell U = buffer_asks bytes cell (8 + size table U) (count_
 
 -- A flat map with these keys and values has room for an entry at an index, since the requests for
 -- the room were granted. After a key that keeps the order and a value that owns nothing are written
--- there, the place contains the map with both.
+-- there, the place contains the map with both, and its other values stay.
 pub record OpensEntry (allocator : ℕ) (old new : List ℕ) (table : Table) (place : Place) (U : ℕ)
     (keys : List ℤ) (vs : Values) (blocks : List ℕ) (index at : ℕ) : Type 0 where
   pub at_is : at ≡ flat_entry new table place.at U index
@@ -57,9 +58,14 @@ pub record OpensEntry (allocator : ℕ) (old new : List ℕ) (table : Table) (pl
       Succeeds allocator old written table place
       (Map (insert keys index (signed_long written at)) (insert_nth vs index w))
       (flat_asks old table place.at U) [] blocks others
+  pub parts : (written : List ℕ) (w : Value) → ChangesOnly new written at (8 + size table U) →
+      IsAscending (insert keys index (signed_long written at)) →
+      Holds written table (flat_value new table place.at U index) w [] →
+      KeepsParts old written table place index 0 1
 
--- The entry at an index was removed, with its key and its value, which owned nothing. The buffer
--- didn't move. Paths from the values before that index still reach the same places.
+-- The entry at an index was removed, with its key and its value, which owned nothing. The other
+-- values stay. The buffer didn't move. Paths from the values before that index still reach the same
+-- places.
 pub record ClosesEntry (old new : List ℕ) (table : Table) (place : Place) (U : ℕ) (keys : List ℤ)
     (vs : Values) (blocks : List ℕ) (index : ℕ) : Type 0 where
   pub changes : ChangesPlace old new table place (without_entry (keys, vs) index) blocks
@@ -67,3 +73,4 @@ pub record ClosesEntry (old new : List ℕ) (table : Table) (place : Place) (U :
   pub start_kept : start new place.at ≡ start old place.at
   pub paths : (i : ℕ) → i < index →
       KeepsPathsInside old new table (flat_value old table place.at U i)
+  pub parts : KeepsParts old new table place index 1 0

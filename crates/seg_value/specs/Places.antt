@@ -15,8 +15,8 @@ use Rattle.seg_spec.specs.Frozen.{Frozen}
 use Rattle.seg_spec.specs.Sound.{times}
 use Rattle.seg_cells.specs.Places.{object_at}
 
--- The own is now empty. The object that it had is loose, with its value, and the allocated blocks
--- are the same.
+-- The own is now empty. The object that it had is loose, with its value, and its blocks are kept.
+-- The allocated blocks are the same.
 pub record TakesOwn (old new : List ℕ) (table : Table) (own : reads.Place) (U : ℕ) (v : Value)
     (blocks : List ℕ) (result : Option ℕ) : Type 0 where
   pub object : ℕ
@@ -25,6 +25,7 @@ pub record TakesOwn (old new : List ℕ) (table : Table) (own : reads.Place) (U 
   pub blocks_are : blocks ≡ block_of object ∷ inside
   pub loose : IsLoose new table (object_at object U) v inside
   pub changes : ChangesPlace old new table own Empty [] (live old) blocks blocks
+  pub kept : (h : ℕ) → 1 ≤ times h blocks → KeepsBlock old new h
 
 -- The own had `blocks`, and now has an object with the value w, whose blocks `taken` are kept. Its
 -- old object was destroyed, with the frozen objects that lost their last cell.

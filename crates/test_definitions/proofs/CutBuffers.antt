@@ -3,7 +3,7 @@ use Rattle.std.proofs.Common.{◌≡◌, ℕ, zero, suc, ◌+◌, ◌*◌, ◌�
 use Rattle.std.proofs.lemmas.Bool.{cases_eq}
 use Rattle.std.specs.Prelude.{slice_get}
 use Rattle.std.specs.List.{AllByRecursion}
-use Rattle.seg_spec.specs.Bytes.{slice, put, number, number_of, set_number, signed, word}
+use Rattle.seg_spec.specs.Bytes.{slice, put, number, number_of, set_number, signed, signed_long, word}
 use Rattle.seg_spec.specs.Pointer.{target}
 use Rattle.seg_spec.specs.Types.{Form, form_at, size}
 use Rattle.seg_spec.specs.Value.{Label, Int, nil, Selector}
@@ -12,12 +12,14 @@ use Rattle.seg_spec.specs.Block.{Kind, IsOwnable}
 use Rattle.seg_spec.specs.Reads.{Place, Opened, Opens, Holds, holds, holds_none, holds_more, count_at, Leads, here, into}
 use Rattle.seg_spec.specs.Apart.{KeepsBlockAround, GoesOnAfter}
 use Rattle.seg_spec.specs.Sound.{times, positions}
+use Rattle.seg_spec.specs.Parts.{Persists, persists, persist_none, persist_more, KeepsAllParts}
 use Rattle.seg_spec.specs.Roots.{KeepsPaths, KeepsPathsBeside, ChangesPlace}
 use Rattle.seg_spec.specs.Spending.{units_named, item_size, cut_to}
 use Rattle.seg_spec.specs.Shrinking.{KeepsPathsInside, ShrinksPlace}
 use Rattle.seg_spec.specs.Fixtures.{roomy, cut, unnamed, vec_table, vec_place, vec_value, vec_root}
 use Rattle.test_definitions.proofs.ImageEvaluationLaws.{live_evaluated, heap_evaluated}
 use Rattle.seg_spec.proofs.SliceLaws.{IsSame-part}
+use Rattle.seg_spec.proofs.Values.PersistenceLaws.{all_parts}
 use Rattle.seg_spec.proofs.Heap.LiveBlockLaws.{times-other}
 
 -- ---- the heaps
@@ -165,10 +167,38 @@ units_left : cut_to (live roomy) (length roomy) (target roomy 720) (units_named 
 unfolding roomy slice number number_of target size
 units_left = ap (λ bs. cut_to bs (length roomy) (target roomy 720) (units_named roomy 720) (count_at roomy 720 * item_size vec_table (Form.vec 0))) roomy_live
 
+-- ---- the two items stay
+
+same_number : (at : ℕ) → signed_long cut at ≡ signed_long roomy at → Persists roomy cut vec_table (record { at = at; type = 0 }) (record { at = at; type = 0 })
+same_number at e = persists {p = record { at = at; type = 0 }} {q = record { at = at; type = 0 }} Form.i64 (record { label = Label.int (signed_long roomy at); blocks = []; parts = [] })
+    (record { label = Label.int (signed_long cut at); blocks = []; parts = [] }) refl refl refl refl (ap (λ n. Label.int n) e) refl persist_none
+
+its_parts : Opened
+its_parts = record { label = Label.seq; blocks = 784 ∷ []; parts = record { at = 800; type = 0 } ∷ record { at = 808; type = 0 } ∷ [] }
+
+opens_before : Opens roomy vec_table vec_place (Form.vec 0) its_parts
+unfolding its_parts roomy slice number number_of target size
+opens_before = record { named_room = record { after_header = lit≤ tt; live = refl; has_tag = refl; room = lit≤ tt }; ascending = tt; opened_is = refl }
+
+cut-parts : KeepsAllParts roomy cut vec_table vec_place
+unfolding its_parts its_items cut roomy slice put set_number number number_of
+cut-parts =
+    let both = opens_roomy its_parts opens_before in
+    record {
+      form = Form.vec 0;
+      form_is = refl;
+      before = its_parts;
+      opens_before = opens_before;
+      after = its_parts;
+      opens_after = both.1;
+      stay = all_parts roomy cut vec_table (Form.vec 0) its_items its_items (λ e. refl) (persist_more (same_number 800 refl) (persist_more (same_number 808 refl) persist_none));
+    }
+
 pub cut-shrinks : ShrinksPlace roomy cut vec_table vec_place (Form.vec 0) vec_value (784 ∷ []) (784 ∷ [])
 cut-shrinks = record {
   changes = subst (λ bs. ChangesPlace roomy cut vec_table vec_place vec_value (784 ∷ []) bs (784 ∷ []) (784 ∷ [])) (sym units_left) cut-changes;
   paths = cut-paths;
+  parts = cut-parts;
 }
 
 pub cut-root_paths : KeepsPaths roomy cut vec_table vec_root

@@ -8,6 +8,7 @@ pub mod EveryImage
 pub mod NoRoots
 pub mod Denials
 pub mod CutBuffers
+pub mod MovedBuffers
 pub mod WorkedCalls
 pub mod SimulationLaws
 pub mod IncrementLaws

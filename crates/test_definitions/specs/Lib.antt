@@ -1,2 +1,3 @@
 pub mod RefusedOutcomes
 pub mod Alike
+pub mod MovedBuffers

@@ -8,6 +8,7 @@ ghost use Rattle.seg_spec.specs.Types.{Table, IsTable, size};
 ghost use Rattle.seg_spec.specs.Value.{Value, Has, default_of, Selector, value_at};
 ghost use Rattle.seg_spec.specs.Block.{KeepsBlock};
 ghost use Rattle.seg_spec.specs.Reads.{Place, Holds, Leads, LeadsToValue};
+ghost use Rattle.seg_spec.specs.Parts.{Persists};
 ghost use Rattle.seg_spec.specs.Fresh.{IsFresh};
 ghost use Rattle.seg_spec.specs.Apart.{ComesApart};
 
@@ -23,6 +24,17 @@ pub fn same_value()
         IsTable table → IsSame old new place.at (size table place.type) →
         AllByRecursion (KeepsBlock old new) blocks →
         Holds old table place v blocks → Holds new table place v blocks }
+{}
+
+/// A value that persists is still contained, in the same blocks. What persists through one call and then through another
+/// persists through both.
+pub fn persisting()
+    ensures contained { (old new : List ℕ) (table : Table) (before after : Place) (v : Value)
+        (blocks : List ℕ) → Holds old table before v blocks →
+        Persists old new table before after → Holds new table after v blocks }
+    ensures through { (old mid new : List ℕ) (table : Table) (before between after : Place) →
+        Persists old mid table before between → Persists mid new table between after →
+        Persists old new table before after }
 {}
 
 /// If a place inside a value gets another value, and everything around the place is kept, the whole value changes by that one

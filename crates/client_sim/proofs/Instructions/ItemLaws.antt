@@ -14,6 +14,7 @@ use Rattle.seg_spec.specs.Shared.{names_in, names_each, named_in, freed}
 use Rattle.seg_spec.specs.Clearing.{BesideShared, LosesPart}
 use Rattle.seg_spec.specs.Counting.{FrozenGone}
 use Rattle.seg_spec.specs.Reads.{Place, Holds, Leads, count_at}
+use Rattle.seg_spec.specs.Parts.{KeepsParts}
 use Rattle.seg_spec.specs.Owning.{Stands}
 use Rattle.seg_spec.specs.Demand.{Ask, block_for, after_gives}
 use Rattle.seg_spec.specs.Calls.{Refuses}
@@ -27,7 +28,7 @@ use Rattle.client_spec.specs.Answer.{Answer, success, bad_alloc, null_or_none, a
 use Rattle.client_spec.specs.Effect.{outcome, effect, pop_bytes, pop_last, pop_first}
 use Rattle.client_spec.specs.Shape.{HasShape, AllHaveShape}
 use Rattle.client_spec.specs.Asks.{LedTo, PartGoes, PopGoes, cell_asks}
-use Rattle.client_spec.specs.Ties.{spot_of, KeepsBut, Both, OfFrozen, OfPlace}
+use Rattle.client_spec.specs.Ties.{spot_of, KeepsBut, Both, LosesLast, OfFrozen, OfPlace}
 use Rattle.client_spec.specs.Meaning.{LeadsToType}
 use Rattle.client_spec.specs.Pictures.{LeadsInImage}
 use Rattle.client_spec.specs.Typed.{Class, RegisterType, RegisterTypes, Rule, known, is_owner, sharing, reference_needed, form_needed, is_str, can_pop, without_class, others_ended, opens, rule}
@@ -233,6 +234,7 @@ module _ {others : List Root} {types : Table} {constants : List Constant} (one :
       pub kept : KeepsBut w.image new (spot_of s.types (place_in w i.b)) own
       pub its : List ℕ
       pub holds_then : Holds new w.table (place_in w i.b) v its
+      pub parts : KeepsParts w.image new s.types (place_in w i.b) j 1 0
       pub gives : List ℕ
       pub goes : PartGoes constants i h.pictured (place_in w i.b) j gives
       pub left_is : live new ≡ after_gives (live w.image) gives
@@ -260,6 +262,7 @@ module _ {others : List Root} {types : Table} {constants : List Constant} (one :
           kept = kept_at_place s.types h.table_is c.changes;
           its = l.others;
           holds_then = c.changes.holds_it;
+          parts = subst (λ (t : Table). KeepsParts w.image new t (place_in w i.b) j 1 0) h.table_is l.parts;
           gives = l.lost ++ given;
           goes = part_goes l.lost l.part given (subst (λ x. FrozenGone w.image h.pictured.picture (names_in x) given) part_is (record { theirs = shared.theirs; holds = shared.holds; blocks_are = refl }));
           left_is = given_back gone frozen l.lost l.blocks_are c;
@@ -285,6 +288,11 @@ module _ {others : List Root} {types : Table} {constants : List Constant} (one :
   part_goes i (Form.vec V) U place j gives e p = p
   part_goes i (Form.list V) U place j gives e p = p
   part_goes i k U place j gives e p = cc
+
+  last_lost : (i : Instruction) (k : Form) (U : ℕ) (place : Place) (new : List ℕ) → vec_or_list_item k ≡ Some U → KeepsParts w.image new s.types place (count_at w.image place.at - 1) 1 0 → LosesLast constants i h.pictured new place k
+  last_lost i (Form.vec V) U place new e p = p
+  last_lost i (Form.list V) U place new e p = p
+  last_lost i k U place new e p = cc
 
 -- ---- pops
 
@@ -361,6 +369,7 @@ pub record PopsByte (allocator : ℕ) (old new : List ℕ) (table : Table) (plac
 pub record PushesItem (allocator : ℕ) (old new : List ℕ) (table : Table) (place : Place) (U : ℕ) (more : Values) (blocks : List ℕ) (asks : List Ask) (j p : ℕ) : Type 0 where
   pub others : List ℕ
   pub succeeds : Succeeds allocator old new table place (Seq more) asks [] blocks others
+  pub parts : KeepsParts old new table place j 0 1
   pub leads : Leads new table place (Selector.item j ∷ []) (record { at = p; type = U })
 
 -- item j of a place in the block `home` was removed, and n others remain, whatever frozen objects
@@ -414,7 +423,8 @@ module _ (allocator : ℕ) (constants : List Constant) (role : Role) (a b c : �
             (led_put h b r.class r.type r.its new (Text new_text) p.others (names_same (ap names_in v.1 ∙ names_text v.0 ∙ sym (names_text new_text))) p.succeeds.changes) p.succeeds.changes.length_kept p.succeeds.changes.front_kept
             (pos n) valid.a o.0 is_row
             (let alone = place_alone h.pictured (place_touched one h i r) (kept_at_place s.types h.table_is p.succeeds.changes) in
-            changed_at_place p.succeeds.changes.back_kept refl refl tt (record { spot = spot_of s.types place; own = alone.0; touches = alone.1; kept = alone.2 })
+            changed_at_place p.succeeds.changes.back_kept refl refl (inr (place, r.form, led_to one h i r, subst (LosesLast constants i h.pictured new place) (sym same) tt))
+            (record { spot = spot_of s.types place; own = alone.0; touches = alone.1; kept = alone.2 })
             (grants_asks constants i h.pictured allocator h.allocator_is [] refl new w.table place (Text new_text) [] r.its.found.blocks p.others
             (place, r.form, led_to one h i r, subst (λ k. PopGoes constants i h.pictured place k (count_at w.image place.at - 1) []) (sym same) refl) p.succeeds))
         | inr is ↦
@@ -429,7 +439,8 @@ module _ (allocator : ℕ) (constants : List Constant) (role : Role) (a b c : �
             let at : count v.0 - 1 ≡ count_at w.image place.at - 1 = ap (λ k. k - 1) (items_held w.image w.table place r.form is.0 v.0 r.its.found.blocks r.form_is is.1 stands.holds_it) in
             let is_row = row ∙ ap f v.1 ∙ last_popped a r.its.path v.0 s p.some ∙ ap (λ m. give_count a m (put_at s r.its.path (Seq left))) n_is in
             number_acts one h i r (Seq left) (v.3 left (all_without_last s.types is.0 v.0 v.2)) new t.put t.long t.front (pos n) valid.a o.0 is_row
-            (changed_at_place t.back refl refl tt (record { spot = spot_of s.types place; own = t.own; touches = t.touches; kept = t.kept }) (gives_back constants i h.pictured new refl t.gives
+            (changed_at_place t.back refl refl (inr (place, r.form, led_to one h i r, last_lost one h i r.form is.0 place new is.1 (subst (λ n. KeepsParts w.image new s.types place n 1 0) at t.parts)))
+            (record { spot = spot_of s.types place; own = t.own; touches = t.touches; kept = t.kept }) (gives_back constants i h.pictured new refl t.gives
             (place, r.form, led_to one h i r, part_goes one h i r.form is.0 place (count_at w.image place.at - 1) t.gives is.1 (subst (λ k. PartGoes constants i h.pictured place k t.gives) at t.goes)) t.left_is))
       ])
 
@@ -495,7 +506,7 @@ module _ (allocator : ℕ) (constants : List Constant) (role : Role) (a b c : �
       ∙ ap (λ vs. pop_first a r.its.path vs s) q.2 ∙ ap (λ m. give_count a m (put_at s r.its.path (Seq left))) n_is in
       subst (λ k. Acts others types constants first allocator i success k s w (with_number (with_image w new) a (pos n))) (sym o.1)
       (number_acts one h i r (Seq left) fits new t.put t.long t.front (pos n) valid.a o.0 row
-      (changed_at_place t.back refl refl tt (record { spot = spot_of s.types place; own = t.own; touches = t.touches; kept = t.kept }) (gives_back constants i h.pictured new refl t.gives
+      (changed_at_place t.back refl refl (inr (place, r.form, led_to one h i r, t.parts)) (record { spot = spot_of s.types place; own = t.own; touches = t.touches; kept = t.kept }) (gives_back constants i h.pictured new refl t.gives
       (place, r.form, led_to one h i r, part_goes one h i r.form r.what place 0 t.gives is t.goes) t.left_is))))
 
   pub pop_front_refused : (new : List ℕ) (n : ℕ) → EachList (λ U vs blocks. (count vs ≡ 0) × (new ≡ w.image) × (n ≡ 6)) → IsRefusedAs allocator constants role (of Operation.PopFront) w (with_number (with_image w new) a (pos n))
@@ -559,13 +570,15 @@ module _ (allocator : ℕ) (constants : List Constant) (role : Role) (a b c : �
       let pushed = subst (λ (t : Table). PushesItem allocator w.image new w.table place r.what (append v.0 (cons (default_of t r.what) nil)) r.its.found.blocks (item_asks r.form r.what) (count v.0) p) h.table_is q.1 in
       let row = back_row constants a b c number true s r.its.path r.form r.what v.0 r.path_is r.path_form_is r.is (ap (λ x. x >>= items_in) r.its.there ∙ ap items_in v.1) in
       let target : Place = record { at = p; type = r.what } in
+      let counted : count v.0 ≡ count_at w.image place.at = items_held w.image w.table place r.form r.what v.0 r.its.found.blocks r.form_is r.is (subst (λ u. Holds w.image w.table place u r.its.found.blocks) v.1 r.its.stands.holds_it) in
+      let parts = subst (λ n. KeepsParts w.image new s.types place n 0 1) counted (subst (λ (t : Table). KeepsParts w.image new t place (count v.0) 0 1) h.table_is pushed.parts) in
       subst (λ k. Acts others types constants first allocator i success k s w (with_place (with_image w new) a (record { at = p; type = T }))) (sym o.1)
       (subst (λ n. Acts others types constants first allocator i success (slice_set (others_ended r.class b ks) a (RegisterType.Reference r.class r.what)) s w (with_place (with_image w new) a (record { at = p; type = n }))) q.0
       (reference_acts one h i r (Seq more) (v.3 more (all_append_one s.types r.what v.0 d v.2 (default_fits h r.type r.what r.form (Selector.item 0) r.machine_form (item_part r.form r.what 0 r.is)))) new
       (led_put h b r.class r.type r.its new (Seq more) pushed.others
       (names_same (ap names_in v.1 ∙ names_seq v.0 ∙ sym (back_named v.0 d (default_names s.types r.what)) ∙ sym (names_seq more))) pushed.succeeds.changes)
       pushed.succeeds.changes.length_kept pushed.succeeds.changes.front_kept x r.what d target valid.a o.0 (item_part r.form r.what (count v.0) r.is) (last_item v.0 d) refl pushed.leads row
-      (changed_at_place pushed.succeeds.changes.back_kept refl refl tt
+      (changed_at_place pushed.succeeds.changes.back_kept refl refl (inr (place, r.form, led_to one h i r, parts))
       (record { spot = spot_of s.types place; own = r.its.found.blocks; touches = place_touched one h i r; kept = kept_at_place s.types h.table_is pushed.succeeds.changes })
       (grants_asks constants i h.pictured allocator h.allocator_is (item_asks r.form r.what) (place, r.form, led_to one h i r, back_asks h r.form r.what r.is) new w.table place (Seq more) [] r.its.found.blocks pushed.others
       refl pushed.succeeds)))))
@@ -617,7 +630,7 @@ module _ (allocator : ℕ) (constants : List Constant) (role : Role) (a b c : �
       (led_put h b r.class r.type r.its new (Seq more) pushed.others
       (names_same (ap names_in v.1 ∙ names_seq v.0 ∙ sym (front_named d v.0 (default_names s.types r.what)) ∙ sym (names_seq more))) pushed.succeeds.changes)
       pushed.succeeds.changes.length_kept pushed.succeeds.changes.front_kept (Selector.item 0) r.what d target valid.a o.0 part refl refl pushed.leads row
-      (changed_at_place pushed.succeeds.changes.back_kept refl refl tt
+      (changed_at_place pushed.succeeds.changes.back_kept refl refl (inr (place, r.form, led_to one h i r, subst (λ (t : Table). KeepsParts w.image new t place 0 0 1) h.table_is pushed.parts))
       (record { spot = spot_of s.types place; own = r.its.found.blocks; touches = place_touched one h i r; kept = kept_at_place s.types h.table_is pushed.succeeds.changes })
       (grants_asks constants i h.pictured allocator h.allocator_is asks (place, r.form, led_to one h i r, front_asks h r.form r.what r.is) new w.table place (Seq more) [] r.its.found.blocks pushed.others
       refl pushed.succeeds)))))

@@ -1,5 +1,5 @@
 -- Adding and removing keys of a map, for every state that the world represents.
-use Rattle.std.proofs.Common.{◌≡◌, ℕ, suc, ◌+◌, ◌<◌, ℤ, pos, length, List, [], ◌∷◌, ◌++◌, Bool, true, false, Option, Some, None, refl, sym, ◌∙◌, ap, subst, arith}
+use Rattle.std.proofs.Common.{◌≡◌, ℕ, suc, inr, ◌+◌, ◌<◌, ℤ, pos, length, List, [], ◌∷◌, ◌++◌, Bool, true, false, Option, Some, None, refl, sym, ◌∙◌, ap, subst, arith}
 use Rattle.std.specs.Prelude.{⊤, take, drop, insert, remove, slice_set}
 use Rattle.std.specs.Option.{option_map_or}
 use Rattle.seg_spec.specs.Types.{Form, Table, form_at, size}
@@ -7,6 +7,7 @@ use Rattle.seg_spec.specs.Value.{Label, Value, Values, count, nth, Map, default_
 use Rattle.seg_spec.specs.Items.{keys_below, key_place, insert_nth, remove_nth, with_entry, without_entry}
 use Rattle.seg_spec.specs.Index.{Root}
 use Rattle.seg_spec.specs.Reads.{Place, Leads, count_at, map_words}
+use Rattle.seg_spec.specs.Parts.{KeepsParts}
 use Rattle.seg_spec.specs.Owning.{Stands}
 use Rattle.seg_spec.specs.Demand.{Ask, block_for}
 use Rattle.seg_spec.specs.Calls.{Refuses}
@@ -23,7 +24,7 @@ use Rattle.client_spec.specs.Answer.{success, bad_alloc, path_of, path_form, int
 use Rattle.client_spec.specs.Effect.{effect, truth}
 use Rattle.client_spec.specs.Shape.{HasShape, AllHaveShape}
 use Rattle.client_spec.specs.Ties.{spot_of}
-use Rattle.client_spec.specs.Asks.{KeyGoes, cell_asks, found_key, if_absent}
+use Rattle.client_spec.specs.Asks.{KeyGoes, cell_asks, found_key, lower_keys, if_absent}
 use Rattle.client_spec.specs.Typed.{Class, RegisterType, RegisterTypes, Rule, known, is_owner, integer_needed, is_map, others_ended, gives, opens, rule}
 use Rattle.client_spec.specs.Typed as typed
 use Rattle.client_spec.proofs.TypedStates.ValueLaws.{Some_inj}
@@ -75,6 +76,13 @@ found_is i s path key keys vs is key_is there =
     ap (λ x. x >>= λ p. integer_at s i.c >>= λ k. (path_value s p >>= entries_in) >>= λ es. key_place es.0 k) is
     ∙ ap (λ x. x >>= λ k. (path_value s path >>= entries_in) >>= λ es. key_place es.0 k) key_is
     ∙ ap (λ x. x >>= λ es. key_place es.0 key) there
+
+lower_is : (i : Instruction) (s : State) (path : Path) (key : ℤ) (keys : List ℤ) (vs : Values) → path_of s i.b ≡ Some path → integer_at s i.c ≡ Some key → (path_value s path >>= entries_in) ≡ Some (keys, vs)
+    → lower_keys i s ≡ Some (keys_below keys key)
+lower_is i s path key keys vs is key_is there =
+    ap (λ x. x >>= λ p. integer_at s i.c >>= λ k. (path_value s p >>= entries_in) >>= λ es. Some (keys_below es.0 k)) is
+    ∙ ap (λ x. x >>= λ k. (path_value s path >>= entries_in) >>= λ es. Some (keys_below es.0 k)) key_is
+    ∙ ap (λ x. x >>= λ es. Some (keys_below es.0 key)) there
 
 module _ (allocator : ℕ) (constants : List Constant) (role : Role) (a b c : ℕ) (number : ℤ) (w : World) where
   abbrev of : Operation → Instruction
@@ -129,7 +137,10 @@ module _ (allocator : ℕ) (constants : List Constant) (role : Role) (a b c : �
         (names_then (names_same (names_map keys vs)) (names_then (remove_named vs j item.0 item.1) (names_same (ap (λ xs. names_in item.0 ++ xs) (sym (names_map (remove keys j) (remove_nth vs j))))))) stands (d.1 item.0 item.1) in
         subst (λ t. Acts others types constants first allocator i success (slice_set (others_ended r.class b ks) a RegisterType.Int) s w (with_number (with_image w new) a (truth t))) (sym d.0)
         (number_acts one h i r later (fits (remove keys j) (remove_nth vs j) (all_remove s.types U vs j all) (remove_length keys vs j long)) new t.put t.long t.front (pos 1) within free (row (Some j) e)
-        (changed_at_place t.back refl refl (λ none. absurd (let some : None ≡ Some j = sym none ∙ found_is i s r.its.path key keys vs r.path_is key_is there ∙ e in cc)) (record {
+        (changed_at_place t.back refl refl (
+          λ none. absurd (let some : None ≡ Some j = sym none ∙ found_is i s r.its.path key keys vs r.path_is key_is there ∙ e in cc),
+          inr (place, r.form, led_to one h i r, (j, found_is i s r.its.path key keys vs r.path_is key_is there ∙ e, t.parts)),
+        ) (record {
           spot = spot_of s.types place;
           own = t.own;
           touches = t.touches;
@@ -165,6 +176,7 @@ module _ (allocator : ℕ) (constants : List Constant) (role : Role) (a b c : �
   pub record AddsEntry (new : List ℕ) (form : Form) (U : ℕ) (keys : List ℤ) (vs : Values) (blocks : List ℕ) (p : ℕ) : Type 0 where
     pub others : List ℕ
     pub succeeds : Succeeds allocator w.image new w.table place (with_entry (keys, vs) key (default_of w.table U)) (entry_asks form U) [] blocks others
+    pub parts : KeepsParts w.image new w.table place (keys_below keys key) 0 1
     pub leads : Leads new w.table place (Selector.key key ∷ []) (record { at = p; type = U })
 
   form_asks : {others : List Root} {types : Table} {first : Option (List ℕ)} {ks : RegisterTypes} {s : State} (h : Shows others types constants first allocator ks s w) (o : Option ℕ) → found_key (of Operation.PutKey) s ≡ o
@@ -226,7 +238,10 @@ module _ (allocator : ℕ) (constants : List Constant) (role : Role) (a b c : �
         (led_put h b r.class r.type r.its new later d.others
         (names_same (ap names_in value_is ∙ names_map keys vs ∙ sym (insert_named vs m v (default_names s.types r.what)) ∙ sym (names_map new_keys new_items))) succeeds.changes) succeeds.changes.length_kept succeeds.changes.front_kept
         (Selector.key key) r.what part.0 (record { at = p; type = r.what }) within free (key_part r.form r.what key r.is) part.1 refl d.leads (put_is true None e)
-        (changed_at_place succeeds.changes.back_kept refl refl (λ j some. absurd (let none : Some j ≡ None = sym some ∙ found_is i s r.its.path key keys vs r.path_is key_is there_put ∙ e in cc))
+        (changed_at_place succeeds.changes.back_kept refl refl (
+          λ j some. absurd (let none : Some j ≡ None = sym some ∙ found_is i s r.its.path key keys vs r.path_is key_is there_put ∙ e in cc),
+          inr (place, r.form, led_to one h i r, (m, lower_is i s r.its.path key keys vs r.path_is key_is there_put, subst (λ (t : Table). KeepsParts w.image new t place m 0 1) h.table_is d.parts)),
+        )
         (record { spot = spot_of s.types place; own = r.its.found.blocks; touches = place_touched one h i r; kept = kept_at_place s.types h.table_is succeeds.changes })
         (grants_asks constants i h.pictured allocator h.allocator_is (entry_asks r.form r.what) (place, r.form, led_to one h i r, asks_by None e) new w.table place later [] r.its.found.blocks d.others refl succeeds))
 

@@ -9,14 +9,16 @@ use Rattle.seg_spec.specs.Value.{Value}
 use Rattle.seg_spec.specs.Heap.{Span, span, units_at, IsHeap, live, heap_start, resized, Keeps}
 use Rattle.seg_spec.specs.Block.{IsOwnable, KeepsBlock}
 use Rattle.seg_spec.specs.Reads.{Place}
+use Rattle.seg_spec.specs.Parts.{KeepsAllParts}
 use Rattle.seg_spec.specs.Sound.{times, positions}
 use Rattle.seg_spec.specs.Owning.{Stands}
-use Rattle.seg_spec.proofs.Heap.LiveBlockLaws.{there, LiesIn, live-lie, positions-resized}
+use Rattle.seg_spec.proofs.Heap.LiveBlockLaws.{there, each_there, LiesIn, live-lie, positions-resized}
 use Rattle.seg_spec.proofs.Heap.KeptBlockLaws.{each_contained, StatesSpan, live_stated, block_kept, block_ownable, front_kept}
 use Rattle.seg_spec.proofs.Deallocation.BlockFreeLaws.{found}
 use Rattle.seg_spec.proofs.Heap.BlockSizeLaws.{resized_here, resized_other}
 use Rattle.seg_spec.proofs.Heap.BlockFrameLaws.{around_kept}
-use Rattle.seg_spec.proofs.Values.PlaceWriteLaws.{home_live}
+use Rattle.seg_spec.proofs.Values.PlaceFrameLaws.{all_parts_kept}
+use Rattle.seg_spec.proofs.Values.PlaceWriteLaws.{home_live, owned_live}
 use Rattle.seg_spec.proofs.Values.CallPlaceLaws.{Frames, each_live_at, live_at, same_place, stands_still}
 
 module _ (allocator : ℕ) (old : List ℕ) (table : Table) (place : Place) (v : Value) (blocks : List ℕ) (s : Stands allocator old table place v blocks)
@@ -84,6 +86,9 @@ module _ (allocator : ℕ) (old : List ℕ) (table : Table) (place : Place) (v :
 
   pub grown_place : IsSame old new place.at (size table place.type)
   grown_place = same_place allocator old table place v blocks s new (again s.home (home_live allocator old table place v blocks s)).whole
+
+  pub grown_parts : KeepsAllParts old new table place
+  grown_parts = all_parts_kept old new table s.is_table s.holds_it grown_place (each_there (KeepsBlock old new) blocks (λ h some. (again h (owned_live allocator old table place v blocks s h some)).whole))
 
   -- the block's header states the new size
   pub grown_units : units_at new at ≡ n

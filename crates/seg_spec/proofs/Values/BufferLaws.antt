@@ -6,16 +6,18 @@ use Rattle.seg_spec.specs.Bytes.{slice, put, signed, signed_long, IsSame, Change
 use Rattle.seg_spec.specs.Types.{Form, Table, form_at, size, IsTable}
 use Rattle.seg_spec.specs.Value.{Label, Value, node, Values, nil, Text, Seq, Map, IsAscending}
 use Rattle.seg_spec.specs.Heap.{IsHeap}
-use Rattle.seg_spec.specs.Block.{Kind, tag_of, has_buffer, KeepsBlock}
+use Rattle.seg_spec.specs.Block.{Kind, tag_of, has_buffer, has_nodes, KeepsBlock}
 use Rattle.seg_spec.specs.Reads.{Place, Opened, count_at, named, start, spaced, places_of, items, keys_at, NamesRoom, Opens, Holds, holds, HoldsEach, holds_none}
+use Rattle.seg_spec.specs.Parts.{PersistEach, persist_none, PartsStay, KeepsParts, KeepsAllParts}
 use Rattle.seg_spec.specs.Cells.{IsWithin, Shifts}
 use Rattle.seg_spec.specs.Owning.{StandsBeside}
 use Rattle.seg_spec.specs.Spending.{item_size}
 use Rattle.seg_spec.proofs.BytesLaws.{number-slice, length-slice}
 use Rattle.seg_spec.proofs.SliceLaws.{slice-slice, slice-put_same, put-changes}
-use Rattle.seg_spec.proofs.Values.PlaceFrameLaws.{keys_at-same, spaced-same, inner-same, places-same, shorter, HoldsEach-kept}
+use Rattle.seg_spec.proofs.Values.PlaceFrameLaws.{keys_at-same, spaced-same, inner-same, places-same, shorter, PersistEach-kept}
+use Rattle.seg_spec.proofs.Values.PersistenceLaws.{HoldsEach-persist, all_parts, parts_before, each_persists}
 use Rattle.seg_spec.proofs.Values.CellChangeLaws.{size_aligned}
-use Rattle.seg_spec.proofs.Values.CellShiftLaws.{shift_changes, shifted}
+use Rattle.seg_spec.proofs.Values.CellShiftLaws.{shift_changes, shifted_persist}
 
 -- ---- the entries
 
@@ -27,6 +29,12 @@ HoldsEntries bytes table (Form.flat_map U) at n v owned =
     let entries = spaced at (8 + size table U) n in
     (vs : Values) × (v ≡ Map (keys_at bytes entries) vs) × IsAscending (keys_at bytes entries) × HoldsEach bytes table (places_of U (map (λ p. p + 8) entries)) vs owned
 HoldsEntries bytes table form at n v owned = ⊥
+
+-- the places of the values in the n entries from a position on
+abbrev pub entry_places : Table → Form → ℕ → ℕ → List Place
+entry_places table (Form.vec U) at n = items table at U n
+entry_places table (Form.flat_map U) at n = places_of U (map (λ p. p + 8) (spaced at (8 + size table U) n))
+entry_places table form at n = []
 
 -- the place has a buffer with such entries, and owns it
 pub record Buffered (bytes : List ℕ) (table : Table) (place : Place) (form : Form) (v : Value) (blocks : List ℕ) : Type 0 where
@@ -170,6 +178,29 @@ module _ (old new : List ℕ) (table : Table) (valid : IsTable table) (from to n
           ∙ sym (slice-slice (put old to (slice old from (n * each))) to (n * each) (j * each) 8 fits) ∙ ap (λ xs. slice xs (j * each) 8) copied ∙ slice-slice old from (n * each) (j * each) 8 fits
 
   module _ (allocator home : ℕ) (heap : IsHeap allocator old) (even : to % 8 ≡ 0) where
+    -- the values in entries that are moved persist
+    pub entries_persist : (form : Form) (v : Value) (owned : List ℕ) → IsWithin old from (n * item_size table form) → StandsBeside old home to (n * item_size table form) owned
+        → MovesEntries old new table form from to n → HoldsEntries old table form from n v owned → PersistEach old new table (entry_places table form from n) (entry_places table form to n)
+    entries_persist Form.i64 v owned from_in beside m e = absurd m
+    entries_persist (Form.list U) v owned from_in beside m e = absurd m
+    entries_persist (Form.map U) v owned from_in beside m e = absurd m
+    entries_persist (Form.own U) v owned from_in beside m e = absurd m
+    entries_persist (Form.shared U) v owned from_in beside m e = absurd m
+    entries_persist (Form.struct Us) v owned from_in beside m e = absurd m
+    entries_persist Form.str v owned from_in beside m e = persist_none
+    entries_persist (Form.vec U) v owned from_in beside m e =
+        let e8 = size_aligned table valid U in
+        let here = no_before (spaced from (size table U) n) in
+        let there = no_before (spaced to (size table U) n) in
+        let was = subst (λ ps. HoldsEach old table (places_of U ps) e.0 owned) (sym here) e.2 in
+        let is = shifted_persist old (put old to (slice old from (n * size table U))) new table valid m.distance 0 (size table U) U n from to refl from_in m.changed
+        allocator home e.0 owned heap beside (omega arith) m.back even e8 refl was in
+        subst (λ ps. PersistEach old new table (items table from U n) (places_of U ps)) there (subst (λ ps. PersistEach old new table (places_of U ps) (places_of U (map (λ p. p + 0) (spaced to (size table U) n)))) here is)
+    entries_persist (Form.flat_map U) v owned from_in beside m e =
+        let e8 = size_aligned table valid U in
+        shifted_persist old (put old to (slice old from (n * (8 + size table U)))) new table valid m.distance 8 (8 + size table U) U n from to refl from_in m.changed
+        allocator home e.0 owned heap beside (omega arith) m.back even (omega arith) refl e.3
+
     -- moved entries belong to the same value
     pub entries_moved : (form : Form) (v : Value) (owned : List ℕ) → IsWithin old from (n * item_size table form) → to + n * item_size table form ≤ length old → StandsBeside old home to (n * item_size table form) owned
         → MovesEntries old new table form from to n → HoldsEntries old table form from n v owned → HoldsEntries new table form to n v owned
@@ -187,19 +218,10 @@ module _ (old new : List ℕ) (table : Table) (valid : IsTable table) (from to n
         let text : slice new to n ≡ slice old from n = ap (λ b. slice b to n) m' ∙ slice-put_same old to (slice old from n) n long (omega arith) in
         (e.0 ∙ ap (λ bs. Text bs) (sym text), e.1)
     entries_moved (Form.vec U) v owned from_in to_in beside m e =
-        let e8 = size_aligned table valid U in
-        let here = no_before (spaced from (size table U) n) in
-        let there = no_before (spaced to (size table U) n) in
-        let was = subst (λ ps. HoldsEach old table (places_of U ps) e.0 owned) (sym here) e.2 in
-        let is = shifted old (put old to (slice old from (n * size table U))) new table valid m.distance 0 (size table U) U n from to refl from_in m.changed
-        allocator home e.0 owned heap beside (omega arith) m.back even e8 refl was in
-        (e.0, e.1, subst (λ ps. HoldsEach new table (places_of U ps) e.0 owned) there is)
+        (e.0, e.1, HoldsEach-persist old new table e.2 (entries_persist (Form.vec U) v owned from_in beside m e))
     entries_moved (Form.flat_map U) v owned from_in to_in beside m e =
-        let e8 = size_aligned table valid U in
         let keys = moved_keys U m from_in.fits to_in in
-        let is = shifted old (put old to (slice old from (n * (8 + size table U)))) new table valid m.distance 8 (8 + size table U) U n from to refl from_in m.changed
-        allocator home e.0 owned heap beside (omega arith) m.back even (omega arith) refl e.3 in
-        (e.0, e.1 ∙ ap (λ ks. Map ks e.0) (sym keys), subst IsAscending (sym keys) e.2, is)
+        (e.0, e.1 ∙ ap (λ ks. Map ks e.0) (sym keys), subst IsAscending (sym keys) e.2, HoldsEach-persist old new table e.3 (entries_persist (Form.flat_map U) v owned from_in beside m e))
 
     -- no other bytes change
     pub entries_changes : (form : Form) → IsWithin old from (n * item_size table form) → MovesEntries old new table form from to n → ChangesOnly old new to (n * item_size table form)
@@ -215,6 +237,22 @@ module _ (old new : List ℕ) (table : Table) (valid : IsTable table) (from to n
     entries_changes (Form.vec U) from_in m = shift_changes old (put old to (slice old from (n * size table U))) new table valid m.distance 0 (size table U) U n from to refl from_in m.changed
     entries_changes (Form.flat_map U) from_in m = shift_changes old (put old to (slice old from (n * (8 + size table U)))) new table valid m.distance 8 (8 + size table U) U n from to refl from_in m.changed
 
+-- the values in entries persist if the entries' bytes and the values' blocks are kept
+pub entries_stay : (old new : List ℕ) (table : Table) → IsTable table → (form : Form) (at n : ℕ) (v : Value) (owned : List ℕ) → IsSame old new at (n * item_size table form) → AllByRecursion (KeepsBlock old new) owned
+    → HoldsEntries old table form at n v owned → PersistEach old new table (entry_places table form at n) (entry_places table form at n)
+entries_stay old new table valid Form.i64 at n v owned same kept e = absurd e
+entries_stay old new table valid (Form.list U) at n v owned same kept e = absurd e
+entries_stay old new table valid (Form.map U) at n v owned same kept e = absurd e
+entries_stay old new table valid (Form.own U) at n v owned same kept e = absurd e
+entries_stay old new table valid (Form.shared U) at n v owned same kept e = absurd e
+entries_stay old new table valid (Form.struct Us) at n v owned same kept e = absurd e
+entries_stay old new table valid Form.str at n v owned same kept e = persist_none
+entries_stay old new table valid (Form.vec U) at n v owned same kept e =
+    PersistEach-kept old new table valid e.2 (places-same old new table valid U (spaced at (size table U) n) (spaced-same old new at (size table U) n same)) kept
+entries_stay old new table valid (Form.flat_map U) at n v owned same kept e =
+    let entries = spaced at (8 + size table U) n in
+    PersistEach-kept old new table valid e.3 (inner-same old new table valid U 8 (8 + size table U) entries (omega arith) (spaced-same old new at (8 + size table U) n same)) kept
+
 -- entries stay if their bytes and the blocks of their values are kept
 pub entries_kept : (old new : List ℕ) (table : Table) → IsTable table → (form : Form) (at n : ℕ) (v : Value) (owned : List ℕ) → IsSame old new at (n * item_size table form) → AllByRecursion (KeepsBlock old new) owned
     → HoldsEntries old table form at n v owned → HoldsEntries new table form at n v owned
@@ -228,12 +266,12 @@ entries_kept old new table valid Form.str at n v owned same kept e =
     let text : slice new at n ≡ slice old at n = rw (mul-one n) at same in
     (e.0 ∙ ap (λ bs. Text bs) (sym text), e.1)
 entries_kept old new table valid (Form.vec U) at n v owned same kept e =
-    (e.0, e.1, HoldsEach-kept old new table valid e.2 (places-same old new table valid U (spaced at (size table U) n) (spaced-same old new at (size table U) n same)) kept)
+    (e.0, e.1, HoldsEach-persist old new table e.2 (entries_stay old new table valid (Form.vec U) at n v owned same kept e))
 entries_kept old new table valid (Form.flat_map U) at n v owned same kept e =
     let all = spaced-same old new at (8 + size table U) n same in
     let entries = spaced at (8 + size table U) n in
     let keys = keys_at-same old new entries (shorter old new table valid (8 + size table U) 8 entries (omega arith) all) in
-    (e.0, e.1 ∙ ap (λ ks. Map ks e.0) (sym keys), subst IsAscending (sym keys) e.2, HoldsEach-kept old new table valid e.3 (inner-same old new table valid U 8 (8 + size table U) entries (omega arith) all) kept)
+    (e.0, e.1 ∙ ap (λ ks. Map ks e.0) (sym keys), subst IsAscending (sym keys) e.2, HoldsEach-persist old new table e.3 (entries_stay old new table valid (Form.flat_map U) at n v owned same kept e))
 
 slice_none : (bytes : List ℕ) (at : ℕ) → slice bytes at 0 ≡ []
 unfolding slice
@@ -250,3 +288,90 @@ entries_none bytes table (Form.struct Us) at to v owned e = absurd e
 entries_none bytes table Form.str at to v owned e = (e.0 ∙ ap (λ bs. Text bs) (slice_none bytes at ∙ sym (slice_none bytes to)), e.1)
 entries_none bytes table (Form.vec U) at to v owned e = e
 entries_none bytes table (Form.flat_map U) at to v owned e = e
+
+pub no_places : (table : Table) (form : Form) (at : ℕ) → entry_places table form at 0 ≡ []
+no_places table Form.i64 at = refl
+no_places table Form.str at = refl
+no_places table (Form.vec U) at = refl
+no_places table (Form.list U) at = refl
+no_places table (Form.flat_map U) at = refl
+no_places table (Form.map U) at = refl
+no_places table (Form.own U) at = refl
+no_places table (Form.shared U) at = refl
+no_places table (Form.struct Us) at = refl
+
+-- ---- the parts of a place with a buffer
+
+module _ (bytes : List ℕ) (table : Table) where
+  -- what a place with a buffer opens as
+  pub record OpensEntries (place : Place) (form : Form) : Type 0 where
+    pub opened : Opened
+    pub opens : Opens bytes table place form opened
+    pub parts_are : opened.parts ≡ entry_places table form (start bytes place.at) (count_at bytes place.at)
+
+  opens_by : (place : Place) (form : Form) (opened : Opened) → has_buffer (Some form) ≡ true → Opens bytes table place form opened → opened.parts ≡ entry_places table form (start bytes place.at) (count_at bytes place.at)
+  opens_by place Form.i64 opened b o = absurd (cc)
+  opens_by place (Form.list U) opened b o = absurd (cc)
+  opens_by place (Form.map U) opened b o = absurd (cc)
+  opens_by place (Form.own U) opened b o = absurd (cc)
+  opens_by place (Form.shared U) opened b o = absurd (cc)
+  opens_by place (Form.struct Us) opened b o = absurd (cc)
+  opens_by place Form.str opened b o = ap (λ (r : Opened). r.parts) o.opened_is
+  opens_by place (Form.vec U) opened b o = ap (λ (r : Opened). r.parts) o.opened_is
+  opens_by place (Form.flat_map U) opened b o = ap (λ (r : Opened). r.parts) o.opened_is
+
+  pub opens_entries : (place : Place) (form : Form) (v : Value) (blocks : List ℕ) → form_at table place.type ≡ Some form → has_buffer (Some form) ≡ true → Holds bytes table place v blocks → OpensEntries place form
+  opens_entries place form v blocks f b (holds g opened inside owned e o hs v_is blocks_is) =
+      let o' = subst (λ h. Opens bytes table place h opened) (same_form bytes table g form (sym e ∙ f)) o in
+      record { opened = opened; opens = o'; parts_are = opens_by place form opened b o' }
+
+module _ (old new : List ℕ) (table : Table) (place : Place) (form : Form) (v w : Value) (blocks others : List ℕ) (f : form_at table place.type ≡ Some form) (b : has_buffer (Some form) ≡ true)
+    (before : Holds old table place v blocks) (after : Holds new table place w others) where
+  abbrev was : List Place
+  was = entry_places table form (start old place.at) (count_at old place.at)
+
+  abbrev is : List Place
+  is = entry_places table form (start new place.at) (count_at new place.at)
+
+  -- a buffer isn't made of nodes
+  no_nodes : (form : Form) → has_buffer (Some form) ≡ true → has_nodes (Some form) ≡ true → ⊥
+  no_nodes Form.i64 b n = cc
+  no_nodes Form.str b n = cc
+  no_nodes (Form.vec U) b n = cc
+  no_nodes (Form.list U) b n = cc
+  no_nodes (Form.flat_map U) b n = cc
+  no_nodes (Form.map U) b n = cc
+  no_nodes (Form.own U) b n = cc
+  no_nodes (Form.shared U) b n = cc
+  no_nodes (Form.struct Us) b n = cc
+
+  -- the parts of a place with a buffer stay if the values in its entries do
+  pub parts_stay : (from gone come : ℕ) → PartsStay old new table form was is from gone come → KeepsParts old new table place from gone come
+  parts_stay from gone come s =
+      let o = opens_entries old table place form v blocks f b before in
+      let n = opens_entries new table place form w others f b after in
+      record {
+        form = form;
+        form_is = f;
+        before = o.opened;
+        opens_before = o.opens;
+        after = n.opened;
+        opens_after = n.opens;
+        stay = subst (λ ps. PartsStay old new table form ps n.opened.parts from gone come) (sym o.parts_are) (subst (λ ps. PartsStay old new table form was ps from gone come) (sym n.parts_are) s);
+      }
+
+  pub all_entries_stay : PersistEach old new table was is → KeepsAllParts old new table place
+  all_entries_stay each = parts_stay 0 0 0 (all_parts old new table form was is (λ n. absurd (no_nodes form b n)) each)
+
+  -- the first parts stay, and some come after them
+  pub entries_come : (come : List Place) (now : List Place) → PersistEach old new table was now → is ≡ now ++ come → KeepsParts old new table place (length was) 0 (length come)
+  entries_come come now each e = parts_stay (length was) 0 (length come)
+      (subst (λ ps. PartsStay old new table form was ps (length was) 0 (length come)) (sym e) (parts_before old new table form was now come (λ n. absurd (no_nodes form b n)) each))
+
+  -- if no part came or went, the values in the entries persist
+  pub each_entry_persists : KeepsAllParts old new table place → PersistEach old new table was is
+  each_entry_persists k =
+      let o = opens_entries old table place form v blocks f b before in
+      let n = opens_entries new table place form w others f b after in
+      let each = each_persists old new table place form o.opened n.opened f o.opens n.opens k in
+      subst (λ ps. PersistEach old new table ps is) o.parts_are (subst (λ ps. PersistEach old new table o.opened.parts ps) n.parts_are each)

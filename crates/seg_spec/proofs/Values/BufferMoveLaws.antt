@@ -2,6 +2,7 @@
 -- cell points to it, and the old block is freed.
 use Rattle.std.proofs.Common.{◌≡◌, ◌≢◌, ℕ, ◌+◌, ◌-◌, ◌*◌, ◌%◌, ◌^◌, ◌<◌, ◌≤◌, inr, true, List, [], ◌∷◌, ◌++◌, length, Option, Some, None, option_to_list, option_map, MatchOption, refl, sym, ap, ◌∙◌, subst, arith}
 use Rattle.std.specs.Prelude.{Contains}
+use Rattle.std.specs.List.{AllByRecursion}
 use Rattle.seg_spec.specs.Bytes.{set_word, IsSame, ChangesOnly}
 use Rattle.seg_spec.specs.Pointer.{target, set_pointer, distance}
 use Rattle.seg_spec.specs.Types.{Form, Table, form_at, size}
@@ -11,6 +12,7 @@ use Rattle.seg_spec.specs.Block.{Kind, tag_of, IsBlock, IsInside, KeepsBlock, bl
 use Rattle.seg_spec.specs.Reads.{Place, Holds, count_at, named, start, NamesRoom}
 use Rattle.seg_spec.specs.Sound.{times, positions}
 use Rattle.seg_spec.specs.Demand.{after_gives}
+use Rattle.seg_spec.specs.Parts.{PersistEach, persist_none, KeepsAllParts}
 use Rattle.seg_spec.specs.Cells.{IsWithin}
 use Rattle.seg_spec.specs.Owning.{Stands, StandsBeside}
 use Rattle.seg_spec.specs.Spending.{item_size}
@@ -18,7 +20,7 @@ use Rattle.seg_spec.specs.Growing.{HasRoomFor, MovesBuffer}
 use Rattle.seg_spec.proofs.BytesLaws.{number-set_other}
 use Rattle.seg_spec.proofs.SliceLaws.{IsSame-part}
 use Rattle.seg_spec.proofs.PointerLaws.{target-set_same}
-use Rattle.seg_spec.proofs.Values.PlaceFrameLaws.{IsBlock-kept, cell-target, cell-count}
+use Rattle.seg_spec.proofs.Values.PlaceFrameLaws.{IsBlock-kept, cell-target, cell-count, all_parts_kept}
 use Rattle.seg_spec.proofs.Tables.TypeSizeLaws.{size_large}
 use Rattle.seg_spec.proofs.Images.RootWriteLaws.{set_number-changes}
 use Rattle.seg_spec.proofs.Heap.LiveBlockLaws.{times-same, times-other, times-append, times-more, times-without, there, each_there, LiesIn, live-lie, live-once}
@@ -28,7 +30,8 @@ use Rattle.seg_spec.proofs.Values.CellChangeLaws.{ChangesOnly-none, ChangesOnly-
 use Rattle.seg_spec.proofs.Values.PlaceWriteLaws.{home_live, owned_live, owned_other, place_within, live_then, whole_then}
 use Rattle.seg_spec.proofs.Values.CallPlaceLaws.{Frames, same_place, marked_home, beside_home, written_home, marked_kept, frames_twice, marked_live, marked_counts, marked_block, marked_stands, marked_frames, unowned}
 use Rattle.seg_spec.proofs.Values.CallPlaceLaws.{beside_live, beside_stands, beside_place, beside_frames, beside_block, written_stands, written_frames, left_stands, left_place, left_frames, left_kept, changes_of}
-use Rattle.seg_spec.proofs.Values.BufferLaws.{HoldsEntries, Buffered, buffered, holds_buffered, MovesEntries, entries_moved, entries_changes, entries_kept, entries_none}
+use Rattle.seg_spec.proofs.Values.BufferLaws.{HoldsEntries, Buffered, buffered, holds_buffered, MovesEntries, entry_places, entries_moved, entries_persist, entries_changes, entries_stay, entries_kept, entries_none, no_places, all_entries_stay, each_entry_persists}
+use Rattle.seg_spec.proofs.Values.PersistenceLaws.{persist_then}
 
 smaller_block : (bytes : List ℕ) (p tag n m : ℕ) → m ≤ n → IsBlock bytes p tag n → IsBlock bytes p tag m
 smaller_block bytes p tag n m l b = record { after_header = b.after_header; live = b.live; has_tag = b.has_tag; room = omega (arith, b.room) }
@@ -104,6 +107,13 @@ module _ (allocator : ℕ) (old taken : List ℕ) (table : Table) (place : Place
   abbrev each : ℕ
   each = item_size table form
 
+  tagged_persist : PersistEach old tagged table (entry_places table form (start old place.at) (count_at old place.at)) (entry_places table form (start tagged place.at) n)
+  tagged_persist =
+      let kept = (marked_kept allocator old table place v blocks s u g place.type taken t two small allowed s.home (home_live allocator old table place v blocks s)).whole.kept in
+      each_entry_persists old tagged table place form v v blocks blocks f b s.holds_it tagged_stands.holds_it
+      (all_parts_kept old tagged table s.is_table s.holds_it (same_place allocator old table place v blocks s tagged kept)
+      (each_there (KeepsBlock old tagged) blocks (λ h some. (marked_kept allocator old table place v blocks s u g place.type taken t two small allowed h (owned_live allocator old table place v blocks s h some)).whole.kept)))
+
   units : u ≤ units_at tagged g
   units = let r = rw own at g_block.room in omega arith
 
@@ -138,13 +148,20 @@ module _ (allocator : ℕ) (old taken : List ℕ) (table : Table) (place : Place
     record Moved : Type 0 where
       changes : ChangesOnly tagged moved (g + 16) (n * each)
       entries : HoldsEntries moved table form (g + 16) n v its.owned
+      persist : PersistEach tagged moved table (entry_places table form (start tagged place.at) n) (entry_places table form (g + 16) n)
 
     moved_by : (o : Option ℕ) → target tagged place.at ≡ o → MovesFrom o tagged moved table form (g + 16) n → Moved
     moved_by None e k =
         let room : n ≡ 0 = rw e at its.room in
         let held : HoldsEntries tagged table form 0 n v its.owned = rw e at its.entries in
         let here : HoldsEntries tagged table form (g + 16) n v its.owned = rw room (entries_none tagged table form 0 (g + 16) v its.owned (rw room at held)) in
-        record { changes = rw k (ChangesOnly-none tagged (g + 16) (n * each)); entries = rw k here }
+        let places : (at : ℕ) → entry_places table form at n ≡ [] = λ at. ap (entry_places table form at) room ∙ no_places table form at in
+        record {
+          changes = rw k (ChangesOnly-none tagged (g + 16) (n * each));
+          entries = rw k here;
+          persist = subst (λ ps. PersistEach tagged moved table ps (entry_places table form (g + 16) n)) (sym (places (start tagged place.at)))
+              (subst (λ ps. PersistEach tagged moved table [] ps) (sym (places (g + 16))) persist_none);
+        }
     moved_by (Some p) e k =
         let held : HoldsEntries tagged table form p n v its.owned = rw e at its.entries in
         let from_in = from_within p e in
@@ -153,6 +170,7 @@ module _ (allocator : ℕ) (old taken : List ℕ) (table : Table) (place : Place
         record {
           changes = entries_changes tagged moved table s.is_table p (g + 16) n allocator g tagged_stands.heap even form from_in k;
           entries = entries_moved tagged moved table s.is_table p (g + 16) n allocator g tagged_stands.heap even form v its.owned from_in to_in beside k held;
+          persist = rw e (entries_persist tagged moved table s.is_table p (g + 16) n allocator g tagged_stands.heap even form v its.owned from_in beside k held);
         }
 
     done : Moved
@@ -218,12 +236,23 @@ module _ (allocator : ℕ) (old taken : List ℕ) (table : Table) (place : Place
     pointed_block : IsBlock pointed (g + 16) (tag_of Kind.buffer place.type) (16 * u - 16)
     pointed_block = IsBlock-kept moved pointed (g + 16) (tag_of Kind.buffer place.type) (16 * u - 16) (rw own g_whole) moved_block
 
-    pointed_entries : HoldsEntries pointed table form (g + 16) n v its.owned
-    pointed_entries =
+    pointed_same : IsSame moved pointed (g + 16) (n * each)
+    pointed_same =
         let r = rw own at moved_block.room in
-        entries_kept moved pointed table s.is_table form (g + 16) n v its.owned (IsSame-part moved pointed (g + 16) (payload_size moved g) (g + 16) (n * each) (omega arith) (omega arith) g_whole.payload)
-        (each_there (KeepsBlock moved pointed) its.owned (λ h some. whole_then allocator moved table place v blocks moved_stands pointed cell_changes h
-        (owned_live allocator moved table place v blocks moved_stands h (owned_too h some)) (owned_other allocator moved table place v blocks moved_stands h (owned_too h some)))) done.entries
+        IsSame-part moved pointed (g + 16) (payload_size moved g) (g + 16) (n * each) (omega arith) (omega arith) g_whole.payload
+
+    pointed_kept : AllByRecursion (KeepsBlock moved pointed) its.owned
+    pointed_kept = each_there (KeepsBlock moved pointed) its.owned (λ h some. whole_then allocator moved table place v blocks moved_stands pointed cell_changes h
+        (owned_live allocator moved table place v blocks moved_stands h (owned_too h some)) (owned_other allocator moved table place v blocks moved_stands h (owned_too h some)))
+
+    pointed_entries : HoldsEntries pointed table form (g + 16) n v its.owned
+    pointed_entries = entries_kept moved pointed table s.is_table form (g + 16) n v its.owned pointed_same pointed_kept done.entries
+
+    -- the values in the entries persist up to here
+    pointed_persist : PersistEach old pointed table (entry_places table form (start old place.at) (count_at old place.at)) (entry_places table form (g + 16) n)
+    pointed_persist =
+        persist_then old tagged pointed table tagged_persist
+        (persist_then tagged moved pointed table done.persist (entries_stay moved pointed table s.is_table form (g + 16) n v its.owned pointed_same pointed_kept done.entries))
 
     pointed_holds : Holds pointed table place v (g ∷ its.owned)
     pointed_holds =
@@ -288,6 +317,12 @@ module _ (allocator : ℕ) (old taken : List ℕ) (table : Table) (place : Place
         let f = found (block_of p) (live pointed) (rw pointed_live (omega (arith, after_counts (block_of p)))) in
         (f.block.units, subst (λ x. Contains (live pointed) (record { at = x; units = f.block.units })) f.at_is f.among)
 
+    -- each part is where the cell now points to
+    parts_there : (new : List ℕ) → Holds new table place v (g ∷ its.owned) → target new place.at ≡ Some (g + 16) → count_at new place.at ≡ n
+        → PersistEach old new table (entry_places table form (start old place.at) (count_at old place.at)) (entry_places table form (g + 16) n) → KeepsAllParts old new table place
+    parts_there new now there_is counted each_stays =
+        all_entries_stay old new table place form v v blocks (g ∷ its.owned) f b s.holds_it now (rw (there_is, counted) each_stays)
+
     module _ (new : List ℕ) (gives : MatchOption (target tagged place.at) (new ≡ pointed) (λ p. Gives allocator pointed new (block_of p))) where
       moves_none : target tagged place.at ≡ None → new ≡ pointed → MovesBuffer allocator old taken new table place v blocks u
       moves_none e same =
@@ -297,6 +332,7 @@ module _ (allocator : ℕ) (old taken : List ℕ) (table : Table) (place : Place
           record {
             others = g ∷ its.owned;
             changes = rw (same, none) c;
+            parts = rw same (parts_there pointed pointed_stands.holds_it pointed_target pointed_count pointed_persist);
             room = rw same pointed_room;
           }
 
@@ -323,6 +359,13 @@ module _ (allocator : ℕ) (old taken : List ℕ) (table : Table) (place : Place
           let block = IsBlock-kept pointed new (g + 16) (tag_of Kind.buffer place.type) (16 * u - 16) (rw own whole) pointed_block in
           let large = size_large table s.is_table place.type in
           let there_is : target new place.at ≡ Some (g + 16) = cell-target pointed new place.at (IsSame-part pointed new place.at (size table place.type) place.at 8 (omega arith) (omega arith) same) ∙ pointed_target in
+          let count_there : count_at new place.at ≡ n = cell-count pointed new place.at (IsSame-part pointed new place.at (size table place.type) place.at 8 (omega arith) (omega arith) same) ∙ pointed_count in
+          let units_room = rw own at pointed_block.room in
+          let entries_same : IsSame pointed new (g + 16) (n * each) = IsSame-part pointed new (g + 16) (payload_size pointed g) (g + 16) (n * each) (omega arith) (omega arith) whole.payload in
+          let owned_kept : AllByRecursion (KeepsBlock pointed new) its.owned = each_there (KeepsBlock pointed new) its.owned (λ h some.
+          (left_kept allocator pointed table place v (g ∷ its.owned) pointed_stands new (block_of p) given live_there away h
+          (owned_live allocator pointed table place v (g ∷ its.owned) pointed_stands h (omega (arith, times-more h g its.owned)))
+          (λ k. let mine_too : 1 ≤ times (block_of p) its.owned = subst (λ x. 1 ≤ times x its.owned) (sym k) some in omega (arith, none_owned))).whole.kept) in
           let left : live new ≡ after_gives (live taken) (block_of p ∷ []) = given.given ∙ ap (without (block_of p)) pointed_live in
           let c = changes_of allocator old new table place v (g ∷ its.owned) blocks (after_gives (live taken) (block_of p ∷ [])) s.allocator_is stands
           (frames_twice old pointed new place.at (size table place.type) blocks (block_of p ∷ []) pointed_frames frames (λ h here none. omega (arith, blocks_count h, ap (times h) named_tagged)))
@@ -330,6 +373,8 @@ module _ (allocator : ℕ) (old taken : List ℕ) (table : Table) (place : Place
           record {
             others = g ∷ its.owned;
             changes = rw named_is c;
+            parts = parts_there new stands.holds_it there_is count_there (persist_then old pointed new table pointed_persist
+                (entries_stay pointed new table s.is_table form (g + 16) n v its.owned entries_same owned_kept pointed_entries));
             room = rw there_is block.room;
           }
 

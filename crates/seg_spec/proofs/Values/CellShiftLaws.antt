@@ -13,6 +13,7 @@ use Rattle.seg_spec.specs.Heap.{IsHeap, live, heap_start}
 use Rattle.seg_spec.specs.Block.{IsBlock, KeepsBlock, block_of}
 use Rattle.seg_spec.specs.Shapes.{IsRing, Tree, leaf, fork, nodes_of, IsTree}
 use Rattle.seg_spec.specs.Reads.{Place, Opened, count_at, spaced, places_of, fields, AreNodes, Opens, Holds, holds, HoldsEach, holds_none, holds_more, map_words}
+use Rattle.seg_spec.specs.Parts.{Persists, PersistEach, persist_none, persist_more}
 use Rattle.seg_spec.specs.Sound.{times, positions}
 use Rattle.seg_spec.specs.Cells.{IsWithin, EachCell, ChangesCells, ChangesEach, IsMoved, IsFurther}
 use Rattle.seg_spec.specs.Owning.{StandsBeside}
@@ -22,7 +23,8 @@ use Rattle.seg_spec.proofs.BytesLaws.{number-slice, length-slice}
 use Rattle.seg_spec.proofs.Values.PlaceFrameLaws.{each_left, each_right, each_weaker, each_both}
 use Rattle.seg_spec.proofs.Values.CellLaws.{IsOne}
 use Rattle.seg_spec.proofs.Heap.LiveBlockLaws.{times-append, times-same, there, each_there, LiesIn, live-lie}
-use Rattle.seg_spec.proofs.Values.ValueMoveLaws.{EachField, fields_struct, Holds-moved}
+use Rattle.seg_spec.proofs.Values.ValueMoveLaws.{EachField, fields_struct, Persists-moved}
+use Rattle.seg_spec.proofs.Values.PersistenceLaws.{HoldsEach-persist}
 use Rattle.seg_spec.proofs.Values.CellChangeLaws.{ChangesOnly-trans, each_i64, each_one, each_cell_weaker}
 use Rattle.seg_spec.proofs.Heap.BlockWriteLaws.{KeptBut, live_kept_but}
 
@@ -242,13 +244,13 @@ module _ (old raw new : List ℕ) (table : Table) (valid : IsTable table) (n : �
   cell_there blocks p q (Some (Form.shared U)) aligned far small eight s names f = pointer_there blocks p q aligned far small eight s names f
   cell_there blocks p q (Some (Form.struct Us)) aligned far small eight s names f = pointer_there blocks p q aligned far small eight s names f
 
-  pub value_there : (p q T : ℕ) (v : Value) (blocks : List ℕ) → ((h : ℕ) → 1 ≤ times h blocks → h % 16 ≡ 0) → (q + n) % 2 ^ 32 ≡ p → q + size table T < 2 ^ 31 → p + size table T < 2 ^ 31 → q % 8 ≡ 0
+  value_there : (p q T : ℕ) (v : Value) (blocks : List ℕ) → ((h : ℕ) → 1 ≤ times h blocks → h % 16 ≡ 0) → (q + n) % 2 ^ 32 ≡ p → q + size table T < 2 ^ 31 → p + size table T < 2 ^ 31 → q % 8 ≡ 0
       → slice raw q (size table T) ≡ slice old p (size table T) → EachCell table T (λ d form. IsFurther raw new n (q + d) form) → AllByRecursion (KeepsBlock old new) blocks
-      → Holds old table (record { at = p; type = T }) v blocks → Holds new table (record { at = q; type = T }) v blocks
+      → Holds old table (record { at = p; type = T }) v blocks → Persists old new table (record { at = p; type = T }) (record { at = q; type = T })
   value_there p q T v blocks aligned far small small_too eight s further kept h =
       let names = names_owned old table valid h in
       let both : EachCell table T (λ d form. NamesOwned old table valid blocks (p + d) form × IsFurther raw new n (q + d) form) = each_both _ _ _ (λ c a b. (a, b)) (cells table T) names further in
-      Holds-moved old new table valid q h
+      Persists-moved old new table valid q h
       (each_cell_weaker table valid (λ d form. NamesOwned old table valid blocks (p + d) form × IsFurther raw new n (q + d) form) (λ d form. IsMoved old new (p + d) (q + d) form) T
       (λ d form fits even r. cell_there blocks (p + d) (q + d) form aligned (omega arith) (omega arith) (omega arith) (part_at d fits) r.0 r.1) both) kept
     where
@@ -260,11 +262,11 @@ module _ (old raw new : List ℕ) (table : Table) (valid : IsTable table) (n : �
   abbrev pub values_at : ℕ → ℕ → ℕ → ℕ → List ℕ
   values_at before start each k = map (λ p. p + before) (spaced start each k)
 
-  pub values_there : (before each T k from to : ℕ) (vs : Values) (blocks : List ℕ) → before + size table T ≤ each → ((h : ℕ) → 1 ≤ times h blocks → h % 16 ≡ 0) → (to + n) % 2 ^ 32 ≡ from → to + k * each < 2 ^ 31 → from + k * each < 2 ^ 31
+  values_there : (before each T k from to : ℕ) (vs : Values) (blocks : List ℕ) → before + size table T ≤ each → ((h : ℕ) → 1 ≤ times h blocks → h % 16 ≡ 0) → (to + n) % 2 ^ 32 ≡ from → to + k * each < 2 ^ 31 → from + k * each < 2 ^ 31
       → to % 8 ≡ 0 → each % 8 ≡ 0 → before % 8 ≡ 0 → slice raw to (k * each) ≡ slice old from (k * each)
       → AllByRecursion (λ q. EachCell table T (λ d form. IsFurther raw new n (q + d) form)) (values_at before to each k) → AllByRecursion (KeepsBlock old new) blocks
-      → HoldsEach old table (places_of T (values_at before from each k)) vs blocks → HoldsEach new table (places_of T (values_at before to each k)) vs blocks
-  values_there before each T zero from to vs blocks fits aligned far small small_too even e8 b8 s further kept holds_none = holds_none
+      → HoldsEach old table (places_of T (values_at before from each k)) vs blocks → PersistEach old new table (places_of T (values_at before from each k)) (places_of T (values_at before to each k))
+  values_there before each T zero from to vs blocks fits aligned far small small_too even e8 b8 s further kept holds_none = persist_none
   values_there before each T (suc k) from to vs blocks fits aligned far small small_too even e8 b8 s further kept (holds_more {v = u} {vs = us} {blocks = mine} {owned = rest} first more) =
       let all : suc k * each ≡ each + k * each = grind arith in
       let one = part_there before (size table T) (omega arith) in
@@ -273,7 +275,7 @@ module _ (old raw new : List ℕ) (table : Table) (valid : IsTable table) (n : �
       (omega arith) one further.0 (each_left _ mine rest kept) first in
       let more_there = values_there before each T k (from + each) (to + each) us rest fits (λ h m. aligned h (omega (arith, times-append h mine rest))) (omega arith) (omega arith) (omega arith)
       (omega arith) e8 b8 next further.1 (each_right _ mine rest kept) more in
-      holds_more first_there more_there
+      persist_more first_there more_there
     where
       part_there : (i m : ℕ) → i + m ≤ suc k * each → slice raw (to + i) m ≡ slice old (from + i) m
       part_there i m fits = sym (slice-slice raw to (suc k * each) i m fits) ∙ ap (λ xs. slice xs i m) s ∙ slice-slice old from (suc k * each) i m fits
@@ -306,9 +308,15 @@ module _ (old raw new : List ℕ) (table : Table) (valid : IsTable table) (n : �
         (there (KeptBut old new to (k * each) shift_changes allocator heap home stands.inside stands.home_live) h (positions (live old))
         (live_kept_but old new to (k * each) shift_changes allocator heap home stands.inside stands.home_live) other.0).kept other.1)
 
-    pub shifted : before + size table T ≤ each → (to + n) % 2 ^ 32 ≡ from → to % 8 ≡ 0 → each % 8 ≡ 0 → before % 8 ≡ 0
-        → HoldsEach old table (places_of T (values_at old raw new table valid n before from each k)) vs blocks → HoldsEach new table (places_of T (values_at old raw new table valid n before to each k)) vs blocks
-    shifted fits far even e8 b8 h =
+    -- each value persists at its new position
+    pub shifted_persist : before + size table T ≤ each → (to + n) % 2 ^ 32 ≡ from → to % 8 ≡ 0 → each % 8 ≡ 0 → before % 8 ≡ 0
+        → HoldsEach old table (places_of T (values_at old raw new table valid n before from each k)) vs blocks
+        → PersistEach old new table (places_of T (values_at old raw new table valid n before from each k)) (places_of T (values_at old raw new table valid n before to each k))
+    shifted_persist fits far even e8 b8 h =
         let low = to_in in
         values_there old raw new table valid n before each T k from to vs blocks fits (λ g some. (lies g (stands.others g some).0).aligned) far (omega (arith, from_in.small))
         (omega (arith, from_in.fits, from_in.small)) even e8 b8 copied changed.cells beside_kept h
+
+    pub shifted : before + size table T ≤ each → (to + n) % 2 ^ 32 ≡ from → to % 8 ≡ 0 → each % 8 ≡ 0 → before % 8 ≡ 0
+        → HoldsEach old table (places_of T (values_at old raw new table valid n before from each k)) vs blocks → HoldsEach new table (places_of T (values_at old raw new table valid n before to each k)) vs blocks
+    shifted fits far even e8 b8 h = HoldsEach-persist old new table h (shifted_persist fits far even e8 b8 h)

@@ -5,10 +5,11 @@ use Rattle.std.proofs.lemmas.Bool.{cases_eq}
 use Rattle.std.specs.List.{AllByRecursion}
 use Rattle.seg_spec.specs.Bytes.{word, IsSame}
 use Rattle.seg_spec.specs.Types.{Table, size}
-use Rattle.seg_spec.specs.Value.{Value, Selector, with_value_at}
+use Rattle.seg_spec.specs.Value.{Value, Values, Selector, with_value_at}
 use Rattle.seg_spec.specs.Heap.{units_at, IsHeap, live, heap_start}
 use Rattle.seg_spec.specs.Block.{IsInside, KeepsBlock, payload_size}
-use Rattle.seg_spec.specs.Reads.{Place, Holds, Leads}
+use Rattle.seg_spec.specs.Reads.{Place, Holds, HoldsEach, Leads}
+use Rattle.seg_spec.specs.Parts.{PersistEach}
 use Rattle.seg_spec.specs.Apart.{Separate, RangeApart, BlocksApart, KeptAround, KeepsBlockAround, ComesApart}
 use Rattle.seg_spec.specs.Sound.{times, positions}
 use Rattle.seg_spec.specs.Frozen.{Frozen, blocks_by}
@@ -20,7 +21,7 @@ use Rattle.seg_spec.specs.Owning.{Stands}
 use Rattle.seg_spec.specs.Shrinking.{KeepsPathsInside}
 use Rattle.seg_spec.proofs.Values.PathFrameLaws.{Leads-kept}
 use Rattle.seg_spec.proofs.SliceLaws.{IsSame-part}
-use Rattle.seg_spec.proofs.Values.PlaceFrameLaws.{word-same}
+use Rattle.seg_spec.proofs.Values.PlaceFrameLaws.{word-same, SamePlace, each_weaker, PersistEach-kept}
 use Rattle.seg_spec.proofs.Heap.LiveBlockLaws.{OneOrApart, times-same, times-other, times-more, times-append, there, each_there, LiesIn, live-lie, live-once, live-apart, apart_once}
 use Rattle.seg_spec.proofs.Values.PutLaws.{comes_apart}
 use Rattle.seg_spec.proofs.Heap.BlockFrameLaws.{around_twice, around_kept}
@@ -169,30 +170,44 @@ module _ (allocator : ℕ) (old : List ℕ) (table : Table) (place : Place) (v :
       place_same = place_around place.at (size table place.type) (omega arith) (omega arith)
           (⊎_elim (λ l. inl (omega (arith, inside.low))) (λ l. inr (omega (arith, inside.high))) (there (λ h. Separate place.at (size table place.type) h (16 * units_at old h)) block rest place_beside mine))
 
+      -- a block of the other parts is kept whole, unless the value is in it
+      beside_whole : (g : ℕ) → 1 ≤ times g rest → g ≢ block → KeepsBlock old mid g
+      beside_whole g some ne =
+          let k = change.changes.kept g (rest_live g some) (rest_stays g some) in
+          record {
+            live = k.header.live;
+            has_tag = k.header.has_tag;
+            room = k.header.room;
+            payload = k.payload (g + 16) (payload_size old g) (omega arith) (omega arith) (off (pair block g (rest_live block mine) (rest_live g some)));
+          }
+        where
+          off : OneOrApart old block g → Separate (g + 16) (payload_size old g) inner.at (size table inner.type)
+          off (inl e) = absurd (ne e)
+          off (inr (inl before)) = inr (omega (arith, inside.high))
+          off (inr (inr following)) = let l = lies g (rest_live g some) in inl (omega (arith, inside.low, l.size))
+
+      -- the other bytes of the value's block are kept
+      beside_same : (at n : ℕ) → IsInside old block at n → Separate at n inner.at (size table inner.type) → IsSame old mid at n
+      beside_same at n in_block apart =
+          let b = change.changes.kept block (rest_live block mine) (rest_stays block mine) in
+          let l = lies block (rest_live block mine) in
+          b.payload at n (omega (arith, in_block.low)) (omega (arith, in_block.high, l.size)) apart
+
       -- Each path from a part that doesn't overlap the value still reaches the same place, also if
       -- the part is in the same block.
       pub beside_paths : (other : Place) (u : Value) (bs : List ℕ) → Holds old table other u bs → IsInside old block other.at (size table other.type)
           → Separate other.at (size table other.type) inner.at (size table inner.type) → ((h : ℕ) → 1 ≤ times h bs → (1 ≤ times h rest) × (h ≢ block)) → KeepsPathsInside old mid table other
       beside_paths other u bs holds_it in_block apart ours path goal way =
-          let b = change.changes.kept block (rest_live block mine) (rest_stays block mine) in
-          let l = lies block (rest_live block mine) in
-          Leads-kept old mid table s.is_table way holds_it (b.payload other.at (size table other.type) (omega (arith, in_block.low)) (omega (arith, in_block.high, l.size)) apart)
-          (each_there (KeepsBlock old mid) bs (λ g some. whole g (ours g some).0 (ours g some).1))
-        where
-          whole : (g : ℕ) → 1 ≤ times g rest → g ≢ block → KeepsBlock old mid g
-          whole g some ne =
-              let k = change.changes.kept g (rest_live g some) (rest_stays g some) in
-              record {
-                live = k.header.live;
-                has_tag = k.header.has_tag;
-                room = k.header.room;
-                payload = k.payload (g + 16) (payload_size old g) (omega arith) (omega arith) (off (pair block g (rest_live block mine) (rest_live g some)));
-              }
-            where
-              off : OneOrApart old block g → Separate (g + 16) (payload_size old g) inner.at (size table inner.type)
-              off (inl e) = absurd (ne e)
-              off (inr (inl before)) = inr (omega (arith, inside.high))
-              off (inr (inr following)) = let l = lies g (rest_live g some) in inl (omega (arith, inside.low, l.size))
+          Leads-kept old mid table s.is_table way holds_it (beside_same other.at (size table other.type) in_block apart)
+          (each_there (KeepsBlock old mid) bs (λ g some. beside_whole g (ours g some).0 (ours g some).1))
+
+      -- such parts persist
+      pub beside_persist : (others : List Place) (us : Values) (bs : List ℕ) → HoldsEach old table others us bs
+          → AllByRecursion (λ other. IsInside old block other.at (size table other.type) × Separate other.at (size table other.type) inner.at (size table inner.type)) others
+          → ((h : ℕ) → 1 ≤ times h bs → (1 ≤ times h rest) × (h ≢ block)) → PersistEach old mid table others others
+      beside_persist others us bs hold apart ours =
+          PersistEach-kept old mid table s.is_table hold (each_weaker _ (SamePlace old mid table) (λ (other : Place) a. beside_same other.at (size table other.type) a.0 a.1) others apart)
+          (each_there (KeepsBlock old mid) bs (λ g some. beside_whole g (ours g some).0 (ours g some).1))
 
       rest_apart : BlocksApart old rest
       rest_apart = apart_once old rest

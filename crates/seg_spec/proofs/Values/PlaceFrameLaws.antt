@@ -1,4 +1,4 @@
--- A place keeps its value if its bytes and the blocks that it owns are kept.
+-- A place keeps its value, and each of its parts, if its bytes and the blocks that it owns are kept.
 use Rattle.std.proofs.Common.{◌≡◌, ℕ, zero, suc, ◌+◌, ◌-◌, ◌*◌, ◌≤◌, List, [], ◌∷◌, ◌++◌, map, Option, Some, None, unwrap_or, option_to_list, option_map, MatchOption, sum_by, refl, ap, ◌∙◌, arith}
 use Rattle.std.proofs.Math.Nat.{zero-mul, mul-one}
 use Rattle.std.proofs.lemmas.List.Sums.{sum_by-cons}
@@ -10,8 +10,10 @@ use Rattle.seg_spec.specs.Value.{Value, Values}
 use Rattle.seg_spec.specs.Block.{IsBlock, KeepsBlock, block_of, payload_size}
 use Rattle.seg_spec.specs.Shapes.{IsRing, IsLinked, AreLinked, Tree, leaf, fork, nodes_of, IsTree}
 use Rattle.seg_spec.specs.Reads.{Place, Opened, count_at, named, start, spaced, places_of, fields, keys_at, NamesRoom, AreNodes, Opens, Holds, holds, HoldsEach, holds_none, holds_more, map_words}
+use Rattle.seg_spec.specs.Parts.{Persists, persists, PersistEach, persist_none, persist_more, KeepsAllParts}
 use Rattle.seg_spec.proofs.BytesLaws.{number-slice}
 use Rattle.seg_spec.proofs.SliceLaws.{IsSame-part}
+use Rattle.seg_spec.proofs.Values.PersistenceLaws.{HoldsEach-persist, Holds-persists, all_parts}
 use Rattle.seg_spec.proofs.Tables.TypeSizeLaws.{size-form}
 
 -- ---- facts about each item
@@ -289,13 +291,43 @@ module _ (old new : List ℕ) (table : Table) (valid : IsTable table) where
   }
 
   mutual
-    pub Holds-kept : {place : Place} {v : Value} {blocks : List ℕ} → Holds old table place v blocks → SamePlace old new table place → AllByRecursion (KeepsBlock old new) blocks → Holds new table place v blocks
-    Holds-kept {place = place} (holds form opened inside owned f o hs v_is blocks_is) h ks =
+    pub Persists-kept : {place : Place} {v : Value} {blocks : List ℕ} → Holds old table place v blocks → SamePlace old new table place → AllByRecursion (KeepsBlock old new) blocks → Persists old new table place place
+    Persists-kept {place = place} (holds form opened inside owned f o hs v_is blocks_is) h ks =
         let all = rw blocks_is at ks in
         let stays = Opens-kept place form opened (cell_size place form f h) (each_left _ opened.blocks owned all) o in
-        holds form opened inside owned f stays.opens (HoldsEach-kept hs stays.parts (each_right _ opened.blocks owned all)) v_is blocks_is
+        persists form opened opened f refl o stays.opens refl refl (PersistEach-kept hs stays.parts (each_right _ opened.blocks owned all))
 
-    pub HoldsEach-kept : {places : List Place} {vs : Values} {blocks : List ℕ} → HoldsEach old table places vs blocks → AllByRecursion (SamePlace old new table) places → AllByRecursion (KeepsBlock old new) blocks
-        → HoldsEach new table places vs blocks
-    HoldsEach-kept holds_none h ks = holds_none
-    HoldsEach-kept (holds_more {blocks = blocks} {owned = owned} first rest) h ks = holds_more (Holds-kept first h.0 (each_left _ blocks owned ks)) (HoldsEach-kept rest h.1 (each_right _ blocks owned ks))
+    pub PersistEach-kept : {places : List Place} {vs : Values} {blocks : List ℕ} → HoldsEach old table places vs blocks → AllByRecursion (SamePlace old new table) places → AllByRecursion (KeepsBlock old new) blocks
+        → PersistEach old new table places places
+    PersistEach-kept holds_none h ks = persist_none
+    PersistEach-kept (holds_more {blocks = blocks} {owned = owned} first rest) h ks = persist_more (Persists-kept first h.0 (each_left _ blocks owned ks)) (PersistEach-kept rest h.1 (each_right _ blocks owned ks))
+
+  pub Holds-kept : {place : Place} {v : Value} {blocks : List ℕ} → Holds old table place v blocks → SamePlace old new table place → AllByRecursion (KeepsBlock old new) blocks → Holds new table place v blocks
+  Holds-kept hold h ks = Holds-persists old new table hold (Persists-kept hold h ks)
+
+  pub HoldsEach-kept : {places : List Place} {vs : Values} {blocks : List ℕ} → HoldsEach old table places vs blocks → AllByRecursion (SamePlace old new table) places → AllByRecursion (KeepsBlock old new) blocks
+      → HoldsEach new table places vs blocks
+  HoldsEach-kept hs h ks = HoldsEach-persist old new table hs (PersistEach-kept hs h ks)
+
+  -- each part of a place that is kept stays
+  pub all_parts_kept : {place : Place} {v : Value} {blocks : List ℕ} → Holds old table place v blocks → SamePlace old new table place → AllByRecursion (KeepsBlock old new) blocks → KeepsAllParts old new table place
+  all_parts_kept {place = place} (holds form opened inside owned f o hs v_is blocks_is) h ks =
+      let all = rw blocks_is at ks in
+      let stays = Opens-kept place form opened (cell_size place form f h) (each_left _ opened.blocks owned all) o in
+      record {
+        form = form;
+        form_is = f;
+        before = opened;
+        opens_before = o;
+        after = opened;
+        opens_after = stays.opens;
+        stay = all_parts old new table form opened.parts opened.parts (λ e. refl) (PersistEach-kept hs stays.parts (each_right _ opened.blocks owned all));
+      }
+
+-- bytes that don't change keep all parts
+pub parts_unchanged : (bytes : List ℕ) (table : Table) → IsTable table → {place : Place} {v : Value} {blocks : List ℕ} → Holds bytes table place v blocks → KeepsAllParts bytes bytes table place
+parts_unchanged bytes table valid {blocks = blocks} hold = all_parts_kept bytes bytes table valid hold refl (all blocks)
+  where
+    all : (hs : List ℕ) → AllByRecursion (KeepsBlock bytes bytes) hs
+    all [] = tt
+    all (h ∷ hs) = (record { live = refl; has_tag = refl; room = omega arith; payload = refl }, all hs)

@@ -1,4 +1,4 @@
--- A value that is moved with its cells stays the same value, since the cells keep their targets.
+-- A value that is moved with its cells persists, since the cells keep their targets.
 use Rattle.std.proofs.Common.{◌≡◌, ℕ, ◌+◌, ◌*◌, List, [], ◌∷◌, ◌++◌, map, Option, Some, get_or, refl, sym, ap, ◌∙◌, subst, arith, add-zero, add_assoc}
 use Rattle.std.proofs.Math.Nat.{mul-one}
 use Rattle.std.specs.List.{AllByRecursion}
@@ -9,9 +9,11 @@ use Rattle.seg_spec.specs.Value.{Label, Value, Values}
 use Rattle.seg_spec.specs.Block.{KeepsBlock, block_of}
 use Rattle.seg_spec.specs.Shapes.{nodes_of}
 use Rattle.seg_spec.specs.Reads.{Place, Opened, count_at, named, start, spaced, fields, keys_at, NamesRoom, Opens, Holds, holds, HoldsEach, holds_none, holds_more, map_words}
+use Rattle.seg_spec.specs.Parts.{Persists, persists, PersistEach, persist_none, persist_more}
 use Rattle.seg_spec.specs.Cells.{EachCell, IsMoved}
 use Rattle.seg_spec.proofs.Values.PlaceFrameLaws.{SamePlace, each_left, each_right, each_of_map, each_map, each_weaker, buffer-same, buffer-kept, spaced-same, nodes-same}
-use Rattle.seg_spec.proofs.Values.PlaceFrameLaws.{nodes-kept, IsRing-same, IsTree-same, keys_at-same, places-same, inner-same, shorter, further, HoldsEach-kept}
+use Rattle.seg_spec.proofs.Values.PlaceFrameLaws.{nodes-kept, IsRing-same, IsTree-same, keys_at-same, places-same, inner-same, shorter, further, PersistEach-kept}
+use Rattle.seg_spec.proofs.Values.PersistenceLaws.{Holds-persists}
 use Rattle.seg_spec.proofs.Values.CellLaws.{cells-form}
 
 -- ---- the cells of a struct are the cells of its fields
@@ -188,47 +190,47 @@ module _ (old new : List ℕ) (table : Table) (valid : IsTable table) where
   regroup from to n d form m = rw (add_assoc from n d, add_assoc to n d) m
 
   by_cell : (place : Place) (to : ℕ) (form : Form) (opened : Opened) (inside : Values) (owned : List ℕ) → form_at table place.type ≡ Some form → Opens old table place form opened →
-      {v : Value} {blocks : List ℕ} → v ≡ Value.node opened.label inside → blocks ≡ opened.blocks ++ owned
+      {blocks : List ℕ} → blocks ≡ opened.blocks ++ owned
       → ((Us : List ℕ) → form ≡ Form.struct Us → ⊥) → IsMoved old new place.at to (Some form) → AllByRecursion (KeepsBlock old new) blocks → HoldsEach old table opened.parts inside owned →
-      Holds new table (record { at = to; type = place.type }) v blocks
-  by_cell place to form opened inside owned f o v_is blocks_is flat m ks hs =
+      Persists old new table place (record { at = to; type = place.type })
+  by_cell place to form opened inside owned f o blocks_is flat m ks hs =
       let all = subst (λ bs. AllByRecursion (KeepsBlock old new) bs) blocks_is ks in
       let stays = Opens-moved place to form opened flat m (each_left _ opened.blocks owned all) o in
-      holds {place = record { at = to; type = place.type }} form opened inside owned f stays.opens (HoldsEach-kept old new table valid hs stays.parts (each_right _ opened.blocks owned all)) v_is blocks_is
+      persists {p = place} {q = record { at = to; type = place.type }} form opened opened f refl o stays.opens refl refl (PersistEach-kept old new table valid hs stays.parts (each_right _ opened.blocks owned all))
 
   mutual
-    pub Holds-moved : {place : Place} {v : Value} {blocks : List ℕ} (to : ℕ) → Holds old table place v blocks → Moved place.at to place.type → AllByRecursion (KeepsBlock old new) blocks →
-        Holds new table (record { at = to; type = place.type }) v blocks
-    Holds-moved {place = place} to (holds Form.i64 opened inside owned f o hs v_is blocks_is) a ks =
-        by_cell place to Form.i64 opened inside owned f o v_is blocks_is (λ Us e. cc) (one_cell place.at to place.type Form.i64 f refl a) ks hs
-    Holds-moved {place = place} to (holds Form.str opened inside owned f o hs v_is blocks_is) a ks =
-        by_cell place to Form.str opened inside owned f o v_is blocks_is (λ Us e. cc) (one_cell place.at to place.type Form.str f refl a) ks hs
-    Holds-moved {place = place} to (holds (Form.vec U) opened inside owned f o hs v_is blocks_is) a ks =
-        by_cell place to (Form.vec U) opened inside owned f o v_is blocks_is (λ Us e. cc) (one_cell place.at to place.type (Form.vec U) f refl a) ks hs
-    Holds-moved {place = place} to (holds (Form.list U) opened inside owned f o hs v_is blocks_is) a ks =
-        by_cell place to (Form.list U) opened inside owned f o v_is blocks_is (λ Us e. cc) (one_cell place.at to place.type (Form.list U) f refl a) ks hs
-    Holds-moved {place = place} to (holds (Form.flat_map U) opened inside owned f o hs v_is blocks_is) a ks =
-        by_cell place to (Form.flat_map U) opened inside owned f o v_is blocks_is (λ Us e. cc) (one_cell place.at to place.type (Form.flat_map U) f refl a) ks hs
-    Holds-moved {place = place} to (holds (Form.map U) opened inside owned f o hs v_is blocks_is) a ks =
-        by_cell place to (Form.map U) opened inside owned f o v_is blocks_is (λ Us e. cc) (one_cell place.at to place.type (Form.map U) f refl a) ks hs
-    Holds-moved {place = place} to (holds (Form.own U) opened inside owned f o hs v_is blocks_is) a ks =
-        by_cell place to (Form.own U) opened inside owned f o v_is blocks_is (λ Us e. cc) (one_cell place.at to place.type (Form.own U) f refl a) ks hs
-    Holds-moved {place = place} to (holds (Form.shared U) opened inside owned f o hs v_is blocks_is) a ks =
-        by_cell place to (Form.shared U) opened inside owned f o v_is blocks_is (λ Us e. cc) (one_cell place.at to place.type (Form.shared U) f refl a) ks hs
-    Holds-moved {place = place} to (holds (Form.struct Us) opened inside owned f o hs v_is blocks_is) a ks =
+    pub Persists-moved : {place : Place} {v : Value} {blocks : List ℕ} (to : ℕ) → Holds old table place v blocks → Moved place.at to place.type → AllByRecursion (KeepsBlock old new) blocks →
+        Persists old new table place (record { at = to; type = place.type })
+    Persists-moved {place = place} to (holds Form.i64 opened inside owned f o hs v_is blocks_is) a ks =
+        by_cell place to Form.i64 opened inside owned f o blocks_is (λ Us e. cc) (one_cell place.at to place.type Form.i64 f refl a) ks hs
+    Persists-moved {place = place} to (holds Form.str opened inside owned f o hs v_is blocks_is) a ks =
+        by_cell place to Form.str opened inside owned f o blocks_is (λ Us e. cc) (one_cell place.at to place.type Form.str f refl a) ks hs
+    Persists-moved {place = place} to (holds (Form.vec U) opened inside owned f o hs v_is blocks_is) a ks =
+        by_cell place to (Form.vec U) opened inside owned f o blocks_is (λ Us e. cc) (one_cell place.at to place.type (Form.vec U) f refl a) ks hs
+    Persists-moved {place = place} to (holds (Form.list U) opened inside owned f o hs v_is blocks_is) a ks =
+        by_cell place to (Form.list U) opened inside owned f o blocks_is (λ Us e. cc) (one_cell place.at to place.type (Form.list U) f refl a) ks hs
+    Persists-moved {place = place} to (holds (Form.flat_map U) opened inside owned f o hs v_is blocks_is) a ks =
+        by_cell place to (Form.flat_map U) opened inside owned f o blocks_is (λ Us e. cc) (one_cell place.at to place.type (Form.flat_map U) f refl a) ks hs
+    Persists-moved {place = place} to (holds (Form.map U) opened inside owned f o hs v_is blocks_is) a ks =
+        by_cell place to (Form.map U) opened inside owned f o blocks_is (λ Us e. cc) (one_cell place.at to place.type (Form.map U) f refl a) ks hs
+    Persists-moved {place = place} to (holds (Form.own U) opened inside owned f o hs v_is blocks_is) a ks =
+        by_cell place to (Form.own U) opened inside owned f o blocks_is (λ Us e. cc) (one_cell place.at to place.type (Form.own U) f refl a) ks hs
+    Persists-moved {place = place} to (holds (Form.shared U) opened inside owned f o hs v_is blocks_is) a ks =
+        by_cell place to (Form.shared U) opened inside owned f o blocks_is (λ Us e. cc) (one_cell place.at to place.type (Form.shared U) f refl a) ks hs
+    Persists-moved {place = place} to (holds (Form.struct Us) opened inside owned f o hs v_is blocks_is) a ks =
         let each = struct_fields table valid _ place.type Us f a in
         let none : opened.blocks ≡ [] = ap (λ (r : Opened). r.blocks) o in
         let blocks_owned = blocks_is ∙ ap (λ bs. bs ++ owned) none in
         let parts : opened.parts ≡ fields table place.at Us = ap (λ (r : Opened). r.parts) o in
         let fields_from_0 : opened.parts ≡ fields table (place.at + 0) Us = rw (add-zero place.at) parts in
         let inner = Fields-moved place.at to 0 Us hs fields_from_0 each (subst (λ bs. AllByRecursion (KeepsBlock old new) bs) blocks_owned ks) in
-        let inner_there = rw (add-zero to) at inner in
-        holds {place = record { at = to; type = place.type }} (Form.struct Us) (record { label = Label.struct; blocks = []; parts = fields table to Us }) inside owned f refl inner_there
-        (v_is ∙ ap (λ (r : Opened). Value.node r.label inside) o) blocks_owned
+        let inner_there : PersistEach old new table opened.parts (fields table to Us) = rw (add-zero to) at inner in
+        persists {p = place} {q = record { at = to; type = place.type }} (Form.struct Us) opened (record { label = Label.struct; blocks = []; parts = fields table to Us }) f refl o refl
+        (sym (ap (λ (r : Opened). r.label) o)) (sym none) inner_there
 
     Fields-moved : {places : List Place} {vs : Values} {blocks : List ℕ} (from to n : ℕ) (Us : List ℕ) → HoldsEach old table places vs blocks → places ≡ fields table (from + n) Us
-        → EachField table n Us (λ d form. IsMoved old new (from + d) (to + d) form) → AllByRecursion (KeepsBlock old new) blocks → HoldsEach new table (fields table (to + n) Us) vs blocks
-    Fields-moved from to n [] holds_none e a ks = holds_none
+        → EachField table n Us (λ d form. IsMoved old new (from + d) (to + d) form) → AllByRecursion (KeepsBlock old new) blocks → PersistEach old new table places (fields table (to + n) Us)
+    Fields-moved from to n [] holds_none e a ks = persist_none
     Fields-moved from to n (U ∷ Us) holds_none e a ks = absurd (cc)
     Fields-moved from to n [] (holds_more first rest) e a ks = absurd (cc)
     Fields-moved from to n (U ∷ Us) (holds_more {place = place} {places = places} {v = u} {vs = us} {blocks = blocks} {owned = owned} first rest) e a ks =
@@ -236,7 +238,11 @@ module _ (old new : List ℕ) (table : Table) (valid : IsTable table) where
         let type_is : place.type ≡ U = ap (λ (p : Place). p.type) (heads place places (from + n) U Us e) in
         let rest_is : places ≡ fields table (from + n + size table U) Us = tails place places (from + n) U Us e in
         let cells_there : Moved place.at (to + n) place.type = rw (at_is, type_is) (each_weaker _ _ (λ c m. regroup from to n c.from (form_at table c.type) m) (cells table U) a.0) in
-        let one = Holds-moved (to + n) first cells_there (each_left _ blocks owned ks) in
-        let one_there = subst (λ T. Holds new table (record { at = to + n; type = T }) u blocks) type_is one in
+        let one = Persists-moved (to + n) first cells_there (each_left _ blocks owned ks) in
+        let one_there = subst (λ T. Persists old new table place (record { at = to + n; type = T })) type_is one in
         let more = Fields-moved from to (n + size table U) Us rest (rest_is ∙ ap (λ k. fields table k Us) (add_assoc from n (size table U))) a.1 (each_right _ blocks owned ks) in
-        holds_more one_there (subst (λ k. HoldsEach new table (fields table k Us) us owned) (sym (add_assoc to n (size table U))) more)
+        persist_more one_there (subst (λ k. PersistEach old new table places (fields table k Us)) (sym (add_assoc to n (size table U))) more)
+
+  pub Holds-moved : {place : Place} {v : Value} {blocks : List ℕ} (to : ℕ) → Holds old table place v blocks → Moved place.at to place.type → AllByRecursion (KeepsBlock old new) blocks →
+      Holds new table (record { at = to; type = place.type }) v blocks
+  Holds-moved to hold a ks = Holds-persists old new table hold (Persists-moved to hold a ks)

@@ -1,0 +1,5 @@
+use Rattle.test_definitions.proofs.MovedBuffers.{first-holds, second-holds, parts-exchanged}
+use Rattle.test_definitions.proofs.examples.exchanged_buffers.Goals as goal
+
+pub returns : goal.returns
+returns c = record { first = first-holds; second = second-holds; refused = parts-exchanged }
