@@ -124,5 +124,5 @@ module _ (bytes : List ℕ) (table : Table) where
       → Advances bytes table known known (place ∷ [])
   advance_nothing known place form opened f o plain blocks parts =
       advance_open bytes table known known place form opened [] f o plain
-      (record { claimed = (λ h. ap (λ bs. times h (bs ++ known.unclaimed)) (sym blocks)); counted = (λ c. c); turns_are = sym (append-nil known.turns); naming_kept = refl })
+      (record { claimed = (λ h. ap (λ bs. times h (bs ++ known.unclaimed)) (sym blocks)); allocated_kept = (λ h. refl); counted = (λ c. c); turns_are = sym (append-nil known.turns); naming_kept = refl })
       tt tt (subst (AreKnown table) (sym parts) tt) (ap (with_cells table) (sym parts))

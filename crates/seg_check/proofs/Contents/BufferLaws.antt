@@ -1,5 +1,5 @@
 -- Strings, vectors, flat maps and owns, by the block to which each points.
-use Rattle.std.proofs.Common.{◌≡◌, ℕ, zero, suc, ◌+◌, ◌*◌, ◌≤◌, List, [], ◌∷◌, length, Bool, true, false, Option, Some, None, Ok, Err, refl, sym, ap, ◌∙◌, subst, arith}
+use Rattle.std.proofs.Common.{◌≡◌, ℕ, zero, suc, inl, inr, ◌+◌, ◌*◌, ◌≤◌, List, [], ◌∷◌, length, Bool, true, false, Option, Some, None, Ok, Err, refl, sym, ap, ◌∙◌, subst, arith}
 use Rattle.std.specs.Option.{is_some, option_map}
 use Rattle.std.specs.Prelude.{option_to_list}
 use Rattle.seg_spec.specs.Bytes.{slice}
@@ -17,13 +17,15 @@ use Rattle.seg_cells.specs.declared.content.Content.{Content}
 use Rattle.seg_cells.specs.declared.content.Shape.{Shape}
 use Rattle.seg_check.specs.declared.fault.ContentFault.{ContentFault}
 use Rattle.seg_check.specs.declared.fault.ContentFault.TheVariants.{BadPointer, BadValue}
-use Rattle.seg_check.specs.Claiming.{Refutes, CanClaim, ClaimsBlock, turns_where, has_turns}
+use Rattle.seg_check.specs.Claiming.{Refutes, CanClaim, RefusesClaim, ClaimsBlock, turns_where, has_turns}
 use Rattle.seg_check.specs.Marks.{Known, ClaimsAll, Within}
+use Rattle.seg_check.specs.Positions.{IsBlockFor, IsWrongCount, LacksBlockAt, LacksValueAt, in_cell, LacksAt}
 use Rattle.seg_check.specs.Turns.{places_by}
 use Rattle.seg_check.specs.Resolving.{CanResolve, Advances, IsReady}
 use Rattle.seg_check.specs.Cells.{counted_by, blocks_counted_by, CellsPointTo, IsStringOrVector}
 use Rattle.seg_check.proofs.Queue.QueueStepLaws.{advance_open, can_open}
 use Rattle.seg_check.proofs.Heap.TagLaws.{places_tagged}
+use Rattle.seg_check.proofs.Blocks.LackingBlockLaws.{null_lacks, value_lacks}
 use Rattle.seg_check.proofs.Blocks.CellClaimLaws.{named_some, named_none, start_some, names_room, no_room, none_counted, can_claim, advance_block, advance_nothing}
 
 -- ---- the count of a cell
@@ -70,6 +72,24 @@ blocks_refused P at zero None e is none some = absurd (let no : Ok None ≡ Err 
 blocks_refused P at (suc n) None e is none some = let same : BadPointer at ≡ e = cc in subst (λ f. Refutes f P) same (none refl (omega arith))
 blocks_refused P at zero (Some p) e is none some = let same : BadValue at ≡ e = cc in subst (λ f. Refutes f P) same (some p refl refl)
 blocks_refused P at (suc n) (Some p) e is none some = absurd (let no : Ok (Some (suc n)) ≡ Err e = is in cc)
+
+-- ---- what such cells lack
+
+pub counted_lacks : (bytes : List ℕ) (table : Table) (at n : ℕ) (o : Option ℕ) (e : ContentFault) → counted_by at o n ≡ Err e → (o ≡ None → LacksBlockAt bytes table at) → LacksAt bytes table e
+counted_lacks bytes table at zero None e is none = absurd (let no : Ok None ≡ Err e = is in cc)
+counted_lacks bytes table at (suc n) None e is none = let same : BadPointer at ≡ e = cc in subst (LacksAt bytes table) same (none refl)
+counted_lacks bytes table at n (Some p) e is none = absurd (let no : Ok (Some n) ≡ Err e = is in cc)
+
+pub blocks_lack : (bytes : List ℕ) (table : Table) (at n : ℕ) (o : Option ℕ) (e : ContentFault) → blocks_counted_by at o n ≡ Err e → (o ≡ None → LacksBlockAt bytes table at) → ((p : ℕ) → o ≡ Some p → n ≡ 0 → LacksValueAt bytes table at)
+    → LacksAt bytes table e
+blocks_lack bytes table at zero None e is none some = absurd (let no : Ok None ≡ Err e = is in cc)
+blocks_lack bytes table at (suc n) None e is none some = let same : BadPointer at ≡ e = cc in subst (LacksAt bytes table) same (none refl)
+blocks_lack bytes table at zero (Some p) e is none some = let same : BadValue at ≡ e = cc in subst (LacksAt bytes table) same (some p refl refl)
+blocks_lack bytes table at (suc n) (Some p) e is none some = absurd (let no : Ok (Some (suc n)) ≡ Err e = is in cc)
+
+-- a cell that isn't null and counts nothing
+pub none_counts : (bytes : List ℕ) (at p : ℕ) → target bytes at ≡ Some p → count_at bytes at ≡ 0 → IsWrongCount bytes at
+none_counts bytes at p names none = inr (none, λ null. absurd (let no : None ≡ Some p = sym null ∙ names in cc))
 
 module _ (bytes : List ℕ) (table : Table) where
   -- ---- the content of a value, by its form
@@ -196,6 +216,37 @@ module _ (bytes : List ℕ) (table : Table) where
       content_can known at n _ (tag_of Kind.buffer T) 0 U (size table U) content by.content_of (zero_size U)
       (subst (λ m. CanClaim bytes known at (tag_of Kind.buffer T) (m * size table U)) (sym n_is) (can_claim bytes known at (tag_of Kind.buffer T) (size table U) p e can.room can.within))
 
+  -- the block of a string or a vector
+  items_for : (T n : ℕ) (form : Form) (content : Content) → IsStringOrVector form → CellsPointTo table T form content → IsBlockFor table T form n (word_of content.tag) (n * content.entry.size)
+  items_for T n Form.i64 content has by = absurd has
+  items_for T n (Form.struct Us) content has by = absurd has
+  items_for T n (Form.list U) content has by = absurd has
+  items_for T n (Form.flat_map U) content has by = absurd has
+  items_for T n (Form.map U) content has by = absurd has
+  items_for T n (Form.own U) content has by = absurd has
+  items_for T n (Form.shared U) content has by = absurd has
+  items_for T n Form.str content has by = let is = by.content_of in (is.tag_is, ap (λ m. n * m) is.size_is ∙ (let one : n * 1 ≡ n = omega arith in one))
+  items_for T n (Form.vec U) content has by = let is = by.content_of in (is.tag_is, ap (λ m. n * m) (is.entry_is.size_is ∙ sym (zero_size U)))
+
+  pub items_lack : (known : Known) (at T n : ℕ) (form : Form) (content : Content) (e : ContentFault) → IsReady bytes table known → IsStringOrVector form → CellsPointTo table T form content → n ≡ count_at bytes at
+      → RefusesClaim bytes known at (word_of content.tag) (n * content.entry.size) e → LacksAt bytes table e
+  items_lack known at T n form content e ready has by n_is r =
+      value_lacks bytes table known ready at T (word_of content.tag) (n * content.entry.size) form e by.form_is (subst (λ m. IsBlockFor table T form m (word_of content.tag) (n * content.entry.size)) n_is (items_for T n form content has by)) r
+
+  items_null : (at T : ℕ) (form : Form) → IsStringOrVector form → form_at table T ≡ Some form → target bytes at ≡ None → LacksBlockAt bytes table at
+  items_null at T Form.i64 has f null = absurd has
+  items_null at T (Form.struct Us) has f null = absurd has
+  items_null at T (Form.list U) has f null = absurd has
+  items_null at T (Form.flat_map U) has f null = absurd has
+  items_null at T (Form.map U) has f null = absurd has
+  items_null at T (Form.own U) has f null = absurd has
+  items_null at T (Form.shared U) has f null = absurd has
+  items_null at T Form.str has f null = null_lacks bytes table at T (tag_of Kind.buffer T) (count_at bytes at) Form.str f (refl, refl) null
+  items_null at T (Form.vec U) has f null = null_lacks bytes table at T (tag_of Kind.buffer T) (count_at bytes at * size table U) (Form.vec U) f (refl, refl) null
+
+  pub items_counted_lack : (at T : ℕ) (form : Form) (e : ContentFault) → IsStringOrVector form → form_at table T ≡ Some form → counted_by at (target bytes at) (count_at bytes at) ≡ Err e → LacksAt bytes table e
+  items_counted_lack at T form e has f is = counted_lacks bytes table at (count_at bytes at) (target bytes at) e is (items_null at T form has f)
+
   -- a cell counts no items exactly if its pointer is null
   pub items_counted : (known : Known) (at T : ℕ) (form : Form) (e : ContentFault) → IsStringOrVector form → form_at table T ≡ Some form → counted_by at (target bytes at) (count_at bytes at) ≡ Err e
       → Refutes e (CanResolve bytes table known (record { at = at; type = T } ∷ []))
@@ -274,6 +325,20 @@ module _ (bytes : List ℕ) (table : Table) (at T U : ℕ) (content : Content) (
   own_counted known e is = blocks_refused _ at (count_at bytes at) (target bytes at) e is
       (λ none some r. absurd (omega (arith, some, own_counts known r ∙ ap length (named_none bytes at none))))
       (λ p some none r. absurd (let counts : count_at bytes at ≡ 1 = own_counts known r ∙ ap length (named_some bytes at p some) in omega arith))
+
+  pub own_counted_lack : (e : ContentFault) → blocks_counted_by at (target bytes at) (count_at bytes at) ≡ Err e → LacksAt bytes table e
+  own_counted_lack e is = blocks_lack bytes table at (count_at bytes at) (target bytes at) e is
+      (null_lacks bytes table at T (tag_of Kind.object U) (size table U) (Form.own U) by.form_is (refl, refl))
+      (λ p names none. in_cell T (Form.own U) by.form_is (none_counts bytes at p names none))
+
+  pub own_lacks : (known : Known) (e : ContentFault) → IsReady bytes table known → RefusesClaim bytes known at (word_of content.tag) (1 * content.entry.size) e → LacksAt bytes table e
+  own_lacks known e ready r =
+      let is = by.content_of in
+      let room : 1 * content.entry.size ≡ size table U = (let one : 1 * content.entry.size ≡ content.entry.size = omega arith in one) ∙ is.entry_is.size_is ∙ sym (zero_size bytes table U) in
+      value_lacks bytes table known ready at T (word_of content.tag) (1 * content.entry.size) (Form.own U) e by.form_is (is.tag_is, room) r
+
+  pub own_many_lack : 2 ≤ count_at bytes at → LacksValueAt bytes table at
+  own_many_lack many = in_cell T (Form.own U) by.form_is (inl many)
 
   pub own_many : (known : Known) → 2 ≤ count_at bytes at → CanResolve bytes table known (record { at = at; type = T } ∷ []) → ⊥
   own_many known many r = absurd (omega (arith, many, own_counts known r, few_named bytes at))

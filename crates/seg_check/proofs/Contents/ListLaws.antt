@@ -12,12 +12,14 @@ use Rattle.seg_spec.proofs.Heap.LiveBlockLaws.{times-same, times-append}
 use Rattle.seg_layout.specs.Forms.{has_cells}
 use Rattle.seg_check.specs.declared.fault.ContentFault.{ContentFault}
 use Rattle.seg_check.specs.Cells.{blocks_counted_by}
-use Rattle.seg_check.specs.Claiming.{Refutes, HaveLiveHeaders, CanClaim, ClaimsBlock, turns_where}
+use Rattle.seg_check.specs.Claiming.{Refutes, HaveLiveHeaders, CanClaim, RefusesClaim, ClaimsBlock, turns_where}
+use Rattle.seg_check.specs.Positions.{LacksValueAt, in_cell, LacksAt}
 use Rattle.seg_check.specs.Marks.{Known, Within}
 use Rattle.seg_check.specs.Resolving.{CanResolve, Advances, IsReady}
 use Rattle.seg_check.proofs.Queue.QueueStepLaws.{advance_open, can_open}
 use Rattle.seg_check.proofs.Blocks.CellClaimLaws.{advance_nothing}
-use Rattle.seg_check.proofs.Contents.BufferLaws.{blocks_refused}
+use Rattle.seg_check.proofs.Contents.BufferLaws.{blocks_refused, blocks_lack}
+use Rattle.seg_check.proofs.Blocks.LackingBlockLaws.{null_lacks, refuses_as, value_lacks}
 use Rattle.seg_check.proofs.Contents.NodeLaws.{turns_of, Claimed, one_node, claimed_none, claimed_more, claimed_within, claimed_live, nodes_others, node_room, values_of, values_known, claimed_wait}
 
 module _ (bytes : List ℕ) where
@@ -204,6 +206,41 @@ module _ (bytes : List ℕ) (table : Table) (old : Known) (ready : IsReady bytes
       none_there : (nodes : List ℕ) → IsRing bytes None nodes → 1 ≤ length nodes → ⊥
       none_there [] ring many = absurd (omega arith)
       none_there (x ∷ xs) ring many = absurd ring
+
+  pub ring_counted_lack : (e : ContentFault) → blocks_counted_by at (target bytes at) (count_at bytes at) ≡ Err e → LacksAt bytes table e
+  ring_counted_lack e is = blocks_lack bytes table at (count_at bytes at) (target bytes at) e is
+      (null_lacks bytes table at T tag each (Form.list U) f (refl, refl))
+      (λ p names none. in_cell T (Form.list U) f (record {
+        names = λ null. absurd (let no : None ≡ Some p = sym null ∙ names in cc);
+        none = λ nodes ring counted. none_there p nodes (subst (λ o. IsRing bytes o nodes) names ring) (counted ∙ none);
+      }))
+    where
+      none_there : (p : ℕ) (nodes : List ℕ) → IsRing bytes (Some p) nodes → length nodes ≡ 0 → ⊥
+      none_there p [] ring many = absurd ring
+      none_there p (x ∷ xs) ring many = absurd (omega arith)
+
+  -- a node can't be claimed
+  pub node_lacks : (bs : List ℕ) (word size : ℕ) → bs ≡ bytes → word ≡ tag → size ≡ each → (known : Known) → IsReady bytes table known → (pointer : ℕ) (e : ContentFault) → RefusesClaim bs known pointer word (1 * size) e → LacksAt bytes table e
+  node_lacks bs word size e t s known is pointer fault r =
+      let room : 1 * size ≡ each = (let one : 1 * size ≡ size = omega arith in one) ∙ s in
+      value_lacks bytes table known is pointer T tag each (Form.list U) fault f (refl, refl) (refuses_as bs bytes known pointer word tag (1 * size) each fault e t room r)
+
+  pub ring_lacks : (now : Known) (first last n : ℕ) (b : Bool) → Walked now first last n b → target bytes at ≡ Some first → n ≡ count_at bytes at
+      → ((b ≡ true) × (target bytes last ≡ Some first) × (target bytes (first + 4) ≡ Some last) → ⊥) → LacksValueAt bytes table at
+  ring_lacks now first last n b w named n_is never = in_cell T (Form.list U) f (record {
+    names = λ null. absurd (let no : None ≡ Some first = sym null ∙ named in cc);
+    none = λ nodes ring counted. never (closed nodes (subst (λ o. IsRing bytes o nodes) named ring) counted);
+  })
+    where
+      closed : (nodes : List ℕ) → IsRing bytes (Some first) nodes → length nodes ≡ count_at bytes at → (b ≡ true) × (target bytes last ≡ Some first) × (target bytes (first + 4) ≡ Some last)
+      closed [] ring counted = absurd ring
+      closed (x ∷ xs) ring counted =
+          let was = w.counted in
+          let linked = subst (λ y. IsLinked bytes first y xs) ring.0 ring.1 in
+          let same = linked_chain bytes first first xs w.nodes last linked w.chain (omega arith) in
+          let links = subst (λ ys. IsLinked bytes first first ys) same linked in
+          let close = linked_close bytes first first w.nodes last links w.chain in
+          (w.linked.1 (linked_backs bytes first first w.nodes links), close.0, close.1)
 
   pub ring_closed : (now : Known) (first last n : ℕ) (b : Bool) → Walked now first last n b → target bytes at ≡ Some first → n ≡ count_at bytes at → CanResolve bytes table old (record { at = at; type = T } ∷ [])
       → (b ≡ true) × (target bytes last ≡ Some first) × (target bytes (first + 4) ≡ Some last)

@@ -12,10 +12,11 @@ use Rattle.seg_layout.specs.Forms.{has_cells}
 use Rattle.seg_check.specs.declared.marks.Turn.{Turn}
 use Rattle.seg_check.specs.Claiming.{HaveLiveHeaders, ClaimsBlock, turns_where}
 use Rattle.seg_check.specs.Marks.{Known, ClaimsAll, Within, awaiting}
+use Rattle.seg_check.specs.Naming.{IsFrozen}
 use Rattle.seg_check.specs.Turns.{AreKnown, AreTurns, AreOthers, IsTurn, places_in, places_by, waiting, with_cells}
 use Rattle.seg_check.specs.Resolving.{IsReady}
-use Rattle.seg_check.proofs.Blocks.FrozenClaimLaws.{other_block}
-use Rattle.seg_check.proofs.Queue.QueueStepLaws.{waiting-append, turns_both}
+use Rattle.seg_check.proofs.Blocks.FrozenClaimLaws.{other_block, finds_claimed}
+use Rattle.seg_check.proofs.Queue.QueueStepLaws.{waiting-append, turns_both, ready_found}
 use Rattle.seg_check.proofs.Heap.TagLaws.{places_tagged}
 use Rattle.seg_check.proofs.Blocks.CellClaimLaws.{one_type}
 
@@ -39,6 +40,7 @@ both_claimed h u v w bs cs e f =
 pub claims_both : (old mid new : Known) (bs cs : List ℕ) (ts us : List Turn) → ClaimsAll old mid bs ts → ClaimsAll mid new cs us → ClaimsAll old new (bs ++ cs) (ts ++ us)
 claims_both old mid new bs cs ts us a b = record {
   claimed = (λ h. both_claimed h old.unclaimed mid.unclaimed new.unclaimed bs cs (a.claimed h) (b.claimed h));
+  allocated_kept = (λ h. b.allocated_kept h ∙ a.allocated_kept h);
   counted = (λ c. b.counted (a.counted c));
   turns_are = b.turns_are ∙ (λ i. a.turns_are i ++ awaiting (a.naming_kept i).below us) ∙ append_assoc old.turns (awaiting old.naming.below ts) (awaiting old.naming.below us)
       ∙ ap (λ ws. old.turns ++ ws) (sym (map-append (λ (t : Turn). record { turn = t; below = old.naming.below }) ts us));
@@ -70,7 +72,7 @@ module _ (bytes : List ℕ) (table : Table) (old : Known) (ready : IsReady bytes
 
   pub claimed_none : Claimed old []
   unfolding turns_of
-  claimed_none = record { are_nodes = tt; claims = record { claimed = (λ h. refl); counted = (λ c. c); turns_are = sym (append-nil old.turns); naming_kept = refl } }
+  claimed_none = record { are_nodes = tt; claims = record { claimed = (λ h. refl); allocated_kept = (λ h. refl); counted = (λ c. c); turns_are = sym (append-nil old.turns); naming_kept = refl } }
 
   pub claimed_more : (mid new : Known) (nodes : List ℕ) (pointer next : ℕ) → Claimed mid nodes → ClaimsBlock bytes mid new pointer node_tag (1 * node_size) (turns_where has next 1) next → Claimed new (nodes ++ next ∷ [])
   claimed_more mid new nodes pointer next c k = record {
@@ -93,6 +95,16 @@ module _ (bytes : List ℕ) (table : Table) (old : Known) (ready : IsReady bytes
 
   pub claimed_live : (now : Known) (nodes : List ℕ) → Claimed now nodes → HaveLiveHeaders bytes now.unclaimed
   claimed_live now nodes c h some = (ready.blocks h (omega (arith, claimed_within now nodes c h))).0
+
+  -- no node's block is a frozen object
+  blocks_others : (nodes : List ℕ) → AreNodes bytes node_tag node_size nodes → AllByRecursion (λ b. IsFrozen bytes b → ⊥) (map block_of nodes)
+  blocks_others [] a = tt
+  blocks_others (p ∷ ps) a = (other_block bytes p node_tag node_size (λ e. absurd (omega (arith, e))) a.0, blocks_others ps a.1)
+
+  pub claimed_ready : (now : Known) (nodes : List ℕ) → Claimed now nodes → IsReady bytes table now
+  claimed_ready now nodes c =
+      ready_found bytes table old now [] ready (claimed_within now nodes c)
+      (finds_claimed bytes old now (map block_of nodes) (turns_of has nodes) c.claims (blocks_others nodes c.are_nodes) (nodes_others has nodes c.are_nodes))
 
   pub nodes_within : (now : Known) (nodes : List ℕ) → Claimed now nodes → Within (map block_of nodes) old.unclaimed
   nodes_within now nodes c h = omega (arith, c.claims.claimed h, times-append h (map block_of nodes) now.unclaimed)

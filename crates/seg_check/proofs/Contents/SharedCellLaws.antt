@@ -20,7 +20,9 @@ use Rattle.seg_spec.specs.Sound.{times, positions}
 use Rattle.seg_spec.proofs.Heap.LiveBlockLaws.{times-same, times-other, times-append, LiesIn, OneOrApart, live-lie, live-apart, there}
 use Rattle.seg_check.specs.declared.fault.ContentFault.{ContentFault}
 use Rattle.seg_check.specs.declared.marks.Waiting.{Waiting}
+use Rattle.seg_check.specs.declared.fault.ContentFault.TheVariants.{Memory, BadPointer}
 use Rattle.seg_check.specs.Claiming.{Refutes}
+use Rattle.seg_check.specs.Positions.{LacksValueAt, in_value, in_cell, LacksAt}
 use Rattle.seg_check.specs.Marks.{Known, Within}
 use Rattle.seg_check.specs.Naming.{IsFrozen, SameOthers, IsUnder, CanBeTarget, IsNameable, frozen_number_at, slot_of, less, one_less, Counts}
 use Rattle.seg_check.specs.Naming.{CountsBlock, blocks_of, unseen_at, standing_at, Finds, CanName, NamesFirst, NamesAgain, NamesBlock}
@@ -31,7 +33,8 @@ use Rattle.seg_check.proofs.Queue.ReadPlaceLaws.{own_names, positions_of}
 use Rattle.seg_check.proofs.Blocks.FrozenClaimLaws.{blocks_append}
 use Rattle.seg_check.proofs.Queue.QueueStepLaws.{can_open, open_back, limit}
 use Rattle.seg_check.proofs.Blocks.CellClaimLaws.{named_some, named_none, advance_nothing}
-use Rattle.seg_check.proofs.Contents.BufferLaws.{blocks_refused, few_named}
+use Rattle.seg_check.proofs.Contents.BufferLaws.{blocks_refused, blocks_lack, none_counts, few_named}
+use Rattle.seg_check.proofs.Blocks.LackingBlockLaws.{null_lacks}
 use Rattle.seg_check.proofs.Heap.TagLaws.{places_tagged}
 use Rattle.seg_check.proofs.Queue.BlockLoopLaws.{frozen_is}
 
@@ -103,6 +106,27 @@ module _ (bytes : List ℕ) (table : Table) (at T U : ℕ) (f : form_at table T 
 
   pub shared_many : (known : Known) → 2 ≤ count_at bytes at → CanResolve bytes table known (record { at = at; type = T } ∷ []) → ⊥
   shared_many known many r = absurd (omega (arith, many, shared_counts known r, few_named bytes at))
+
+  pub shared_counted_lack : (e : ContentFault) → blocks_counted_by at (target bytes at) (count_at bytes at) ≡ Err e → LacksAt bytes table e
+  shared_counted_lack e is = blocks_lack bytes table at (count_at bytes at) (target bytes at) e is
+      (null_lacks bytes table at T tag room (Form.shared U) f (refl, refl))
+      (λ p names none. in_cell T (Form.shared U) f (inl (none_counts bytes at p names none)))
+
+  pub shared_many_lack : 2 ≤ count_at bytes at → LacksValueAt bytes table at
+  shared_many_lack many = in_cell T (Form.shared U) f (inl (inl many))
+
+  -- the cell doesn't point to a frozen object
+  pub shared_lacks : (known : Known) (e : ContentFault) → IsReady bytes table known → (e ≡ Memory) ⊎ (e ≡ BadPointer at) → Refutes e (CanName bytes known at tag room) → LacksAt bytes table e
+  shared_lacks known e ready (inl same) refused = subst (LacksAt bytes table) (sym same) tt
+  shared_lacks known e ready (inr same) refused =
+      let none = subst (λ x. Refutes x (CanName bytes known at tag room)) same refused in
+      subst (LacksAt bytes table) (sym same) (in_value T (Form.shared U) tag room f (refl, refl) (λ p.
+      let frozen = ready.frozen (block_of p.start) (ap (λ t. t % 256) p.is_block.has_tag ∙ frozen_tag U) in
+      none (record { start = p.start; names = p.names; is_block = p.is_block; there = omega (arith, frozen, p.among) })))
+
+  -- the cell points to a frozen object, whose number isn't below the limit
+  pub shared_high : (old new : Known) (p : ℕ) → IsReady bytes table old → NamesBlock bytes old new at tag room p → LacksValueAt bytes table at
+  shared_high old new p ready n = in_cell T (Form.shared U) f (inr (record { start = p; names = n.names; is_block = n.is_block; among = omega (arith, n.there, ready.standing (block_of p)) }))
 
   -- if a cell can be resolved, it may point to its target
   pub shared_named : (known : Known) (p : ℕ) → target bytes at ≡ Some p → CanResolve bytes table known (record { at = at; type = T } ∷ []) → CanBeTarget bytes table known.naming.below (record { at = p; type = U })
@@ -238,6 +262,7 @@ module _ (bytes : List ℕ) (table : Table) (at T U : ℕ) (f : form_at table T 
       standing_within = λ h. omega (arith, standing_then h);
       standing_kept = λ h z. standing_then h;
       unseen_kept = λ h z. unseen_then h;
+      allocated_kept = n.allocated_kept;
       counts = counts_then;
     }
 

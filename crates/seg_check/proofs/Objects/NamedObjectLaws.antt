@@ -1,5 +1,5 @@
 -- An entry of the index and its object: the object was claimed, or can't be claimed.
-use Rattle.std.proofs.Common.{◌≡◌, ℕ, zero, suc, ◌+◌, ◌*◌, ◌%◌, ◌<◌, ◌≤◌, Bool, true, false, List, [], ◌∷◌, ◌++◌, length, map, Option, Some, refl, sym, ap, ◌∙◌, subst, arith}
+use Rattle.std.proofs.Common.{◌≡◌, ℕ, zero, suc, inr, ◌+◌, ◌*◌, ◌%◌, ◌<◌, ◌≤◌, Bool, true, false, List, [], ◌∷◌, ◌++◌, length, map, Option, Some, refl, sym, ap, ◌∙◌, subst, arith}
 use Rattle.seg_spec.specs.Bytes.{slice, half, byte}
 use Rattle.seg_spec.specs.Pointer.{target}
 use Rattle.seg_spec.specs.Types.{Table, form_at, size}
@@ -22,6 +22,7 @@ use Rattle.seg_check.specs.declared.marks.Turn.{Turn}
 use Rattle.seg_check.specs.Marks.{Known, awaiting}
 use Rattle.seg_check.specs.Naming.{IsFrozen, CanBeTarget}
 use Rattle.seg_check.specs.Turns.{Limited, limited, AreLow, AreKnown, AreTurns, AreWaiting, AreOthers, places_in, places_with, waiting, awaited, with_cells}
+use Rattle.seg_check.specs.Positions.{HasEntryAt}
 use Rattle.seg_check.specs.Resolving.{ResolvesBy, IsReady}
 use Rattle.seg_check.specs.Roots.{names_ahead, ResolvesRoots, CanResolveRoots, AdvancesRoots, ClaimsNamed, CanClaimNamed}
 use Rattle.seg_entry.specs.Names.{type_at, name_after, name_of}
@@ -229,9 +230,29 @@ module _ (bytes : List ℕ) (table : Table) where
           found_are = k.found_are;
         }
 
+    -- the entry has this name
+    has_entry : HasEntryAt bytes table at name
+    has_entry = record {
+      type = T;
+      n = n;
+      points = record {
+        start = p;
+        names = stands.points;
+        is_block = block_named;
+        among = omega (arith, ready.standing (block_of p), c.claims.claimed (block_of p), times-same (block_of p) new.unclaimed);
+      };
+      counted = stands.counted;
+      some = stands.some;
+      measured = stands.measured;
+      zero_is = stands.zero_is;
+      is_name = is_name;
+      name_is = stands.name_is;
+    }
+
     -- the object of an entry was claimed, and its values were put in the queue
     pub advance_entry : (es last : List ℕ) (t : ℕ) → Precedes last name → AdvancesRoots bytes table old new (record { entries = at ∷ es; last = last; type = t }) (record { entries = es; last = name; type = t })
     advance_entry es last t above = record {
+      named = λ k. inr (at, has_entry);
       turns = awaiting old.naming.below turns;
       turns_are = c.claims.turns_are;
       are_waiting = object_waits bytes table old new ready at p T n name c old.naming.below;
@@ -355,6 +376,18 @@ module _ (bytes : List ℕ) (table : Table) where
 
     pub entry_advance : (rest : List ℕ) → IsName name → Precedes before name → AdvancesRoots bytes table old new (names_ahead (at ∷ rest) before) (names_ahead rest name)
     entry_advance rest is_name above = advance_entry old new ready at c.start c.type n name stands_named is_name (claims_again is_name) rest before 0 above
+
+    -- an entry has one name
+    pub one_name : (other : List ℕ) → HasEntryAt bytes table at other → other ≡ name
+    one_name other e =
+        let s = stands_named in
+        let both : Some e.points.start ≡ Some c.start = sym e.points.names ∙ s.points in
+        let at_same : e.points.start ≡ c.start = cc in
+        let n_same : e.n ≡ n = sym e.counted ∙ s.counted in
+        let len_same : length other ≡ length name = sym e.measured ∙ s.measured in
+        let tags : tag_of Kind.named e.type ≡ tag_of Kind.named c.type = sym e.points.is_block.has_tag ∙ ap (λ q. Rattle.seg_spec.specs.Heap.tag_at bytes (block_of q)) at_same ∙ c.claims.is_block.has_tag in
+        let type_same : e.type ≡ c.type = (one_tag Kind.named Kind.named e.type c.type tags).1 in
+        sym e.name_is ∙ (λ i. slice bytes (at_same i + n_same i * size table (type_same i)) (len_same i)) ∙ s.name_is
 
     -- if an entry can be resolved, its name is valid, and is after the name before
     pub entry_names : (rest : List ℕ) → CanResolveRoots bytes table old (names_ahead (at ∷ rest) before) → Precedes before name × IsName name

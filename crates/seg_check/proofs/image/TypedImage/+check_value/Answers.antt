@@ -85,9 +85,10 @@ returns-in_err-check_value-clause-steps g t c = λ ready known fits.
     let e = c.in_err-check_value.field-0.0 in
     let failed = err_from_is_err_and c.from_residual.result c.from_residual.ensures.1 in
     let same : failed.0 ≡ e = failed.2 in
+    let wrong = c.in_err-check_value.ensures.steps (ready_now bytes table old mid _ ready done) (omega arith) small in
     steps_refused bytes table old c.check_value.new.claims (place_of c.args.value ∷ []) c.from_residual.result e _ (failed.1 ∙ ap Err same)
     (λ r. subst (λ U. CanResolve bytes table mid (record { at = x; type = U } ∷ [])) (sym U_is) (field_can bytes table ready.is_table at T s.0 s.1 old mid i done cell x field x_is r))
-    (c.in_err-check_value.ensures.steps (ready_now bytes table old mid _ ready done) (omega arith) small)
+    wrong.0 wrong.1
 
 pub returns-clause-steps : goal.returns-clause-steps
 returns-clause-steps g t c = λ ready known fits.

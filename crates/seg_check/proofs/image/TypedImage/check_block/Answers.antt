@@ -78,9 +78,10 @@ returns-in_err-check_value-clause-steps g c = λ ready turn.
     let e = c.in_err-check_value.field-0.0 in
     let failed = err_from_is_err_and c.from_residual.result c.from_residual.ensures.1 in
     let same : failed.0 ≡ e = failed.2 in
+    let wrong = c.in_err-check_value.ensures.steps (ready_now bytes table old mid _ ready done) read.known read.fits in
     steps_refused bytes table old c.check_value.new.claims places c.from_residual.result e _ (failed.1 ∙ ap Err same)
     (place_can bytes table old mid places i done (place_of c.in-Some-value.value) read.there)
-    (c.in_err-check_value.ensures.steps (ready_now bytes table old mid _ ready done) read.known read.fits)
+    wrong.0 wrong.1
 
 pub returns-clause-steps : goal.returns-clause-steps
 returns-clause-steps g c = λ ready turn.

@@ -10,9 +10,10 @@ use Rattle.seg_check.specs.Keys.{HasKeys}
 use Rattle.seg_check.specs.Resolving.{Steps}
 use Rattle.seg_check.proofs.Queue.QueueStepLaws.{steps_refused}
 use Rattle.seg_check.proofs.Blocks.CellClaimLaws.{ready_live}
+use Rattle.seg_check.proofs.Blocks.LackingBlockLaws.{ready_allocated}
 use Rattle.seg_check.proofs.Contents.BufferLaws.{counted_none, counted_some, counted_names}
 use Rattle.seg_check.proofs.Contents.AscendingKeyLaws.{keys_more}
-use Rattle.seg_check.proofs.Contents.FlatMapLaws.{flat_nothing, flat_counted, flat_can, flat_steps, flat_key}
+use Rattle.seg_check.proofs.Contents.FlatMapLaws.{flat_nothing, flat_counted, flat_can, flat_steps, flat_key, flat_counted_lack, flat_lacks}
 use Rattle.seg_check.proofs.image.TypedImage.check_flat_map.Goals as goal
 
 pub returns-in_err-count-clause-steps : goal.returns-in_err-count-clause-steps
@@ -24,7 +25,8 @@ returns-in_err-count-clause-steps g c = λ T U by ready.
     let e = c.in_err-count.field-0.0 in
     let failed = err_from_is_err_and c.from_residual.result c.from_residual.ensures.1 in
     let same : failed.0 ≡ e = failed.2 in
-    subst (λ r. Steps bytes table old old (object_at at T ∷ []) r) (sym (failed.1 ∙ ap Err same)) (flat_counted bytes table at T U c.args.content.now by old e (sym c.counted.ensures ∙ c.in_err-count.was))
+    subst (λ r. Steps bytes table old old (object_at at T ∷ []) r) (sym (failed.1 ∙ ap Err same))
+    (let was = sym c.counted.ensures ∙ c.in_err-count.was in (flat_counted bytes table at T U c.args.content.now by old e was, flat_counted_lack bytes table at T U c.args.content.now by e was))
 
 pub returns-in_default-clause-steps : goal.returns-in_default-clause-steps
 returns-in_default-clause-steps g c = λ T U by ready.
@@ -48,6 +50,7 @@ returns-in_err-start-clause-steps g c = λ T U by ready.
     steps_refused bytes table old c.claim_entries.new.claims (object_at at T ∷ []) c.from_residual-in_err-start.result e _ (failed.1 ∙ ap Err same)
     (flat_can bytes table at T U c.args.content.now by old c.in-Some.count names.0 names.1 n_is)
     (c.in_err-start.ensures.refused (ready_live bytes table old ready))
+    (flat_lacks bytes table at T U c.args.content.now by old c.in-Some.count e ready n_is (c.in_err-start.ensures.lacks (ready_allocated bytes table old ready)))
 
 pub loop-index-preserved : goal.loop-index-preserved
 loop-index-preserved g c = λ T U by ready.
