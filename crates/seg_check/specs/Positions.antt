@@ -2,6 +2,7 @@
 --     PointsTo bytes pointer tag room
 --                                    the pointer points to an allocated block with this tag and a payload of
 --                                    `room` bytes
+--     LiesAt bytes table place       a value of this type lies there
 --     IsBlockFor table T form n tag room
 --                                    the cell of a value of this type, which counts n, and the nodes to which it
 --                                    points, must point to blocks with this tag and room
@@ -13,16 +14,16 @@
 --     HasOwnerAt bytes at            a pointer points to the allocated block there
 --     LacksAt bytes table fault      the statement of a fault of the content
 --     IsFaultAt bytes fault          the same for any fault of an image
-use Rattle.std.specs.Prelude.{◌≡◌, ℕ, ◌+◌, ◌*◌, ◌<◌, ◌≤◌, ◌⊎◌, ⊤, List, [], ◌∷◌, length, map, None, Some}
+use Rattle.std.specs.Prelude.{◌≡◌, ℕ, ◌+◌, ◌*◌, ◌<◌, ◌≤◌, ◌⊎◌, ⊤, List, [], ◌∷◌, length, map, None, Some, slice_get}
 use Rattle.seg_spec.specs.Bytes.{word, half, byte, slice}
 use Rattle.seg_spec.specs.Pointer.{target}
-use Rattle.seg_spec.specs.Types.{Form, Table, form_at, size}
+use Rattle.seg_spec.specs.Types.{Form, Table, Cell, form_at, fields_of, size}
 use Rattle.seg_spec.specs.Value.{IsAscending}
 use Rattle.seg_spec.specs.Header.{index_kind_word, index_cell}
 use Rattle.seg_spec.specs.Heap.{live}
 use Rattle.seg_spec.specs.Block.{Kind, tag_of, block_of, IsBlock}
 use Rattle.seg_spec.specs.Shapes.{IsRing, Tree, nodes_of, IsTree, IsRedBlack, tree_words}
-use Rattle.seg_spec.specs.Reads.{count_at, start, spaced, keys_at, map_words}
+use Rattle.seg_spec.specs.Reads.{Place, count_at, start, spaced, keys_at, map_words}
 use Rattle.seg_spec.specs.Frozen.{frozen_words}
 use Rattle.seg_spec.specs.Index.{Index, OpensIndex, IsName, Precedes, unique_word, index_node_size}
 use Rattle.seg_spec.specs.Sound.{times, positions}
@@ -34,9 +35,21 @@ use Rattle.seg_check.specs.declared.fault.ContentFault.TheVariants.{Memory, BadI
 use Rattle.seg_check.specs.Claiming.{PointsAmong}
 use Rattle.seg_check.specs.Marks.{Within}
 use Rattle.seg_check.specs.Naming.{IsFrozen}
+use Rattle.seg_check.specs.declared.marks.Turn.{Turn}
+use Rattle.seg_check.specs.Turns.{places_in, IsTurn}
 
 abbrev pub PointsTo : List ℕ → ℕ → ℕ → ℕ → Type 0
 PointsTo bytes pointer tag room = PointsAmong bytes (positions (live bytes)) pointer tag room
+
+-- ---- places
+
+-- a value lies at the place: in an allocated block, by the block's tag, or in a struct that lies there
+pub data LiesAt (bytes : List ℕ) (table : Table) : Place → Type 0 where
+  in_block : {place : Place} (turn : Turn) (i : ℕ) → IsTurn bytes table turn →
+      slice_get (places_in bytes table turn) i ≡ Some place → LiesAt bytes table place
+  in_struct : {place : Place} (i : ℕ) (field : Cell) → LiesAt bytes table place →
+      slice_get (fields_of table place.type) i ≡ Some field →
+      LiesAt bytes table (record { at = place.at + field.from; type = field.type })
 
 -- ---- pointers
 
@@ -57,6 +70,11 @@ IsBlockFor table T (Form.shared U) n tag room =
     (tag ≡ tag_of Kind.frozen U) × (room ≡ frozen_words + size table U)
 IsBlockFor table T _ n tag room = ⊥
 
+abbrev pub HasNodes : Form → Type 0
+HasNodes (Form.list U) = ⊤
+HasNodes (Form.map U) = ⊤
+HasNodes _ = ⊥
+
 -- The pointer is null, or it points to something else than an allocated block with the right tag
 -- and enough room.
 pub data LacksBlockAt (bytes : List ℕ) (table : Table) (at : ℕ) : Type 0 where
@@ -76,9 +94,15 @@ pub data LacksBlockAt (bytes : List ℕ) (table : Table) (at : ℕ) : Type 0 whe
   to_unique : (T : ℕ) → at ≡ unique_word T →
       (PointsTo bytes at (tag_of Kind.object T) (size table T) → ⊥) →
       LacksBlockAt bytes table at
-  -- a pointer in a value, or in a node of a list or map
-  in_value : (T : ℕ) (form : Form) (tag room : ℕ) → form_at table T ≡ Some form →
+  -- the pointer of a value
+  in_value : (T : ℕ) (form : Form) (tag room : ℕ) →
+      LiesAt bytes table (record { at = at; type = T }) → form_at table T ≡ Some form →
       IsBlockFor table T form (count_at bytes at) tag room →
+      (PointsTo bytes at tag room → ⊥) → LacksBlockAt bytes table at
+  -- a pointer in a node of a list or a map
+  in_node : (cell T : ℕ) (form : Form) (tag room : ℕ) →
+      LiesAt bytes table (record { at = cell; type = T }) → form_at table T ≡ Some form →
+      HasNodes form → IsBlockFor table T form (count_at bytes cell) tag room →
       (PointsTo bytes at tag room → ⊥) → LacksBlockAt bytes table at
 
 -- ---- the index
@@ -146,7 +170,8 @@ IsWrongCell bytes table (Form.shared U) at = IsWrongCount bytes at ⊎
 IsWrongCell bytes table _ at = ⊥
 
 pub data LacksValueAt (bytes : List ℕ) (table : Table) (at : ℕ) : Type 0 where
-  in_cell : (T : ℕ) (form : Form) → form_at table T ≡ Some form → IsWrongCell bytes table form at →
+  in_cell : (T : ℕ) (form : Form) → LiesAt bytes table (record { at = at; type = T }) →
+      form_at table T ≡ Some form → IsWrongCell bytes table form at →
       LacksValueAt bytes table at
   -- the payload of a frozen object whose count or number is wrong
   in_frozen : (block : ℕ) → at ≡ block + 16 → IsFrozen bytes block →

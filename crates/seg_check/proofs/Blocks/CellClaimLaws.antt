@@ -3,9 +3,10 @@ use Rattle.std.proofs.Common.{◌≡◌, ℕ, zero, suc, ◌+◌, ◌*◌, ◌%�
 use Rattle.std.proofs.lemmas.List.{append-nil}
 use Rattle.std.specs.Prelude.{option_to_list}
 use Rattle.std.specs.Option.{option_map}
+use Rattle.std.specs.List.{AllByRecursion}
 use Rattle.seg_spec.specs.Pointer.{target}
 use Rattle.seg_spec.specs.Types.{Form, Table, form_at, size}
-use Rattle.seg_spec.specs.Block.{Kind, kind_number, block_of, IsBlock}
+use Rattle.seg_spec.specs.Block.{Kind, kind_number, block_of, payload_end, IsBlock}
 use Rattle.seg_spec.specs.Owing.{entries_at}
 use Rattle.seg_spec.specs.Reads.{Place, Opened, Opens, NamesRoom, named, start, count_at, spaced, places_of}
 use Rattle.seg_spec.specs.Sound.{times}
@@ -13,7 +14,7 @@ use Rattle.seg_spec.proofs.Heap.LiveBlockLaws.{times-same}
 use Rattle.seg_layout.specs.Forms.{has_cells}
 use Rattle.seg_check.specs.Claiming.{HaveLiveHeaders, CanClaim, ClaimsBlock, turns_where}
 use Rattle.seg_check.specs.Marks.{Known, ClaimsAll, Within}
-use Rattle.seg_check.specs.Turns.{AreLow, AreKnown, AreTurns, AreOthers, IsTurn, places_in, waiting, with_cells}
+use Rattle.seg_check.specs.Turns.{AreLow, EndsBy, AreKnown, AreTurns, AreOthers, IsTurn, places_in, waiting, with_cells}
 use Rattle.seg_check.specs.Resolving.{Advances, IsReady}
 use Rattle.seg_check.proofs.Queue.ReadPlaceLaws.{own_names}
 use Rattle.seg_check.proofs.Blocks.FrozenClaimLaws.{other_block}
@@ -26,6 +27,12 @@ entries_low table start before U zero h = tt
 entries_low table start before U (suc n) h =
     let parts : start + suc n * (before + size table U) ≡ (start + (before + size table U)) + n * (before + size table U) = omega arith in
     (omega arith, entries_low table (start + (before + size table U)) before U n (omega arith))
+
+pub entries_end : (table : Table) (start before U n end : ℕ) → start + n * (before + size table U) ≤ end → AllByRecursion (EndsBy table end) (entries_at table start before U n)
+entries_end table start before U zero end h = tt
+entries_end table start before U (suc n) end h =
+    let parts : start + suc n * (before + size table U) ≡ (start + (before + size table U)) + n * (before + size table U) = omega arith in
+    (omega arith, entries_end table (start + (before + size table U)) before U n end (omega arith))
 
 pub known_places : (table : Table) (U : ℕ) (ps : List ℕ) → U < length table → AreKnown table (places_of U ps)
 known_places table U [] l = tt
@@ -88,7 +95,13 @@ module _ (bytes : List ℕ) (table : Table) where
         let high = c.is_block.after_header in
         let room = c.is_block.room in
         let small = ready.small in
-        record { low = subst AreLow (sym places) (entries_low table p before U n (omega arith)); ownable = block.1 }
+        let end = payload_end bytes (block_of p) in
+        record {
+          allocated = omega (arith, some, ready.standing (block_of p));
+          fits = subst (AllByRecursion (EndsBy table end)) (sym places) (entries_end table p before U n end (omega arith));
+          low = subst AreLow (sym places) (entries_low table p before U n (omega arith));
+          ownable = block.1;
+        }
 
     pub claimed_turns : (b : Bool) → has_cells (form_at table U) ≡ b → ClaimsBlock bytes old new at tag (n * (before + size table U)) (turns_where (has_cells (form_at table U)) p n) p
         → places_in bytes table (record { start = p; count = n }) ≡ entries_at table p before U n → AreTurns bytes table (turns_where b p n)

@@ -13,7 +13,7 @@ use Rattle.seg_check.specs.declared.fault.ContentFault.{ContentFault}
 use Rattle.seg_check.specs.declared.fault.ContentFault.TheVariants.{Memory, BadIndex, BadPointer, DoubleOwner, BadValue}
 use Rattle.seg_check.specs.Claiming.{HaveLiveHeaders, PointsAmong, RefusesClaim}
 use Rattle.seg_check.specs.Marks.{Known}
-use Rattle.seg_check.specs.Positions.{PointsTo, IsBlockFor, LacksBlockAt, in_value, LacksAt}
+use Rattle.seg_check.specs.Positions.{PointsTo, LiesAt, IsBlockFor, HasNodes, LacksBlockAt, in_value, in_node, LacksAt}
 use Rattle.seg_check.specs.Resolving.{IsReady}
 
 -- a null pointer points to no block
@@ -21,8 +21,8 @@ pub null_points : (bytes : List ℕ) (pointer tag room : ℕ) → target bytes p
 null_points bytes pointer tag room null points = absurd (let no : None ≡ Some points.start = sym null ∙ points.names in cc)
 
 -- a value's pointer that is null
-pub null_lacks : (bytes : List ℕ) (table : Table) (at T tag room : ℕ) (form : Form) → form_at table T ≡ Some form → IsBlockFor table T form (count_at bytes at) tag room → target bytes at ≡ None → LacksBlockAt bytes table at
-null_lacks bytes table at T tag room form f is null = in_value T form tag room f is (null_points bytes at tag room null)
+pub null_lacks : (bytes : List ℕ) (table : Table) (at T tag room : ℕ) (form : Form) → LiesAt bytes table (record { at = at; type = T }) → form_at table T ≡ Some form → IsBlockFor table T form (count_at bytes at) tag room → target bytes at ≡ None → LacksBlockAt bytes table at
+null_lacks bytes table at T tag room form lies f is null = in_value T form tag room lies f is (null_points bytes at tag room null)
 
 -- the same claim, in other words
 pub refuses_as : (bs bytes : List ℕ) (known : Known) (pointer word tag size room : ℕ) (e : ContentFault) → bs ≡ bytes → word ≡ tag → size ≡ room → RefusesClaim bs known pointer word size e → RefusesClaim bytes known pointer tag room e
@@ -52,5 +52,11 @@ module _ (bytes : List ℕ) (table : Table) (known : Known) (ready : IsReady byt
   claim_lacks pointer tag room (BadValue at) r lacks = absurd r
 
   -- a claim of a value's pointer that was refused
-  pub value_lacks : (pointer T tag room : ℕ) (form : Form) (e : ContentFault) → form_at table T ≡ Some form → IsBlockFor table T form (count_at bytes pointer) tag room → RefusesClaim bytes known pointer tag room e → LacksAt bytes table e
-  value_lacks pointer T tag room form e f is r = claim_lacks pointer tag room e r (in_value T form tag room f is)
+  pub value_lacks : (pointer T tag room : ℕ) (form : Form) (e : ContentFault) → LiesAt bytes table (record { at = pointer; type = T }) → form_at table T ≡ Some form → IsBlockFor table T form (count_at bytes pointer) tag room
+      → RefusesClaim bytes known pointer tag room e → LacksAt bytes table e
+  value_lacks pointer T tag room form e lies f is r = claim_lacks pointer tag room e r (in_value T form tag room lies f is)
+
+  -- a claim of a node's pointer that was refused
+  pub link_lacks : (cell pointer T tag room : ℕ) (form : Form) (e : ContentFault) → LiesAt bytes table (record { at = cell; type = T }) → form_at table T ≡ Some form → HasNodes form → IsBlockFor table T form (count_at bytes cell) tag room
+      → RefusesClaim bytes known pointer tag room e → LacksAt bytes table e
+  link_lacks cell pointer T tag room form e lies f has is r = claim_lacks pointer tag room e r (in_node cell T form tag room lies f has is)

@@ -19,7 +19,7 @@ use Rattle.seg_check.specs.declared.fault.ContentFault.{ContentFault}
 use Rattle.seg_check.specs.declared.fault.ContentFault.TheVariants.{BadPointer, BadValue}
 use Rattle.seg_check.specs.Claiming.{Refutes, CanClaim, RefusesClaim, ClaimsBlock, turns_where, has_turns}
 use Rattle.seg_check.specs.Marks.{Known, ClaimsAll, Within}
-use Rattle.seg_check.specs.Positions.{IsBlockFor, IsWrongCount, LacksBlockAt, LacksValueAt, in_cell, LacksAt}
+use Rattle.seg_check.specs.Positions.{LiesAt, IsBlockFor, IsWrongCount, LacksBlockAt, LacksValueAt, in_cell, LacksAt}
 use Rattle.seg_check.specs.Turns.{places_by}
 use Rattle.seg_check.specs.Resolving.{CanResolve, Advances, IsReady}
 use Rattle.seg_check.specs.Cells.{counted_by, blocks_counted_by, CellsPointTo, IsStringOrVector}
@@ -228,24 +228,24 @@ module _ (bytes : List ℕ) (table : Table) where
   items_for T n Form.str content has by = let is = by.content_of in (is.tag_is, ap (λ m. n * m) is.size_is ∙ (let one : n * 1 ≡ n = omega arith in one))
   items_for T n (Form.vec U) content has by = let is = by.content_of in (is.tag_is, ap (λ m. n * m) (is.entry_is.size_is ∙ sym (zero_size U)))
 
-  pub items_lack : (known : Known) (at T n : ℕ) (form : Form) (content : Content) (e : ContentFault) → IsReady bytes table known → IsStringOrVector form → CellsPointTo table T form content → n ≡ count_at bytes at
+  pub items_lack : (known : Known) (at T n : ℕ) (form : Form) (content : Content) (e : ContentFault) → IsReady bytes table known → LiesAt bytes table (record { at = at; type = T }) → IsStringOrVector form → CellsPointTo table T form content → n ≡ count_at bytes at
       → RefusesClaim bytes known at (word_of content.tag) (n * content.entry.size) e → LacksAt bytes table e
-  items_lack known at T n form content e ready has by n_is r =
-      value_lacks bytes table known ready at T (word_of content.tag) (n * content.entry.size) form e by.form_is (subst (λ m. IsBlockFor table T form m (word_of content.tag) (n * content.entry.size)) n_is (items_for T n form content has by)) r
+  items_lack known at T n form content e ready lies has by n_is r =
+      value_lacks bytes table known ready at T (word_of content.tag) (n * content.entry.size) form e lies by.form_is (subst (λ m. IsBlockFor table T form m (word_of content.tag) (n * content.entry.size)) n_is (items_for T n form content has by)) r
 
-  items_null : (at T : ℕ) (form : Form) → IsStringOrVector form → form_at table T ≡ Some form → target bytes at ≡ None → LacksBlockAt bytes table at
-  items_null at T Form.i64 has f null = absurd has
-  items_null at T (Form.struct Us) has f null = absurd has
-  items_null at T (Form.list U) has f null = absurd has
-  items_null at T (Form.flat_map U) has f null = absurd has
-  items_null at T (Form.map U) has f null = absurd has
-  items_null at T (Form.own U) has f null = absurd has
-  items_null at T (Form.shared U) has f null = absurd has
-  items_null at T Form.str has f null = null_lacks bytes table at T (tag_of Kind.buffer T) (count_at bytes at) Form.str f (refl, refl) null
-  items_null at T (Form.vec U) has f null = null_lacks bytes table at T (tag_of Kind.buffer T) (count_at bytes at * size table U) (Form.vec U) f (refl, refl) null
+  items_null : (at T : ℕ) (form : Form) → LiesAt bytes table (record { at = at; type = T }) → IsStringOrVector form → form_at table T ≡ Some form → target bytes at ≡ None → LacksBlockAt bytes table at
+  items_null at T Form.i64 lies has f null = absurd has
+  items_null at T (Form.struct Us) lies has f null = absurd has
+  items_null at T (Form.list U) lies has f null = absurd has
+  items_null at T (Form.flat_map U) lies has f null = absurd has
+  items_null at T (Form.map U) lies has f null = absurd has
+  items_null at T (Form.own U) lies has f null = absurd has
+  items_null at T (Form.shared U) lies has f null = absurd has
+  items_null at T Form.str lies has f null = null_lacks bytes table at T (tag_of Kind.buffer T) (count_at bytes at) Form.str lies f (refl, refl) null
+  items_null at T (Form.vec U) lies has f null = null_lacks bytes table at T (tag_of Kind.buffer T) (count_at bytes at * size table U) (Form.vec U) lies f (refl, refl) null
 
-  pub items_counted_lack : (at T : ℕ) (form : Form) (e : ContentFault) → IsStringOrVector form → form_at table T ≡ Some form → counted_by at (target bytes at) (count_at bytes at) ≡ Err e → LacksAt bytes table e
-  items_counted_lack at T form e has f is = counted_lacks bytes table at (count_at bytes at) (target bytes at) e is (items_null at T form has f)
+  pub items_counted_lack : (at T : ℕ) (form : Form) (e : ContentFault) → LiesAt bytes table (record { at = at; type = T }) → IsStringOrVector form → form_at table T ≡ Some form → counted_by at (target bytes at) (count_at bytes at) ≡ Err e → LacksAt bytes table e
+  items_counted_lack at T form e lies has f is = counted_lacks bytes table at (count_at bytes at) (target bytes at) e is (items_null at T form lies has f)
 
   -- a cell counts no items exactly if its pointer is null
   pub items_counted : (known : Known) (at T : ℕ) (form : Form) (e : ContentFault) → IsStringOrVector form → form_at table T ≡ Some form → counted_by at (target bytes at) (count_at bytes at) ≡ Err e
@@ -326,19 +326,19 @@ module _ (bytes : List ℕ) (table : Table) (at T U : ℕ) (content : Content) (
       (λ none some r. absurd (omega (arith, some, own_counts known r ∙ ap length (named_none bytes at none))))
       (λ p some none r. absurd (let counts : count_at bytes at ≡ 1 = own_counts known r ∙ ap length (named_some bytes at p some) in omega arith))
 
-  pub own_counted_lack : (e : ContentFault) → blocks_counted_by at (target bytes at) (count_at bytes at) ≡ Err e → LacksAt bytes table e
-  own_counted_lack e is = blocks_lack bytes table at (count_at bytes at) (target bytes at) e is
-      (null_lacks bytes table at T (tag_of Kind.object U) (size table U) (Form.own U) by.form_is (refl, refl))
-      (λ p names none. in_cell T (Form.own U) by.form_is (none_counts bytes at p names none))
+  pub own_counted_lack : (e : ContentFault) → LiesAt bytes table (record { at = at; type = T }) → blocks_counted_by at (target bytes at) (count_at bytes at) ≡ Err e → LacksAt bytes table e
+  own_counted_lack e lies is = blocks_lack bytes table at (count_at bytes at) (target bytes at) e is
+      (null_lacks bytes table at T (tag_of Kind.object U) (size table U) (Form.own U) lies by.form_is (refl, refl))
+      (λ p names none. in_cell T (Form.own U) lies by.form_is (none_counts bytes at p names none))
 
-  pub own_lacks : (known : Known) (e : ContentFault) → IsReady bytes table known → RefusesClaim bytes known at (word_of content.tag) (1 * content.entry.size) e → LacksAt bytes table e
-  own_lacks known e ready r =
+  pub own_lacks : (known : Known) (e : ContentFault) → IsReady bytes table known → LiesAt bytes table (record { at = at; type = T }) → RefusesClaim bytes known at (word_of content.tag) (1 * content.entry.size) e → LacksAt bytes table e
+  own_lacks known e ready lies r =
       let is = by.content_of in
       let room : 1 * content.entry.size ≡ size table U = (let one : 1 * content.entry.size ≡ content.entry.size = omega arith in one) ∙ is.entry_is.size_is ∙ sym (zero_size bytes table U) in
-      value_lacks bytes table known ready at T (word_of content.tag) (1 * content.entry.size) (Form.own U) e by.form_is (is.tag_is, room) r
+      value_lacks bytes table known ready at T (word_of content.tag) (1 * content.entry.size) (Form.own U) e lies by.form_is (is.tag_is, room) r
 
-  pub own_many_lack : 2 ≤ count_at bytes at → LacksValueAt bytes table at
-  own_many_lack many = in_cell T (Form.own U) by.form_is (inl many)
+  pub own_many_lack : LiesAt bytes table (record { at = at; type = T }) → 2 ≤ count_at bytes at → LacksValueAt bytes table at
+  own_many_lack lies many = in_cell T (Form.own U) lies by.form_is (inl many)
 
   pub own_many : (known : Known) → 2 ≤ count_at bytes at → CanResolve bytes table known (record { at = at; type = T } ∷ []) → ⊥
   own_many known many r = absurd (omega (arith, many, own_counts known r, few_named bytes at))

@@ -14,7 +14,7 @@ use Rattle.seg_check.specs.declared.fault.ContentFault.{ContentFault}
 use Rattle.seg_check.specs.declared.fault.ContentFault.TheVariants.{BadValue}
 use Rattle.seg_check.specs.declared.marks.Turn.{Turn}
 use Rattle.seg_check.specs.Claiming.{Refutes, CanClaim, RefusesClaim, ClaimsBlock, turns_where, has_turns}
-use Rattle.seg_check.specs.Positions.{in_cell, LacksAt}
+use Rattle.seg_check.specs.Positions.{LiesAt, in_cell, LacksAt}
 use Rattle.seg_check.proofs.Blocks.LackingBlockLaws.{null_lacks, value_lacks}
 use Rattle.seg_check.specs.Marks.{Known}
 use Rattle.seg_check.specs.Turns.{places_by}
@@ -69,14 +69,14 @@ module _ (bytes : List ℕ) (table : Table) (at T U : ℕ) (content : Content) (
       let o = can_open bytes table known (record { at = at; type = T }) (Form.flat_map U) [] by.form_is r in
       absurd (omega (arith, some, none_counted bytes at (tag_of Kind.buffer T) (8 + size table U) none o.opens.named_room)))
 
-  pub flat_counted_lack : (e : ContentFault) → counted_by at (target bytes at) (count_at bytes at) ≡ Err e → LacksAt bytes table e
-  flat_counted_lack e is = counted_lacks bytes table at (count_at bytes at) (target bytes at) e is
-      (null_lacks bytes table at T (tag_of Kind.buffer T) (count_at bytes at * (8 + size table U)) (Form.flat_map U) by.form_is (refl, refl))
+  pub flat_counted_lack : (e : ContentFault) → LiesAt bytes table (record { at = at; type = T }) → counted_by at (target bytes at) (count_at bytes at) ≡ Err e → LacksAt bytes table e
+  flat_counted_lack e lies is = counted_lacks bytes table at (count_at bytes at) (target bytes at) e is
+      (null_lacks bytes table at T (tag_of Kind.buffer T) (count_at bytes at * (8 + size table U)) (Form.flat_map U) lies by.form_is (refl, refl))
 
-  pub flat_lacks : (known : Known) (n : ℕ) (e : ContentFault) → IsReady bytes table known → n ≡ count_at bytes at → RefusesClaim bytes known at (word_of content.tag) (n * content.entry.size) e → LacksAt bytes table e
-  flat_lacks known n e ready n_is r =
+  pub flat_lacks : (known : Known) (n : ℕ) (e : ContentFault) → IsReady bytes table known → LiesAt bytes table (record { at = at; type = T }) → n ≡ count_at bytes at → RefusesClaim bytes known at (word_of content.tag) (n * content.entry.size) e → LacksAt bytes table e
+  flat_lacks known n e ready lies n_is r =
       let is = by.content_of in
-      value_lacks bytes table known ready at T (word_of content.tag) (n * content.entry.size) (Form.flat_map U) e by.form_is (is.tag_is, λ i. n_is i * is.entry_is.size_is i) r
+      value_lacks bytes table known ready at T (word_of content.tag) (n * content.entry.size) (Form.flat_map U) e lies by.form_is (is.tag_is, λ i. n_is i * is.entry_is.size_is i) r
 
   pub flat_nothing : (known : Known) → target bytes at ≡ None → count_at bytes at ≡ 0 → Advances bytes table known known (record { at = at; type = T } ∷ [])
   unfolding map_opened
@@ -99,13 +99,13 @@ module _ (bytes : List ℕ) (table : Table) (at T U : ℕ) (content : Content) (
       subst IsAscending (sym (same_keys p n e n_is)) o.opens.ascending
 
   -- whether the map can be resolved depends on the order of its keys
-  pub flat_steps : {A : Type 0} (old new : Known) (n p : ℕ) (r : Result A ContentFault) → IsReady bytes table old → n ≡ count_at bytes at
+  pub flat_steps : {A : Type 0} (old new : Known) (n p : ℕ) (r : Result A ContentFault) → IsReady bytes table old → LiesAt bytes table (record { at = at; type = T }) → n ≡ count_at bytes at
       → ClaimsBlock bytes old new at (word_of content.tag) (n * content.entry.size) (turns_where (has_turns table content.entry.held) p n) p
       → MatchResult r (λ _. IsAscending (keys p n)) (λ f. (f ≡ BadValue at) × (IsAscending (keys p n) → ⊥)) → Steps bytes table old new (record { at = at; type = T } ∷ []) r
-  flat_steps old new n p (Ok x) ready n_is c m = flat_advance old new n p ready n_is c m
-  flat_steps old new n p (Err f) ready n_is c m =
+  flat_steps old new n p (Ok x) ready lies n_is c m = flat_advance old new n p ready n_is c m
+  flat_steps old new n p (Err f) ready lies n_is c m =
       subst (λ g. Refutes g (CanResolve bytes table old (record { at = at; type = T } ∷ [])) × LacksAt bytes table g) (sym m.0)
-      ((λ r. m.1 (flat_ascend old n p c.names n_is r)), in_cell T (Form.flat_map U) by.form_is (λ a. m.1 (subst IsAscending (sym (same_keys p n c.names n_is)) a)))
+      ((λ r. m.1 (flat_ascend old n p c.names n_is r)), in_cell T (Form.flat_map U) lies by.form_is (λ a. m.1 (subst IsAscending (sym (same_keys p n c.names n_is)) a)))
 
   -- the position of the key of an entry
   pub flat_key : (old new : Known) (n p i x : ℕ) → IsReady bytes table old → ClaimsBlock bytes old new at (word_of content.tag) (n * content.entry.size) (turns_where (has_turns table content.entry.held) p n) p

@@ -13,13 +13,13 @@ use Rattle.seg_layout.specs.Forms.{has_cells}
 use Rattle.seg_check.specs.declared.fault.ContentFault.{ContentFault}
 use Rattle.seg_check.specs.Cells.{blocks_counted_by}
 use Rattle.seg_check.specs.Claiming.{Refutes, HaveLiveHeaders, CanClaim, RefusesClaim, ClaimsBlock, turns_where}
-use Rattle.seg_check.specs.Positions.{LacksValueAt, in_cell, LacksAt}
+use Rattle.seg_check.specs.Positions.{LiesAt, LacksValueAt, in_cell, LacksAt}
 use Rattle.seg_check.specs.Marks.{Known, Within}
 use Rattle.seg_check.specs.Resolving.{CanResolve, Advances, IsReady}
 use Rattle.seg_check.proofs.Queue.QueueStepLaws.{advance_open, can_open}
 use Rattle.seg_check.proofs.Blocks.CellClaimLaws.{advance_nothing}
 use Rattle.seg_check.proofs.Contents.BufferLaws.{blocks_refused, blocks_lack}
-use Rattle.seg_check.proofs.Blocks.LackingBlockLaws.{null_lacks, refuses_as, value_lacks}
+use Rattle.seg_check.proofs.Blocks.LackingBlockLaws.{null_lacks, refuses_as, value_lacks, link_lacks}
 use Rattle.seg_check.proofs.Contents.NodeLaws.{turns_of, Claimed, one_node, claimed_none, claimed_more, claimed_within, claimed_live, nodes_others, node_room, values_of, values_known, claimed_wait}
 
 module _ (bytes : List ℕ) where
@@ -207,10 +207,10 @@ module _ (bytes : List ℕ) (table : Table) (old : Known) (ready : IsReady bytes
       none_there [] ring many = absurd (omega arith)
       none_there (x ∷ xs) ring many = absurd ring
 
-  pub ring_counted_lack : (e : ContentFault) → blocks_counted_by at (target bytes at) (count_at bytes at) ≡ Err e → LacksAt bytes table e
-  ring_counted_lack e is = blocks_lack bytes table at (count_at bytes at) (target bytes at) e is
-      (null_lacks bytes table at T tag each (Form.list U) f (refl, refl))
-      (λ p names none. in_cell T (Form.list U) f (record {
+  pub ring_counted_lack : (e : ContentFault) → LiesAt bytes table (record { at = at; type = T }) → blocks_counted_by at (target bytes at) (count_at bytes at) ≡ Err e → LacksAt bytes table e
+  ring_counted_lack e lies is = blocks_lack bytes table at (count_at bytes at) (target bytes at) e is
+      (null_lacks bytes table at T tag each (Form.list U) lies f (refl, refl))
+      (λ p names none. in_cell T (Form.list U) lies f (record {
         names = λ null. absurd (let no : None ≡ Some p = sym null ∙ names in cc);
         none = λ nodes ring counted. none_there p nodes (subst (λ o. IsRing bytes o nodes) names ring) (counted ∙ none);
       }))
@@ -219,15 +219,21 @@ module _ (bytes : List ℕ) (table : Table) (old : Known) (ready : IsReady bytes
       none_there p [] ring many = absurd ring
       none_there p (x ∷ xs) ring many = absurd (omega arith)
 
-  -- a node can't be claimed
-  pub node_lacks : (bs : List ℕ) (word size : ℕ) → bs ≡ bytes → word ≡ tag → size ≡ each → (known : Known) → IsReady bytes table known → (pointer : ℕ) (e : ContentFault) → RefusesClaim bs known pointer word (1 * size) e → LacksAt bytes table e
-  node_lacks bs word size e t s known is pointer fault r =
+  -- the first node can't be claimed
+  pub first_lacks : (bs : List ℕ) (word size : ℕ) → bs ≡ bytes → word ≡ tag → size ≡ each → LiesAt bytes table (record { at = at; type = T }) → (e : ContentFault) → RefusesClaim bs old at word (1 * size) e → LacksAt bytes table e
+  first_lacks bs word size e t s lies fault r =
       let room : 1 * size ≡ each = (let one : 1 * size ≡ size = omega arith in one) ∙ s in
-      value_lacks bytes table known is pointer T tag each (Form.list U) fault f (refl, refl) (refuses_as bs bytes known pointer word tag (1 * size) each fault e t room r)
+      value_lacks bytes table old ready at T tag each (Form.list U) fault lies f (refl, refl) (refuses_as bs bytes old at word tag (1 * size) each fault e t room r)
 
-  pub ring_lacks : (now : Known) (first last n : ℕ) (b : Bool) → Walked now first last n b → target bytes at ≡ Some first → n ≡ count_at bytes at
+  -- a node can't be claimed
+  pub node_lacks : (bs : List ℕ) (word size : ℕ) → bs ≡ bytes → word ≡ tag → size ≡ each → (known : Known) → IsReady bytes table known → LiesAt bytes table (record { at = at; type = T }) → (pointer : ℕ) (e : ContentFault) → RefusesClaim bs known pointer word (1 * size) e → LacksAt bytes table e
+  node_lacks bs word size e t s known is lies pointer fault r =
+      let room : 1 * size ≡ each = (let one : 1 * size ≡ size = omega arith in one) ∙ s in
+      link_lacks bytes table known is at pointer T tag each (Form.list U) fault lies f tt (refl, refl) (refuses_as bs bytes known pointer word tag (1 * size) each fault e t room r)
+
+  pub ring_lacks : (now : Known) (first last n : ℕ) (b : Bool) → Walked now first last n b → LiesAt bytes table (record { at = at; type = T }) → target bytes at ≡ Some first → n ≡ count_at bytes at
       → ((b ≡ true) × (target bytes last ≡ Some first) × (target bytes (first + 4) ≡ Some last) → ⊥) → LacksValueAt bytes table at
-  ring_lacks now first last n b w named n_is never = in_cell T (Form.list U) f (record {
+  ring_lacks now first last n b w lies named n_is never = in_cell T (Form.list U) lies f (record {
     names = λ null. absurd (let no : None ≡ Some first = sym null ∙ named in cc);
     none = λ nodes ring counted. never (closed nodes (subst (λ o. IsRing bytes o nodes) named ring) counted);
   })

@@ -27,8 +27,8 @@ use Rattle.seg_check.specs.declared.maps.Keys.{Keys}
 use Rattle.seg_check.specs.declared.walk.Stage.{Stage}
 use Rattle.seg_check.specs.declared.walk.Visit.TheVariants.{Enter, Pass}
 use Rattle.seg_check.specs.Claiming.{Refutes, HaveLiveHeaders, CanClaim, RefusesClaim, ClaimsBlock, turns_where, has_turns}
-use Rattle.seg_check.specs.Positions.{LacksValueAt, in_cell, LacksAt}
-use Rattle.seg_check.proofs.Blocks.LackingBlockLaws.{null_lacks, refuses_as, value_lacks}
+use Rattle.seg_check.specs.Positions.{LiesAt, LacksValueAt, in_cell, LacksAt}
+use Rattle.seg_check.proofs.Blocks.LackingBlockLaws.{null_lacks, refuses_as, link_lacks}
 use Rattle.seg_check.specs.Marks.{Known, Within}
 use Rattle.seg_check.specs.Keys.{HasKeys}
 use Rattle.seg_check.specs.Walks.{Completes, Hangs, IsSteady, Proceeds, entering_of}
@@ -290,10 +290,10 @@ module _ (bytes : List ℕ) (table : Table) (old : Known) (ready : IsReady bytes
           (λ r. let p = planted r in
           some_there q p.hangs.tree (subst (λ o. IsTree bytes o p.hangs.tree) t p.hangs.is_tree) (ap length p.hangs.nodes_are ∙ p.hangs.counted ∙ c))
 
-  pub tree_counted_lack : (e : ContentFault) → blocks_counted_by at (target bytes at) (count_at bytes at) ≡ Err e → LacksAt bytes table e
-  tree_counted_lack e is = blocks_lack bytes table at (count_at bytes at) (target bytes at) e is
-      (null_lacks bytes table at T tag each (Form.map U) f (refl, refl))
-      (λ p names none. in_cell T (Form.map U) f (record {
+  pub tree_counted_lack : (e : ContentFault) → LiesAt bytes table (record { at = at; type = T }) → blocks_counted_by at (target bytes at) (count_at bytes at) ≡ Err e → LacksAt bytes table e
+  tree_counted_lack e lies is = blocks_lack bytes table at (count_at bytes at) (target bytes at) e is
+      (null_lacks bytes table at T tag each (Form.map U) lies f (refl, refl))
+      (λ p names none. in_cell T (Form.map U) lies f (record {
         names = λ null. absurd (let no : None ≡ Some p = sym null ∙ names in cc);
         none = λ tree is_tree red_black counted within ascending. some_there p tree (subst (λ o. IsTree bytes o tree) names is_tree) (counted ∙ none);
       }))
@@ -324,18 +324,18 @@ module _ (bytes : List ℕ) (table : Table) (old : Known) (ready : IsReady bytes
   }
 
   -- a node can't be claimed
-  pub node_lacks : (bs : List ℕ) (word size : ℕ) → bs ≡ bytes → word ≡ tag → size ≡ each → (known : Known) → IsReady bytes table known → (pointer : ℕ) (e : ContentFault) → RefusesClaim bs known pointer word (1 * size) e → LacksAt bytes table e
-  node_lacks bs word size e t s known is pointer fault r =
+  pub node_lacks : (bs : List ℕ) (word size : ℕ) → bs ≡ bytes → word ≡ tag → size ≡ each → (known : Known) → IsReady bytes table known → LiesAt bytes table (record { at = at; type = T }) → (pointer : ℕ) (e : ContentFault) → RefusesClaim bs known pointer word (1 * size) e → LacksAt bytes table e
+  node_lacks bs word size e t s known is lies pointer fault r =
       let room : 1 * size ≡ each = (let one : 1 * size ≡ size = omega arith in one) ∙ s in
-      value_lacks bytes table known is pointer T tag each (Form.map U) fault f (refl, refl) (refuses_as bs bytes known pointer word tag (1 * size) each fault e t room r)
+      link_lacks bytes table known is at pointer T tag each (Form.map U) fault lies f tt (refl, refl) (refuses_as bs bytes known pointer word tag (1 * size) each fault e t room r)
 
   module _ (mid : Known) (stage : Stage) (turns : ℕ) (keys : Keys) (t : Traced mid stage turns keys) where
     pub traced_ready : IsReady bytes table mid
     traced_ready = claimed_ready bytes table old ready T map_words U mid t.entered t.claimed
 
     -- if the walk can't continue, there is no such tree
-    pub traced_lacks : (target bytes at ≡ None → ⊥) → ((height : ℕ) (rest entering : List ℕ) → Completes bytes height stage rest entering → height < 30 → length rest + length entering < turns → ⊥) → LacksValueAt bytes table at
-    traced_lacks names never = in_cell T (Form.map U) f (record {
+    pub traced_lacks : LiesAt bytes table (record { at = at; type = T }) → (target bytes at ≡ None → ⊥) → ((height : ℕ) (rest entering : List ℕ) → Completes bytes height stage rest entering → height < 30 → length rest + length entering < turns → ⊥) → LacksValueAt bytes table at
+    traced_lacks lies names never = in_cell T (Form.map U) lies f (record {
       names = names;
       none = λ tree is_tree red_black counted within ascending.
           follow_refused bytes at (count_at bytes at) stage turns t.passed t.entered t.followed never red_black.height (nodes_of tree) (entering_of tree) (hangs_of tree is_tree red_black counted) (allocated_few (nodes_of tree) within);
@@ -373,9 +373,9 @@ module _ (bytes : List ℕ) (table : Table) (old : Known) (ready : IsReady bytes
         }
 
     -- at the walk's end, whether the map can be resolved depends on the order of its keys
-    pub traced_steps : {A : Type 0} (next : Stage) (r : Result A ContentFault) → (target bytes at ≡ None → ⊥) → Proceeds bytes stage next None
+    pub traced_steps : {A : Type 0} (next : Stage) (r : Result A ContentFault) → LiesAt bytes table (record { at = at; type = T }) → (target bytes at ≡ None → ⊥) → Proceeds bytes stage next None
         → ((ks : List ℤ) → HasKeys keys ks → MatchResult r (λ _. IsAscending ks) (λ e. (e ≡ BadValue at) × (IsAscending ks → ⊥))) → Steps bytes table old mid (record { at = at; type = T } ∷ []) r
-    traced_steps next r names step decides = go r (decides (keys_of t.passed) (t.keys_are (all_low mid stage turns keys t next step)))
+    traced_steps next r lies names step decides = go r (decides (keys_of t.passed) (t.keys_are (all_low mid stage turns keys t next step)))
       where
         go : {A : Type 0} (r : Result A ContentFault) → MatchResult r (λ _. IsAscending (keys_of t.passed)) (λ e. (e ≡ BadValue at) × (IsAscending (keys_of t.passed) → ⊥))
             → Steps bytes table old mid (record { at = at; type = T } ∷ []) r
@@ -386,7 +386,7 @@ module _ (bytes : List ℕ) (table : Table) (old : Known) (ready : IsReady bytes
             let p = planted r in
             let same = follow_all bytes at (count_at bytes at) stage turns t.passed t.entered t.followed next step p.height p.nodes p.all p.hangs in
             m.1 (subst (λ ns. IsAscending (keys_of ns)) same p.ascending)),
-            in_cell T (Form.map U) f (record {
+            in_cell T (Form.map U) lies f (record {
               names = names;
               none = λ tree is_tree red_black counted within ascending.
                   let same = follow_all bytes at (count_at bytes at) stage turns t.passed t.entered t.followed next step red_black.height (nodes_of tree) (entering_of tree) (hangs_of tree is_tree red_black counted) in

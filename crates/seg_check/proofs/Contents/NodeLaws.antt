@@ -3,7 +3,7 @@ use Rattle.std.proofs.Common.{◌≡◌, ℕ, ◌+◌, ◌*◌, ◌^◌, ◌<◌
 use Rattle.std.proofs.lemmas.List.{append-nil, append_assoc, map-append}
 use Rattle.std.specs.List.{AllByRecursion}
 use Rattle.seg_spec.specs.Types.{Form, Table, form_at, size}
-use Rattle.seg_spec.specs.Block.{Kind, tag_of, block_of, IsBlock}
+use Rattle.seg_spec.specs.Block.{Kind, tag_of, block_of, payload_end, IsBlock}
 use Rattle.seg_spec.specs.Owing.{entries_at}
 use Rattle.seg_spec.specs.Reads.{Place, AreNodes, places_of}
 use Rattle.seg_spec.specs.Sound.{times}
@@ -13,7 +13,7 @@ use Rattle.seg_check.specs.declared.marks.Turn.{Turn}
 use Rattle.seg_check.specs.Claiming.{HaveLiveHeaders, ClaimsBlock, turns_where}
 use Rattle.seg_check.specs.Marks.{Known, ClaimsAll, Within, awaiting}
 use Rattle.seg_check.specs.Naming.{IsFrozen}
-use Rattle.seg_check.specs.Turns.{AreKnown, AreTurns, AreOthers, IsTurn, places_in, places_by, waiting, with_cells}
+use Rattle.seg_check.specs.Turns.{EndsBy, AreKnown, AreTurns, AreOthers, IsTurn, places_in, places_by, waiting, with_cells}
 use Rattle.seg_check.specs.Resolving.{IsReady}
 use Rattle.seg_check.proofs.Blocks.FrozenClaimLaws.{other_block, finds_claimed}
 use Rattle.seg_check.proofs.Queue.QueueStepLaws.{waiting-append, turns_both, ready_found}
@@ -147,7 +147,13 @@ module _ (bytes : List ℕ) (table : Table) (old : Known) (ready : IsReady bytes
     node_turn p b some =
         let room = node_room p b some in
         let low : p + before ≤ 2 ^ 30 = omega arith in
+        let large = (ready.blocks (block_of p) some).0.size in
+        let high = b.after_header in
+        let inside = b.room in
+        let ends : p + before + size table U ≤ payload_end bytes (block_of p) = omega arith in
         record {
+          allocated = omega (arith, some, ready.standing (block_of p));
+          fits = subst (AllByRecursion (EndsBy table (payload_end bytes (block_of p)))) (sym (node_places p b)) (ends, tt);
           low = subst (λ ps. AllByRecursion (λ (q : Place). q.at ≤ 2 ^ 30) ps) (sym (node_places p b)) (low, tt);
           ownable = (ready.blocks (block_of p) some).1;
         }

@@ -13,7 +13,7 @@ use Rattle.seg_spec.specs.Value.{Label, Values}
 use Rattle.seg_spec.specs.Apart.{Separate}
 use Rattle.seg_spec.specs.Shared.{names_each}
 use Rattle.seg_spec.specs.Heap.{heap_start, units_at, live}
-use Rattle.seg_spec.specs.Block.{Kind, kind_number, tag_of, block_of, IsBlock, IsPayload}
+use Rattle.seg_spec.specs.Block.{Kind, kind_number, tag_of, block_of, payload_end, IsBlock, IsPayload}
 use Rattle.seg_spec.specs.Frozen.{frozen_words}
 use Rattle.seg_spec.specs.Reads.{Place, Opened, Opens, OpensShared, HoldsEach, holds, holds_none, named, count_at, shared_label}
 use Rattle.seg_spec.specs.Sound.{times, positions}
@@ -22,11 +22,11 @@ use Rattle.seg_check.specs.declared.fault.ContentFault.{ContentFault}
 use Rattle.seg_check.specs.declared.marks.Waiting.{Waiting}
 use Rattle.seg_check.specs.declared.fault.ContentFault.TheVariants.{Memory, BadPointer}
 use Rattle.seg_check.specs.Claiming.{Refutes}
-use Rattle.seg_check.specs.Positions.{LacksValueAt, in_value, in_cell, LacksAt}
+use Rattle.seg_check.specs.Positions.{LiesAt, LacksValueAt, in_value, in_cell, LacksAt}
 use Rattle.seg_check.specs.Marks.{Known, Within}
 use Rattle.seg_check.specs.Naming.{IsFrozen, SameOthers, IsUnder, CanBeTarget, IsNameable, frozen_number_at, slot_of, less, one_less, Counts}
 use Rattle.seg_check.specs.Naming.{CountsBlock, blocks_of, unseen_at, standing_at, Finds, CanName, NamesFirst, NamesAgain, NamesBlock}
-use Rattle.seg_check.specs.Turns.{Limited, owned_places, awaited, IsWaiting, AreWaiting, AreLow}
+use Rattle.seg_check.specs.Turns.{Limited, owned_places, awaited, IsWaiting, AreWaiting, AreLow, EndsBy}
 use Rattle.seg_check.specs.Resolving.{ReadsEach, reads_more, ResolvesBy, Resolves, CanResolve, Advances, IsReady}
 use Rattle.seg_check.specs.Cells.{blocks_counted_by}
 use Rattle.seg_check.proofs.Queue.ReadPlaceLaws.{own_names, positions_of}
@@ -107,26 +107,26 @@ module _ (bytes : List ℕ) (table : Table) (at T U : ℕ) (f : form_at table T 
   pub shared_many : (known : Known) → 2 ≤ count_at bytes at → CanResolve bytes table known (record { at = at; type = T } ∷ []) → ⊥
   shared_many known many r = absurd (omega (arith, many, shared_counts known r, few_named bytes at))
 
-  pub shared_counted_lack : (e : ContentFault) → blocks_counted_by at (target bytes at) (count_at bytes at) ≡ Err e → LacksAt bytes table e
-  shared_counted_lack e is = blocks_lack bytes table at (count_at bytes at) (target bytes at) e is
-      (null_lacks bytes table at T tag room (Form.shared U) f (refl, refl))
-      (λ p names none. in_cell T (Form.shared U) f (inl (none_counts bytes at p names none)))
+  pub shared_counted_lack : (e : ContentFault) → LiesAt bytes table (record { at = at; type = T }) → blocks_counted_by at (target bytes at) (count_at bytes at) ≡ Err e → LacksAt bytes table e
+  shared_counted_lack e lies is = blocks_lack bytes table at (count_at bytes at) (target bytes at) e is
+      (null_lacks bytes table at T tag room (Form.shared U) lies f (refl, refl))
+      (λ p names none. in_cell T (Form.shared U) lies f (inl (none_counts bytes at p names none)))
 
-  pub shared_many_lack : 2 ≤ count_at bytes at → LacksValueAt bytes table at
-  shared_many_lack many = in_cell T (Form.shared U) f (inl (inl many))
+  pub shared_many_lack : LiesAt bytes table (record { at = at; type = T }) → 2 ≤ count_at bytes at → LacksValueAt bytes table at
+  shared_many_lack lies many = in_cell T (Form.shared U) lies f (inl (inl many))
 
   -- the cell doesn't point to a frozen object
-  pub shared_lacks : (known : Known) (e : ContentFault) → IsReady bytes table known → (e ≡ Memory) ⊎ (e ≡ BadPointer at) → Refutes e (CanName bytes known at tag room) → LacksAt bytes table e
-  shared_lacks known e ready (inl same) refused = subst (LacksAt bytes table) (sym same) tt
-  shared_lacks known e ready (inr same) refused =
+  pub shared_lacks : (known : Known) (e : ContentFault) → IsReady bytes table known → LiesAt bytes table (record { at = at; type = T }) → (e ≡ Memory) ⊎ (e ≡ BadPointer at) → Refutes e (CanName bytes known at tag room) → LacksAt bytes table e
+  shared_lacks known e ready lies (inl same) refused = subst (LacksAt bytes table) (sym same) tt
+  shared_lacks known e ready lies (inr same) refused =
       let none = subst (λ x. Refutes x (CanName bytes known at tag room)) same refused in
-      subst (LacksAt bytes table) (sym same) (in_value T (Form.shared U) tag room f (refl, refl) (λ p.
+      subst (LacksAt bytes table) (sym same) (in_value T (Form.shared U) tag room lies f (refl, refl) (λ p.
       let frozen = ready.frozen (block_of p.start) (ap (λ t. t % 256) p.is_block.has_tag ∙ frozen_tag U) in
       none (record { start = p.start; names = p.names; is_block = p.is_block; there = omega (arith, frozen, p.among) })))
 
   -- the cell points to a frozen object, whose number isn't below the limit
-  pub shared_high : (old new : Known) (p : ℕ) → IsReady bytes table old → NamesBlock bytes old new at tag room p → LacksValueAt bytes table at
-  shared_high old new p ready n = in_cell T (Form.shared U) f (inr (record { start = p; names = n.names; is_block = n.is_block; among = omega (arith, n.there, ready.standing (block_of p)) }))
+  pub shared_high : (old new : Known) (p : ℕ) → IsReady bytes table old → LiesAt bytes table (record { at = at; type = T }) → NamesBlock bytes old new at tag room p → LacksValueAt bytes table at
+  shared_high old new p ready lies n = in_cell T (Form.shared U) lies f (inr (record { start = p; names = n.names; is_block = n.is_block; among = omega (arith, n.there, ready.standing (block_of p)) }))
 
   -- if a cell can be resolved, it may point to its target
   pub shared_named : (known : Known) (p : ℕ) → target bytes at ≡ Some p → CanResolve bytes table known (record { at = at; type = T } ∷ []) → CanBeTarget bytes table known.naming.below (record { at = p; type = U })
@@ -287,8 +287,9 @@ module _ (bytes : List ℕ) (table : Table) (at T U : ℕ) (f : form_at table T 
         let room = n.is_block.room in
         let small = ready.small in
         let low : start + 8 ≤ 2 ^ 30 = omega (arith, after) in
+        let ends : start + 8 + Rattle.seg_spec.specs.Types.size table U ≤ payload_end bytes block = omega (arith, after) in
         record {
-          turn = record { low = subst AreLow (sym places) (low, tt); ownable = b.1 };
+          turn = record { allocated = omega (arith, first.was_unclaimed, ready.standing block); fits = subst (AllByRecursion (EndsBy table (payload_end bytes block))) (sym places) (ends, tt); low = subst AreLow (sym places) (low, tt); ownable = b.1 };
           frozen = λ z. record { one = refl; after_header = n.is_block.after_header; number_is = refl };
         }
 

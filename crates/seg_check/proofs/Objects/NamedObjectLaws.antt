@@ -6,7 +6,7 @@ use Rattle.seg_spec.specs.Types.{Table, form_at, size}
 use Rattle.seg_spec.specs.Value.{Values, count}
 use Rattle.std.specs.List.{AllByRecursion}
 use Rattle.seg_spec.specs.Counting.{cells_in}
-use Rattle.seg_spec.specs.Block.{Kind, kind_number, IsBlock, AllowsType, block_of, tag_of}
+use Rattle.seg_spec.specs.Block.{Kind, kind_number, IsBlock, AllowsType, block_of, payload_end, tag_of}
 use Rattle.seg_spec.specs.Owing.{entries_at}
 use Rattle.seg_spec.specs.Reads.{Place, items, spaced, HoldsEach, holds_none, holds_more, holds}
 use Rattle.seg_spec.specs.Index.{Root, plain_root, IsName, IsEntry, AreEntries, AreAscending, Precedes}
@@ -21,7 +21,7 @@ use Rattle.seg_check.specs.Claiming.{CanClaim, ClaimsBlock, turns_where}
 use Rattle.seg_check.specs.declared.marks.Turn.{Turn}
 use Rattle.seg_check.specs.Marks.{Known, awaiting}
 use Rattle.seg_check.specs.Naming.{IsFrozen, CanBeTarget}
-use Rattle.seg_check.specs.Turns.{Limited, limited, AreLow, AreKnown, AreTurns, AreWaiting, AreOthers, places_in, places_with, waiting, awaited, with_cells}
+use Rattle.seg_check.specs.Turns.{Limited, limited, AreLow, EndsBy, IsTurn, AreKnown, AreTurns, AreWaiting, AreOthers, places_in, places_with, waiting, awaited, with_cells}
 use Rattle.seg_check.specs.Positions.{HasEntryAt}
 use Rattle.seg_check.specs.Resolving.{ResolvesBy, IsReady}
 use Rattle.seg_check.specs.Roots.{names_ahead, ResolvesRoots, CanResolveRoots, AdvancesRoots, ClaimsNamed, CanClaimNamed}
@@ -32,7 +32,7 @@ use Rattle.seg_check.proofs.Heap.TagLaws.{places_tagged, allowed_as}
 use Rattle.seg_check.proofs.Queue.ReadPlaceLaws.{positions_of}
 use Rattle.seg_check.proofs.Blocks.FrozenClaimLaws.{other_block, finds_claimed}
 use Rattle.seg_check.proofs.Queue.QueueStepLaws.{cells_forth, cells_back, within_taken, awaited_one, are_awaiting}
-use Rattle.seg_check.proofs.Blocks.CellClaimLaws.{entries_low, known_places, claimed_waiting}
+use Rattle.seg_check.proofs.Blocks.CellClaimLaws.{entries_low, entries_end, known_places, claimed_waiting}
 use Rattle.seg_check.proofs.Objects.RootReadLaws.{joined, rooted}
 use Rattle.seg_spec.proofs.Images.PlainRootLaws.{plain_of}
 
@@ -80,7 +80,17 @@ module _ (bytes : List ℕ) (table : Table) (old new : Known) (ready : IsReady b
       let whole : n * (0 + size table T) ≡ n * size table T = ap (λ k. n * k) (let e : 0 + size table T ≡ size table T = omega arith in e) in
       let inside = room_inside in
       let small = ready.small in
-      (record { low = subst AreLow (sym places) (entries_low table p 0 T n (omega arith)); ownable = (ready.blocks (block_of p) claimed_some).1 }, tt)
+      let large = (ready.blocks (block_of p) claimed_some).0.size in
+      let high = c.is_block.after_header in
+      let room = c.is_block.room in
+      let end = payload_end bytes (block_of p) in
+      let turn : IsTurn bytes table (record { start = p; count = n }) = record {
+        allocated = omega (arith, claimed_some, ready.standing (block_of p));
+        fits = subst (AllByRecursion (EndsBy table end)) (sym places) (entries_end table p 0 T n end (omega arith));
+        low = subst AreLow (sym places) (entries_low table p 0 T n (omega arith));
+        ownable = (ready.blocks (block_of p) claimed_some).1;
+      } in
+      (turn, tt)
 
   pub object_are_turns : AreTurns bytes table (turns_where (has_cells (form_at table T)) p n)
   object_are_turns = turns_of (has_cells (form_at table T))

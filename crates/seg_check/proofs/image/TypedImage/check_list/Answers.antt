@@ -13,7 +13,7 @@ use Rattle.seg_check.proofs.Blocks.CellClaimLaws.{ready_live}
 use Rattle.seg_check.proofs.Blocks.LackingBlockLaws.{ready_allocated}
 use Rattle.seg_check.proofs.Contents.NodeLaws.{claimed_ready}
 use Rattle.seg_check.proofs.Contents.BufferLaws.{blocks_none, blocks_some, blocks_names}
-use Rattle.seg_check.proofs.Contents.ListLaws.{walked_first, walked_more, walked_live, ring_advance, ring_nothing, ring_counted, ring_counted_lack, ring_lacks, node_lacks, first_can, ring_closed, next_can, owner_claimed, owner_can, first_low, next_low}
+use Rattle.seg_check.proofs.Contents.ListLaws.{walked_first, walked_more, walked_live, ring_advance, ring_nothing, ring_counted, ring_counted_lack, ring_lacks, first_lacks, node_lacks, first_can, ring_closed, next_can, owner_claimed, owner_can, first_low, next_low}
 use Rattle.seg_check.proofs.image.TypedImage.check_list.Goals as goal
 use Rattle.seg_check.proofs.image.TypedImage.check_list.Goals.{then-is_linked, else-is_linked, then-eq, else-eq, else-is_linked-2-via-then-is_linked-2+else-is_closed, else-is_linked-2-via-else-is_linked-2}
 
@@ -29,7 +29,7 @@ eq_back None p e = cc
 eq_back (Some q) p e = let same : q ≡ p = cc in grind (arith, nat_tests)
 
 pub returns-in_err-count-clause-steps : goal.returns-in_err-count-clause-steps
-returns-in_err-count-clause-steps g c = λ T U by ready.
+returns-in_err-count-clause-steps g c = λ T U by ready lies.
     let bytes = c.args.self.now.bytes.bytes.now in
     let table = c.args.self.now.types.now in
     let old = c.args.claims.now in
@@ -38,7 +38,7 @@ returns-in_err-count-clause-steps g c = λ T U by ready.
     let failed = err_from_is_err_and c.from_residual.result c.from_residual.ensures.1 in
     let same : failed.0 ≡ e = failed.2 in
     subst (λ r. Steps bytes table old old (object_at at T ∷ []) r) (sym (failed.1 ∙ ap Err same))
-    (let was = sym c.counted_blocks.ensures ∙ c.in_err-count.was in (ring_counted bytes table old ready at T U by.form_is e was, ring_counted_lack bytes table old ready at T U by.form_is e was))
+    (let was = sym c.counted_blocks.ensures ∙ c.in_err-count.was in (ring_counted bytes table old ready at T U by.form_is e was, ring_counted_lack bytes table old ready at T U by.form_is e lies was))
 
 pub loop-init : goal.loop-init
 loop-init g c = record {
@@ -91,14 +91,14 @@ loop-preserved g c = record {
 }
 
 pub returns-in_default-clause-steps : goal.returns-in_default-clause-steps
-returns-in_default-clause-steps g c = λ T U by ready.
+returns-in_default-clause-steps g c = λ T U by ready lies.
     let bytes = c.args.self.now.bytes.bytes.now in
     let at = c.args.cell in
     let none = blocks_none at (count_at bytes at) (target bytes at) (sym c.counted_blocks.ensures ∙ c.in_ok-count.was ∙ ap Ok c.in_default.is) in
     ring_nothing bytes c.args.self.now.types.now c.args.claims.now ready at T U by.form_is none.0 none.1
 
 pub returns-in_err-first-clause-steps : goal.returns-in_err-first-clause-steps
-returns-in_err-first-clause-steps g c = λ T U by ready.
+returns-in_err-first-clause-steps g c = λ T U by ready lies.
     let bytes = c.args.self.now.bytes.bytes.now in
     let table = c.args.self.now.types.now in
     let old = c.args.claims.now in
@@ -115,12 +115,12 @@ returns-in_err-first-clause-steps g c = λ T U by ready.
     (λ r. owner_can bytes table old ready at T U by.form_is c.owner-owner.result.bytes.bytes.now (word_of c.owner-owner.result.tag) c.owner-owner.result.entry_size
     o.bytes (ap word_of o.tag ∙ is.tag_is) (o.entry_size ∙ is.entry_is.size_is) old at (first_can bytes table old ready at T U by.form_is names.0 names.1 r))
     (c.in_err-first.ensures.refused live)
-    (node_lacks bytes table old ready at T U by.form_is c.owner-owner.result.bytes.bytes.now (word_of c.owner-owner.result.tag) c.owner-owner.result.entry_size
-    o.bytes (ap word_of o.tag ∙ is.tag_is) (o.entry_size ∙ is.entry_is.size_is) old ready at e
+    (first_lacks bytes table old ready at T U by.form_is c.owner-owner.result.bytes.bytes.now (word_of c.owner-owner.result.tag) c.owner-owner.result.entry_size
+    o.bytes (ap word_of o.tag ∙ is.tag_is) (o.entry_size ∙ is.entry_is.size_is) lies e
     (c.in_err-first.ensures.lacks (subst (λ bs. HaveLiveHeaders bs old.allocated) (sym o.bytes) (ready_allocated bytes table old ready))))
 
 pub returns-in_err-next-clause-steps : goal.returns-in_err-next-clause-steps
-returns-in_err-next-clause-steps g c = λ T U by ready.
+returns-in_err-next-clause-steps g c = λ T U by ready lies.
     let bytes = c.args.self.now.bytes.bytes.now in
     let table = c.args.self.now.types.now in
     let old = c.args.claims.now in
@@ -143,11 +143,11 @@ returns-in_err-next-clause-steps g c = λ T U by ready.
     (c.in_err-next.ensures.refused (subst (λ bs. HaveLiveHeaders bs mid.unclaimed) (sym o.bytes) live))
     (let now = claimed_ready bytes table old ready T 8 U mid _ w.claimed in
     node_lacks bytes table old ready at T U by.form_is c.owner-owner.result.bytes.bytes.now (word_of c.owner-owner.result.tag) c.owner-owner.result.entry_size
-    o.bytes (ap word_of o.tag ∙ is.tag_is) (o.entry_size ∙ is.entry_is.size_is) mid now c.loop.last e
+    o.bytes (ap word_of o.tag ∙ is.tag_is) (o.entry_size ∙ is.entry_is.size_is) mid now lies c.loop.last e
     (c.in_err-next.ensures.lacks (subst (λ bs. HaveLiveHeaders bs mid.allocated) (sym o.bytes) (ready_allocated bytes table mid now))))
 
 pub returns-then-is_closed-clause-steps : goal.returns-then-is_closed-clause-steps
-returns-then-is_closed-clause-steps g c = λ T U by ready.
+returns-then-is_closed-clause-steps g c = λ T U by ready lies.
     let bytes = c.args.self.now.bytes.bytes.now in
     let table = c.args.self.now.types.now in
     let old = c.args.claims.now in
@@ -170,7 +170,7 @@ returns-then-is_closed-clause-steps g c = λ T U by ready.
     ring_advance bytes table old ready at T U by.form_is c.loop.claims first last c.loop.counter c.loop.is_linked w names all c.if-is_linked-2.true closed.0 closed.1
 
 pub returns-else-is_linked-2-clause-steps : goal.returns-else-is_linked-2-clause-steps
-returns-else-is_linked-2-clause-steps g c = λ T U by ready.
+returns-else-is_linked-2-clause-steps g c = λ T U by ready lies.
     let bytes = c.args.self.now.bytes.bytes.now in
     let table = c.args.self.now.types.now in
     let old = c.args.claims.now in
@@ -193,4 +193,4 @@ returns-else-is_linked-2-clause-steps g c = λ T U by ready.
       | else-is_linked-2-via-else-is_linked-2 w ↦ false_true (sym w.if-is_linked-2.false ∙ closed.0)
     ] in
     ((λ r. never (ring_closed bytes table old ready at T U by.form_is c.loop.claims first last c.loop.counter c.loop.is_linked walked names all r)),
-    ring_lacks bytes table old ready at T U by.form_is c.loop.claims first last c.loop.counter c.loop.is_linked walked names all never)
+    ring_lacks bytes table old ready at T U by.form_is c.loop.claims first last c.loop.counter c.loop.is_linked walked lies names all never)

@@ -27,7 +27,7 @@ not_null : (bytes : List ℕ) (at : ℕ) → (p : ℕ) × (target bytes at ≡ S
 not_null bytes at (p, names) null = absurd (let no : None ≡ Some p = sym null ∙ names in cc)
 
 pub returns-in_err-count-clause-steps : goal.returns-in_err-count-clause-steps
-returns-in_err-count-clause-steps g c = λ T U by ready.
+returns-in_err-count-clause-steps g c = λ T U by ready lies.
     let bytes = c.args.self.now.bytes.bytes.now in
     let table = c.args.self.now.types.now in
     let old = c.args.claims.now in
@@ -36,10 +36,10 @@ returns-in_err-count-clause-steps g c = λ T U by ready.
     let failed = err_from_is_err_and c.from_residual.result c.from_residual.ensures.1 in
     let same : failed.0 ≡ e = failed.2 in
     subst (λ r. Steps bytes table old old (object_at at T ∷ []) r) (sym (failed.1 ∙ ap Err same))
-    (let was = sym c.counted_blocks.ensures ∙ c.in_err-count.was in (tree_counted bytes table old ready at T U by.form_is e was, tree_counted_lack bytes table old ready at T U by.form_is e was))
+    (let was = sym c.counted_blocks.ensures ∙ c.in_err-count.was in (tree_counted bytes table old ready at T U by.form_is e was, tree_counted_lack bytes table old ready at T U by.form_is e lies was))
 
 pub returns-in_default-clause-steps : goal.returns-in_default-clause-steps
-returns-in_default-clause-steps g c = λ T U by ready.
+returns-in_default-clause-steps g c = λ T U by ready lies.
     let bytes = c.args.self.now.bytes.bytes.now in
     let at = c.args.cell in
     let none = blocks_none at (count_at bytes at) (target bytes at) (sym c.counted_blocks.ensures ∙ c.in_ok-count.was ∙ ap Ok c.in_default.is) in
@@ -62,7 +62,7 @@ loop-visit-init g c = record {
 }
 
 pub returns-in_err-visit-clause-steps : goal.returns-in_err-visit-clause-steps
-returns-in_err-visit-clause-steps g c = λ T U by ready.
+returns-in_err-visit-clause-steps g c = λ T U by ready lies.
     let bytes = c.args.self.now.bytes.bytes.now in
     let table = c.args.self.now.types.now in
     let old = c.args.claims.now in
@@ -81,7 +81,7 @@ returns-in_err-visit-clause-steps g c = λ T U by ready.
     (λ r. r)
     (traced_refused bytes table old ready at T U by.form_is c.loop-visit.claims walk.stage walk.turns c.loop-visit.keys t never)
     (subst (LacksValueAt bytes table) (sym (subst (λ r. IfErr r (λ x. x ≡ walk.root)) was.1 c.next.ensures.position ∙ c.loop-visit.invariant.root))
-    (traced_lacks bytes table old ready at T U by.form_is c.loop-visit.claims walk.stage walk.turns c.loop-visit.keys t
+    (traced_lacks bytes table old ready at T U by.form_is c.loop-visit.claims walk.stage walk.turns c.loop-visit.keys t lies
     (not_null bytes at (blocks_names at (count_at bytes at) c.in-Some.count (target bytes at) (sym c.counted_blocks.ensures ∙ c.in_ok-count.was ∙ ap Ok c.in-Some.is))) never))
 
 pub loop-visit-preserved-in_ok-claim-in-Enter :
@@ -115,7 +115,7 @@ loop-visit-preserved-in_ok-claim-in-Enter g c = record {
 
 pub returns-in_err-claim-in-Enter-clause-steps :
     goal.returns-in_err-claim-in-Enter-clause-steps
-returns-in_err-claim-in-Enter-clause-steps g c = λ T U by ready.
+returns-in_err-claim-in-Enter-clause-steps g c = λ T U by ready lies.
     let bytes = c.args.self.now.bytes.bytes.now in
     let table = c.args.self.now.types.now in
     let old = c.args.claims.now in
@@ -140,7 +140,7 @@ returns-in_err-claim-in-Enter-clause-steps g c = λ T U by ready.
     (c.in_err-claim-in-Enter.ensures.refused (subst (λ bs. HaveLiveHeaders bs mid.unclaimed) (sym o.bytes) (traced_live bytes table old ready at T U by.form_is mid walk.stage walk.turns c.loop-visit.keys t)))
     (let now = traced_ready bytes table old ready at T U by.form_is mid walk.stage walk.turns c.loop-visit.keys t in
     node_lacks bytes table old ready at T U by.form_is owner.bytes.bytes.now (word_of owner.tag) owner.entry_size o.bytes (ap word_of o.tag ∙ by.content_of.tag_is) (o.entry_size ∙ by.content_of.entry_is.size_is)
-    mid now c.in-Enter.pointer e (c.in_err-claim-in-Enter.ensures.lacks (subst (λ bs. HaveLiveHeaders bs mid.allocated) (sym o.bytes) (ready_allocated bytes table mid now))))
+    mid now lies c.in-Enter.pointer e (c.in_err-claim-in-Enter.ensures.lacks (subst (λ bs. HaveLiveHeaders bs mid.allocated) (sym o.bytes) (ready_allocated bytes table mid now))))
 
 pub loop-visit-preserved : goal.loop-visit-preserved
 loop-visit-preserved g c = record {
@@ -172,7 +172,7 @@ loop-visit-preserved g c = record {
 }
 
 pub returns-clause-steps : goal.returns-clause-steps
-returns-clause-steps g c = λ T U by ready.
+returns-clause-steps g c = λ T U by ready lies.
     let bytes = c.args.self.now.bytes.bytes.now in
     let at = c.args.cell in
     let walk = c.loop-visit.walk in
@@ -182,5 +182,5 @@ returns-clause-steps g c = λ T U by ready.
     let was = ok_was c.next.result c.map_err.result _ visit c.in_ok-visit.was c.map_err.ensures.cases in
     let goes_on = subst (λ (bs : List ℕ). IsSteady bs walk.stage walk.turns → IfOk c.next.result (Proceeds bs walk.stage new.stage)) c.loop-visit.invariant.same c.next.ensures.goes_on t.followed.steady in
     let step : Proceeds bytes walk.stage new.stage None = subst (λ r. IfOk r (Proceeds bytes walk.stage new.stage)) (was ∙ ap Ok c.in_default-2.is) goes_on in
-    traced_steps bytes c.args.self.now.types.now c.args.claims.now ready at T U by.form_is c.loop-visit.claims walk.stage walk.turns c.loop-visit.keys t new.stage c.check.result
+    traced_steps bytes c.args.self.now.types.now c.args.claims.now ready at T U by.form_is c.loop-visit.claims walk.stage walk.turns c.loop-visit.keys t new.stage c.check.result lies
     (not_null bytes at (blocks_names at (count_at bytes at) c.in-Some.count (target bytes at) (sym c.counted_blocks.ensures ∙ c.in_ok-count.was ∙ ap Ok c.in-Some.is))) step c.check.ensures

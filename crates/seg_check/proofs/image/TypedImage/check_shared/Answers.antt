@@ -20,14 +20,14 @@ true_false : {X : Type 0} → true ≡ false → X
 true_false e = cc
 
 pub returns-then-count_in-gt1-clause-steps : goal.returns-then-count_in-gt1-clause-steps
-returns-then-count_in-gt1-clause-steps g c = λ T f ready.
+returns-then-count_in-gt1-clause-steps g c = λ T f ready lies.
     let bytes = c.args.self.now.bytes.bytes.now in
     let table = c.args.self.now.types.now in
     let many : 2 ≤ count_at bytes c.args.cell = omega (arith, c.if-count_in-gt1.true, c.count_in.ensures) in
-    (shared_many bytes table c.args.cell T c.args.held f c.args.claims.now many, shared_many_lack bytes table c.args.cell T c.args.held f many)
+    (shared_many bytes table c.args.cell T c.args.held f c.args.claims.now many, shared_many_lack bytes table c.args.cell T c.args.held f lies many)
 
 pub returns-in_err-counted_blocks-clause-steps : goal.returns-in_err-counted_blocks-clause-steps
-returns-in_err-counted_blocks-clause-steps g c = λ T f ready.
+returns-in_err-counted_blocks-clause-steps g c = λ T f ready lies.
     let bytes = c.args.self.now.bytes.bytes.now in
     let table = c.args.self.now.types.now in
     let old = c.args.claims.now in
@@ -36,7 +36,7 @@ returns-in_err-counted_blocks-clause-steps g c = λ T f ready.
     let failed = err_from_is_err_and c.from_residual.result c.from_residual.ensures.1 in
     let same : failed.0 ≡ e = failed.2 in
     subst (λ r. Steps bytes table old old (object_at at T ∷ []) r) (sym (failed.1 ∙ ap Err same))
-    (let was = sym c.counted_blocks.ensures ∙ c.in_err-counted_blocks.was in (shared_counted bytes table at T c.args.held f old e was, shared_counted_lack bytes table at T c.args.held f e was))
+    (let was = sym c.counted_blocks.ensures ∙ c.in_err-counted_blocks.was in (shared_counted bytes table at T c.args.held f old e was, shared_counted_lack bytes table at T c.args.held f e lies was))
 
 is_empty : {X : Type 0} (o : Option X) → is_some o ≡ false → o ≡ None
 is_empty None e = refl
@@ -47,7 +47,7 @@ is_full None e = cc
 is_full (Some x) e = (x, refl)
 
 pub returns-then-is_none-clause-steps : goal.returns-then-is_none-clause-steps
-returns-then-is_none-clause-steps g c = λ T f ready.
+returns-then-is_none-clause-steps g c = λ T f ready lies.
     let bytes = c.args.self.now.bytes.bytes.now in
     let at = c.args.cell in
     let none = blocks_none at (count_at bytes at) (target bytes at) (sym c.counted_blocks.ensures ∙ c.in_ok-counted_blocks.was ∙ ap Ok (is_empty c.in_ok-counted_blocks.field-0 c.if-is_none.ensures)) in
@@ -63,7 +63,7 @@ module _ (bytes : List ℕ) (table : Table) (at T U : ℕ) (f : form_at table T 
   names_as start n = subst (λ s. NamesBlock bytes old new at (tag_of Kind.frozen U) s start) size_is (subst (λ t. NamesBlock bytes old new at t room start) tag_is n)
 
 pub returns-in_err-object-clause-steps : goal.returns-in_err-object-clause-steps
-returns-in_err-object-clause-steps g c = λ T f ready.
+returns-in_err-object-clause-steps g c = λ T f ready lies.
     let bytes = c.args.self.now.bytes.bytes.now in
     let table = c.args.self.now.types.now in
     let old = c.args.claims.now in
@@ -81,7 +81,7 @@ returns-in_err-object-clause-steps g c = λ T f ready.
     steps_refused bytes table old new (object_at at T ∷ []) c.from_residual-in_err-object.result e _ (failed.1 ∙ ap Err equal)
     (λ r. can_name_as bytes table at T U f old new ready (word_of c.frozen-content.result.tag) c.from-size.result is.tag_is size_is (shared_can bytes table at T U f old ready names.0 names.1 r))
     (c.in_err-object.ensures.refused (nameable bytes table at T U f old ready))
-    (shared_lacks bytes table at T U f old e ready c.in_err-object.ensures.fault (refuses_map e _ _ (can_name_as bytes table at T U f old new ready (word_of c.frozen-content.result.tag) c.from-size.result is.tag_is size_is)
+    (shared_lacks bytes table at T U f old e ready lies c.in_err-object.ensures.fault (refuses_map e _ _ (can_name_as bytes table at T U f old new ready (word_of c.frozen-content.result.tag) c.from-size.result is.tag_is size_is)
     (c.in_err-object.ensures.refused (nameable bytes table at T U f old ready))))
 
 -- the cell was counted for the object
@@ -103,7 +103,7 @@ module _ (bytes : List ℕ) (table : Table) (at T U : ℕ) (f : form_at table T 
   over u = subst (IsUnder new.naming.below) (sym numbered) (subst (λ b. IsUnder b (frozen_number_at bytes start)) (sym n.below_kept) u)
 
 pub returns-then-may_name-clause-steps : goal.returns-then-may_name-clause-steps
-returns-then-may_name-clause-steps g c = λ T f ready.
+returns-then-may_name-clause-steps g c = λ T f ready lies.
     let bytes = c.args.self.now.bytes.bytes.now in
     let table = c.args.self.now.types.now in
     let old = c.args.claims.now in
@@ -122,7 +122,7 @@ returns-then-may_name-clause-steps g c = λ T f ready.
     (under bytes table at T U f old new ready c.in_ok-object.object c.frozen_number.result n c.frozen_number.ensures (c.may_name.ensures.0 c.if-may_name.true))
 
 pub returns-else-may_name-clause-steps : goal.returns-else-may_name-clause-steps
-returns-else-may_name-clause-steps g c = λ T f ready.
+returns-else-may_name-clause-steps g c = λ T f ready lies.
     let bytes = c.args.self.now.bytes.bytes.now in
     let table = c.args.self.now.types.now in
     let old = c.args.claims.now in
@@ -136,4 +136,4 @@ returns-else-may_name-clause-steps g c = λ T f ready.
     (c.in_ok-object.ensures.named (nameable bytes table at T U f old ready)) in
     let high : IsUnder old.naming.below (frozen_number_at bytes c.in_ok-object.object) → ⊥ = λ under.
     true_false (sym (c.may_name.ensures.1 (over bytes table at T U f old new ready c.in_ok-object.object c.frozen_number.result n c.frozen_number.ensures under)) ∙ c.if-may_name.false) in
-    ((λ r. high (shared_named bytes table at T U f old c.in_ok-object.object n.names r).under), shared_high bytes table at T U f old new c.in_ok-object.object ready n)
+    ((λ r. high (shared_named bytes table at T U f old c.in_ok-object.object n.names r).under), shared_high bytes table at T U f old new c.in_ok-object.object ready lies n)
