@@ -83,5 +83,5 @@ pub content_at : (bytes : List ℕ) (table : Table) → HasFront bytes table →
 content_at bytes table front Memory lacks = tt
 content_at bytes table front (BadIndex at) lacks = (table, front, lacks)
 content_at bytes table front (BadPointer at) lacks = (table, front, lacks)
-content_at bytes table front (DoubleOwner at) lacks = lacks
+content_at bytes table front (DoubleOwner at) lacks = (table, front, lacks)
 content_at bytes table front (BadValue at) lacks = (table, front, lacks)

@@ -2,28 +2,29 @@
 --     PointsTo bytes pointer tag room
 --                                    the pointer points to an allocated block with this tag and a payload of
 --                                    `room` bytes
---     LiesAt bytes table place       a value of this type lies there
 --     IsBlockFor table T form n tag room
 --                                    the cell of a value of this type, which counts n, and the nodes to which it
 --                                    points, must point to blocks with this tag and room
+--     MustPointTo, MayPointTo bytes table at tag room
+--                                    the pointer there must point to such a block, or may
 --     LacksBlockAt bytes table at    the pointer there must point to a block, and doesn't
 --     HasEntryAt bytes table at name there is an entry with this name
 --     LacksNameAt bytes table at     the index isn't right there, apart from what it points to
 --     LacksValueAt bytes table at    the cell there isn't right, apart from what its pointers point to, or
 --                                    the frozen object there isn't
---     HasOwnerAt bytes at            a pointer points to the allocated block there
+--     HasOwnerAt bytes table at      a pointer that may own the allocated block there points to it
 --     LacksAt bytes table fault      the statement of a fault of the content
 --     IsFaultAt bytes fault          the same for any fault of an image
-use Rattle.std.specs.Prelude.{◌≡◌, ℕ, ◌+◌, ◌*◌, ◌<◌, ◌≤◌, ◌⊎◌, ⊤, List, [], ◌∷◌, length, map, None, Some, slice_get}
+use Rattle.std.specs.Prelude.{◌≡◌, ℕ, ◌+◌, ◌*◌, ◌<◌, ◌≤◌, ◌⊎◌, ⊤, List, [], ◌∷◌, length, map, None, Some}
 use Rattle.seg_spec.specs.Bytes.{word, half, byte, slice}
 use Rattle.seg_spec.specs.Pointer.{target}
-use Rattle.seg_spec.specs.Types.{Form, Table, Cell, form_at, fields_of, size}
+use Rattle.seg_spec.specs.Types.{Form, Table, form_at, size}
 use Rattle.seg_spec.specs.Value.{IsAscending}
 use Rattle.seg_spec.specs.Header.{index_kind_word, index_cell}
 use Rattle.seg_spec.specs.Heap.{live}
 use Rattle.seg_spec.specs.Block.{Kind, tag_of, block_of, IsBlock}
 use Rattle.seg_spec.specs.Shapes.{IsRing, Tree, nodes_of, IsTree, IsRedBlack, tree_words}
-use Rattle.seg_spec.specs.Reads.{Place, count_at, start, spaced, keys_at, map_words}
+use Rattle.seg_spec.specs.Reads.{count_at, start, spaced, keys_at, map_words}
 use Rattle.seg_spec.specs.Frozen.{frozen_words}
 use Rattle.seg_spec.specs.Index.{Index, OpensIndex, IsName, Precedes, unique_word, index_node_size}
 use Rattle.seg_spec.specs.Sound.{times, positions}
@@ -35,21 +36,10 @@ use Rattle.seg_check.specs.declared.fault.ContentFault.TheVariants.{Memory, BadI
 use Rattle.seg_check.specs.Claiming.{PointsAmong}
 use Rattle.seg_check.specs.Marks.{Within}
 use Rattle.seg_check.specs.Naming.{IsFrozen}
-use Rattle.seg_check.specs.declared.marks.Turn.{Turn}
-use Rattle.seg_check.specs.Turns.{places_in, IsTurn}
+use Rattle.seg_check.specs.Turns.{LiesAt}
 
 abbrev pub PointsTo : List ℕ → ℕ → ℕ → ℕ → Type 0
 PointsTo bytes pointer tag room = PointsAmong bytes (positions (live bytes)) pointer tag room
-
--- ---- places
-
--- a value lies at the place: in an allocated block, by the block's tag, or in a struct that lies there
-pub data LiesAt (bytes : List ℕ) (table : Table) : Place → Type 0 where
-  in_block : {place : Place} (turn : Turn) (i : ℕ) → IsTurn bytes table turn →
-      slice_get (places_in bytes table turn) i ≡ Some place → LiesAt bytes table place
-  in_struct : {place : Place} (i : ℕ) (field : Cell) → LiesAt bytes table place →
-      slice_get (fields_of table place.type) i ≡ Some field →
-      LiesAt bytes table (record { at = place.at + field.from; type = field.type })
 
 -- ---- pointers
 
@@ -75,35 +65,45 @@ HasNodes (Form.list U) = ⊤
 HasNodes (Form.map U) = ⊤
 HasNodes _ = ⊥
 
+-- What a pointer must point to, if it isn't null: a block with this tag and room.
+pub data MustPointTo (bytes : List ℕ) (table : Table) (at : ℕ) : ℕ → ℕ → Type 0 where
+  -- the pointer to the buffer of a flat index
+  to_entries : at ≡ index_cell → word bytes index_kind_word ≡ 0 →
+      MustPointTo bytes table at (tag_of Kind.index_buffer 0) (count_at bytes at * 8)
+  -- a pointer to a node of a tree index
+  to_index_node : word bytes index_kind_word ≡ 1 →
+      MustPointTo bytes table at (tag_of Kind.index_node 0) index_node_size
+  -- the pointer to a type's unique object
+  to_unique : (T : ℕ) → at ≡ unique_word T →
+      MustPointTo bytes table at (tag_of Kind.object T) (size table T)
+  -- the pointer of a value
+  in_value : {tag room : ℕ} (T : ℕ) (form : Form) →
+      LiesAt bytes table (record { at = at; type = T }) → form_at table T ≡ Some form →
+      IsBlockFor table T form (count_at bytes at) tag room → MustPointTo bytes table at tag room
+  -- a pointer in a node of a list or a map
+  in_node : {tag room : ℕ} (cell T : ℕ) (form : Form) →
+      LiesAt bytes table (record { at = cell; type = T }) → form_at table T ≡ Some form →
+      HasNodes form → IsBlockFor table T form (count_at bytes cell) tag room →
+      MustPointTo bytes table at tag room
+
+-- the room that the object of an entry needs for its values, of this type, and its name
+abbrev pub entry_room : List ℕ → Table → ℕ → ℕ → ℕ
+entry_room bytes table at T = half bytes (at + 4) * size table T + byte bytes (at + 6)
+
+-- the same for the pointer of an entry, whose object may have any type
+abbrev pub MayPointTo : List ℕ → Table → ℕ → ℕ → ℕ → Type 0
+MayPointTo bytes table at tag room = MustPointTo bytes table at tag room ⊎
+    ((T : ℕ) × (tag ≡ tag_of Kind.named T) × (room ≡ entry_room bytes table at T))
+
 -- The pointer is null, or it points to something else than an allocated block with the right tag
 -- and enough room.
 pub data LacksBlockAt (bytes : List ℕ) (table : Table) (at : ℕ) : Type 0 where
-  -- the pointer to the buffer of a flat index
-  to_entries : at ≡ index_cell → word bytes index_kind_word ≡ 0 →
-      (PointsTo bytes at (tag_of Kind.index_buffer 0) (count_at bytes at * 8) → ⊥) →
-      LacksBlockAt bytes table at
-  -- a pointer to a node of a tree index
-  to_index_node : word bytes index_kind_word ≡ 1 →
-      (PointsTo bytes at (tag_of Kind.index_node 0) index_node_size → ⊥) →
-      LacksBlockAt bytes table at
-  -- the pointer of an entry to its object, which has a type of the table
-  to_named : ((T : ℕ) → T < length table → PointsTo bytes at (tag_of Kind.named T)
-      (half bytes (at + 4) * size table T + byte bytes (at + 6)) → ⊥) →
-      LacksBlockAt bytes table at
-  -- the pointer to a type's unique object
-  to_unique : (T : ℕ) → at ≡ unique_word T →
-      (PointsTo bytes at (tag_of Kind.object T) (size table T) → ⊥) →
-      LacksBlockAt bytes table at
-  -- the pointer of a value
-  in_value : (T : ℕ) (form : Form) (tag room : ℕ) →
-      LiesAt bytes table (record { at = at; type = T }) → form_at table T ≡ Some form →
-      IsBlockFor table T form (count_at bytes at) tag room →
+  lacks_block : (tag room : ℕ) → MustPointTo bytes table at tag room →
       (PointsTo bytes at tag room → ⊥) → LacksBlockAt bytes table at
-  -- a pointer in a node of a list or a map
-  in_node : (cell T : ℕ) (form : Form) (tag room : ℕ) →
-      LiesAt bytes table (record { at = cell; type = T }) → form_at table T ≡ Some form →
-      HasNodes form → IsBlockFor table T form (count_at bytes cell) tag room →
-      (PointsTo bytes at tag room → ⊥) → LacksBlockAt bytes table at
+  -- the pointer of an entry
+  lacks_object : ((T : ℕ) → T < length table →
+      PointsTo bytes at (tag_of Kind.named T) (entry_room bytes table at T) → ⊥) →
+      LacksBlockAt bytes table at
 
 -- ---- the index
 
@@ -180,10 +180,11 @@ pub data LacksValueAt (bytes : List ℕ) (table : Table) (at : ℕ) : Type 0 whe
 
 -- ---- owners
 
-pub record HasOwnerAt (bytes : List ℕ) (at : ℕ) : Type 0 where
+pub record HasOwnerAt (bytes : List ℕ) (table : Table) (at : ℕ) : Type 0 where
   pub pointer : ℕ
   pub tag : ℕ
   pub room : ℕ
+  pub may : MayPointTo bytes table pointer tag room
   pub points : PointsTo bytes pointer tag room
   pub at_is : at ≡ block_of points.start
 
@@ -193,7 +194,7 @@ abbrev pub LacksAt : List ℕ → Table → ContentFault → Type 0
 LacksAt bytes table Memory = ⊤
 LacksAt bytes table (BadIndex at) = LacksNameAt bytes table at
 LacksAt bytes table (BadPointer at) = LacksBlockAt bytes table at
-LacksAt bytes table (DoubleOwner at) = HasOwnerAt bytes at
+LacksAt bytes table (DoubleOwner at) = HasOwnerAt bytes table at
 LacksAt bytes table (BadValue at) = LacksValueAt bytes table at
 
 -- the types are right, and the fault's statement is true with them
@@ -202,7 +203,8 @@ IsFaultAt bytes (fault.BadIndex at) =
     (table : Table) × HasFront bytes table × LacksNameAt bytes table at
 IsFaultAt bytes (fault.BadPointer at) =
     (table : Table) × HasFront bytes table × LacksBlockAt bytes table at
-IsFaultAt bytes (fault.DoubleOwner at) = HasOwnerAt bytes at
+IsFaultAt bytes (fault.DoubleOwner at) =
+    (table : Table) × HasFront bytes table × HasOwnerAt bytes table at
 IsFaultAt bytes (fault.BadValue at) =
     (table : Table) × HasFront bytes table × LacksValueAt bytes table at
 IsFaultAt bytes _ = ⊤

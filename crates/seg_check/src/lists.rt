@@ -2,7 +2,7 @@ ghost use Rattle.std.specs.Prelude.{◌≡◌, ℕ, ◌+◌, ◌^◌, ◌<◌, �
 ghost use Rattle.seg_spec.specs.Pointer.{target};
 ghost use Rattle.seg_spec.specs.Types.{Form};
 ghost use Rattle.seg_cells.specs.Places.{object_at};
-ghost use Rattle.seg_check.specs.Positions.{LiesAt};
+ghost use Rattle.seg_check.specs.Turns.{LiesAt};
 ghost use Rattle.seg_check.specs.Resolving.{IsReady, Steps};
 ghost use Rattle.seg_check.specs.Cells.{CellsPointTo};
 

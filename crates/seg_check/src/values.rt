@@ -4,8 +4,7 @@ ghost use Rattle.seg_spec.specs.Block.{IsOwnable};
 ghost use Rattle.seg_spec.specs.Pointer.{target};
 ghost use Rattle.seg_spec.specs.Reads.{count_at};
 ghost use Rattle.seg_cells.specs.Places.{place_of, object_at};
-ghost use Rattle.seg_check.specs.Turns.{places_in, IsTurn, AreWaiting, HoldsEntries};
-ghost use Rattle.seg_check.specs.Positions.{LiesAt};
+ghost use Rattle.seg_check.specs.Turns.{places_in, LiesAt, IsTurn, AreWaiting, HoldsEntries};
 ghost use Rattle.seg_check.specs.Resolving.{IsReady, Steps};
 ghost use Rattle.seg_check.specs.Cells.{counted_by, blocks_counted_by, CellsPointTo, IsStringOrVector, ResolvesTurns};
 

@@ -19,8 +19,8 @@ use Rattle.seg_check.specs.declared.fault.ContentFault.{ContentFault}
 use Rattle.seg_check.specs.declared.fault.ContentFault.TheVariants.{BadPointer, BadValue}
 use Rattle.seg_check.specs.Claiming.{Refutes, CanClaim, RefusesClaim, ClaimsBlock, turns_where, has_turns}
 use Rattle.seg_check.specs.Marks.{Known, ClaimsAll, Within}
-use Rattle.seg_check.specs.Positions.{LiesAt, IsBlockFor, IsWrongCount, LacksBlockAt, LacksValueAt, in_cell, LacksAt}
-use Rattle.seg_check.specs.Turns.{places_by}
+use Rattle.seg_check.specs.Positions.{IsBlockFor, IsWrongCount, LacksBlockAt, LacksValueAt, in_cell, LacksAt}
+use Rattle.seg_check.specs.Turns.{LiesAt, places_by}
 use Rattle.seg_check.specs.Resolving.{CanResolve, Advances, IsReady}
 use Rattle.seg_check.specs.Cells.{counted_by, blocks_counted_by, CellsPointTo, IsStringOrVector}
 use Rattle.seg_check.proofs.Queue.QueueStepLaws.{advance_open, can_open}
@@ -132,25 +132,25 @@ module _ (bytes : List ℕ) (table : Table) where
   pub block_is : (p tag n m each each' : ℕ) → n ≡ m → each ≡ each' → IsBlock bytes p tag (n * each) → IsBlock bytes p tag (m * each')
   block_is p tag n m each each' e s b = subst (λ x. IsBlock bytes p tag (m * x)) s (subst (λ x. IsBlock bytes p tag (x * each)) e b)
 
-  pub items_advance : (old new : Known) (at T n p : ℕ) (form : Form) (content : Content) → IsReady bytes table old → IsStringOrVector form → CellsPointTo table T form content → n ≡ count_at bytes at
+  pub items_advance : (old new : Known) (at T n p : ℕ) (form : Form) (content : Content) → IsReady bytes table old → LiesAt bytes table (record { at = at; type = T }) → IsStringOrVector form → CellsPointTo table T form content → n ≡ count_at bytes at
       → ClaimsBlock bytes old new at (word_of content.tag) (n * content.entry.size) (turns_where (has_turns table content.entry.held) p n) p → Advances bytes table old new (record { at = at; type = T } ∷ [])
   unfolding text_opened items_opened
-  items_advance old new at T n p Form.i64 content ready has by n_is c = absurd has
-  items_advance old new at T n p (Form.struct Us) content ready has by n_is c = absurd has
-  items_advance old new at T n p (Form.list U) content ready has by n_is c = absurd has
-  items_advance old new at T n p (Form.flat_map U) content ready has by n_is c = absurd has
-  items_advance old new at T n p (Form.map U) content ready has by n_is c = absurd has
-  items_advance old new at T n p (Form.own U) content ready has by n_is c = absurd has
-  items_advance old new at T n p (Form.shared U) content ready has by n_is c = absurd has
-  items_advance old new at T n p Form.str content ready has by n_is c =
+  items_advance old new at T n p Form.i64 content ready lies has by n_is c = absurd has
+  items_advance old new at T n p (Form.struct Us) content ready lies has by n_is c = absurd has
+  items_advance old new at T n p (Form.list U) content ready lies has by n_is c = absurd has
+  items_advance old new at T n p (Form.flat_map U) content ready lies has by n_is c = absurd has
+  items_advance old new at T n p (Form.map U) content ready lies has by n_is c = absurd has
+  items_advance old new at T n p (Form.own U) content ready lies has by n_is c = absurd has
+  items_advance old new at T n p (Form.shared U) content ready lies has by n_is c = absurd has
+  items_advance old new at T n p Form.str content ready lies has by n_is c =
       let is = by.content_of in
       let d = claimed_as old new at n p (word_of content.tag) (tag_of Kind.buffer T) content.entry.size 1 (has_turns table content.entry.held) false is.tag_is is.size_is (ap (has_turns table) is.held_is) c in
       advance_open bytes table old new (record { at = at; type = T }) Form.str (text_opened at) [] by.form_is
       (record { named_room = names_room bytes at (tag_of Kind.buffer T) 1 p d.names (block_is p (tag_of Kind.buffer T) n (count_at bytes at) 1 1 n_is refl d.is_block); ascending = tt; opened_is = refl }) refl
       (subst (λ bs. ClaimsAll old new bs []) (sym (named_some bytes at p d.names)) d.claims) tt tt tt refl
-  items_advance old new at T n p (Form.vec U) content ready has by n_is c =
+  items_advance old new at T n p (Form.vec U) content ready lies has by n_is c =
       let d = content_claimed old new at n p _ (tag_of Kind.buffer T) 0 U content by.content_of c in
-      advance_block bytes table old new ready at (tag_of Kind.buffer T) n 0 U p T (Form.vec U) (items_opened at U Label.seq) by.form_is
+      advance_block bytes table old new ready at (tag_of Kind.buffer T) n 0 U p T (Form.vec U) (items_opened at U Label.seq) lies by.form_is
       (record {
         named_room = names_room bytes at (tag_of Kind.buffer T) (size table U) p d.names (block_is p (tag_of Kind.buffer T) n (count_at bytes at) (0 + size table U) (size table U) n_is (sym
             (zero_size U)) d.is_block);
@@ -287,12 +287,12 @@ module _ (bytes : List ℕ) (table : Table) (at T U : ℕ) (content : Content) (
   own_opened : Opened
   own_opened = record { label = Label.opt; blocks = named bytes at; parts = items table (start bytes at) U (count_at bytes at) }
 
-  pub own_advance : (old new : Known) (p : ℕ) → IsReady bytes table old → 1 ≡ count_at bytes at
+  pub own_advance : (old new : Known) (p : ℕ) → IsReady bytes table old → LiesAt bytes table (record { at = at; type = T }) → 1 ≡ count_at bytes at
       → ClaimsBlock bytes old new at (word_of content.tag) (1 * content.entry.size) (turns_where (has_turns table content.entry.held) p 1) p → Advances bytes table old new (record { at = at; type = T } ∷ [])
   unfolding own_opened
-  own_advance old new p ready n_is c =
+  own_advance old new p ready lies n_is c =
       let d = content_claimed bytes table old new at 1 p _ (tag_of Kind.object U) 0 U content by.content_of c in
-      advance_block bytes table old new ready at (tag_of Kind.object U) 1 0 U p T (Form.own U) own_opened by.form_is
+      advance_block bytes table old new ready at (tag_of Kind.object U) 1 0 U p T (Form.own U) own_opened lies by.form_is
       (record {
         named_room = names_room bytes at (tag_of Kind.object U) (size table U) p d.names (block_is bytes table p (tag_of Kind.object U) 1 (count_at bytes at) (0 + size table U) (size table U) n_is (sym
             (zero_size bytes table U)) d.is_block);

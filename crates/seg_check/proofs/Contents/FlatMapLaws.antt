@@ -14,7 +14,8 @@ use Rattle.seg_check.specs.declared.fault.ContentFault.{ContentFault}
 use Rattle.seg_check.specs.declared.fault.ContentFault.TheVariants.{BadValue}
 use Rattle.seg_check.specs.declared.marks.Turn.{Turn}
 use Rattle.seg_check.specs.Claiming.{Refutes, CanClaim, RefusesClaim, ClaimsBlock, turns_where, has_turns}
-use Rattle.seg_check.specs.Positions.{LiesAt, in_cell, LacksAt}
+use Rattle.seg_check.specs.Turns.{LiesAt}
+use Rattle.seg_check.specs.Positions.{in_cell, LacksAt}
 use Rattle.seg_check.proofs.Blocks.LackingBlockLaws.{null_lacks, value_lacks}
 use Rattle.seg_check.specs.Marks.{Known}
 use Rattle.seg_check.specs.Turns.{places_by}
@@ -49,12 +50,12 @@ module _ (bytes : List ℕ) (table : Table) (at T U : ℕ) (content : Content) (
   same_keys : (p n : ℕ) → target bytes at ≡ Some p → n ≡ count_at bytes at → keys p n ≡ keys (start bytes at) (count_at bytes at)
   same_keys p n e n_is = ap (λ q. keys q n) (sym (start_some bytes at p e)) ∙ ap (keys (start bytes at)) n_is
 
-  flat_advance : (old new : Known) (n p : ℕ) → IsReady bytes table old → n ≡ count_at bytes at
+  flat_advance : (old new : Known) (n p : ℕ) → IsReady bytes table old → LiesAt bytes table (record { at = at; type = T }) → n ≡ count_at bytes at
       → ClaimsBlock bytes old new at (word_of content.tag) (n * content.entry.size) (turns_where (has_turns table content.entry.held) p n) p → IsAscending (keys p n) → Advances bytes table old new (record { at = at; type = T } ∷ [])
   unfolding map_opened
-  flat_advance old new n p ready n_is c ascending =
+  flat_advance old new n p ready lies n_is c ascending =
       let d = content_claimed bytes table old new at n p _ (tag_of Kind.buffer T) 8 U content by.content_of c in
-      advance_block bytes table old new ready at (tag_of Kind.buffer T) n 8 U p T (Form.flat_map U) map_opened by.form_is
+      advance_block bytes table old new ready at (tag_of Kind.buffer T) n 8 U p T (Form.flat_map U) map_opened lies by.form_is
       (record {
         named_room = names_room bytes at (tag_of Kind.buffer T) (8 + size table U) p d.names (block_is bytes table p (tag_of Kind.buffer T) n (count_at bytes at) (8 + size table U) (8 + size table U) n_is refl d.is_block);
         ascending = subst IsAscending (same_keys p n d.names n_is) ascending;
@@ -102,7 +103,7 @@ module _ (bytes : List ℕ) (table : Table) (at T U : ℕ) (content : Content) (
   pub flat_steps : {A : Type 0} (old new : Known) (n p : ℕ) (r : Result A ContentFault) → IsReady bytes table old → LiesAt bytes table (record { at = at; type = T }) → n ≡ count_at bytes at
       → ClaimsBlock bytes old new at (word_of content.tag) (n * content.entry.size) (turns_where (has_turns table content.entry.held) p n) p
       → MatchResult r (λ _. IsAscending (keys p n)) (λ f. (f ≡ BadValue at) × (IsAscending (keys p n) → ⊥)) → Steps bytes table old new (record { at = at; type = T } ∷ []) r
-  flat_steps old new n p (Ok x) ready lies n_is c m = flat_advance old new n p ready n_is c m
+  flat_steps old new n p (Ok x) ready lies n_is c m = flat_advance old new n p ready lies n_is c m
   flat_steps old new n p (Err f) ready lies n_is c m =
       subst (λ g. Refutes g (CanResolve bytes table old (record { at = at; type = T } ∷ [])) × LacksAt bytes table g) (sym m.0)
       ((λ r. m.1 (flat_ascend old n p c.names n_is r)), in_cell T (Form.flat_map U) lies by.form_is (λ a. m.1 (subst IsAscending (sym (same_keys p n c.names n_is)) a)))

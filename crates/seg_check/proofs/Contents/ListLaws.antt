@@ -6,14 +6,15 @@ use Rattle.seg_spec.specs.Types.{Form, Table, form_at, size}
 use Rattle.seg_spec.specs.Block.{Kind, tag_of, block_of, IsBlock}
 use Rattle.seg_spec.specs.Shapes.{IsLinked, IsRing}
 use Rattle.seg_spec.specs.Value.{Label}
-use Rattle.seg_spec.specs.Reads.{Opened, AreNodes, count_at}
+use Rattle.seg_spec.specs.Reads.{Opened, Opens, AreNodes, count_at}
 use Rattle.seg_spec.specs.Sound.{times}
 use Rattle.seg_spec.proofs.Heap.LiveBlockLaws.{times-same, times-append}
 use Rattle.seg_layout.specs.Forms.{has_cells}
 use Rattle.seg_check.specs.declared.fault.ContentFault.{ContentFault}
 use Rattle.seg_check.specs.Cells.{blocks_counted_by}
 use Rattle.seg_check.specs.Claiming.{Refutes, HaveLiveHeaders, CanClaim, RefusesClaim, ClaimsBlock, turns_where}
-use Rattle.seg_check.specs.Positions.{LiesAt, LacksValueAt, in_cell, LacksAt}
+use Rattle.seg_check.specs.Turns.{LiesAt, by_cell}
+use Rattle.seg_check.specs.Positions.{LacksValueAt, in_cell, LacksAt}
 use Rattle.seg_check.specs.Marks.{Known, Within}
 use Rattle.seg_check.specs.Resolving.{CanResolve, Advances, IsReady}
 use Rattle.seg_check.proofs.Queue.QueueStepLaws.{advance_open, can_open}
@@ -136,20 +137,20 @@ module _ (bytes : List ℕ) (table : Table) (old : Known) (ready : IsReady bytes
   ring_opened : List ℕ → Opened
   ring_opened nodes = record { label = Label.seq; blocks = map block_of nodes; parts = values_of bytes table old ready T 8 U nodes }
 
-  pub ring_advance : (now : Known) (first last n : ℕ) (b : Bool) → Walked now first last n b → target bytes at ≡ Some first → n ≡ count_at bytes at → b ≡ true → target bytes last ≡ Some first → target bytes (first + 4) ≡ Some last
+  pub ring_advance : (now : Known) (first last n : ℕ) (b : Bool) → Walked now first last n b → LiesAt bytes table (record { at = at; type = T }) → target bytes at ≡ Some first → n ≡ count_at bytes at → b ≡ true → target bytes last ≡ Some first → target bytes (first + 4) ≡ Some last
       → Advances bytes table old now (record { at = at; type = T } ∷ [])
   unfolding ring_opened
-  ring_advance now first last n b w named n_is linked next back =
+  ring_advance now first last n b w lies named n_is linked next back =
       let nodes = first ∷ w.nodes in
-      let waits = claimed_wait bytes table old ready T 8 U (Form.list U) f (λ p. refl) now nodes w.claimed in
-      advance_open bytes table old now (record { at = at; type = T }) (Form.list U) (ring_opened nodes) (turns_of has nodes) f
-      (record {
+      let opens : Opens bytes table (record { at = at; type = T }) (Form.list U) (ring_opened nodes) = record {
         nodes = nodes;
         ring = subst (λ o. IsRing bytes o nodes) (sym named) (refl, linked_of bytes first first w.nodes last w.chain (w.linked.0 linked) next back);
         counted = w.counted ∙ n_is;
         are_nodes = w.claimed.are_nodes;
         opened_is = refl;
-      })
+      } in
+      let waits = claimed_wait bytes table old ready T 8 U (Form.list U) f (λ p. refl) now nodes (λ h there. by_cell (ring_opened nodes) lies f opens there) w.claimed in
+      advance_open bytes table old now (record { at = at; type = T }) (Form.list U) (ring_opened nodes) (turns_of has nodes) f opens
       refl w.claimed.claims waits.0 (nodes_others bytes table old ready T 8 U has nodes w.claimed.are_nodes) (values_known bytes table old ready T 8 U (ready.is_table.forms T (Form.list U) f) nodes) waits.1
 
   pub ring_nothing : target bytes at ≡ None → count_at bytes at ≡ 0 → Advances bytes table old old (record { at = at; type = T } ∷ [])

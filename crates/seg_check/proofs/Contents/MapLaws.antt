@@ -15,7 +15,7 @@ use Rattle.seg_spec.specs.Header.{allocator_word}
 use Rattle.seg_spec.specs.Heap.{Span, live}
 use Rattle.seg_spec.proofs.Heap.BlockCountLaws.{few_live}
 use Rattle.seg_spec.specs.Value.{IsAscending, Label}
-use Rattle.seg_spec.specs.Reads.{Opened, AreNodes, count_at, keys_at, map_words, places_of}
+use Rattle.seg_spec.specs.Reads.{Opened, Opens, AreNodes, count_at, keys_at, map_words, places_of}
 use Rattle.seg_spec.specs.Sound.{times, SameBlocks, positions}
 use Rattle.seg_spec.proofs.Heap.LiveBlockLaws.{times-same, times-append}
 use Rattle.seg_block.specs.Tags.{word_of}
@@ -27,12 +27,12 @@ use Rattle.seg_check.specs.declared.maps.Keys.{Keys}
 use Rattle.seg_check.specs.declared.walk.Stage.{Stage}
 use Rattle.seg_check.specs.declared.walk.Visit.TheVariants.{Enter, Pass}
 use Rattle.seg_check.specs.Claiming.{Refutes, HaveLiveHeaders, CanClaim, RefusesClaim, ClaimsBlock, turns_where, has_turns}
-use Rattle.seg_check.specs.Positions.{LiesAt, LacksValueAt, in_cell, LacksAt}
+use Rattle.seg_check.specs.Positions.{LacksValueAt, in_cell, LacksAt}
 use Rattle.seg_check.proofs.Blocks.LackingBlockLaws.{null_lacks, refuses_as, link_lacks}
 use Rattle.seg_check.specs.Marks.{Known, Within}
 use Rattle.seg_check.specs.Keys.{HasKeys}
 use Rattle.seg_check.specs.Walks.{Completes, Hangs, IsSteady, Proceeds, entering_of}
-use Rattle.seg_check.specs.Turns.{Limited, limited}
+use Rattle.seg_check.specs.Turns.{LiesAt, by_cell, Limited, limited}
 use Rattle.seg_check.specs.Resolving.{ResolvesBy, CanResolve, Advances, IsReady, Steps}
 use Rattle.seg_check.specs.Cells.{CellsPointTo, blocks_counted_by}
 use Rattle.seg_check.proofs.SameLengthLaws.{splits, within_length}
@@ -175,15 +175,13 @@ module _ (bytes : List ℕ) (table : Table) (old : Known) (ready : IsReady bytes
     tree_opened : List ℕ → Opened
     tree_opened nodes = record { label = Label.map (keys_of nodes); blocks = map block_of nodes; parts = values_of bytes table old ready T map_words U nodes }
 
-    traced_advance : (next : Stage) → Proceeds bytes stage next None → IsAscending (keys_of t.passed) → Advances bytes table old mid (record { at = at; type = T } ∷ [])
+    traced_advance : (next : Stage) → LiesAt bytes table (record { at = at; type = T }) → Proceeds bytes stage next None → IsAscending (keys_of t.passed) → Advances bytes table old mid (record { at = at; type = T } ∷ [])
     unfolding tree_opened
-    traced_advance next step ascending =
+    traced_advance next lies step ascending =
         let w = follow_end bytes at (count_at bytes at) stage turns t.passed t.entered t.followed next step in
         let same = hangs_once bytes at (count_at bytes at) stage.above.blacks t.passed t.entered w in
-        let waits = claimed_wait bytes table old ready T map_words U (Form.map U) f (λ p. refl) mid t.entered t.claimed in
         let blocks = mapped_same block_of t.entered t.passed same in
-        advance_mixed bytes table old mid (record { at = at; type = T }) (Form.map U) (tree_opened t.passed) (values_of bytes table old ready T map_words U t.entered) (turns_of has t.entered) f
-        (record {
+        let opens : Opens bytes table (record { at = at; type = T }) (Form.map U) (tree_opened t.passed) = record {
           tree = w.tree;
           is_tree = w.is_tree;
           red_black = record { root = w.black; height = stage.above.blacks; balanced = w.balanced };
@@ -191,7 +189,9 @@ module _ (bytes : List ℕ) (table : Table) (old : Known) (ready : IsReady bytes
           are_nodes = subst (AreNodes bytes tag each) (sym w.nodes_are) (same_each (λ p. IsBlock bytes p tag each) t.entered t.passed same t.claimed.are_nodes);
           ascending = subst (λ ps. IsAscending (keys_of ps)) (sym w.nodes_are) ascending;
           opened_is = ap tree_opened (sym w.nodes_are);
-        })
+        } in
+        let waits = claimed_wait bytes table old ready T map_words U (Form.map U) f (λ p. refl) mid t.entered (λ h there. by_cell (tree_opened t.passed) lies f opens (omega (arith, there, blocks h))) t.claimed in
+        advance_mixed bytes table old mid (record { at = at; type = T }) (Form.map U) (tree_opened t.passed) (values_of bytes table old ready T map_words U t.entered) (turns_of has t.entered) f opens
         refl
         (λ u left below others names. (
           values_in_any_order bytes table U map_words u left below t.passed t.entered others names (λ h. sym (same h)),
@@ -379,7 +379,7 @@ module _ (bytes : List ℕ) (table : Table) (old : Known) (ready : IsReady bytes
       where
         go : {A : Type 0} (r : Result A ContentFault) → MatchResult r (λ _. IsAscending (keys_of t.passed)) (λ e. (e ≡ BadValue at) × (IsAscending (keys_of t.passed) → ⊥))
             → Steps bytes table old mid (record { at = at; type = T } ∷ []) r
-        go (Ok x) m = traced_advance mid stage turns keys t next step m
+        go (Ok x) m = traced_advance mid stage turns keys t next lies step m
         go (Err e) m =
             subst (λ g. Refutes g (CanResolve bytes table old (record { at = at; type = T } ∷ [])) × LacksAt bytes table g) (sym m.0)
             ((λ r.

@@ -22,11 +22,11 @@ use Rattle.seg_check.specs.declared.fault.ContentFault.{ContentFault}
 use Rattle.seg_check.specs.declared.marks.Waiting.{Waiting}
 use Rattle.seg_check.specs.declared.fault.ContentFault.TheVariants.{Memory, BadPointer}
 use Rattle.seg_check.specs.Claiming.{Refutes}
-use Rattle.seg_check.specs.Positions.{LiesAt, LacksValueAt, in_value, in_cell, LacksAt}
+use Rattle.seg_check.specs.Positions.{LacksValueAt, lacks_block, in_value, in_cell, LacksAt}
 use Rattle.seg_check.specs.Marks.{Known, Within}
 use Rattle.seg_check.specs.Naming.{IsFrozen, SameOthers, IsUnder, CanBeTarget, IsNameable, frozen_number_at, slot_of, less, one_less, Counts}
 use Rattle.seg_check.specs.Naming.{CountsBlock, blocks_of, unseen_at, standing_at, Finds, CanName, NamesFirst, NamesAgain, NamesBlock}
-use Rattle.seg_check.specs.Turns.{Limited, owned_places, awaited, IsWaiting, AreWaiting, AreLow, EndsBy}
+use Rattle.seg_check.specs.Turns.{LiesAt, by_sharing, Limited, owned_places, awaited, IsWaiting, AreWaiting, AreLow, EndsBy}
 use Rattle.seg_check.specs.Resolving.{ReadsEach, reads_more, ResolvesBy, Resolves, CanResolve, Advances, IsReady}
 use Rattle.seg_check.specs.Cells.{blocks_counted_by}
 use Rattle.seg_check.proofs.Queue.ReadPlaceLaws.{own_names, positions_of}
@@ -120,7 +120,7 @@ module _ (bytes : List ℕ) (table : Table) (at T U : ℕ) (f : form_at table T 
   shared_lacks known e ready lies (inl same) refused = subst (LacksAt bytes table) (sym same) tt
   shared_lacks known e ready lies (inr same) refused =
       let none = subst (λ x. Refutes x (CanName bytes known at tag room)) same refused in
-      subst (LacksAt bytes table) (sym same) (in_value T (Form.shared U) tag room lies f (refl, refl) (λ p.
+      subst (LacksAt bytes table) (sym same) (lacks_block tag room (in_value T (Form.shared U) lies f (refl, refl)) (λ p.
       let frozen = ready.frozen (block_of p.start) (ap (λ t. t % 256) p.is_block.has_tag ∙ frozen_tag U) in
       none (record { start = p.start; names = p.names; is_block = p.is_block; there = omega (arith, frozen, p.among) })))
 
@@ -278,8 +278,8 @@ module _ (bytes : List ℕ) (table : Table) (at T U : ℕ) (f : form_at table T 
 
     -- ---- the queue's entry for the object
 
-    is_waiting : NamesFirst bytes old new start → IsWaiting bytes table (record { turn = record { start = start; count = 1 }; below = Some (frozen_number_at bytes start) })
-    is_waiting first =
+    is_waiting : LiesAt bytes table (record { at = at; type = T }) → NamesFirst bytes old new start → IsWaiting bytes table (record { turn = record { start = start; count = 1 }; below = Some (frozen_number_at bytes start) })
+    is_waiting lies first =
         let b = ready.blocks block (omega (arith, first.was_unclaimed)) in
         let places = places_tagged bytes table ready.is_table (record { start = start; count = 1 }) Kind.frozen U n.is_block.has_tag in
         let inside = b.0.inside in
@@ -289,7 +289,7 @@ module _ (bytes : List ℕ) (table : Table) (at T U : ℕ) (f : form_at table T 
         let low : start + 8 ≤ 2 ^ 30 = omega (arith, after) in
         let ends : start + 8 + Rattle.seg_spec.specs.Types.size table U ≤ payload_end bytes block = omega (arith, after) in
         record {
-          turn = record { allocated = omega (arith, first.was_unclaimed, ready.standing block); fits = subst (AllByRecursion (EndsBy table (payload_end bytes block))) (sym places) (ends, tt); low = subst AreLow (sym places) (low, tt); ownable = b.1 };
+          turn = record { reached = by_sharing lies f n.names; fits = subst (AllByRecursion (EndsBy table (payload_end bytes block))) (sym places) (ends, tt); low = subst AreLow (sym places) (low, tt); ownable = b.1 };
           frozen = λ z. record { one = refl; after_header = n.is_block.after_header; number_is = refl };
         }
 
@@ -299,14 +299,14 @@ module _ (bytes : List ℕ) (table : Table) (at T U : ℕ) (f : form_at table T 
       pub are_waiting : AreWaiting bytes table turns
       pub none_owned : awaited bytes table turns ≡ []
 
-    waits : Waits
-    waits = go n.changes
+    waits : LiesAt bytes table (record { at = at; type = T }) → Waits
+    waits lies = go n.changes
       where
         go : NamesFirst bytes old new start ⊎ NamesAgain old new start → Waits
         go (inl first) = record {
           turns = record { turn = record { start = start; count = 1 }; below = Some (frozen_number_at bytes start) } ∷ [];
           turns_are = first.turns_are;
-          are_waiting = (is_waiting first, tt);
+          are_waiting = (is_waiting lies first, tt);
           none_owned = append-nil (owned_places bytes table (record { turn = record { start = start; count = 1 }; below = Some (frozen_number_at bytes start) })) ∙ frozen_is bytes table (record {
             turn = record { start = start; count = 1 };
             below = Some
@@ -360,10 +360,10 @@ module _ (bytes : List ℕ) (table : Table) (at T U : ℕ) (f : form_at table T 
                 };
               }
 
-      pub advance_shared : IsUnder old.naming.below (frozen_number_at bytes start) → Advances bytes table old new (record { at = at; type = T } ∷ [])
+      pub advance_shared : LiesAt bytes table (record { at = at; type = T }) → IsUnder old.naming.below (frozen_number_at bytes start) → Advances bytes table old new (record { at = at; type = T } ∷ [])
       unfolding opened
-      advance_shared under =
-          let w = waits in
+      advance_shared lies under =
+          let w = waits lies in
           let below = old.naming.below in
           let p : Place = record { at = at; type = T } in
           record {

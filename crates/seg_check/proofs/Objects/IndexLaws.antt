@@ -16,8 +16,8 @@ use Rattle.seg_spec.proofs.Heap.LiveBlockLaws.{times-append, times-same}
 use Rattle.seg_spec.proofs.Values.OneValueLaws.{IsTree-one}
 use Rattle.seg_check.specs.declared.fault.ContentFault.{ContentFault}
 use Rattle.seg_check.specs.Claiming.{CanClaim, RefusesClaim}
-use Rattle.seg_check.specs.Positions.{LacksBlockAt, to_entries, to_index_node, LacksNameAt, as_index, LacksAt}
-use Rattle.seg_check.proofs.Blocks.LackingBlockLaws.{null_points, refuses_as, claim_lacks}
+use Rattle.seg_check.specs.Positions.{LacksBlockAt, lacks_block, to_entries, to_index_node, LacksNameAt, as_index, LacksAt}
+use Rattle.seg_check.proofs.Blocks.LackingBlockLaws.{null_points, refuses_as, must_lack}
 use Rattle.seg_check.specs.Marks.{Known, ClaimsAll, Within}
 use Rattle.seg_check.specs.Naming.{SameOthers, Finds}
 use Rattle.seg_check.specs.Turns.{Limited, awaited}
@@ -190,8 +190,8 @@ module _ (bytes : List ℕ) (table : Table) where
   index_null small null = go (word bytes index_kind_word) refl small
     where
       go : (k : ℕ) → word bytes index_kind_word ≡ k → k ≤ 1 → LacksBlockAt bytes table index_cell
-      go zero e l = to_entries refl e (null_points bytes index_cell (tag_of Kind.index_buffer 0) (count_at bytes index_cell * 8) null)
-      go (suc zero) e l = to_index_node e (null_points bytes index_cell (tag_of Kind.index_node 0) index_node_size null)
+      go zero e l = lacks_block _ _ (to_entries refl e) (null_points bytes index_cell (tag_of Kind.index_buffer 0) (count_at bytes index_cell * 8) null)
+      go (suc zero) e l = lacks_block _ _ (to_index_node e) (null_points bytes index_cell (tag_of Kind.index_node 0) index_node_size null)
       go (suc (suc k)) e l = absurd (omega arith)
 
   -- ---- a flat index
@@ -279,8 +279,8 @@ module _ (bytes : List ℕ) (table : Table) where
 
     pub buffer_lacks : word bytes index_kind_word ≡ 0 → n ≡ count_at bytes index_cell → IsReady bytes table old → (e : ContentFault) → RefusesClaim bytes old index_cell (word_of content.tag) (n * content.entry.size) e → LacksAt bytes table e
     buffer_lacks flat counted ready e r =
-        claim_lacks bytes table old ready index_cell (tag_of Kind.index_buffer 0) (count_at bytes index_cell * 8) e
-        (refuses_as bytes bytes old index_cell (word_of content.tag) (tag_of Kind.index_buffer 0) (n * content.entry.size) (count_at bytes index_cell * 8) e refl is.tag_is (λ i. counted i * is.size_is i) r) (to_entries refl flat)
+        must_lack bytes table old ready index_cell (tag_of Kind.index_buffer 0) (count_at bytes index_cell * 8) e (to_entries refl flat)
+        (refuses_as bytes bytes old index_cell (word_of content.tag) (tag_of Kind.index_buffer 0) (n * content.entry.size) (count_at bytes index_cell * 8) e refl is.tag_is (λ i. counted i * is.size_is i) r)
 
     pub buffer_can : CanClaim bytes old index_cell (tag_of Kind.index_buffer 0) (n * 8) → CanClaim bytes old index_cell (word_of content.tag) (n * content.entry.size)
     buffer_can c =

@@ -21,7 +21,7 @@ use Rattle.seg_check.specs.Claiming.{CanClaim, ClaimsBlock, turns_where}
 use Rattle.seg_check.specs.declared.marks.Turn.{Turn}
 use Rattle.seg_check.specs.Marks.{Known, awaiting}
 use Rattle.seg_check.specs.Naming.{IsFrozen, CanBeTarget}
-use Rattle.seg_check.specs.Turns.{Limited, limited, AreLow, EndsBy, IsTurn, AreKnown, AreTurns, AreWaiting, AreOthers, places_in, places_with, waiting, awaited, with_cells}
+use Rattle.seg_check.specs.Turns.{IsReachedBlock, by_name, Limited, limited, AreLow, EndsBy, IsTurn, AreKnown, AreTurns, AreWaiting, AreOthers, places_in, places_with, waiting, awaited, with_cells}
 use Rattle.seg_check.specs.Positions.{HasEntryAt}
 use Rattle.seg_check.specs.Resolving.{ResolvesBy, IsReady}
 use Rattle.seg_check.specs.Roots.{names_ahead, ResolvesRoots, CanResolveRoots, AdvancesRoots, ClaimsNamed, CanClaimNamed}
@@ -74,9 +74,9 @@ module _ (bytes : List ℕ) (table : Table) (old new : Known) (ready : IsReady b
   places : places_in bytes table (record { start = p; count = n }) ≡ entries_at table p 0 T n
   places = places_tagged bytes table ready.is_table (record { start = p; count = n }) (kind_with [] name) T c.is_block.has_tag ∙ places_by_name table name T p n
 
-  turns_of : (b : Bool) → AreTurns bytes table (turns_where b p n)
-  turns_of false = tt
-  turns_of true =
+  turns_of : IsReachedBlock bytes table (block_of p) → (b : Bool) → AreTurns bytes table (turns_where b p n)
+  turns_of reached false = tt
+  turns_of reached true =
       let whole : n * (0 + size table T) ≡ n * size table T = ap (λ k. n * k) (let e : 0 + size table T ≡ size table T = omega arith in e) in
       let inside = room_inside in
       let small = ready.small in
@@ -85,15 +85,15 @@ module _ (bytes : List ℕ) (table : Table) (old new : Known) (ready : IsReady b
       let room = c.is_block.room in
       let end = payload_end bytes (block_of p) in
       let turn : IsTurn bytes table (record { start = p; count = n }) = record {
-        allocated = omega (arith, claimed_some, ready.standing (block_of p));
+        reached = reached;
         fits = subst (AllByRecursion (EndsBy table end)) (sym places) (entries_end table p 0 T n end (omega arith));
         low = subst AreLow (sym places) (entries_low table p 0 T n (omega arith));
         ownable = (ready.blocks (block_of p) claimed_some).1;
       } in
       (turn, tt)
 
-  pub object_are_turns : AreTurns bytes table (turns_where (has_cells (form_at table T)) p n)
-  object_are_turns = turns_of (has_cells (form_at table T))
+  pub object_are_turns : IsReachedBlock bytes table (block_of p) → AreTurns bytes table (turns_where (has_cells (form_at table T)) p n)
+  object_are_turns reached = turns_of reached (has_cells (form_at table T))
 
   waits : waiting bytes table (turns_where (has_cells (form_at table T)) p n) ≡ with_cells table (items table p T n)
   waits = claimed_waiting bytes table old new ready at 0 n 0 T p (has_cells (form_at table T)) refl places ∙ ap (with_cells table) (items_entries table p T n)
@@ -117,8 +117,8 @@ module _ (bytes : List ℕ) (table : Table) (old new : Known) (ready : IsReady b
       go false other = tt
 
   module _ (below : Option ℕ) where
-    pub object_waits : AreWaiting bytes table (awaiting below (turns_where (has_cells (form_at table T)) p n))
-    object_waits = are_awaiting bytes table below (turns_where (has_cells (form_at table T)) p n) object_are_turns object_others
+    pub object_waits : IsReachedBlock bytes table (block_of p) → AreWaiting bytes table (awaiting below (turns_where (has_cells (form_at table T)) p n))
+    object_waits reached = are_awaiting bytes table below (turns_where (has_cells (form_at table T)) p n) (object_are_turns reached) object_others
 
     awaits : awaited bytes table (awaiting below (turns_where (has_cells (form_at table T)) p n)) ≡ limited below (with_cells table (items table p T n))
     awaits = awaited_one bytes table below (turns_where (has_cells (form_at table T)) p n) object_others ∙ ap (limited below) waits
@@ -261,11 +261,12 @@ module _ (bytes : List ℕ) (table : Table) where
 
     -- the object of an entry was claimed, and its values were put in the queue
     pub advance_entry : (es last : List ℕ) (t : ℕ) → Precedes last name → AdvancesRoots bytes table old new (record { entries = at ∷ es; last = last; type = t }) (record { entries = es; last = name; type = t })
+    unfolding has_entry
     advance_entry es last t above = record {
       named = λ k. inr (at, has_entry);
       turns = awaiting old.naming.below turns;
       turns_are = c.claims.turns_are;
-      are_waiting = object_waits bytes table old new ready at p T n name c old.naming.below;
+      are_waiting = object_waits bytes table old new ready at p T n name c old.naming.below (by_name T block_named.has_tag has_entry.points.among);
       within = within_taken old.unclaimed new.unclaimed (block_of p ∷ []) c.claims.claimed;
       counted = c.claims.counted;
       finds = finds_claimed bytes old new (block_of p ∷ []) turns c.claims (object_other bytes table old new ready at p T n name c, tt) (object_others bytes table old new ready at p T n name c);

@@ -19,7 +19,7 @@ use Rattle.seg_check.specs.Claiming.{HaveLiveHeaders, CanClaim, RefusesClaim, Cl
 use Rattle.seg_check.specs.declared.fault.ContentFault.{ContentFault}
 use Rattle.seg_check.specs.Naming.{IsFrozen}
 use Rattle.seg_check.specs.Positions.{LacksNameAt, as_index, to_index_node, LacksAt}
-use Rattle.seg_check.proofs.Blocks.LackingBlockLaws.{refuses_as, claim_lacks}
+use Rattle.seg_check.proofs.Blocks.LackingBlockLaws.{refuses_as, must_lack}
 use Rattle.seg_block.specs.Tags.{word_of}
 use Rattle.seg_cells.specs.declared.content.Content.{Content}
 use Rattle.seg_cells.specs.declared.entry.Held.TheVariants as held
@@ -355,7 +355,7 @@ module _ (bytes : List ℕ) (table : Table) (old : Known) (ready : IsReady bytes
     -- a node can't be claimed
     pub index_node_lacks : word bytes index_kind_word ≡ 1 → IsReady bytes table known → (e : ContentFault) → RefusesClaim bytes known pointer (word_of content.tag) (1 * content.entry.size) e → LacksAt bytes table e
     index_node_lacks kind now e r =
-        claim_lacks bytes table known now pointer (tag_of Kind.index_node 0) 24 e (refuses_as bytes bytes known pointer (word_of content.tag) (tag_of Kind.index_node 0) (1 * content.entry.size) 24 e refl tag_is one_node r) (to_index_node kind)
+        must_lack bytes table known now pointer (tag_of Kind.index_node 0) 24 e (to_index_node kind) (refuses_as bytes bytes known pointer (word_of content.tag) (tag_of Kind.index_node 0) (1 * content.entry.size) 24 e refl tag_is one_node r)
 
     pub index_node_can : CanClaim bytes known pointer (tag_of Kind.index_node 0) 24 → CanClaim bytes known pointer (word_of content.tag) (1 * content.entry.size)
     index_node_can c = subst (λ k. CanClaim bytes known pointer (word_of content.tag) k) (sym one_node) (subst (λ t. CanClaim bytes known pointer t 24) (sym tag_is) c)

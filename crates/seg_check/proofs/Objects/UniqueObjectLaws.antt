@@ -19,11 +19,11 @@ use Rattle.seg_layout.specs.Forms.{has_cells}
 use Rattle.seg_check.specs.declared.fault.ContentFault.{ContentFault}
 use Rattle.seg_check.specs.Claiming.{CanClaim, RefusesClaim, ClaimsBlock, turns_where}
 use Rattle.seg_check.specs.Positions.{to_unique, LacksAt}
-use Rattle.seg_check.proofs.Blocks.LackingBlockLaws.{refuses_as, claim_lacks}
+use Rattle.seg_check.proofs.Blocks.LackingBlockLaws.{refuses_as, must_lack}
 use Rattle.seg_check.specs.declared.marks.Turn.{Turn}
 use Rattle.seg_check.specs.Marks.{Known, awaiting}
 use Rattle.seg_check.specs.Naming.{CanBeTarget}
-use Rattle.seg_check.specs.Turns.{Limited, limited, awaited}
+use Rattle.seg_check.specs.Turns.{by_type, Limited, limited, awaited}
 use Rattle.seg_check.specs.Resolving.{ResolvesBy, IsReady}
 use Rattle.seg_check.specs.Roots.{Ahead, uniques_ahead, ResolvesRoots, CanResolveRoots, AdvancesRoots, AdvancesUniques}
 use Rattle.seg_check.proofs.Queue.ReadPlaceLaws.{positions_of}
@@ -223,7 +223,7 @@ module _ (bytes : List ℕ) (table : Table) where
       named = λ k. k;
       turns = awaiting old.naming.below turns;
       turns_are = c.claims.turns_are;
-      are_waiting = object_waits bytes table old new ready (unique_word T) p T 1 [] c old.naming.below;
+      are_waiting = object_waits bytes table old new ready (unique_word T) p T 1 [] c old.naming.below (by_type T p named);
       within = within_taken old.unclaimed new.unclaimed (block_of p ∷ []) c.claims.claimed;
       counted = c.claims.counted;
       finds = finds_claimed bytes old new (block_of p ∷ []) turns c.claims (object_other bytes table old new ready (unique_word T) p T 1 [] c, tt) (object_others bytes table old new ready (unique_word T) p T 1 [] c);
@@ -281,8 +281,7 @@ module _ (bytes : List ℕ) (table : Table) where
     pub unique_lacks : (e : ContentFault) → RefusesClaim bytes old at (word_of content.tag) (1 * content.entry.size) e → LacksAt bytes table e
     unique_lacks e r =
         let room : 1 * content.entry.size ≡ size table T = (let one : 1 * content.entry.size ≡ content.entry.size = omega arith in one) ∙ is.entry_is.size_is ∙ sym (zero_size T) in
-        claim_lacks bytes table old ready at (tag_of Kind.object T) (size table T) e (refuses_as bytes bytes old at (word_of content.tag) (tag_of Kind.object T) (1 * content.entry.size) (size table T) e refl is.tag_is room r)
-        (to_unique T at_is)
+        must_lack bytes table old ready at (tag_of Kind.object T) (size table T) e (to_unique T at_is) (refuses_as bytes bytes old at (word_of content.tag) (tag_of Kind.object T) (1 * content.entry.size) (size table T) e refl is.tag_is room r)
 
     pub unique_can : (p : ℕ) → target bytes (unique_word T) ≡ Some p → CanResolveRoots bytes table old (from_type T) → CanClaim bytes old at (word_of content.tag) (1 * content.entry.size)
     unique_can p named can =

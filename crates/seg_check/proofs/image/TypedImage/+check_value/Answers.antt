@@ -6,8 +6,7 @@ use Rattle.seg_spec.proofs.Tables.TypeSizeLaws.{size_large}
 use Rattle.seg_layout.specs.Forms.{cell_of, map_option}
 use Rattle.seg_cells.specs.Places.{place_of}
 use Rattle.seg_check.specs.Marks.{Known}
-use Rattle.seg_check.specs.Turns.{parts_at}
-use Rattle.seg_check.specs.Positions.{LiesAt, in_struct}
+use Rattle.seg_check.specs.Turns.{parts_at, LiesAt, in_struct}
 use Rattle.seg_check.specs.Resolving.{Advances, CanResolve}
 use Rattle.seg_check.proofs.Queue.QueueStepLaws.{advance_none, advance_number, known_number, ready_now, steps_refused}
 use Rattle.seg_check.proofs.Contents.StructLaws.{struct_by, field_in, field_more, field_past, field_can, fields_all}

@@ -1,8 +1,7 @@
 use Rattle.std.proofs.Common.{◌≡◌, ◌+◌, ◌^◌, ◌<◌, ◌≤◌, length, take}
 use Rattle.seg_spec.specs.Types.{fields_of, size}
-use Rattle.seg_check.specs.Turns.{parts_at}
 use Rattle.seg_cells.specs.Places.{place_of}
-use Rattle.seg_check.specs.Positions.{LiesAt}
+use Rattle.seg_check.specs.Turns.{parts_at, LiesAt}
 use Rattle.seg_check.specs.Resolving.{IsReady, Advances}
 use Rattle.seg_check.proofs.image.TypedImage.+check_value.Given as goal
 

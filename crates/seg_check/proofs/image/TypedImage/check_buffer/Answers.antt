@@ -46,7 +46,7 @@ returns-in_ok-claim_entries-clause-steps g c = λ T form has by ready lies.
     let at = c.args.cell in
     let counts = sym c.counted.ensures ∙ c.in_ok-count.was ∙ ap Ok c.in-Some.is in
     let n_is = counted_some at (count_at bytes at) c.in-Some.count (target bytes at) counts in
-    items_advance bytes table c.args.claims.now c.claim_entries.new.claims at T c.in-Some.count c.in_ok-claim_entries.field-0 form c.args.content.now ready has by n_is
+    items_advance bytes table c.args.claims.now c.claim_entries.new.claims at T c.in-Some.count c.in_ok-claim_entries.field-0 form c.args.content.now ready lies has by n_is
     (c.in_ok-claim_entries.ensures.claimed (ready_live bytes table c.args.claims.now ready))
 
 pub returns-in_default-clause-steps : goal.returns-in_default-clause-steps

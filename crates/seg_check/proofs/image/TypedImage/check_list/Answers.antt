@@ -167,7 +167,7 @@ returns-then-is_closed-clause-steps g c = λ T U by ready lies.
       )
       | else-eq w ↦ absurd (false_true (sym w.if-eq.false ∙ sym w.is_closed-is ∙ c.if-is_closed.true))
     ] in
-    ring_advance bytes table old ready at T U by.form_is c.loop.claims first last c.loop.counter c.loop.is_linked w names all c.if-is_linked-2.true closed.0 closed.1
+    ring_advance bytes table old ready at T U by.form_is c.loop.claims first last c.loop.counter c.loop.is_linked w lies names all c.if-is_linked-2.true closed.0 closed.1
 
 pub returns-else-is_linked-2-clause-steps : goal.returns-else-is_linked-2-clause-steps
 returns-else-is_linked-2-clause-steps g c = λ T U by ready lies.

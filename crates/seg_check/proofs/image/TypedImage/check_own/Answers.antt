@@ -53,7 +53,7 @@ returns-in_ok-claim_entries-clause-steps g c = λ T U by ready lies.
     let at = c.args.cell in
     let names = blocks_is_some at (count_at bytes at) (target bytes at) c.in_ok-counted_blocks.field-0 (sym c.counted_blocks.ensures ∙ c.in_ok-counted_blocks.was) c.if-is_some.ensures in
     let one : 1 ≡ count_at bytes at = omega (arith, names.2, c.if-count_in-gt1.false, c.count_in.ensures) in
-    own_advance bytes table at T U c.args.content.now by old c.claim_entries.new.claims c.in_ok-claim_entries.field-0 ready one (c.in_ok-claim_entries.ensures.claimed (ready_live bytes table old ready))
+    own_advance bytes table at T U c.args.content.now by old c.claim_entries.new.claims c.in_ok-claim_entries.field-0 ready lies one (c.in_ok-claim_entries.ensures.claimed (ready_live bytes table old ready))
 
 pub returns-else-is_some-clause-steps : goal.returns-else-is_some-clause-steps
 returns-else-is_some-clause-steps g c = λ T U by ready lies.

@@ -118,7 +118,7 @@ returns-then-may_name-clause-steps g c = λ T f ready lies.
     let one : count_at bytes at ≡ 1 = omega (arith, counts.1, c.if-count_in-gt1.false, c.count_in.ensures) in
     let n = names_as bytes table at T U f old new ready tag c.from-size.result is.tag_is size_is c.in_ok-object.object
     (c.in_ok-object.ensures.named (nameable bytes table at T U f old ready)) in
-    advance_shared bytes table at T U f old new ready c.in_ok-object.object n one
+    advance_shared bytes table at T U f old new ready c.in_ok-object.object n one lies
     (under bytes table at T U f old new ready c.in_ok-object.object c.frozen_number.result n c.frozen_number.ensures (c.may_name.ensures.0 c.if-may_name.true))
 
 pub returns-else-may_name-clause-steps : goal.returns-else-may_name-clause-steps

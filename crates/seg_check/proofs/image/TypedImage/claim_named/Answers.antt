@@ -1,4 +1,4 @@
-use Rattle.std.proofs.Common.{length, ◌<◌, ◌≤◌, refl, ◌≡◌, ℕ, ◌+◌, ◌*◌, ◌++◌, [], List, Option, None, Some, Result, Ok, Err, sym, ap, ◌∙◌, subst, arith}
+use Rattle.std.proofs.Common.{length, inr, ◌<◌, ◌≤◌, refl, ◌≡◌, ℕ, ◌+◌, ◌*◌, ◌++◌, [], List, Option, None, Some, Result, Ok, Err, sym, ap, ◌∙◌, subst, arith}
 use Rattle.std.specs.Prelude.{IfErr, OnOk}
 use Rattle.std.proofs.lemmas.List.{append-nil}
 use Rattle.std.proofs.lemmas.Result.{err_from_is_err_and}
@@ -15,7 +15,7 @@ use Rattle.seg_check.specs.declared.fault.ContentFault.TheVariants.{Memory}
 use Rattle.seg_check.specs.declared.marks.Turn.{Turn}
 use Rattle.seg_check.specs.Claiming.{Refutes, HaveLiveHeaders, CanClaim, ClaimsBlock, turns_where}
 use Rattle.seg_spec.specs.Bytes.{half, byte}
-use Rattle.seg_check.specs.Positions.{PointsTo, to_named, LacksAt}
+use Rattle.seg_check.specs.Positions.{PointsTo, lacks_object, LacksAt}
 use Rattle.seg_check.proofs.Blocks.LackingBlockLaws.{ready_allocated, refuses_as, claim_lacks}
 use Rattle.seg_check.specs.Marks.{Known, awaiting}
 use Rattle.seg_check.specs.Resolving.{IsReady}
@@ -99,7 +99,7 @@ returns-in_default-clause-refused g c = λ ready is can.
 
 pub returns-in_default-clause-lacks : goal.returns-in_default-clause-lacks
 returns-in_default-clause-lacks g c = λ ready is counted measured.
-    to_named (λ T less p.
+    lacks_object (λ T less p.
     let some = type_pointed c.args.self.now.bytes.bytes.now c.args.self.now.types.now c.args.at T _ c.args.entry.now.object ready.is_table.few is less p in
     let both : None ≡ Some T = sym c.in_default.is ∙ c.type_in.ensures ∙ some in
     cc)
@@ -120,9 +120,9 @@ returns-in_err-start-clause-lacks g c = λ ready is counted measured.
     let failed = err_from_is_err_and c.from_residual.result c.from_residual.ensures.1 in
     let same : failed.0 ≡ e = failed.2 in
     subst (λ x. IfErr x (LacksAt bytes table)) (sym (failed.1 ∙ ap Err same))
-    (claim_lacks bytes table old ready at (tag_of Kind.named T) room e
+    (claim_lacks bytes table old ready at (tag_of Kind.named T) room e (inr (T, refl, refl))
     (refuses_as bytes bytes old at (word_of c.named_tag.result) (tag_of Kind.named T) (c.values_len.result + c.from.result) room e refl tag_is (room_is ∙ len_is) (c.in_err-start.ensures.lacks (ready_allocated bytes table old ready)))
-    (λ none. to_named (λ U less p.
+    (λ none. lacks_object (λ U less p.
     let both : Some T ≡ Some U = sym c.in-Some.is ∙ c.type_in.ensures ∙ type_pointed bytes table at U _ c.args.entry.now.object ready.is_table.few is less p in
     let type_is : U ≡ T = cc in
     none (subst (λ V. PointsTo bytes at (tag_of Kind.named V) (half bytes (at + 4) * size table V + byte bytes (at + 6))) type_is p))))
