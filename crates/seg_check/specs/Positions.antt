@@ -15,7 +15,7 @@
 --     HasOwnerAt bytes table at      a pointer that may own the allocated block there points to it
 --     LacksAt bytes table fault      the statement of a fault of the content
 --     IsFaultAt bytes fault          the same for any fault of an image
-use Rattle.std.specs.Prelude.{◌≡◌, ℕ, ◌+◌, ◌*◌, ◌<◌, ◌≤◌, ◌⊎◌, ⊤, List, [], ◌∷◌, length, map, None, Some}
+use Rattle.std.specs.Prelude.{◌≡◌, ℕ, ◌+◌, ◌*◌, ◌<◌, ◌≤◌, ◌⊎◌, ⊤, List, [], ◌∷◌, ◌++◌, length, map, None, Some}
 use Rattle.seg_spec.specs.Bytes.{word, half, byte, slice}
 use Rattle.seg_spec.specs.Pointer.{target}
 use Rattle.seg_spec.specs.Types.{Form, Table, form_at, size}
@@ -74,7 +74,7 @@ pub data MustPointTo (bytes : List ℕ) (table : Table) (at : ℕ) : ℕ → ℕ
   to_index_node : word bytes index_kind_word ≡ 1 →
       MustPointTo bytes table at (tag_of Kind.index_node 0) index_node_size
   -- the pointer to a type's unique object
-  to_unique : (T : ℕ) → at ≡ unique_word T →
+  to_unique : (T : ℕ) → T < 32 → at ≡ unique_word T →
       MustPointTo bytes table at (tag_of Kind.object T) (size table T)
   -- the pointer of a value
   in_value : {tag room : ℕ} (T : ℕ) (form : Form) →
@@ -119,9 +119,18 @@ pub record HasEntryAt (bytes : List ℕ) (table : Table) (at : ℕ) (name : List
   pub is_name : IsName name
   pub name_is : slice bytes (points.start + n * size table type) (length name) ≡ name
 
--- the name of an entry, or the empty name before the first one
-abbrev pub IsNameBefore : List ℕ → Table → List ℕ → Type 0
-IsNameBefore bytes table name = (name ≡ []) ⊎ ((entry : ℕ) × HasEntryAt bytes table entry name)
+-- the name of the last of these entries, or the empty name if there are none
+pub data IsLastName (bytes : List ℕ) (table : Table) : List ℕ → List ℕ → Type 0 where
+  no_name : IsLastName bytes table [] []
+  name_of_last : {name : List ℕ} (before : List ℕ) (entry : ℕ) → HasEntryAt bytes table entry name →
+      IsLastName bytes table (before ++ entry ∷ []) name
+
+-- the entries of the index are some entries, the last of which has this name, and then `rest`
+pub record AreEntriesBefore (bytes : List ℕ) (table : Table) (entries rest name : List ℕ) :
+    Type 0 where
+  pub before : List ℕ
+  pub entries_are : entries ≡ before ++ rest
+  pub last : IsLastName bytes table before name
 
 pub data LacksNameAt (bytes : List ℕ) (table : Table) (at : ℕ) : Type 0 where
   -- there is no flat or tree index of as many names
@@ -129,8 +138,10 @@ pub data LacksNameAt (bytes : List ℕ) (table : Table) (at : ℕ) : Type 0 wher
       ((index : Index) → OpensIndex bytes (word bytes index_kind_word) index →
       Within index.blocks (positions (live bytes)) → ⊥) →
       LacksNameAt bytes table at
-  -- the entry has a wrong number, or its name is no name, or isn't above another one
-  as_entry : (before : List ℕ) → IsNameBefore bytes table before →
+  -- the entry has a wrong number, or its name is no name, or isn't above the name before it
+  as_entry : (index : Index) (rest before : List ℕ) →
+      OpensIndex bytes (word bytes index_kind_word) index →
+      AreEntriesBefore bytes table index.entries (at ∷ rest) before →
       ((name : List ℕ) → HasEntryAt bytes table at name → Precedes before name → ⊥) →
       LacksNameAt bytes table at
 

@@ -3,13 +3,13 @@ ghost use Rattle.seg_spec.specs.Bytes.{word, half, byte};
 ghost use Rattle.seg_spec.specs.Pointer.{target};
 ghost use Rattle.seg_spec.specs.Types.{form_at};
 ghost use Rattle.seg_spec.specs.Header.{index_kind_word, index_cell};
-ghost use Rattle.seg_spec.specs.Index.{Precedes, index_node_size};
+ghost use Rattle.seg_spec.specs.Index.{Index, OpensIndex, Precedes, index_node_size};
 ghost use Rattle.seg_spec.specs.Shapes.{tree_words};
 ghost use Rattle.seg_spec.specs.Reads.{count_at};
 ghost use Rattle.seg_layout.specs.Forms.{has_cells};
 ghost use Rattle.seg_check.specs.Claiming.{Refutes, turns_where};
 ghost use Rattle.seg_check.specs.Marks.{awaiting};
-ghost use Rattle.seg_check.specs.Positions.{IsNameBefore, LacksAt};
+ghost use Rattle.seg_check.specs.Positions.{AreEntriesBefore, LacksAt};
 ghost use Rattle.seg_check.specs.Resolving.{IsReady};
 ghost use Rattle.seg_check.specs.Roots.{StepsIndex, AdvancesRoots, CanResolveRoots, names_ahead, ClaimsNamed, CanClaimNamed, ClaimsTree, CanClaimTree};
 
@@ -146,7 +146,11 @@ impl<'a> TypedImage<'a> {
             (CanResolveRoots self.now.bytes.bytes.now self.now.types.now claims.old
             (names_ahead (at ∷ rest) before.now))) }
         ensures lacks { IsReady self.now.bytes.bytes.now self.now.types.now claims.old →
-            IsNameBefore self.now.bytes.bytes.now self.now.types.now before.now →
+            (index : Index) (rest : List ℕ) →
+            OpensIndex self.now.bytes.bytes.now
+            (word self.now.bytes.bytes.now index_kind_word) index →
+            AreEntriesBefore self.now.bytes.bytes.now self.now.types.now
+            index.entries (at ∷ rest) before.now →
             IfErr result (LacksAt self.now.bytes.bytes.now self.now.types.now) }
     {
         let entry = NameEntry::read_in(self.bytes, at as usize);

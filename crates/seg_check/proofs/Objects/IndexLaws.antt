@@ -16,7 +16,7 @@ use Rattle.seg_spec.proofs.Heap.LiveBlockLaws.{times-append, times-same}
 use Rattle.seg_spec.proofs.Values.OneValueLaws.{IsTree-one}
 use Rattle.seg_check.specs.declared.fault.ContentFault.{ContentFault}
 use Rattle.seg_check.specs.Claiming.{CanClaim, RefusesClaim}
-use Rattle.seg_check.specs.Positions.{LacksBlockAt, lacks_block, to_entries, to_index_node, LacksNameAt, as_index, LacksAt}
+use Rattle.seg_check.specs.Positions.{AreEntriesBefore, no_name, LacksBlockAt, lacks_block, to_entries, to_index_node, LacksNameAt, as_index, LacksAt}
 use Rattle.seg_check.proofs.Blocks.LackingBlockLaws.{null_points, refuses_as, must_lack}
 use Rattle.seg_check.specs.Marks.{Known, ClaimsAll, Within}
 use Rattle.seg_check.specs.Naming.{SameOthers, Finds}
@@ -240,6 +240,12 @@ module _ (bytes : List ℕ) (table : Table) where
       pub flat_names : CanResolveIndex bytes table old → CanResolveRoots bytes table mid (names_ahead (spaced p 8 n) [])
       unfolding flat_index
       flat_names = index_names old mid flat_index (flat_opens some block) flat_one claims
+
+      -- the entries before the next one, and the index that they are of
+      pub flat_entry : {X : Type 0} (entries before : List ℕ) → (AreEntriesBefore bytes table (spaced p 8 n) (spaced p 8 n) [] → AreEntriesBefore bytes table (spaced p 8 n) entries before)
+          → ((index : Index) → OpensIndex bytes (word bytes index_kind_word) index → AreEntriesBefore bytes table index.entries entries before → X) → X
+      unfolding flat_index
+      flat_entry entries before named give = give flat_index (flat_opens some block) (named (record { before = []; entries_are = refl; last = no_name }))
 
       pub flat_advance : (new : Known) (last : List ℕ) → AdvancesRoots bytes table mid new (names_ahead (spaced p 8 n) []) (names_ahead [] last) → AdvancesIndex bytes table old new
       unfolding flat_index

@@ -1,5 +1,5 @@
 -- An entry of the index and its object: the object was claimed, or can't be claimed.
-use Rattle.std.proofs.Common.{◌≡◌, ℕ, zero, suc, inr, ◌+◌, ◌*◌, ◌%◌, ◌<◌, ◌≤◌, Bool, true, false, List, [], ◌∷◌, ◌++◌, length, map, Option, Some, refl, sym, ap, ◌∙◌, subst, arith}
+use Rattle.std.proofs.Common.{◌≡◌, ℕ, zero, suc, ◌+◌, ◌*◌, ◌%◌, ◌<◌, ◌≤◌, Bool, true, false, List, [], ◌∷◌, ◌++◌, length, map, Option, Some, refl, sym, ap, ◌∙◌, subst, arith}
 use Rattle.seg_spec.specs.Bytes.{slice, half, byte}
 use Rattle.seg_spec.specs.Pointer.{target}
 use Rattle.seg_spec.specs.Types.{Table, form_at, size}
@@ -22,7 +22,8 @@ use Rattle.seg_check.specs.declared.marks.Turn.{Turn}
 use Rattle.seg_check.specs.Marks.{Known, awaiting}
 use Rattle.seg_check.specs.Naming.{IsFrozen, CanBeTarget}
 use Rattle.seg_check.specs.Turns.{IsReachedBlock, by_name, Limited, limited, AreLow, EndsBy, IsTurn, AreKnown, AreTurns, AreWaiting, AreOthers, places_in, places_with, waiting, awaited, with_cells}
-use Rattle.seg_check.specs.Positions.{HasEntryAt}
+use Rattle.seg_check.specs.Positions.{HasEntryAt, name_of_last}
+use Rattle.std.proofs.lemmas.List.{append_assoc}
 use Rattle.seg_check.specs.Resolving.{ResolvesBy, IsReady}
 use Rattle.seg_check.specs.Roots.{names_ahead, ResolvesRoots, CanResolveRoots, AdvancesRoots, ClaimsNamed, CanClaimNamed}
 use Rattle.seg_entry.specs.Names.{type_at, name_after, name_of}
@@ -263,7 +264,11 @@ module _ (bytes : List ℕ) (table : Table) where
     pub advance_entry : (es last : List ℕ) (t : ℕ) → Precedes last name → AdvancesRoots bytes table old new (record { entries = at ∷ es; last = last; type = t }) (record { entries = es; last = name; type = t })
     unfolding has_entry
     advance_entry es last t above = record {
-      named = λ k. inr (at, has_entry);
+      named = λ entries k. record {
+        before = k.before ++ at ∷ [];
+        entries_are = k.entries_are ∙ sym (append_assoc k.before (at ∷ []) es);
+        last = name_of_last k.before at has_entry;
+      };
       turns = awaiting old.naming.below turns;
       turns_are = c.claims.turns_are;
       are_waiting = object_waits bytes table old new ready at p T n name c old.naming.below (by_name T block_named.has_tag has_entry.points.among);

@@ -1,4 +1,4 @@
-use Rattle.std.proofs.Common.{◌≡◌, ℕ, ◌+◌, ◌≤◌, true, false, inl, List, [], ◌∷◌, length, Err, refl, sym, ap, ◌∙◌, subst, arith}
+use Rattle.std.proofs.Common.{◌≡◌, ℕ, ◌+◌, ◌≤◌, true, false, List, ◌∷◌, length, Err, sym, ap, ◌∙◌, subst, arith}
 use Rattle.std.specs.Prelude.{IfErr}
 use Rattle.std.proofs.lemmas.Result.{err_from_is_err_and}
 use Rattle.seg_spec.specs.Bytes.{half, byte}
@@ -48,11 +48,11 @@ returns-in_err-claim_named-clause-refused g c = λ rest ready.
 
 -- a number of the entry is wrong
 pub returns-then-entry-eq0-clause-lacks : goal.returns-then-entry-eq0-clause-lacks
-returns-then-entry-eq0-clause-lacks g c = λ ready before.
+returns-then-entry-eq0-clause-lacks g c = λ ready index rest opens before.
     let bytes = c.args.self.now.bytes.bytes.now in
     let entry = c.read_in-entry.result in
     let said = says bytes c.args.at entry (c.read_in-entry.ensures (omega arith)) in
-    as_entry [] (inl refl) (λ name has above.
+    as_entry index rest c.args.before.now opens before (λ name has above.
     elim c.then-entry-eq0.branch [
       | then-entry-eq0-via-then-entry-eq0 w ↦ absurd (omega (arith, said.count, has.counted, has.some, w.if-entry-eq0.true))
       | then-entry-eq0-via-else-entry-eq0+then-len-eq0 w ↦ absurd (omega (arith, said.name_len, has.measured, has.is_name.not_empty, w.if-len-eq0.true))
@@ -61,7 +61,7 @@ returns-then-entry-eq0-clause-lacks g c = λ ready before.
     ])
 
 pub returns-in_err-claim_named-clause-lacks : goal.returns-in_err-claim_named-clause-lacks
-returns-in_err-claim_named-clause-lacks g c = λ ready before.
+returns-in_err-claim_named-clause-lacks g c = λ ready index rest opens before.
     let bytes = c.args.self.now.bytes.bytes.now in
     let table = c.args.self.now.types.now in
     let entry = c.read_in-entry.result in
@@ -72,7 +72,7 @@ returns-in_err-claim_named-clause-lacks g c = λ ready before.
     subst (λ x. IfErr x (LacksAt bytes table)) (sym (failed.1 ∙ ap Err same)) (c.in_err-claim_named.ensures.lacks ready said.object said.count said.name_len)
 
 pub returns-else-is_before-clause-lacks : goal.returns-else-is_before-clause-lacks
-returns-else-is_before-clause-lacks g c = λ ready before.
+returns-else-is_before-clause-lacks g c = λ ready index rest opens before.
     let bytes = c.args.self.now.bytes.bytes.now in
     let table = c.args.self.now.types.now in
     let old = c.args.claims.now in
@@ -84,7 +84,7 @@ returns-else-is_before-clause-lacks g c = λ ready before.
     let zero_is : byte bytes (at + 7) ≡ 0 = sym said.zero ∙ (let z : entry.zero ≡ 0 = omega arith in z) in
     let some : 1 ≤ entry.count = omega arith in
     let few : entry.count ≤ 65535 = omega arith in
-    as_entry c.args.before.now before (λ other has above.
+    as_entry index rest c.args.before.now opens before (λ other has above.
     let same = one_name bytes table old c.claim_named.new.claims ready at entry.count entry.name_len c.args.before.now name entry.object said.object said.count said.name_len zero_is some few claimed c.name_in-name.ensures other has in
     let is_name = subst IsName same has.is_name in
     elim c.else-is_before.branch [

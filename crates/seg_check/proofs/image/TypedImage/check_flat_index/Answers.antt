@@ -1,16 +1,17 @@
-use Rattle.std.proofs.Common.{◌≡◌, ◌+◌, ◌-◌, ◌*◌, ◌%◌, ◌^◌, ◌<◌, ◌≤◌, [], ◌∷◌, inl, Err, refl, sym, ap, ◌∙◌, subst, arith}
+use Rattle.std.proofs.Common.{◌≡◌, ◌+◌, ◌-◌, ◌*◌, ◌%◌, ◌^◌, ◌<◌, ◌≤◌, [], ◌∷◌, Err, sym, ap, ◌∙◌, subst, arith}
 use Rattle.std.proofs.lemmas.Result.{err_from_is_err_and}
 use Rattle.seg_spec.specs.Reads.{spaced}
 use Rattle.seg_spec.specs.Header.{index_cell}
 use Rattle.seg_spec.specs.Block.{Kind, tag_of}
 use Rattle.seg_block.specs.Tags.{word_of}
 use Rattle.seg_check.specs.Claiming.{CanClaim}
+use Rattle.seg_check.specs.Positions.{AreEntriesBefore}
 use Rattle.seg_check.specs.Roots.{StepsIndex, AdvancesRoots, CanResolveRoots, CanResolveIndex, names_ahead}
 use Rattle.seg_check.proofs.Blocks.CellClaimLaws.{ready_live}
 use Rattle.seg_check.proofs.Blocks.LackingBlockLaws.{ready_allocated}
 use Rattle.seg_check.proofs.Queue.QueueStepLaws.{refuses_map}
 use Rattle.seg_check.proofs.Objects.RootReadLaws.{roots_none, roots_more, can_roots, ready_roots}
-use Rattle.seg_check.proofs.Objects.IndexLaws.{flat_ready, spaced_next, spaced_end, spaced_start, flat_some, flat_none, buffer_lacks, flat_can, flat_names, flat_advance, buffer_claimed, buffer_can, block_inside}
+use Rattle.seg_check.proofs.Objects.IndexLaws.{flat_ready, spaced_next, spaced_end, spaced_start, flat_some, flat_none, flat_entry, buffer_lacks, flat_can, flat_names, flat_advance, buffer_claimed, buffer_can, block_inside}
 use Rattle.seg_check.proofs.image.TypedImage.check_flat_index.Goals as goal
 
 pub loop-index-init : goal.loop-index-init
@@ -96,7 +97,9 @@ returns-in_err-before g c = λ p named counted ready flat.
     (λ can. subst (λ xs. CanResolveRoots bytes table now (names_ahead xs before)) (sym next)
     (can_roots bytes table mid now (names_ahead (spaced s 8 n) []) (names_ahead (spaced (s + i * 8) 8 (n - i)) before) done
     (flat_names bytes table flat s n claimed.names counted old mid some claimed.is_block claimed.claims can)))
-    (c.in_err-before.ensures.refused rest now_ready)), c.in_err-before.ensures.lacks now_ready (done.named (inl refl)))
+    (c.in_err-before.ensures.refused rest now_ready)), flat_entry bytes table flat s n claimed.names counted old mid some claimed.is_block claimed.claims (c.at.result ∷ rest) before
+    (λ start. subst (λ xs. AreEntriesBefore bytes table (spaced s 8 n) xs before) (sym next) (done.named (spaced s 8 n) start))
+    (λ index opens named. c.in_err-before.ensures.lacks now_ready index rest opens named))
 
 pub returns : goal.returns
 returns g c = λ p named counted ready flat.

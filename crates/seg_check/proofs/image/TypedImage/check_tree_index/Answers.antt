@@ -1,9 +1,11 @@
-use Rattle.std.proofs.Common.{◌≡◌, ℕ, ◌+◌, ◌<◌, List, [], ◌∷◌, inl, length, map, Ok, Err, Some, None, refl, sym, ap, ◌∙◌, subst, arith}
+use Rattle.std.proofs.Common.{◌≡◌, ℕ, ◌+◌, ◌<◌, List, [], ◌∷◌, length, map, Ok, Err, Some, None, refl, sym, ap, ◌∙◌, subst, arith}
 use Rattle.std.specs.Prelude.{IfErr, IfOk}
 use Rattle.std.proofs.lemmas.Result.{err_from_is_err_and}
 use Rattle.seg_spec.specs.Header.{index_cell}
 use Rattle.seg_spec.specs.Shapes.{tree_words}
 use Rattle.seg_check.specs.declared.walk.Visit.TheVariants.{Enter, Pass}
+use Rattle.seg_spec.specs.Index.{OpensIndex}
+use Rattle.seg_check.specs.Positions.{AreEntriesBefore, no_name}
 use Rattle.seg_check.specs.Walks.{Completes, IsSteady, Proceeds}
 use Rattle.seg_check.specs.Roots.{StepsIndex, AdvancesRoots, CanResolveRoots, CanResolveIndex, CanClaimTree, names_ahead}
 use Rattle.seg_check.proofs.Queue.QueueStepLaws.{refuses_map}
@@ -113,7 +115,10 @@ returns-in_err-before g c = λ counted ready tree.
     ((refuses_map e (CanResolveRoots bytes table now (names_ahead (c.entry_in.result ∷ rest) last)) (CanResolveIndex bytes table old)
     (λ can. subst (λ xs. CanResolveRoots bytes table now (names_ahead xs last)) (ap (map (λ p. p + tree_words)) next.1 ∙ sym (ap (λ a. a ∷ rest) at_is))
     (can_roots bytes table start now (names_ahead claimed.index.entries []) ahead t.advances (tree_names bytes table old ready start claimed tree can)))
-    (c.in_err-before.ensures.refused rest mid_ready)), c.in_err-before.ensures.lacks mid_ready (t.advances.named (inl refl)))
+    (c.in_err-before.ensures.refused rest mid_ready)), c.in_err-before.ensures.lacks mid_ready claimed.index rest
+    (subst (λ k. OpensIndex bytes k claimed.index) (sym tree) claimed.opens)
+    (subst (λ xs. AreEntriesBefore bytes table claimed.index.entries xs last) (ap (map (λ p. p + tree_words)) next.1 ∙ sym (ap (λ a. a ∷ rest) at_is))
+    (t.advances.named claimed.index.entries (record { before = []; entries_are = refl; last = no_name }))))
 
 pub loop-visit-preserved : goal.loop-visit-preserved
 loop-visit-preserved g c = record {
