@@ -381,17 +381,18 @@ module _ (bytes : List ℕ) (table : Table) (old : Known) (ready : IsReady bytes
             → Steps bytes table old mid (record { at = at; type = T } ∷ []) r
         go (Ok x) m = traced_advance mid stage turns keys t next lies step m
         go (Err e) m =
-            subst (λ g. Refutes g (CanResolve bytes table old (record { at = at; type = T } ∷ [])) × LacksAt bytes table g) (sym m.0)
-            ((λ r.
-            let p = planted r in
-            let same = follow_all bytes at (count_at bytes at) stage turns t.passed t.entered t.followed next step p.height p.nodes p.all p.hangs in
-            m.1 (subst (λ ns. IsAscending (keys_of ns)) same p.ascending)),
-            in_cell T (Form.map U) lies f (record {
-              names = names;
-              none = λ tree is_tree red_black counted within ascending.
-                  let same = follow_all bytes at (count_at bytes at) stage turns t.passed t.entered t.followed next step red_black.height (nodes_of tree) (entering_of tree) (hangs_of tree is_tree red_black counted) in
-                  m.1 (subst (λ ns. IsAscending (keys_of ns)) same ascending);
-            }))
+            subst (λ g. Refutes g (CanResolve bytes table old (record { at = at; type = T } ∷ [])) × LacksAt bytes table g) (sym m.0) (
+              (λ r.
+                  let p = planted r in
+                  let same = follow_all bytes at (count_at bytes at) stage turns t.passed t.entered t.followed next step p.height p.nodes p.all p.hangs in
+                  m.1 (subst (λ ns. IsAscending (keys_of ns)) same p.ascending)),
+              in_cell T (Form.map U) lies f (record {
+                names = names;
+                none = λ tree is_tree red_black counted within ascending.
+                    let same = follow_all bytes at (count_at bytes at) stage turns t.passed t.entered t.followed next step red_black.height (nodes_of tree) (entering_of tree) (hangs_of tree is_tree red_black counted) in
+                    m.1 (subst (λ ns. IsAscending (keys_of ns)) same ascending);
+              }),
+            )
 
 -- ---- the claims of the program
 

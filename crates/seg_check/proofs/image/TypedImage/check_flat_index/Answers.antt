@@ -53,11 +53,12 @@ returns-in_err-start g c = λ p named counted ready flat.
     let e = c.in_err-start.field-0.0 in
     let failed = err_from_is_err_and c.from_residual.result c.from_residual.ensures.1 in
     let same : failed.0 ≡ e = failed.2 in
-    subst (λ x. StepsIndex bytes table old c.claim_entries.new.claims x) (sym (failed.1 ∙ ap Err same))
-    ((refuses_map e (CanClaim bytes old index_cell (word_of content.tag) (n * content.entry.size)) (CanResolveIndex bytes table old)
-    (λ can. buffer_can bytes table old c.claim_entries.new.claims n 0 content c.index_buffer-content.ensures (flat_can bytes table flat p n named counted old can))
-    (c.in_err-start.ensures.refused (ready_live bytes table old ready))),
-    buffer_lacks bytes table old c.claim_entries.new.claims n 0 content c.index_buffer-content.ensures flat counted ready e (c.in_err-start.ensures.lacks (ready_allocated bytes table old ready)))
+    subst (λ x. StepsIndex bytes table old c.claim_entries.new.claims x) (sym (failed.1 ∙ ap Err same)) (
+      (refuses_map e (CanClaim bytes old index_cell (word_of content.tag) (n * content.entry.size)) (CanResolveIndex bytes table old)
+          (λ can. buffer_can bytes table old c.claim_entries.new.claims n 0 content c.index_buffer-content.ensures (flat_can bytes table flat p n named counted old can))
+          (c.in_err-start.ensures.refused (ready_live bytes table old ready))),
+      buffer_lacks bytes table old c.claim_entries.new.claims n 0 content c.index_buffer-content.ensures flat counted ready e (c.in_err-start.ensures.lacks (ready_allocated bytes table old ready)),
+    )
 
 pub returns-then-count-eq0 : goal.returns-then-count-eq0
 returns-then-count-eq0 g c = λ p named counted ready flat.
@@ -92,14 +93,16 @@ returns-in_err-before g c = λ p named counted ready flat.
     let same : failed.0 ≡ e = failed.2 in
     let ahead = names_ahead (spaced (s + i * 8) 8 (n - i)) before in
     let now_ready = ready_roots bytes table mid now (names_ahead (spaced s 8 n) []) ahead mid_ready done in
-    subst (λ x. StepsIndex bytes table old c.check_entry.new.claims x) (sym (failed.1 ∙ ap Err same))
-    ((refuses_map e (CanResolveRoots bytes table now (names_ahead (c.at.result ∷ rest) before)) (CanResolveIndex bytes table old)
-    (λ can. subst (λ xs. CanResolveRoots bytes table now (names_ahead xs before)) (sym next)
-    (can_roots bytes table mid now (names_ahead (spaced s 8 n) []) (names_ahead (spaced (s + i * 8) 8 (n - i)) before) done
-    (flat_names bytes table flat s n claimed.names counted old mid some claimed.is_block claimed.claims can)))
-    (c.in_err-before.ensures.refused rest now_ready)), flat_entry bytes table flat s n claimed.names counted old mid some claimed.is_block claimed.claims (c.at.result ∷ rest) before
-    (λ start. subst (λ xs. AreEntriesBefore bytes table (spaced s 8 n) xs before) (sym next) (done.named (spaced s 8 n) start))
-    (λ index opens named. c.in_err-before.ensures.lacks now_ready index rest opens named))
+    subst (λ x. StepsIndex bytes table old c.check_entry.new.claims x) (sym (failed.1 ∙ ap Err same)) (
+      (refuses_map e (CanResolveRoots bytes table now (names_ahead (c.at.result ∷ rest) before)) (CanResolveIndex bytes table old)
+          (λ can. subst (λ xs. CanResolveRoots bytes table now (names_ahead xs before)) (sym next)
+          (can_roots bytes table mid now (names_ahead (spaced s 8 n) []) (names_ahead (spaced (s + i * 8) 8 (n - i)) before) done
+          (flat_names bytes table flat s n claimed.names counted old mid some claimed.is_block claimed.claims can)))
+          (c.in_err-before.ensures.refused rest now_ready)),
+      flat_entry bytes table flat s n claimed.names counted old mid some claimed.is_block claimed.claims (c.at.result ∷ rest) before
+          (λ start. subst (λ xs. AreEntriesBefore bytes table (spaced s 8 n) xs before) (sym next) (done.named (spaced s 8 n) start))
+          (λ index opens named. c.in_err-before.ensures.lacks now_ready index rest opens named),
+    )
 
 pub returns : goal.returns
 returns g c = λ p named counted ready flat.

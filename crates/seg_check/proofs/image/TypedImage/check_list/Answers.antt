@@ -191,6 +191,7 @@ returns-else-is_linked-2-clause-steps g c = λ T U by ready lies.
         | else-eq v ↦ false_true (sym v.if-eq.false ∙ c.eq.ensures ∙ eq_back c.target.result first next)
       ]
       | else-is_linked-2-via-else-is_linked-2 w ↦ false_true (sym w.if-is_linked-2.false ∙ closed.0)
-    ] in
-    ((λ r. never (ring_closed bytes table old ready at T U by.form_is c.loop.claims first last c.loop.counter c.loop.is_linked walked names all r)),
-    ring_lacks bytes table old ready at T U by.form_is c.loop.claims first last c.loop.counter c.loop.is_linked walked lies names all never)
+    ] in (
+      (λ r. never (ring_closed bytes table old ready at T U by.form_is c.loop.claims first last c.loop.counter c.loop.is_linked walked names all r)),
+      ring_lacks bytes table old ready at T U by.form_is c.loop.claims first last c.loop.counter c.loop.is_linked walked lies names all never,
+    )
