@@ -4,3 +4,4 @@ pub mod MarkedBlockLaws
 pub mod ClaimLaws
 pub mod FrozenClaimLaws
 pub mod CellClaimLaws
+pub mod LackingBlockLaws

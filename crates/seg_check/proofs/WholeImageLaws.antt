@@ -354,7 +354,7 @@ module _ (bytes : List ℕ) (table : Table) (known : Known) (front : HasFront by
       pub counted_last : AreBlocksCounted last
       counted_last = values.counted (uniques.counted (index.counted knows.counted))
 
-      counts_last : Counts bytes last (values.found ++ [])
+      pub counts_last : Counts bytes last (values.found ++ [])
       counts_last = values.counts [] counts_third
 
       -- the values of exactly the frozen objects with a cell were checked

@@ -9,6 +9,7 @@ ghost use Rattle.seg_layout.specs.Reading.{IsReading};
 ghost use Rattle.seg_raw.specs.declared.fault.Fault.TheVariants.{Memory};
 ghost use Rattle.seg_check.specs.Faults.{IsImageOf, IsFaultOf, IsFrontRight};
 ghost use Rattle.seg_check.specs.Owners.{IsOwnerFaultOf};
+ghost use Rattle.seg_check.specs.Positions.{IsFaultAt};
 ghost use Rattle.seg_check.specs.Stations.{KnowsNothing, KnowsHeap, FindsHeap, FindsOwners};
 
 use crate::claims::Claims;
@@ -30,6 +31,7 @@ pub fn check<A: Allocator>(alloc: A, view: View) -> Result<TypeTable, Fault>
     ensures image { IfOk result (IsImageOf view.entry.bytes.now) }
     ensures fault { IfErr result (IsFaultOf view.entry.bytes.now) }
     ensures owner { IfErr result (IsOwnerFaultOf view.entry.bytes.now) }
+    ensures position { IfErr result (IsFaultAt view.entry.bytes.now) }
     ensures memory { result ≡ Err Memory → IsFrontRight view.entry.bytes.now }
 {
     check_header(view)?;
@@ -79,6 +81,8 @@ fn check_heap<A: Allocator + Copy>(alloc: A, bytes: View, types: &TypeTable) -> 
         IfErr result (IsFaultOf bytes.entry.bytes.now) }
     ensures owner { HasFront bytes.entry.bytes.now types.now →
         IfErr result (IsOwnerFaultOf bytes.entry.bytes.now) }
+    ensures position { HasFront bytes.entry.bytes.now types.now →
+        IfErr result (IsFaultAt bytes.entry.bytes.now) }
 {
     let mut claims = no_claims(alloc, bytes, types)?;
     let image = TypedImage { bytes, types };

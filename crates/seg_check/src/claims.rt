@@ -1,11 +1,11 @@
-ghost use Rattle.std.specs.Prelude.{◌≡◌, ◌≢◌, ℕ, ◌+◌, ◌-◌, ◌*◌, ◌/◌, ◌^◌, ◌<◌, ◌≤◌, ◌↔◌, [], ◌∷◌, ◌++◌, length, IfErr, IfOk, IfSome, IsTrue, MatchOption, MatchResult, OnOk, get_or, vec_len, None, Some};
+ghost use Rattle.std.specs.Prelude.{◌≡◌, ◌≢◌, ℕ, ◌+◌, ◌-◌, ◌*◌, ◌/◌, ◌^◌, ◌<◌, ◌≤◌, ◌⊎◌, ◌↔◌, [], ◌∷◌, ◌++◌, length, IfErr, IfOk, IfSome, IsTrue, MatchOption, MatchResult, OnOk, get_or, vec_len, None, Some};
 ghost use Rattle.seg_spec.specs.Heap.{heap_start};
 ghost use Rattle.seg_spec.specs.Sound.{times};
 ghost use Rattle.seg_block.specs.Tags.{word_of};
 ghost use Rattle.seg_spec.specs.Bytes.{word};
 ghost use Rattle.seg_spec.specs.Header.{next_word};
 ghost use Rattle.seg_check.specs.Marks.{Known, nothing_known, slots_in, IsUnit, IsMarked, AreBlocksCounted, KeepsOtherBlocks, KeepsNaming, AddsBlock};
-ghost use Rattle.seg_check.specs.Claiming.{Refutes, HaveLiveHeaders, CanClaim, ClaimsBlock};
+ghost use Rattle.seg_check.specs.Claiming.{Refutes, HaveLiveHeaders, CanClaim, RefusesClaim, ClaimsBlock};
 ghost use Rattle.seg_check.specs.Naming.{IsUnder, CanName, NamesBlock, IsNameable, ClaimsFrozen, frozen_number_at, slot_of, left_at, one_less};
 ghost use Rattle.seg_check.specs.Cells.{AreCountsRight};
 
@@ -85,7 +85,8 @@ impl<A: Allocator> Claims<A> {
     /// them wraps.
     pub(crate) fn add(&mut self, block: BlockAt, is_live: bool)
         ensures added { IsUnit self.old.units block → times block self.old.unclaimed ≡ 0 →
-            times block self.old.free ≡ 0 → AddsBlock self.old block is_live self.new }
+            times block self.old.free ≡ 0 → times block self.old.allocated ≡ 0 →
+            AddsBlock self.old block is_live self.new }
         ensures units { self.new.units ≡ self.old.units }
     {
         if is_live {
@@ -162,6 +163,8 @@ impl<A: Allocator> Claims<A> {
         ensures refused { HaveLiveHeaders bytes.entry.bytes.now self.old.unclaimed →
             IfErr result (λ fault.
             Refutes fault (CanClaim bytes.entry.bytes.now self.old pointer (word_of tag) size)) }
+        ensures lacks { HaveLiveHeaders bytes.entry.bytes.now self.old.allocated → IfErr result
+            (RefusesClaim bytes.entry.bytes.now self.old pointer (word_of tag) size) }
     {
         let bad = ContentFault::BadPointer(pointer);
         let Some(start) = bytes.target(pointer as usize) else {
@@ -215,6 +218,8 @@ impl<A: Allocator> Claims<A> {
         ensures refused { IsNameable bytes.entry.bytes.now self.old →
             IfErr result (λ fault. Refutes fault
             (CanName bytes.entry.bytes.now self.old cell (word_of tag) size)) }
+        ensures fault { IfErr result (λ fault.
+            (fault ≡ ContentFault.Memory) ⊎ (fault ≡ ContentFault.BadPointer cell)) }
     {
         let bad = ContentFault::BadPointer(cell);
         let Some(start) = bytes.target(cell as usize) else {
@@ -292,6 +297,7 @@ impl<A: Allocator> Claims<A> {
     pub(crate) fn next_turn(&mut self) -> Option<Turn>
         ensures next { IfSome result (λ _.
             (self.old.taken < 2 ^ 64) × (self.new.taken ≡ self.old.taken + 1)) }
+        ensures allocated { self.new.allocated ≡ self.old.allocated }
         ensures unclaimed { self.new.unclaimed ≡ self.old.unclaimed }
         ensures counted { AreBlocksCounted self.old → AreBlocksCounted self.new }
         ensures turns { MatchOption result (self.old.turns ≡ [])
@@ -310,7 +316,9 @@ impl<A: Allocator> Claims<A> {
     pub(crate) fn check_counts(&self, bytes: View, next: u32) -> Result<(), ContentFault>
         ensures { next ≡ word bytes.entry.bytes.now next_word →
             MatchResult result (λ _. AreCountsRight bytes.entry.bytes.now self.now)
-            (λ fault. Refutes fault (AreCountsRight bytes.entry.bytes.now self.now)) }
+            (λ fault. Refutes fault (AreCountsRight bytes.entry.bytes.now self.now) ×
+            ((block : ℕ) × (fault ≡ ContentFault.BadValue (block + UNIT)) ×
+            (1 ≤ times block self.now.naming.named))) }
     {
         if !self.has_named {
             return Ok(());

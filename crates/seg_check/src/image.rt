@@ -45,7 +45,7 @@ impl TypedImage<'_> {
 
     ghost use Rattle.std.specs.Prelude.{◌*◌, IfErr, IfOk};
     ghost use Rattle.seg_block.specs.Tags.{word_of};
-    ghost use Rattle.seg_check.specs.Claiming.{Refutes, HaveLiveHeaders, CanClaim, ClaimsBlock, turns_where, has_turns};
+    ghost use Rattle.seg_check.specs.Claiming.{Refutes, HaveLiveHeaders, CanClaim, RefusesClaim, ClaimsBlock, turns_where, has_turns};
 
     /// How a cell claims the blocks of its content.
     pub(crate) fn owner(&self, content: &Content) -> Claimant<'_>
@@ -79,6 +79,9 @@ impl TypedImage<'_> {
         ensures refused { HaveLiveHeaders self.now.bytes.bytes.now claims.old.unclaimed →
             IfErr result (λ fault. Refutes fault (CanClaim self.now.bytes.bytes.now claims.old
             pointer (word_of content.now.tag) (count * content.now.entry.size))) }
+        ensures lacks { HaveLiveHeaders self.now.bytes.bytes.now claims.old.allocated → IfErr result
+            (RefusesClaim self.now.bytes.bytes.now claims.old
+            pointer (word_of content.now.tag) (count * content.now.entry.size)) }
     {
         self.owner(content).claim(claims, pointer, count)
     }
@@ -108,7 +111,7 @@ pub(crate) struct Claimant<'a> {
 impl Claimant<'_> {
     ghost use Rattle.std.specs.Prelude.{◌*◌, IfErr, IfOk};
     ghost use Rattle.seg_block.specs.Tags.{word_of};
-    ghost use Rattle.seg_check.specs.Claiming.{Refutes, HaveLiveHeaders, CanClaim, ClaimsBlock, turns_where};
+    ghost use Rattle.seg_check.specs.Claiming.{Refutes, HaveLiveHeaders, CanClaim, RefusesClaim, ClaimsBlock, turns_where};
 
     /// Claims the block that a pointer points to, which must have room for `n` entries, and returns the position of its
     /// payload.
@@ -127,6 +130,9 @@ impl Claimant<'_> {
         ensures refused { HaveLiveHeaders self.entry.bytes.bytes.now claims.old.unclaimed →
             IfErr result (λ fault. Refutes fault (CanClaim self.entry.bytes.bytes.now claims.old
             pointer (word_of self.entry.tag) (count * self.entry.entry_size))) }
+        ensures lacks { HaveLiveHeaders self.entry.bytes.bytes.now claims.old.allocated →
+            IfErr result (RefusesClaim self.entry.bytes.bytes.now claims.old
+            pointer (word_of self.entry.tag) (count * self.entry.entry_size)) }
     {
         let size = u64::from(count) * u64::from(self.entry_size);
         let start = claims.claim(self.bytes, pointer, self.tag, size)?;

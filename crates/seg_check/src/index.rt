@@ -1,14 +1,15 @@
 ghost use Rattle.std.specs.Prelude.{◌≡◌, ℕ, ◌+◌, ◌^◌, ◌≤◌, ◌↔◌, List, [], ◌∷◌, ◌++◌, All, IsTrue, IfOk, IfErr, OnOk, Some};
-ghost use Rattle.seg_spec.specs.Bytes.{word};
+ghost use Rattle.seg_spec.specs.Bytes.{word, half, byte};
 ghost use Rattle.seg_spec.specs.Pointer.{target};
 ghost use Rattle.seg_spec.specs.Types.{form_at};
 ghost use Rattle.seg_spec.specs.Header.{index_kind_word, index_cell};
-ghost use Rattle.seg_spec.specs.Index.{Precedes, index_node_size};
+ghost use Rattle.seg_spec.specs.Index.{Index, OpensIndex, Precedes, index_node_size};
 ghost use Rattle.seg_spec.specs.Shapes.{tree_words};
 ghost use Rattle.seg_spec.specs.Reads.{count_at};
 ghost use Rattle.seg_layout.specs.Forms.{has_cells};
 ghost use Rattle.seg_check.specs.Claiming.{Refutes, turns_where};
 ghost use Rattle.seg_check.specs.Marks.{awaiting};
+ghost use Rattle.seg_check.specs.Positions.{AreEntriesBefore, LacksAt};
 ghost use Rattle.seg_check.specs.Resolving.{IsReady};
 ghost use Rattle.seg_check.specs.Roots.{StepsIndex, AdvancesRoots, CanResolveRoots, names_ahead, ClaimsNamed, CanClaimNamed, ClaimsTree, CanClaimTree};
 
@@ -111,6 +112,11 @@ impl<'a> TypedImage<'a> {
             IsReady self.now.bytes.bytes.now self.now.types.now claims.old →
             IfErr result (λ fault. Refutes fault
             (CanClaimTree self.now.bytes.bytes.now claims.old.unclaimed)) }
+        ensures lacks { tree.root ≡ index_cell →
+            tree.nodes ≡ count_at self.now.bytes.bytes.now index_cell →
+            word self.now.bytes.bytes.now index_kind_word ≡ 1 →
+            IsReady self.now.bytes.bytes.now self.now.types.now claims.old →
+            IfErr result (LacksAt self.now.bytes.bytes.now self.now.types.now) }
     {
         let content = Content::index_node();
         let mut walk = tree.walk(self.bytes);
@@ -139,6 +145,13 @@ impl<'a> TypedImage<'a> {
             IfErr result (λ fault. Refutes fault
             (CanResolveRoots self.now.bytes.bytes.now self.now.types.now claims.old
             (names_ahead (at ∷ rest) before.now))) }
+        ensures lacks { IsReady self.now.bytes.bytes.now self.now.types.now claims.old →
+            (index : Index) (rest : List ℕ) →
+            OpensIndex self.now.bytes.bytes.now
+            (word self.now.bytes.bytes.now index_kind_word) index →
+            AreEntriesBefore self.now.bytes.bytes.now self.now.types.now
+            index.entries (at ∷ rest) before.now →
+            IfErr result (LacksAt self.now.bytes.bytes.now self.now.types.now) }
     {
         let entry = NameEntry::read_in(self.bytes, at as usize);
         let len = entry.name_len;
@@ -169,6 +182,11 @@ impl<'a> TypedImage<'a> {
             entry.now.object ≡ target self.now.bytes.bytes.now at →
             IfErr result (λ fault. Refutes fault (CanClaimNamed self.now.bytes.bytes.now
             self.now.types.now claims.old at entry.now.count entry.now.name_len)) }
+        ensures lacks { IsReady self.now.bytes.bytes.now self.now.types.now claims.old →
+            entry.now.object ≡ target self.now.bytes.bytes.now at →
+            entry.now.count ≡ half self.now.bytes.bytes.now (at + 4) →
+            entry.now.name_len ≡ byte self.now.bytes.bytes.now (at + 6) →
+            IfErr result (LacksAt self.now.bytes.bytes.now self.now.types.now) }
     {
         let Some(type_id) = entry.type_in(self.bytes) else {
             return Err(ContentFault::BadPointer(at));

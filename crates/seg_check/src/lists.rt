@@ -2,6 +2,7 @@ ghost use Rattle.std.specs.Prelude.{◌≡◌, ℕ, ◌+◌, ◌^◌, ◌<◌, �
 ghost use Rattle.seg_spec.specs.Pointer.{target};
 ghost use Rattle.seg_spec.specs.Types.{Form};
 ghost use Rattle.seg_cells.specs.Places.{object_at};
+ghost use Rattle.seg_check.specs.Turns.{LiesAt};
 ghost use Rattle.seg_check.specs.Resolving.{IsReady, Steps};
 ghost use Rattle.seg_check.specs.Cells.{CellsPointTo};
 
@@ -25,6 +26,7 @@ impl TypedImage<'_> {
         ensures taken { claims.new.taken ≡ claims.old.taken }
         ensures steps { (T U : ℕ) → CellsPointTo self.now.types.now T (Form.list U) content.now →
             IsReady self.now.bytes.bytes.now self.now.types.now claims.old →
+            LiesAt self.now.bytes.bytes.now self.now.types.now (object_at cell T) →
             Steps self.now.bytes.bytes.now self.now.types.now claims.old claims.new
             (object_at cell T ∷ []) result }
     {

@@ -2,6 +2,7 @@ ghost use Rattle.std.specs.Prelude.{◌≡◌, ℕ, ◌-◌, ◌≤◌, ◌∷�
 ghost use Rattle.seg_spec.specs.Bytes.{signed_long};
 ghost use Rattle.seg_spec.specs.Types.{Form};
 ghost use Rattle.seg_cells.specs.Places.{object_at};
+ghost use Rattle.seg_check.specs.Turns.{LiesAt};
 ghost use Rattle.seg_check.specs.Resolving.{IsReady, Steps};
 ghost use Rattle.seg_check.specs.Cells.{CellsPointTo};
 
@@ -24,6 +25,7 @@ impl TypedImage<'_> {
         ensures steps { (T U : ℕ) →
             CellsPointTo self.now.types.now T (Form.flat_map U) content.now →
             IsReady self.now.bytes.bytes.now self.now.types.now claims.old →
+            LiesAt self.now.bytes.bytes.now self.now.types.now (object_at cell T) →
             Steps self.now.bytes.bytes.now self.now.types.now claims.old claims.new
             (object_at cell T ∷ []) result }
     {
@@ -48,6 +50,7 @@ impl TypedImage<'_> {
         ensures taken { claims.new.taken ≡ claims.old.taken }
         ensures steps { (T U : ℕ) → CellsPointTo self.now.types.now T (Form.map U) content.now →
             IsReady self.now.bytes.bytes.now self.now.types.now claims.old →
+            LiesAt self.now.bytes.bytes.now self.now.types.now (object_at cell T) →
             Steps self.now.bytes.bytes.now self.now.types.now claims.old claims.new
             (object_at cell T ∷ []) result }
     {

@@ -6,6 +6,7 @@ ghost use Rattle.seg_spec.specs.Window.{with_bytes};
 ghost use Rattle.seg_raw.specs.declared.fault.Fault.TheVariants.{Memory};
 ghost use Rattle.seg_check.specs.Faults.{IsImageOf, IsFaultOfOpening, IsFrontRight};
 ghost use Rattle.seg_check.specs.Owners.{IsOwnerFaultOf};
+ghost use Rattle.seg_check.specs.Positions.{IsFaultAt};
 
 use crate::check;
 use seg_block::Fit;
@@ -26,6 +27,7 @@ pub fn open<F: Fit, A: Allocator, B: Allocator>(
     ensures allocator { OnOk result (word window.old.bytes allocator_word ≡ F.allocator) }
     ensures fault { IfErr result (IsFaultOfOpening F.allocator window.old.bytes) }
     ensures owner { IfErr result (IsOwnerFaultOf window.old.bytes) }
+    ensures position { IfErr result (IsFaultAt window.old.bytes) }
     ensures memory { IfErr result (λ fault. fault ≡ Memory → IsFrontRight window.old.bytes) }
     ensures unchanged { OnErr result (window.new ≡ window.old) }
 {

@@ -4,7 +4,7 @@ ghost use Rattle.seg_spec.specs.Block.{IsOwnable};
 ghost use Rattle.seg_spec.specs.Pointer.{target};
 ghost use Rattle.seg_spec.specs.Reads.{count_at};
 ghost use Rattle.seg_cells.specs.Places.{place_of, object_at};
-ghost use Rattle.seg_check.specs.Turns.{places_in, IsTurn, AreWaiting, HoldsEntries};
+ghost use Rattle.seg_check.specs.Turns.{places_in, LiesAt, IsTurn, AreWaiting, HoldsEntries};
 ghost use Rattle.seg_check.specs.Resolving.{IsReady, Steps};
 ghost use Rattle.seg_check.specs.Cells.{counted_by, blocks_counted_by, CellsPointTo, IsStringOrVector, ResolvesTurns};
 
@@ -87,6 +87,7 @@ impl TypedImage<'_> {
         ensures steps { IsReady self.now.bytes.bytes.now self.now.types.now claims.old →
             value.type_id < length self.now.types.now →
             value.at + size self.now.types.now value.type_id ≤ 2 ^ 32 →
+            LiesAt self.now.bytes.bytes.now self.now.types.now (place_of value) →
             Steps self.now.bytes.bytes.now self.now.types.now claims.old claims.new
             (place_of value ∷ []) result }
     {
@@ -115,6 +116,7 @@ impl TypedImage<'_> {
         ensures steps { IsReady self.now.bytes.bytes.now self.now.types.now claims.old →
             place.type_id < length self.now.types.now →
             length (fields_of self.now.types.now place.type_id) ≡ 0 →
+            LiesAt self.now.bytes.bytes.now self.now.types.now (place_of place) →
             Steps self.now.bytes.bytes.now self.now.types.now claims.old claims.new
             (place_of place ∷ []) result }
     {
@@ -148,6 +150,7 @@ impl TypedImage<'_> {
         ensures steps { (T : ℕ) (form : Form) → IsStringOrVector form →
             CellsPointTo self.now.types.now T form content.now →
             IsReady self.now.bytes.bytes.now self.now.types.now claims.old →
+            LiesAt self.now.bytes.bytes.now self.now.types.now (object_at cell T) →
             Steps self.now.bytes.bytes.now self.now.types.now claims.old claims.new
             (object_at cell T ∷ []) result }
     {
@@ -167,6 +170,7 @@ impl TypedImage<'_> {
         ensures taken { claims.new.taken ≡ claims.old.taken }
         ensures steps { (T U : ℕ) → CellsPointTo self.now.types.now T (Form.own U) content.now →
             IsReady self.now.bytes.bytes.now self.now.types.now claims.old →
+            LiesAt self.now.bytes.bytes.now self.now.types.now (object_at cell T) →
             Steps self.now.bytes.bytes.now self.now.types.now claims.old claims.new
             (object_at cell T ∷ []) result }
     {
@@ -190,6 +194,7 @@ impl TypedImage<'_> {
         ensures taken { claims.new.taken ≡ claims.old.taken }
         ensures steps { (T : ℕ) → form_at self.now.types.now T ≡ Some (Form.shared held) →
             IsReady self.now.bytes.bytes.now self.now.types.now claims.old →
+            LiesAt self.now.bytes.bytes.now self.now.types.now (object_at cell T) →
             Steps self.now.bytes.bytes.now self.now.types.now claims.old claims.new
             (object_at cell T ∷ []) result }
     {

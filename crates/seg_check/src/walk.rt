@@ -35,6 +35,7 @@ impl Tree {
         ensures turns { result.turns ≡ length bytes.entry.bytes.now / UNIT }
         ensures steady { IsSteady bytes.entry.bytes.now result.stage result.turns }
         ensures bytes { result.bytes.bytes.now ≡ bytes.entry.bytes.now }
+        ensures root { result.root ≡ self.root }
     {
         Walk {
             bytes,
@@ -253,6 +254,8 @@ impl Walk<'_> {
             → Completes self.old.bytes.bytes.now height self.old.stage rest entering → height < 30
             → length rest + length entering < self.old.turns → ⊥) }
         ensures bytes { self.new.bytes.bytes.now ≡ self.old.bytes.bytes.now }
+        ensures root { self.new.root ≡ self.old.root }
+        ensures position { IfErr result (λ at. at ≡ self.old.root) }
     {
         if self.turns == 0 {
             return Err(self.root);

@@ -1,3 +1,4 @@
 pub mod FaultLaws
+pub mod PositionLaws
 pub mod OutcomeLaws
 pub mod SharedObjectLaws

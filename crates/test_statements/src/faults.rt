@@ -5,6 +5,8 @@ ghost use Rattle.seg_spec.specs.Types.{Form, Table};
 ghost use Rattle.seg_spec.specs.Images.{IsSound};
 ghost use Rattle.seg_spec.specs.Fixtures.{counter, other_magic, odd_type, linked, lost_gap, two_owners, no_owner};
 ghost use Rattle.seg_check.specs.Faults.{IsImageOf, IsFaultOf, IsFaultOfOpening};
+ghost use Rattle.seg_check.specs.Positions.{IsFaultAt};
+ghost use Rattle.test_statements.specs.WrongImages.{uncounted, pointless, overfull};
 
 use seg_raw::Fault;
 
@@ -34,4 +36,13 @@ pub fn small_images()
     ensures no_image { (table : Table) → IsImageOf no_owner table → ⊥ }
     ensures other_allocator { IsFaultOfOpening 1 counter Fault.BadHeader }
     ensures its_allocator { IsFaultOfOpening 0 counter Fault.BadHeader → ⊥ }
+{}
+
+/// What the faults of the content state about their positions: an entry, a pointer, a block and a value.
+pub fn positions()
+    ensures index { IsFaultAt uncounted (Fault.BadIndex 752) }
+    ensures not_pointer { IsFaultAt uncounted (Fault.BadPointer 752) → ⊥ }
+    ensures pointer { IsFaultAt pointless (Fault.BadPointer 752) }
+    ensures owner { IsFaultAt two_owners (Fault.DoubleOwner 704) }
+    ensures value { IsFaultAt overfull (Fault.BadValue 720) }
 {}

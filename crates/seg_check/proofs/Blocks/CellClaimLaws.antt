@@ -3,9 +3,10 @@ use Rattle.std.proofs.Common.{◌≡◌, ℕ, zero, suc, ◌+◌, ◌*◌, ◌%�
 use Rattle.std.proofs.lemmas.List.{append-nil}
 use Rattle.std.specs.Prelude.{option_to_list}
 use Rattle.std.specs.Option.{option_map}
+use Rattle.std.specs.List.{AllByRecursion}
 use Rattle.seg_spec.specs.Pointer.{target}
 use Rattle.seg_spec.specs.Types.{Form, Table, form_at, size}
-use Rattle.seg_spec.specs.Block.{Kind, kind_number, block_of, IsBlock}
+use Rattle.seg_spec.specs.Block.{Kind, kind_number, block_of, payload_end, IsBlock}
 use Rattle.seg_spec.specs.Owing.{entries_at}
 use Rattle.seg_spec.specs.Reads.{Place, Opened, Opens, NamesRoom, named, start, count_at, spaced, places_of}
 use Rattle.seg_spec.specs.Sound.{times}
@@ -13,7 +14,7 @@ use Rattle.seg_spec.proofs.Heap.LiveBlockLaws.{times-same}
 use Rattle.seg_layout.specs.Forms.{has_cells}
 use Rattle.seg_check.specs.Claiming.{HaveLiveHeaders, CanClaim, ClaimsBlock, turns_where}
 use Rattle.seg_check.specs.Marks.{Known, ClaimsAll, Within}
-use Rattle.seg_check.specs.Turns.{AreLow, AreKnown, AreTurns, AreOthers, IsTurn, places_in, waiting, with_cells}
+use Rattle.seg_check.specs.Turns.{LiesAt, IsReachedBlock, by_cell, AreLow, EndsBy, AreKnown, AreTurns, AreOthers, IsTurn, places_in, waiting, with_cells}
 use Rattle.seg_check.specs.Resolving.{Advances, IsReady}
 use Rattle.seg_check.proofs.Queue.ReadPlaceLaws.{own_names}
 use Rattle.seg_check.proofs.Blocks.FrozenClaimLaws.{other_block}
@@ -26,6 +27,12 @@ entries_low table start before U zero h = tt
 entries_low table start before U (suc n) h =
     let parts : start + suc n * (before + size table U) ≡ (start + (before + size table U)) + n * (before + size table U) = omega arith in
     (omega arith, entries_low table (start + (before + size table U)) before U n (omega arith))
+
+pub entries_end : (table : Table) (start before U n end : ℕ) → start + n * (before + size table U) ≤ end → AllByRecursion (EndsBy table end) (entries_at table start before U n)
+entries_end table start before U zero end h = tt
+entries_end table start before U (suc n) end h =
+    let parts : start + suc n * (before + size table U) ≡ (start + (before + size table U)) + n * (before + size table U) = omega arith in
+    (omega arith, entries_end table (start + (before + size table U)) before U n end (omega arith))
 
 pub known_places : (table : Table) (U : ℕ) (ps : List ℕ) → U < length table → AreKnown table (places_of U ps)
 known_places table U [] l = tt
@@ -78,9 +85,9 @@ module _ (bytes : List ℕ) (table : Table) where
 
   module _ (old new : Known) (ready : IsReady bytes table old) (at tag n before U p : ℕ) where
     -- the queue's entry for a claimed block with n values, each after `before` bytes
-    claimed_turn : ClaimsBlock bytes old new at tag (n * (before + size table U)) (turns_where (has_cells (form_at table U)) p n) p
+    claimed_turn : IsReachedBlock bytes table (block_of p) → ClaimsBlock bytes old new at tag (n * (before + size table U)) (turns_where (has_cells (form_at table U)) p n) p
         → places_in bytes table (record { start = p; count = n }) ≡ entries_at table p before U n → IsTurn bytes table (record { start = p; count = n })
-    claimed_turn c places =
+    claimed_turn reached c places =
         let some : 1 ≤ times (block_of p) old.unclaimed = omega (arith, c.claims.claimed (block_of p), times-same (block_of p) new.unclaimed) in
         let block = ready.blocks (block_of p) some in
         let size = block.0.size in
@@ -88,12 +95,18 @@ module _ (bytes : List ℕ) (table : Table) where
         let high = c.is_block.after_header in
         let room = c.is_block.room in
         let small = ready.small in
-        record { low = subst AreLow (sym places) (entries_low table p before U n (omega arith)); ownable = block.1 }
+        let end = payload_end bytes (block_of p) in
+        record {
+          reached = reached;
+          fits = subst (AllByRecursion (EndsBy table end)) (sym places) (entries_end table p before U n end (omega arith));
+          low = subst AreLow (sym places) (entries_low table p before U n (omega arith));
+          ownable = block.1;
+        }
 
-    pub claimed_turns : (b : Bool) → has_cells (form_at table U) ≡ b → ClaimsBlock bytes old new at tag (n * (before + size table U)) (turns_where (has_cells (form_at table U)) p n) p
+    pub claimed_turns : IsReachedBlock bytes table (block_of p) → (b : Bool) → has_cells (form_at table U) ≡ b → ClaimsBlock bytes old new at tag (n * (before + size table U)) (turns_where (has_cells (form_at table U)) p n) p
         → places_in bytes table (record { start = p; count = n }) ≡ entries_at table p before U n → AreTurns bytes table (turns_where b p n)
-    claimed_turns true e c places = (claimed_turn c places, tt)
-    claimed_turns false e c places = tt
+    claimed_turns reached true e c places = (claimed_turn reached c places, tt)
+    claimed_turns reached false e c places = tt
 
     pub claimed_waiting : (b : Bool) → has_cells (form_at table U) ≡ b → places_in bytes table (record { start = p; count = n }) ≡ entries_at table p before U n
         → waiting bytes table (turns_where b p n) ≡ with_cells table (entries_at table p before U n)
@@ -105,15 +118,18 @@ module _ (bytes : List ℕ) (table : Table) where
     claimed_others true differs b = (other_block bytes p tag (n * (before + size table U)) differs b, tt)
     claimed_others false differs b = tt
 
-    pub advance_block : (T : ℕ) (form : Form) (opened : Opened) → form_at table T ≡ Some form → Opens bytes table (record { at = at; type = T }) form opened → own_names opened.label ≡ []
+    pub advance_block : (T : ℕ) (form : Form) (opened : Opened) → LiesAt bytes table (record { at = at; type = T }) → form_at table T ≡ Some form → Opens bytes table (record { at = at; type = T }) form opened → own_names opened.label ≡ []
         → (tag % 256 ≡ kind_number Kind.frozen → ⊥) → opened.blocks ≡ named bytes at
         → opened.parts ≡ entries_at table p before U n → U < length table
         → ClaimsBlock bytes old new at tag (n * (before + size table U)) (turns_where (has_cells (form_at table U)) p n) p
         → places_in bytes table (record { start = p; count = n }) ≡ entries_at table p before U n → Advances bytes table old new (record { at = at; type = T } ∷ [])
-    advance_block T form opened f o plain differs blocks parts known c places =
+    advance_block T form opened lies f o plain differs blocks parts known c places =
+        let owned : times (block_of p) opened.blocks ≡ times (block_of p) (block_of p ∷ []) = ap (times (block_of p)) (blocks ∙ named_some bytes at p c.names) in
+        let one = times-same (block_of p) [] in
+        let reached : IsReachedBlock bytes table (block_of p) = by_cell opened lies f o (omega arith) in
         advance_open bytes table old new (record { at = at; type = T }) form opened (turns_where (has_cells (form_at table U)) p n) f o plain
         (subst (λ bs. ClaimsAll old new bs (turns_where (has_cells (form_at table U)) p n)) (sym (blocks ∙ named_some bytes at p c.names)) c.claims)
-        (claimed_turns (has_cells (form_at table U)) refl c places)
+        (claimed_turns reached (has_cells (form_at table U)) refl c places)
         (claimed_others (has_cells (form_at table U)) differs c.is_block)
         (subst (AreKnown table) (sym parts) (known_places table U (map (λ q. q + before) (spaced p (before + size table U) n)) known))
         (claimed_waiting (has_cells (form_at table U)) refl places ∙ ap (with_cells table) (sym parts))
@@ -124,5 +140,5 @@ module _ (bytes : List ℕ) (table : Table) where
       → Advances bytes table known known (place ∷ [])
   advance_nothing known place form opened f o plain blocks parts =
       advance_open bytes table known known place form opened [] f o plain
-      (record { claimed = (λ h. ap (λ bs. times h (bs ++ known.unclaimed)) (sym blocks)); counted = (λ c. c); turns_are = sym (append-nil known.turns); naming_kept = refl })
+      (record { claimed = (λ h. ap (λ bs. times h (bs ++ known.unclaimed)) (sym blocks)); allocated_kept = (λ h. refl); counted = (λ c. c); turns_are = sym (append-nil known.turns); naming_kept = refl })
       tt tt (subst (AreKnown table) (sym parts) tt) (ap (with_cells table) (sym parts))

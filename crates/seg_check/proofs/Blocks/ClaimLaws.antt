@@ -10,7 +10,7 @@ use Rattle.seg_spec.proofs.Heap.LiveBlockLaws.{times-same}
 use Rattle.seg_check.specs.Marks.{Known, AreBlocksCounted, IsMarked, ClaimsAll}
 use Rattle.seg_check.specs.declared.marks.Mark.TheVariants.{Live, Named}
 use Rattle.seg_check.specs.Naming.{frozen_number_at, slot_of, left_at, one_less, standing_at, IsNameable, ClaimsFrozen, NamesBlock}
-use Rattle.seg_check.specs.Claiming.{HaveLiveHeaders, HasLiveHeader, HasPayload, CanClaim, ClaimsBlock}
+use Rattle.seg_check.specs.Claiming.{HaveLiveHeaders, HasLiveHeader, HasPayload, CanClaim, PointsAmong, ClaimsBlock}
 
 -- a block that was claimed before can't be claimed
 pub claimed_before : (bytes : List ℕ) (known : Known) (pointer tag size start : ℕ) → target bytes pointer ≡ Some start → times (block_of start) known.unclaimed ≡ 0 → CanClaim bytes known pointer tag size → ⊥
@@ -28,6 +28,27 @@ claimed_elsewhere bytes known pointer tag size start block has fits live names a
     let inside = lies.inside in
     let large = lies.size in
     let here = subst (λ s. IsBlock bytes s tag size) same can.is_block in
+    let room = here.room in
+    let high = here.after_header in
+    let right : fits ≡ true = (reads (omega arith)).1 (record { tag_is = ap (tag_at bytes) at_is ∙ here.has_tag ∙ sym tag_is; fits = subst (λ b. size + 16 ≤ 16 * units_at bytes b) (sym at_is) (omega arith) }) in
+    cc
+
+-- a pointer to no allocated block
+pub points_elsewhere : (bytes blocks : List ℕ) (pointer tag size start : ℕ) → target bytes pointer ≡ Some start → times (block_of start) blocks ≡ 0 → PointsAmong bytes blocks pointer tag size → ⊥
+points_elsewhere bytes blocks pointer tag size start names none points =
+    let same : points.start ≡ start = cc (points.names, names) in
+    let some : 1 ≤ times (block_of start) blocks = subst (λ s. 1 ≤ times (block_of s) blocks) same points.among in
+    omega arith
+
+-- a pointer to a block without the tag or the room
+pub points_wrongly : (bytes blocks : List ℕ) (pointer tag size start block has : ℕ) (fits : Bool) → HaveLiveHeaders bytes blocks → target bytes pointer ≡ Some start → block ≡ block_of start → has ≡ tag → fits ≡ false
+    → (block + 16 ≤ length bytes → (fits ≡ true) ↔ HasPayload bytes block has size) → PointsAmong bytes blocks pointer tag size → ⊥
+points_wrongly bytes blocks pointer tag size start block has fits live names at_is tag_is wrong reads points =
+    let same : points.start ≡ start = cc (points.names, names) in
+    let lies = live (block_of start) (subst (λ s. 1 ≤ times (block_of s) blocks) same points.among) in
+    let inside = lies.inside in
+    let large = lies.size in
+    let here = subst (λ s. IsBlock bytes s tag size) same points.is_block in
     let room = here.room in
     let high = here.after_header in
     let right : fits ≡ true = (reads (omega arith)).1 (record { tag_is = ap (tag_at bytes) at_is ∙ here.has_tag ∙ sym tag_is; fits = subst (λ b. size + 16 ≤ 16 * units_at bytes b) (sym at_is) (omega arith) }) in
@@ -113,6 +134,7 @@ module _ (bytes : List ℕ) (old mid new : Known) (pointer tag size start : ℕ)
     named = named_then (block_of start) ∙ c.now_named;
     unclaimed_others = λ h other. unclaimed_then h ∙ c.unclaimed_others h other;
     named_others = λ h other. named_then h ∙ c.named_others h other;
+    allocated_kept = λ h. ap (λ (k : Known). times h k.allocated) kept ∙ c.allocated_kept h;
     left_others = λ h other. others h other ∙ ap (λ counts. get_or counts (slot_of h) None) c.counts_kept;
     counted = λ k. counted_then (c.counted k);
     below_kept = ap (λ (k : Known). k.naming.below) kept ∙ c.below_kept;
@@ -133,6 +155,7 @@ module _ (bytes : List ℕ) (old mid new : Known) (pointer tag size start : ℕ)
     named = named_then (block_of start) ∙ ap (λ (k : Known). times (block_of start) k.naming.named) same ∙ was.named;
     unclaimed_others = λ h other. unclaimed_then h ∙ ap (λ (k : Known). times h k.unclaimed) same;
     named_others = λ h other. named_then h ∙ ap (λ (k : Known). times h k.naming.named) same;
+    allocated_kept = λ h. ap (λ (k : Known). times h k.allocated) kept ∙ ap (λ (k : Known). times h k.allocated) same;
     left_others = λ h other. others h other ∙ ap (λ (k : Known). left_at k h) same;
     counted = λ k. counted_then (subst AreBlocksCounted (sym same) k);
     below_kept = ap (λ (k : Known). k.naming.below) kept ∙ ap (λ (k : Known). k.naming.below) same;

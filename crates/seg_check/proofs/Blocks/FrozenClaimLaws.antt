@@ -71,7 +71,7 @@ module _ (bytes : List ℕ) where
   -- ---- steps
 
   pub finds_none : (known : Known) → Finds bytes known known []
-  finds_none known = record { below_kept = refl; slots_kept = refl; standing_within = λ h. omega arith; standing_kept = λ h f. refl; unseen_kept = λ h f. refl; counts = λ before c. c }
+  finds_none known = record { below_kept = refl; slots_kept = refl; standing_within = λ h. omega arith; standing_kept = λ h f. refl; unseen_kept = λ h f. refl; allocated_kept = λ h. refl; counts = λ before c. c }
 
   pub finds_claimed : (old new : Known) (blocks : List ℕ) (turns : List Turn) → ClaimsAll old new blocks turns → AllByRecursion (λ b. IsFrozen bytes b → ⊥) blocks → AreOthers bytes turns → Finds bytes old new []
   finds_claimed old new blocks turns c others waits = record {
@@ -82,6 +82,7 @@ module _ (bytes : List ℕ) where
     unseen_kept = λ h f.
         let waiting = ap (λ ts. times h (blocks_of ts)) c.turns_are ∙ ap (times h) (blocks_append old.turns (awaiting old.naming.below turns)) ∙ times-append h (blocks_of old.turns) (blocks_of (awaiting old.naming.below turns)) in
         omega (arith, unclaimed h f, waiting, none_waits h old.naming.below turns f waits);
+    allocated_kept = c.allocated_kept;
     counts = λ before k. counts_kept old new before (record { named_kept = ap (λ (n : Naming). n.named) c.naming_kept; counts_kept = ap (λ (n : Naming). n.counts) c.naming_kept }) k;
   }
     where
@@ -98,5 +99,6 @@ module _ (bytes : List ℕ) where
     standing_within = λ h. omega (arith, a.standing_within h, b.standing_within h);
     standing_kept = λ h z. b.standing_kept h z ∙ a.standing_kept h z;
     unseen_kept = λ h z. b.unseen_kept h z ∙ a.unseen_kept h z;
+    allocated_kept = λ h. b.allocated_kept h ∙ a.allocated_kept h;
     counts = λ before c. counts_same new (g ++ (f ++ before)) ((f ++ g) ++ before) (λ h. both_found h f g before) (b.counts (f ++ before) (a.counts before c));
   }

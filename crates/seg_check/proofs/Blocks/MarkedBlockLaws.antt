@@ -10,7 +10,7 @@ use Rattle.seg_spec.proofs.Heap.LiveBlockLaws.{times-same, times-other, times-ap
 use Rattle.seg_check.specs.declared.marks.Mark.{Mark}
 use Rattle.seg_check.specs.declared.marks.Mark.TheVariants.{Inside, Free, Live, Claimed, Named}
 use Rattle.seg_check.specs.declared.marks.Waiting.{Waiting}
-use Rattle.seg_check.specs.Marks.{Known, known_of, nothing_known, is_unclaimed, is_free, is_named, unclaimed_from, free_from, named_from, HasNoneNamed, Within, IsUnit, IsMarked, KeepsOtherBlocks, AddsBlock, ClaimsAll}
+use Rattle.seg_check.specs.Marks.{Known, known_of, nothing_known, is_allocated, is_unclaimed, is_free, is_named, allocated_from, unclaimed_from, free_from, named_from, HasNoneNamed, Within, IsUnit, IsMarked, KeepsOtherBlocks, AddsBlock, ClaimsAll}
 use Rattle.seg_check.specs.Naming.{ClaimsFrozen}
 use Rattle.seg_check.proofs.Blocks.MarkLaws.{bit, one, looked, no_unit, set_other, set_same, unit_of, one_more, none_in, few, after_none}
 use Rattle.seg_check.proofs.SameLengthLaws.{same_length}
@@ -18,6 +18,7 @@ use Rattle.seg_check.proofs.SameLengthLaws.{same_length}
 pub fresh : (marks : List Mark) (queue : List Waiting) (counts : List (Option ℕ)) (units n slots m : ℕ) → marks ≡ replicate units Inside → queue ≡ [] → units ≡ n → counts ≡ replicate slots None → slots ≡ m
     → known_of marks 0 0 queue 0 counts None ≡ nothing_known n m
 fresh marks queue counts units n slots k e q m c s = λ i. record {
+  allocated = (ap (allocated_from heap_start) e ∙ none_in is_allocated heap_start units Inside refl) i;
   unclaimed = (ap (unclaimed_from heap_start) e ∙ none_in is_unclaimed heap_start units Inside refl) i;
   unclaimed_count = 0;
   free = (ap (free_from heap_start) e ∙ none_in is_free heap_start units Inside refl) i;
@@ -38,6 +39,7 @@ module _ (marks : List Mark) (u f : ℕ) (queue : List Waiting) (taken : ℕ) (c
 
   pub mark_is : (block unit : ℕ) (m : Mark) → block ≡ heap_start + 16 * unit → unit < length marks → m ≡ get_or marks unit Inside → IsMarked here block m
   mark_is block unit m at_is inside is = record {
+    allocated = looked is_allocated block heap_start unit marks at_is inside ∙ ap (λ x. cond (is_allocated x) 1 0) (sym is);
     unclaimed = looked is_unclaimed block heap_start unit marks at_is inside ∙ ap (λ x. cond (is_unclaimed x) 1 0) (sym is);
     free = looked is_free block heap_start unit marks at_is inside ∙ ap (λ x. cond (is_free x) 1 0) (sym is);
     named = looked is_named block heap_start unit marks at_is inside ∙ ap (λ x. cond (is_named x) 1 0) (sym is);
@@ -45,6 +47,7 @@ module _ (marks : List Mark) (u f : ℕ) (queue : List Waiting) (taken : ℕ) (c
 
   pub mark_none : (block : ℕ) → (IsUnit (length marks) block → ⊥) → IsMarked here block Inside
   mark_none block none = record {
+    allocated = no_unit is_allocated block heap_start marks (λ unit at_is inside. none (record { unit = unit; at_is = at_is; inside = inside }));
     unclaimed = no_unit is_unclaimed block heap_start marks (λ unit at_is inside. none (record { unit = unit; at_is = at_is; inside = inside }));
     free = no_unit is_free block heap_start marks (λ unit at_is inside. none (record { unit = unit; at_is = at_is; inside = inside }));
     named = no_unit is_named block heap_start marks (λ unit at_is inside. none (record { unit = unit; at_is = at_is; inside = inside }));
@@ -52,6 +55,7 @@ module _ (marks : List Mark) (u f : ℕ) (queue : List Waiting) (taken : ℕ) (c
 
   pub set_others : (block unit : ℕ) (m : Mark) → block ≡ heap_start + 16 * unit → KeepsOtherBlocks here (known_of (set marks unit m) u f queue taken counts below) block
   set_others block unit m at_is = record {
+    allocated = (λ h other. set_other is_allocated h heap_start unit marks m (λ e. other (sym e ∙ sym at_is)));
     unclaimed = (λ h other. set_other is_unclaimed h heap_start unit marks m (λ e. other (sym e ∙ sym at_is)));
     free = (λ h other. set_other is_free h heap_start unit marks m (λ e. other (sym e ∙ sym at_is)));
     named = (λ h other. set_other is_named h heap_start unit marks m (λ e. other (sym e ∙ sym at_is)));
@@ -66,7 +70,7 @@ module _ (marks : List Mark) (u f : ℕ) (queue : List Waiting) (taken : ℕ) (c
 
   -- ---- a block was added
 
-  module _ (old : Known) (block : ℕ) (kept : KeepsOtherBlocks old here block) (small : length marks ≤ 2 ^ 26) (no_live : times block old.unclaimed ≡ 0) (no_free : times block old.free ≡ 0) where
+  module _ (old : Known) (block : ℕ) (kept : KeepsOtherBlocks old here block) (small : length marks ≤ 2 ^ 26) (no_live : times block old.unclaimed ≡ 0) (no_free : times block old.free ≡ 0) (no_block : times block old.allocated ≡ 0) where
     fewer_named : times block here.naming.named ≡ 0 → Within here.naming.named old.naming.named
     fewer_named none h = ⊎_elim
         (λ same. subst (λ x. times x here.naming.named ≤ times x old.naming.named) same (omega arith))
@@ -83,6 +87,10 @@ module _ (marks : List Mark) (u f : ℕ) (queue : List Waiting) (taken : ℕ) (c
         (λ same. subst (λ x. times x here.free ≡ times x old.free) same (is.free ∙ sym no_free))
         (λ other. kept.free h (λ e. other (sym e)))
         (cases_eq block h)) in
+        let allocated : SameBlocks (allocated_from heap_start marks) (block ∷ old.allocated) = (λ h. ⊎_elim
+        (λ same. subst (λ x. times x here.allocated ≡ times x (block ∷ old.allocated)) same (is.allocated ∙ sym (times-same block old.allocated ∙ ap (λ n. 1 + n) no_block)))
+        (λ other. kept.allocated h (λ e. other (sym e)) ∙ sym (times-other h block old.allocated other))
+        (cases_eq block h)) in
         let more = same_length (unclaimed_from heap_start marks) (block ∷ old.unclaimed) unclaimed in
         let free_same = same_length (free_from heap_start marks) old.free free in
         let limit = few is_unclaimed heap_start marks in
@@ -92,6 +100,7 @@ module _ (marks : List Mark) (u f : ℕ) (queue : List Waiting) (taken : ℕ) (c
           counted = (λ c.
               let was : u ≡ length old.unclaimed = kept.unclaimed_count_kept ∙ c.unclaimed in
               record { unclaimed = next (omega arith) ∙ omega arith; free = kept.free_count_kept ∙ c.free ∙ sym free_same });
+          allocated = allocated;
           turns_kept = kept.turns_kept;
           named = fewer_named is.named;
           counts_kept = kept.counts_kept;
@@ -108,6 +117,10 @@ module _ (marks : List Mark) (u f : ℕ) (queue : List Waiting) (taken : ℕ) (c
         (λ same. subst (λ x. times x here.free ≡ times x (block ∷ old.free)) same (is.free ∙ sym (times-same block old.free ∙ ap (λ n. 1 + n) no_free)))
         (λ other. kept.free h (λ e. other (sym e)) ∙ sym (times-other h block old.free other))
         (cases_eq block h)) in
+        let allocated : SameBlocks (allocated_from heap_start marks) old.allocated = (λ h. ⊎_elim
+        (λ same. subst (λ x. times x here.allocated ≡ times x old.allocated) same (is.allocated ∙ sym no_block))
+        (λ other. kept.allocated h (λ e. other (sym e)))
+        (cases_eq block h)) in
         let more = same_length (free_from heap_start marks) (block ∷ old.free) free in
         let unclaimed_same = same_length (unclaimed_from heap_start marks) old.unclaimed unclaimed in
         let limit = few is_free heap_start marks in
@@ -117,6 +130,7 @@ module _ (marks : List Mark) (u f : ℕ) (queue : List Waiting) (taken : ℕ) (c
           counted = (λ c.
               let was : f ≡ length old.free = kept.free_count_kept ∙ c.free in
               record { unclaimed = kept.unclaimed_count_kept ∙ c.unclaimed ∙ sym unclaimed_same; free = next (omega arith) ∙ omega arith });
+          allocated = allocated;
           turns_kept = kept.turns_kept;
           named = fewer_named is.named;
           counts_kept = kept.counts_kept;
@@ -145,8 +159,10 @@ module _ (marks : List Mark) (u f : ℕ) (queue : List Waiting) (taken : ℕ) (c
       (cases_eq block h)) in
       let free_same = same_length (free_from heap_start (set marks unit Claimed)) here.free free in
       let same_named : named_from heap_start (set marks unit Claimed) ≡ named_from heap_start marks = set_same is_named heap_start unit marks Claimed inside (ap is_named is) in
+      let same_allocated : allocated_from heap_start (set marks unit Claimed) ≡ allocated_from heap_start marks = set_same is_allocated heap_start unit marks Claimed inside (ap is_allocated is) in
       record {
         claimed = claimed;
+        allocated_kept = λ h. ap (times h) same_allocated;
         counted = (λ c. let count = c.unclaimed in record { unclaimed = next (omega arith) ∙ omega arith; free = c.free ∙ sym free_same });
         turns_are = sym (append-nil (drop taken queue));
         naming_kept = λ i. record { named = same_named i; counts = counts; below = below };
@@ -184,6 +200,10 @@ module _ (marks : List Mark) (u f : ℕ) (queue : List Waiting) (taken : ℕ) (c
         now_named = is.named;
         unclaimed_others = kept.unclaimed;
         named_others = kept.named;
+        allocated_kept = (λ h. ⊎_elim
+            (λ same. subst (λ x. times x (allocated_from heap_start marks) ≡ times x old.allocated) same (is.allocated ∙ sym was.allocated))
+            (λ other. kept.allocated h (λ e. other (sym e)))
+            (cases_eq block h));
         turns_are = drop_more taken queue w few ∙ ap (λ ts. ts ++ w ∷ []) kept.turns_kept;
         counted = (λ c.
             let count : u ≡ length old.unclaimed = kept.unclaimed_count_kept ∙ c.unclaimed in

@@ -1,5 +1,5 @@
 -- Strings, vectors, flat maps and owns, by the block to which each points.
-use Rattle.std.proofs.Common.{◌≡◌, ℕ, zero, suc, ◌+◌, ◌*◌, ◌≤◌, List, [], ◌∷◌, length, Bool, true, false, Option, Some, None, Ok, Err, refl, sym, ap, ◌∙◌, subst, arith}
+use Rattle.std.proofs.Common.{◌≡◌, ℕ, zero, suc, inl, inr, ◌+◌, ◌*◌, ◌≤◌, List, [], ◌∷◌, length, Bool, true, false, Option, Some, None, Ok, Err, refl, sym, ap, ◌∙◌, subst, arith}
 use Rattle.std.specs.Option.{is_some, option_map}
 use Rattle.std.specs.Prelude.{option_to_list}
 use Rattle.seg_spec.specs.Bytes.{slice}
@@ -17,13 +17,15 @@ use Rattle.seg_cells.specs.declared.content.Content.{Content}
 use Rattle.seg_cells.specs.declared.content.Shape.{Shape}
 use Rattle.seg_check.specs.declared.fault.ContentFault.{ContentFault}
 use Rattle.seg_check.specs.declared.fault.ContentFault.TheVariants.{BadPointer, BadValue}
-use Rattle.seg_check.specs.Claiming.{Refutes, CanClaim, ClaimsBlock, turns_where, has_turns}
+use Rattle.seg_check.specs.Claiming.{Refutes, CanClaim, RefusesClaim, ClaimsBlock, turns_where, has_turns}
 use Rattle.seg_check.specs.Marks.{Known, ClaimsAll, Within}
-use Rattle.seg_check.specs.Turns.{places_by}
+use Rattle.seg_check.specs.Positions.{IsBlockFor, IsWrongCount, LacksBlockAt, LacksValueAt, in_cell, LacksAt}
+use Rattle.seg_check.specs.Turns.{LiesAt, places_by}
 use Rattle.seg_check.specs.Resolving.{CanResolve, Advances, IsReady}
 use Rattle.seg_check.specs.Cells.{counted_by, blocks_counted_by, CellsPointTo, IsStringOrVector}
 use Rattle.seg_check.proofs.Queue.QueueStepLaws.{advance_open, can_open}
 use Rattle.seg_check.proofs.Heap.TagLaws.{places_tagged}
+use Rattle.seg_check.proofs.Blocks.LackingBlockLaws.{null_lacks, value_lacks}
 use Rattle.seg_check.proofs.Blocks.CellClaimLaws.{named_some, named_none, start_some, names_room, no_room, none_counted, can_claim, advance_block, advance_nothing}
 
 -- ---- the count of a cell
@@ -71,6 +73,24 @@ blocks_refused P at (suc n) None e is none some = let same : BadPointer at ≡ e
 blocks_refused P at zero (Some p) e is none some = let same : BadValue at ≡ e = cc in subst (λ f. Refutes f P) same (some p refl refl)
 blocks_refused P at (suc n) (Some p) e is none some = absurd (let no : Ok (Some (suc n)) ≡ Err e = is in cc)
 
+-- ---- what such cells lack
+
+pub counted_lacks : (bytes : List ℕ) (table : Table) (at n : ℕ) (o : Option ℕ) (e : ContentFault) → counted_by at o n ≡ Err e → (o ≡ None → LacksBlockAt bytes table at) → LacksAt bytes table e
+counted_lacks bytes table at zero None e is none = absurd (let no : Ok None ≡ Err e = is in cc)
+counted_lacks bytes table at (suc n) None e is none = let same : BadPointer at ≡ e = cc in subst (LacksAt bytes table) same (none refl)
+counted_lacks bytes table at n (Some p) e is none = absurd (let no : Ok (Some n) ≡ Err e = is in cc)
+
+pub blocks_lack : (bytes : List ℕ) (table : Table) (at n : ℕ) (o : Option ℕ) (e : ContentFault) → blocks_counted_by at o n ≡ Err e → (o ≡ None → LacksBlockAt bytes table at) → ((p : ℕ) → o ≡ Some p → n ≡ 0 → LacksValueAt bytes table at)
+    → LacksAt bytes table e
+blocks_lack bytes table at zero None e is none some = absurd (let no : Ok None ≡ Err e = is in cc)
+blocks_lack bytes table at (suc n) None e is none some = let same : BadPointer at ≡ e = cc in subst (LacksAt bytes table) same (none refl)
+blocks_lack bytes table at zero (Some p) e is none some = let same : BadValue at ≡ e = cc in subst (LacksAt bytes table) same (some p refl refl)
+blocks_lack bytes table at (suc n) (Some p) e is none some = absurd (let no : Ok (Some (suc n)) ≡ Err e = is in cc)
+
+-- a cell that isn't null and counts nothing
+pub none_counts : (bytes : List ℕ) (at p : ℕ) → target bytes at ≡ Some p → count_at bytes at ≡ 0 → IsWrongCount bytes at
+none_counts bytes at p names none = inr (none, λ null. absurd (let no : None ≡ Some p = sym null ∙ names in cc))
+
 module _ (bytes : List ℕ) (table : Table) where
   -- ---- the content of a value, by its form
 
@@ -112,25 +132,25 @@ module _ (bytes : List ℕ) (table : Table) where
   pub block_is : (p tag n m each each' : ℕ) → n ≡ m → each ≡ each' → IsBlock bytes p tag (n * each) → IsBlock bytes p tag (m * each')
   block_is p tag n m each each' e s b = subst (λ x. IsBlock bytes p tag (m * x)) s (subst (λ x. IsBlock bytes p tag (x * each)) e b)
 
-  pub items_advance : (old new : Known) (at T n p : ℕ) (form : Form) (content : Content) → IsReady bytes table old → IsStringOrVector form → CellsPointTo table T form content → n ≡ count_at bytes at
+  pub items_advance : (old new : Known) (at T n p : ℕ) (form : Form) (content : Content) → IsReady bytes table old → LiesAt bytes table (record { at = at; type = T }) → IsStringOrVector form → CellsPointTo table T form content → n ≡ count_at bytes at
       → ClaimsBlock bytes old new at (word_of content.tag) (n * content.entry.size) (turns_where (has_turns table content.entry.held) p n) p → Advances bytes table old new (record { at = at; type = T } ∷ [])
   unfolding text_opened items_opened
-  items_advance old new at T n p Form.i64 content ready has by n_is c = absurd has
-  items_advance old new at T n p (Form.struct Us) content ready has by n_is c = absurd has
-  items_advance old new at T n p (Form.list U) content ready has by n_is c = absurd has
-  items_advance old new at T n p (Form.flat_map U) content ready has by n_is c = absurd has
-  items_advance old new at T n p (Form.map U) content ready has by n_is c = absurd has
-  items_advance old new at T n p (Form.own U) content ready has by n_is c = absurd has
-  items_advance old new at T n p (Form.shared U) content ready has by n_is c = absurd has
-  items_advance old new at T n p Form.str content ready has by n_is c =
+  items_advance old new at T n p Form.i64 content ready lies has by n_is c = absurd has
+  items_advance old new at T n p (Form.struct Us) content ready lies has by n_is c = absurd has
+  items_advance old new at T n p (Form.list U) content ready lies has by n_is c = absurd has
+  items_advance old new at T n p (Form.flat_map U) content ready lies has by n_is c = absurd has
+  items_advance old new at T n p (Form.map U) content ready lies has by n_is c = absurd has
+  items_advance old new at T n p (Form.own U) content ready lies has by n_is c = absurd has
+  items_advance old new at T n p (Form.shared U) content ready lies has by n_is c = absurd has
+  items_advance old new at T n p Form.str content ready lies has by n_is c =
       let is = by.content_of in
       let d = claimed_as old new at n p (word_of content.tag) (tag_of Kind.buffer T) content.entry.size 1 (has_turns table content.entry.held) false is.tag_is is.size_is (ap (has_turns table) is.held_is) c in
       advance_open bytes table old new (record { at = at; type = T }) Form.str (text_opened at) [] by.form_is
       (record { named_room = names_room bytes at (tag_of Kind.buffer T) 1 p d.names (block_is p (tag_of Kind.buffer T) n (count_at bytes at) 1 1 n_is refl d.is_block); ascending = tt; opened_is = refl }) refl
       (subst (λ bs. ClaimsAll old new bs []) (sym (named_some bytes at p d.names)) d.claims) tt tt tt refl
-  items_advance old new at T n p (Form.vec U) content ready has by n_is c =
+  items_advance old new at T n p (Form.vec U) content ready lies has by n_is c =
       let d = content_claimed old new at n p _ (tag_of Kind.buffer T) 0 U content by.content_of c in
-      advance_block bytes table old new ready at (tag_of Kind.buffer T) n 0 U p T (Form.vec U) (items_opened at U Label.seq) by.form_is
+      advance_block bytes table old new ready at (tag_of Kind.buffer T) n 0 U p T (Form.vec U) (items_opened at U Label.seq) lies by.form_is
       (record {
         named_room = names_room bytes at (tag_of Kind.buffer T) (size table U) p d.names (block_is p (tag_of Kind.buffer T) n (count_at bytes at) (0 + size table U) (size table U) n_is (sym
             (zero_size U)) d.is_block);
@@ -196,6 +216,37 @@ module _ (bytes : List ℕ) (table : Table) where
       content_can known at n _ (tag_of Kind.buffer T) 0 U (size table U) content by.content_of (zero_size U)
       (subst (λ m. CanClaim bytes known at (tag_of Kind.buffer T) (m * size table U)) (sym n_is) (can_claim bytes known at (tag_of Kind.buffer T) (size table U) p e can.room can.within))
 
+  -- the block of a string or a vector
+  items_for : (T n : ℕ) (form : Form) (content : Content) → IsStringOrVector form → CellsPointTo table T form content → IsBlockFor table T form n (word_of content.tag) (n * content.entry.size)
+  items_for T n Form.i64 content has by = absurd has
+  items_for T n (Form.struct Us) content has by = absurd has
+  items_for T n (Form.list U) content has by = absurd has
+  items_for T n (Form.flat_map U) content has by = absurd has
+  items_for T n (Form.map U) content has by = absurd has
+  items_for T n (Form.own U) content has by = absurd has
+  items_for T n (Form.shared U) content has by = absurd has
+  items_for T n Form.str content has by = let is = by.content_of in (is.tag_is, ap (λ m. n * m) is.size_is ∙ (let one : n * 1 ≡ n = omega arith in one))
+  items_for T n (Form.vec U) content has by = let is = by.content_of in (is.tag_is, ap (λ m. n * m) (is.entry_is.size_is ∙ sym (zero_size U)))
+
+  pub items_lack : (known : Known) (at T n : ℕ) (form : Form) (content : Content) (e : ContentFault) → IsReady bytes table known → LiesAt bytes table (record { at = at; type = T }) → IsStringOrVector form → CellsPointTo table T form content → n ≡ count_at bytes at
+      → RefusesClaim bytes known at (word_of content.tag) (n * content.entry.size) e → LacksAt bytes table e
+  items_lack known at T n form content e ready lies has by n_is r =
+      value_lacks bytes table known ready at T (word_of content.tag) (n * content.entry.size) form e lies by.form_is (subst (λ m. IsBlockFor table T form m (word_of content.tag) (n * content.entry.size)) n_is (items_for T n form content has by)) r
+
+  items_null : (at T : ℕ) (form : Form) → LiesAt bytes table (record { at = at; type = T }) → IsStringOrVector form → form_at table T ≡ Some form → target bytes at ≡ None → LacksBlockAt bytes table at
+  items_null at T Form.i64 lies has f null = absurd has
+  items_null at T (Form.struct Us) lies has f null = absurd has
+  items_null at T (Form.list U) lies has f null = absurd has
+  items_null at T (Form.flat_map U) lies has f null = absurd has
+  items_null at T (Form.map U) lies has f null = absurd has
+  items_null at T (Form.own U) lies has f null = absurd has
+  items_null at T (Form.shared U) lies has f null = absurd has
+  items_null at T Form.str lies has f null = null_lacks bytes table at T (tag_of Kind.buffer T) (count_at bytes at) Form.str lies f (refl, refl) null
+  items_null at T (Form.vec U) lies has f null = null_lacks bytes table at T (tag_of Kind.buffer T) (count_at bytes at * size table U) (Form.vec U) lies f (refl, refl) null
+
+  pub items_counted_lack : (at T : ℕ) (form : Form) (e : ContentFault) → LiesAt bytes table (record { at = at; type = T }) → IsStringOrVector form → form_at table T ≡ Some form → counted_by at (target bytes at) (count_at bytes at) ≡ Err e → LacksAt bytes table e
+  items_counted_lack at T form e lies has f is = counted_lacks bytes table at (count_at bytes at) (target bytes at) e is (items_null at T form lies has f)
+
   -- a cell counts no items exactly if its pointer is null
   pub items_counted : (known : Known) (at T : ℕ) (form : Form) (e : ContentFault) → IsStringOrVector form → form_at table T ≡ Some form → counted_by at (target bytes at) (count_at bytes at) ≡ Err e
       → Refutes e (CanResolve bytes table known (record { at = at; type = T } ∷ []))
@@ -236,12 +287,12 @@ module _ (bytes : List ℕ) (table : Table) (at T U : ℕ) (content : Content) (
   own_opened : Opened
   own_opened = record { label = Label.opt; blocks = named bytes at; parts = items table (start bytes at) U (count_at bytes at) }
 
-  pub own_advance : (old new : Known) (p : ℕ) → IsReady bytes table old → 1 ≡ count_at bytes at
+  pub own_advance : (old new : Known) (p : ℕ) → IsReady bytes table old → LiesAt bytes table (record { at = at; type = T }) → 1 ≡ count_at bytes at
       → ClaimsBlock bytes old new at (word_of content.tag) (1 * content.entry.size) (turns_where (has_turns table content.entry.held) p 1) p → Advances bytes table old new (record { at = at; type = T } ∷ [])
   unfolding own_opened
-  own_advance old new p ready n_is c =
+  own_advance old new p ready lies n_is c =
       let d = content_claimed bytes table old new at 1 p _ (tag_of Kind.object U) 0 U content by.content_of c in
-      advance_block bytes table old new ready at (tag_of Kind.object U) 1 0 U p T (Form.own U) own_opened by.form_is
+      advance_block bytes table old new ready at (tag_of Kind.object U) 1 0 U p T (Form.own U) own_opened lies by.form_is
       (record {
         named_room = names_room bytes at (tag_of Kind.object U) (size table U) p d.names (block_is bytes table p (tag_of Kind.object U) 1 (count_at bytes at) (0 + size table U) (size table U) n_is (sym
             (zero_size bytes table U)) d.is_block);
@@ -274,6 +325,20 @@ module _ (bytes : List ℕ) (table : Table) (at T U : ℕ) (content : Content) (
   own_counted known e is = blocks_refused _ at (count_at bytes at) (target bytes at) e is
       (λ none some r. absurd (omega (arith, some, own_counts known r ∙ ap length (named_none bytes at none))))
       (λ p some none r. absurd (let counts : count_at bytes at ≡ 1 = own_counts known r ∙ ap length (named_some bytes at p some) in omega arith))
+
+  pub own_counted_lack : (e : ContentFault) → LiesAt bytes table (record { at = at; type = T }) → blocks_counted_by at (target bytes at) (count_at bytes at) ≡ Err e → LacksAt bytes table e
+  own_counted_lack e lies is = blocks_lack bytes table at (count_at bytes at) (target bytes at) e is
+      (null_lacks bytes table at T (tag_of Kind.object U) (size table U) (Form.own U) lies by.form_is (refl, refl))
+      (λ p names none. in_cell T (Form.own U) lies by.form_is (none_counts bytes at p names none))
+
+  pub own_lacks : (known : Known) (e : ContentFault) → IsReady bytes table known → LiesAt bytes table (record { at = at; type = T }) → RefusesClaim bytes known at (word_of content.tag) (1 * content.entry.size) e → LacksAt bytes table e
+  own_lacks known e ready lies r =
+      let is = by.content_of in
+      let room : 1 * content.entry.size ≡ size table U = (let one : 1 * content.entry.size ≡ content.entry.size = omega arith in one) ∙ is.entry_is.size_is ∙ sym (zero_size bytes table U) in
+      value_lacks bytes table known ready at T (word_of content.tag) (1 * content.entry.size) (Form.own U) e lies by.form_is (is.tag_is, room) r
+
+  pub own_many_lack : LiesAt bytes table (record { at = at; type = T }) → 2 ≤ count_at bytes at → LacksValueAt bytes table at
+  own_many_lack lies many = in_cell T (Form.own U) lies by.form_is (inl many)
 
   pub own_many : (known : Known) → 2 ≤ count_at bytes at → CanResolve bytes table known (record { at = at; type = T } ∷ []) → ⊥
   own_many known many r = absurd (omega (arith, many, own_counts known r, few_named bytes at))

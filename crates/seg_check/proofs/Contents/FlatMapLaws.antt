@@ -13,7 +13,10 @@ use Rattle.seg_cells.specs.declared.content.Content.{Content}
 use Rattle.seg_check.specs.declared.fault.ContentFault.{ContentFault}
 use Rattle.seg_check.specs.declared.fault.ContentFault.TheVariants.{BadValue}
 use Rattle.seg_check.specs.declared.marks.Turn.{Turn}
-use Rattle.seg_check.specs.Claiming.{Refutes, CanClaim, ClaimsBlock, turns_where, has_turns}
+use Rattle.seg_check.specs.Claiming.{Refutes, CanClaim, RefusesClaim, ClaimsBlock, turns_where, has_turns}
+use Rattle.seg_check.specs.Turns.{LiesAt}
+use Rattle.seg_check.specs.Positions.{in_cell, LacksAt}
+use Rattle.seg_check.proofs.Blocks.LackingBlockLaws.{null_lacks, value_lacks}
 use Rattle.seg_check.specs.Marks.{Known}
 use Rattle.seg_check.specs.Turns.{places_by}
 use Rattle.seg_check.specs.Resolving.{CanResolve, Advances, IsReady, Steps}
@@ -21,7 +24,7 @@ use Rattle.seg_check.specs.Cells.{CellsPointTo, counted_by}
 use Rattle.seg_check.proofs.Queue.QueueStepLaws.{can_open}
 use Rattle.seg_check.proofs.Heap.TagLaws.{places_tagged}
 use Rattle.seg_check.proofs.Blocks.CellClaimLaws.{named_none, start_some, names_room, no_room, none_counted, can_claim, advance_block, advance_nothing, entries_low}
-use Rattle.seg_check.proofs.Contents.BufferLaws.{counted_refused, content_claimed, content_can, block_is, named_within}
+use Rattle.seg_check.proofs.Contents.BufferLaws.{counted_lacks, counted_refused, content_claimed, content_can, block_is, named_within}
 use Rattle.seg_check.proofs.Queue.PlaceLoopLaws.{each_get}
 use Rattle.seg_check.proofs.Queue.EntryLoopLaws.{entry_get}
 
@@ -47,12 +50,12 @@ module _ (bytes : List ℕ) (table : Table) (at T U : ℕ) (content : Content) (
   same_keys : (p n : ℕ) → target bytes at ≡ Some p → n ≡ count_at bytes at → keys p n ≡ keys (start bytes at) (count_at bytes at)
   same_keys p n e n_is = ap (λ q. keys q n) (sym (start_some bytes at p e)) ∙ ap (keys (start bytes at)) n_is
 
-  flat_advance : (old new : Known) (n p : ℕ) → IsReady bytes table old → n ≡ count_at bytes at
+  flat_advance : (old new : Known) (n p : ℕ) → IsReady bytes table old → LiesAt bytes table (record { at = at; type = T }) → n ≡ count_at bytes at
       → ClaimsBlock bytes old new at (word_of content.tag) (n * content.entry.size) (turns_where (has_turns table content.entry.held) p n) p → IsAscending (keys p n) → Advances bytes table old new (record { at = at; type = T } ∷ [])
   unfolding map_opened
-  flat_advance old new n p ready n_is c ascending =
+  flat_advance old new n p ready lies n_is c ascending =
       let d = content_claimed bytes table old new at n p _ (tag_of Kind.buffer T) 8 U content by.content_of c in
-      advance_block bytes table old new ready at (tag_of Kind.buffer T) n 8 U p T (Form.flat_map U) map_opened by.form_is
+      advance_block bytes table old new ready at (tag_of Kind.buffer T) n 8 U p T (Form.flat_map U) map_opened lies by.form_is
       (record {
         named_room = names_room bytes at (tag_of Kind.buffer T) (8 + size table U) p d.names (block_is bytes table p (tag_of Kind.buffer T) n (count_at bytes at) (8 + size table U) (8 + size table U) n_is refl d.is_block);
         ascending = subst IsAscending (same_keys p n d.names n_is) ascending;
@@ -66,6 +69,15 @@ module _ (bytes : List ℕ) (table : Table) (at T U : ℕ) (content : Content) (
       (λ none some r.
       let o = can_open bytes table known (record { at = at; type = T }) (Form.flat_map U) [] by.form_is r in
       absurd (omega (arith, some, none_counted bytes at (tag_of Kind.buffer T) (8 + size table U) none o.opens.named_room)))
+
+  pub flat_counted_lack : (e : ContentFault) → LiesAt bytes table (record { at = at; type = T }) → counted_by at (target bytes at) (count_at bytes at) ≡ Err e → LacksAt bytes table e
+  flat_counted_lack e lies is = counted_lacks bytes table at (count_at bytes at) (target bytes at) e is
+      (null_lacks bytes table at T (tag_of Kind.buffer T) (count_at bytes at * (8 + size table U)) (Form.flat_map U) lies by.form_is (refl, refl))
+
+  pub flat_lacks : (known : Known) (n : ℕ) (e : ContentFault) → IsReady bytes table known → LiesAt bytes table (record { at = at; type = T }) → n ≡ count_at bytes at → RefusesClaim bytes known at (word_of content.tag) (n * content.entry.size) e → LacksAt bytes table e
+  flat_lacks known n e ready lies n_is r =
+      let is = by.content_of in
+      value_lacks bytes table known ready at T (word_of content.tag) (n * content.entry.size) (Form.flat_map U) e lies by.form_is (is.tag_is, λ i. n_is i * is.entry_is.size_is i) r
 
   pub flat_nothing : (known : Known) → target bytes at ≡ None → count_at bytes at ≡ 0 → Advances bytes table known known (record { at = at; type = T } ∷ [])
   unfolding map_opened
@@ -88,12 +100,13 @@ module _ (bytes : List ℕ) (table : Table) (at T U : ℕ) (content : Content) (
       subst IsAscending (sym (same_keys p n e n_is)) o.opens.ascending
 
   -- whether the map can be resolved depends on the order of its keys
-  pub flat_steps : {A : Type 0} (old new : Known) (n p : ℕ) (r : Result A ContentFault) → IsReady bytes table old → n ≡ count_at bytes at
+  pub flat_steps : {A : Type 0} (old new : Known) (n p : ℕ) (r : Result A ContentFault) → IsReady bytes table old → LiesAt bytes table (record { at = at; type = T }) → n ≡ count_at bytes at
       → ClaimsBlock bytes old new at (word_of content.tag) (n * content.entry.size) (turns_where (has_turns table content.entry.held) p n) p
       → MatchResult r (λ _. IsAscending (keys p n)) (λ f. (f ≡ BadValue at) × (IsAscending (keys p n) → ⊥)) → Steps bytes table old new (record { at = at; type = T } ∷ []) r
-  flat_steps old new n p (Ok x) ready n_is c m = flat_advance old new n p ready n_is c m
-  flat_steps old new n p (Err f) ready n_is c m =
-      subst (λ g. Refutes g (CanResolve bytes table old (record { at = at; type = T } ∷ []))) (sym m.0) (λ r. m.1 (flat_ascend old n p c.names n_is r))
+  flat_steps old new n p (Ok x) ready lies n_is c m = flat_advance old new n p ready lies n_is c m
+  flat_steps old new n p (Err f) ready lies n_is c m =
+      subst (λ g. Refutes g (CanResolve bytes table old (record { at = at; type = T } ∷ [])) × LacksAt bytes table g) (sym m.0)
+      ((λ r. m.1 (flat_ascend old n p c.names n_is r)), in_cell T (Form.flat_map U) lies by.form_is (λ a. m.1 (subst IsAscending (sym (same_keys p n c.names n_is)) a)))
 
   -- the position of the key of an entry
   pub flat_key : (old new : Known) (n p i x : ℕ) → IsReady bytes table old → ClaimsBlock bytes old new at (word_of content.tag) (n * content.entry.size) (turns_where (has_turns table content.entry.held) p n) p

@@ -6,18 +6,21 @@ use Rattle.seg_spec.specs.Types.{Form, Table, form_at, size}
 use Rattle.seg_spec.specs.Block.{Kind, tag_of, block_of, IsBlock}
 use Rattle.seg_spec.specs.Shapes.{IsLinked, IsRing}
 use Rattle.seg_spec.specs.Value.{Label}
-use Rattle.seg_spec.specs.Reads.{Opened, AreNodes, count_at}
+use Rattle.seg_spec.specs.Reads.{Opened, Opens, AreNodes, count_at}
 use Rattle.seg_spec.specs.Sound.{times}
 use Rattle.seg_spec.proofs.Heap.LiveBlockLaws.{times-same, times-append}
 use Rattle.seg_layout.specs.Forms.{has_cells}
 use Rattle.seg_check.specs.declared.fault.ContentFault.{ContentFault}
 use Rattle.seg_check.specs.Cells.{blocks_counted_by}
-use Rattle.seg_check.specs.Claiming.{Refutes, HaveLiveHeaders, CanClaim, ClaimsBlock, turns_where}
+use Rattle.seg_check.specs.Claiming.{Refutes, HaveLiveHeaders, CanClaim, RefusesClaim, ClaimsBlock, turns_where}
+use Rattle.seg_check.specs.Turns.{LiesAt, by_cell}
+use Rattle.seg_check.specs.Positions.{LacksValueAt, in_cell, LacksAt}
 use Rattle.seg_check.specs.Marks.{Known, Within}
 use Rattle.seg_check.specs.Resolving.{CanResolve, Advances, IsReady}
 use Rattle.seg_check.proofs.Queue.QueueStepLaws.{advance_open, can_open}
 use Rattle.seg_check.proofs.Blocks.CellClaimLaws.{advance_nothing}
-use Rattle.seg_check.proofs.Contents.BufferLaws.{blocks_refused}
+use Rattle.seg_check.proofs.Contents.BufferLaws.{blocks_refused, blocks_lack}
+use Rattle.seg_check.proofs.Blocks.LackingBlockLaws.{null_lacks, refuses_as, value_lacks, link_lacks}
 use Rattle.seg_check.proofs.Contents.NodeLaws.{turns_of, Claimed, one_node, claimed_none, claimed_more, claimed_within, claimed_live, nodes_others, node_room, values_of, values_known, claimed_wait}
 
 module _ (bytes : List ℕ) where
@@ -134,20 +137,20 @@ module _ (bytes : List ℕ) (table : Table) (old : Known) (ready : IsReady bytes
   ring_opened : List ℕ → Opened
   ring_opened nodes = record { label = Label.seq; blocks = map block_of nodes; parts = values_of bytes table old ready T 8 U nodes }
 
-  pub ring_advance : (now : Known) (first last n : ℕ) (b : Bool) → Walked now first last n b → target bytes at ≡ Some first → n ≡ count_at bytes at → b ≡ true → target bytes last ≡ Some first → target bytes (first + 4) ≡ Some last
+  pub ring_advance : (now : Known) (first last n : ℕ) (b : Bool) → Walked now first last n b → LiesAt bytes table (record { at = at; type = T }) → target bytes at ≡ Some first → n ≡ count_at bytes at → b ≡ true → target bytes last ≡ Some first → target bytes (first + 4) ≡ Some last
       → Advances bytes table old now (record { at = at; type = T } ∷ [])
   unfolding ring_opened
-  ring_advance now first last n b w named n_is linked next back =
+  ring_advance now first last n b w lies named n_is linked next back =
       let nodes = first ∷ w.nodes in
-      let waits = claimed_wait bytes table old ready T 8 U (Form.list U) f (λ p. refl) now nodes w.claimed in
-      advance_open bytes table old now (record { at = at; type = T }) (Form.list U) (ring_opened nodes) (turns_of has nodes) f
-      (record {
+      let opens : Opens bytes table (record { at = at; type = T }) (Form.list U) (ring_opened nodes) = record {
         nodes = nodes;
         ring = subst (λ o. IsRing bytes o nodes) (sym named) (refl, linked_of bytes first first w.nodes last w.chain (w.linked.0 linked) next back);
         counted = w.counted ∙ n_is;
         are_nodes = w.claimed.are_nodes;
         opened_is = refl;
-      })
+      } in
+      let waits = claimed_wait bytes table old ready T 8 U (Form.list U) f (λ p. refl) now nodes (λ h there. by_cell (ring_opened nodes) lies f opens there) w.claimed in
+      advance_open bytes table old now (record { at = at; type = T }) (Form.list U) (ring_opened nodes) (turns_of has nodes) f opens
       refl w.claimed.claims waits.0 (nodes_others bytes table old ready T 8 U has nodes w.claimed.are_nodes) (values_known bytes table old ready T 8 U (ready.is_table.forms T (Form.list U) f) nodes) waits.1
 
   pub ring_nothing : target bytes at ≡ None → count_at bytes at ≡ 0 → Advances bytes table old old (record { at = at; type = T } ∷ [])
@@ -204,6 +207,47 @@ module _ (bytes : List ℕ) (table : Table) (old : Known) (ready : IsReady bytes
       none_there : (nodes : List ℕ) → IsRing bytes None nodes → 1 ≤ length nodes → ⊥
       none_there [] ring many = absurd (omega arith)
       none_there (x ∷ xs) ring many = absurd ring
+
+  pub ring_counted_lack : (e : ContentFault) → LiesAt bytes table (record { at = at; type = T }) → blocks_counted_by at (target bytes at) (count_at bytes at) ≡ Err e → LacksAt bytes table e
+  ring_counted_lack e lies is = blocks_lack bytes table at (count_at bytes at) (target bytes at) e is
+      (null_lacks bytes table at T tag each (Form.list U) lies f (refl, refl))
+      (λ p names none. in_cell T (Form.list U) lies f (record {
+        names = λ null. absurd (let no : None ≡ Some p = sym null ∙ names in cc);
+        none = λ nodes ring counted. none_there p nodes (subst (λ o. IsRing bytes o nodes) names ring) (counted ∙ none);
+      }))
+    where
+      none_there : (p : ℕ) (nodes : List ℕ) → IsRing bytes (Some p) nodes → length nodes ≡ 0 → ⊥
+      none_there p [] ring many = absurd ring
+      none_there p (x ∷ xs) ring many = absurd (omega arith)
+
+  -- the first node can't be claimed
+  pub first_lacks : (bs : List ℕ) (word size : ℕ) → bs ≡ bytes → word ≡ tag → size ≡ each → LiesAt bytes table (record { at = at; type = T }) → (e : ContentFault) → RefusesClaim bs old at word (1 * size) e → LacksAt bytes table e
+  first_lacks bs word size e t s lies fault r =
+      let room : 1 * size ≡ each = (let one : 1 * size ≡ size = omega arith in one) ∙ s in
+      value_lacks bytes table old ready at T tag each (Form.list U) fault lies f (refl, refl) (refuses_as bs bytes old at word tag (1 * size) each fault e t room r)
+
+  -- a node can't be claimed
+  pub node_lacks : (bs : List ℕ) (word size : ℕ) → bs ≡ bytes → word ≡ tag → size ≡ each → (known : Known) → IsReady bytes table known → LiesAt bytes table (record { at = at; type = T }) → (pointer : ℕ) (e : ContentFault) → RefusesClaim bs known pointer word (1 * size) e → LacksAt bytes table e
+  node_lacks bs word size e t s known is lies pointer fault r =
+      let room : 1 * size ≡ each = (let one : 1 * size ≡ size = omega arith in one) ∙ s in
+      link_lacks bytes table known is at pointer T tag each (Form.list U) fault lies f tt (refl, refl) (refuses_as bs bytes known pointer word tag (1 * size) each fault e t room r)
+
+  pub ring_lacks : (now : Known) (first last n : ℕ) (b : Bool) → Walked now first last n b → LiesAt bytes table (record { at = at; type = T }) → target bytes at ≡ Some first → n ≡ count_at bytes at
+      → ((b ≡ true) × (target bytes last ≡ Some first) × (target bytes (first + 4) ≡ Some last) → ⊥) → LacksValueAt bytes table at
+  ring_lacks now first last n b w lies named n_is never = in_cell T (Form.list U) lies f (record {
+    names = λ null. absurd (let no : None ≡ Some first = sym null ∙ named in cc);
+    none = λ nodes ring counted. never (closed nodes (subst (λ o. IsRing bytes o nodes) named ring) counted);
+  })
+    where
+      closed : (nodes : List ℕ) → IsRing bytes (Some first) nodes → length nodes ≡ count_at bytes at → (b ≡ true) × (target bytes last ≡ Some first) × (target bytes (first + 4) ≡ Some last)
+      closed [] ring counted = absurd ring
+      closed (x ∷ xs) ring counted =
+          let was = w.counted in
+          let linked = subst (λ y. IsLinked bytes first y xs) ring.0 ring.1 in
+          let same = linked_chain bytes first first xs w.nodes last linked w.chain (omega arith) in
+          let links = subst (λ ys. IsLinked bytes first first ys) same linked in
+          let close = linked_close bytes first first w.nodes last links w.chain in
+          (w.linked.1 (linked_backs bytes first first w.nodes links), close.0, close.1)
 
   pub ring_closed : (now : Known) (first last n : ℕ) (b : Bool) → Walked now first last n b → target bytes at ≡ Some first → n ≡ count_at bytes at → CanResolve bytes table old (record { at = at; type = T } ∷ [])
       → (b ≡ true) × (target bytes last ≡ Some first) × (target bytes (first + 4) ≡ Some last)

@@ -4,15 +4,19 @@ use Rattle.std.proofs.Common.{◌≡◌, ℕ, zero, suc, ◌+◌, ◌*◌, ◌^�
 use Rattle.std.specs.List.{AllByRecursion}
 use Rattle.std.specs.Result.{IsErrAnd}
 use Rattle.std.proofs.lemmas.Result.{err_from_is_err_and}
-use Rattle.std.proofs.lemmas.List.{map-append}
+use Rattle.std.proofs.lemmas.List.{map-append, length-map}
 use Rattle.seg_spec.specs.Pointer.{target}
 use Rattle.seg_spec.specs.Bytes.{signed_long}
 use Rattle.seg_spec.specs.Types.{Form, Table, form_at, size}
 use Rattle.seg_spec.specs.Block.{Kind, tag_of, block_of, IsBlock}
-use Rattle.seg_spec.specs.Shapes.{Tree, leaf, fork, nodes_of, IsTree, tree_words}
+use Rattle.seg_spec.specs.Shapes.{Tree, leaf, fork, nodes_of, IsTree, IsRedBlack, tree_words}
+use Rattle.seg_spec.specs.Bytes.{word}
+use Rattle.seg_spec.specs.Header.{allocator_word}
+use Rattle.seg_spec.specs.Heap.{Span, live}
+use Rattle.seg_spec.proofs.Heap.BlockCountLaws.{few_live}
 use Rattle.seg_spec.specs.Value.{IsAscending, Label}
-use Rattle.seg_spec.specs.Reads.{Opened, AreNodes, count_at, keys_at, map_words, places_of}
-use Rattle.seg_spec.specs.Sound.{times, SameBlocks}
+use Rattle.seg_spec.specs.Reads.{Opened, Opens, AreNodes, count_at, keys_at, map_words, places_of}
+use Rattle.seg_spec.specs.Sound.{times, SameBlocks, positions}
 use Rattle.seg_spec.proofs.Heap.LiveBlockLaws.{times-same, times-append}
 use Rattle.seg_block.specs.Tags.{word_of}
 use Rattle.seg_layout.specs.Forms.{has_cells}
@@ -22,19 +26,21 @@ use Rattle.seg_check.specs.declared.fault.ContentFault.TheVariants.{BadPointer, 
 use Rattle.seg_check.specs.declared.maps.Keys.{Keys}
 use Rattle.seg_check.specs.declared.walk.Stage.{Stage}
 use Rattle.seg_check.specs.declared.walk.Visit.TheVariants.{Enter, Pass}
-use Rattle.seg_check.specs.Claiming.{Refutes, HaveLiveHeaders, CanClaim, ClaimsBlock, turns_where, has_turns}
+use Rattle.seg_check.specs.Claiming.{Refutes, HaveLiveHeaders, CanClaim, RefusesClaim, ClaimsBlock, turns_where, has_turns}
+use Rattle.seg_check.specs.Positions.{LacksValueAt, in_cell, LacksAt}
+use Rattle.seg_check.proofs.Blocks.LackingBlockLaws.{null_lacks, refuses_as, link_lacks}
 use Rattle.seg_check.specs.Marks.{Known, Within}
 use Rattle.seg_check.specs.Keys.{HasKeys}
 use Rattle.seg_check.specs.Walks.{Completes, Hangs, IsSteady, Proceeds, entering_of}
-use Rattle.seg_check.specs.Turns.{Limited, limited}
+use Rattle.seg_check.specs.Turns.{LiesAt, by_cell, Limited, limited}
 use Rattle.seg_check.specs.Resolving.{ResolvesBy, CanResolve, Advances, IsReady, Steps}
 use Rattle.seg_check.specs.Cells.{CellsPointTo, blocks_counted_by}
 use Rattle.seg_check.proofs.SameLengthLaws.{splits, within_length}
 use Rattle.seg_check.proofs.Queue.QueueOrderLaws.{without, in_any_order}
 use Rattle.seg_check.proofs.Queue.QueueStepLaws.{advance_mixed, can_open}
 use Rattle.seg_check.proofs.Blocks.CellClaimLaws.{advance_nothing}
-use Rattle.seg_check.proofs.Contents.BufferLaws.{content_claimed, content_can}
-use Rattle.seg_check.proofs.Contents.NodeLaws.{turns_of, Claimed, one_node, claimed_none, claimed_more, claimed_live, nodes_within, nodes_others, within_rest, node_room, values_of, values_known, claimed_wait}
+use Rattle.seg_check.proofs.Contents.BufferLaws.{content_claimed, content_can, blocks_lack}
+use Rattle.seg_check.proofs.Contents.NodeLaws.{turns_of, Claimed, one_node, claimed_none, claimed_more, claimed_live, claimed_ready, nodes_within, nodes_others, within_rest, node_room, values_of, values_known, claimed_wait}
 use Rattle.seg_check.proofs.WalkStateLaws.{Followed, hangs_once, follow_enter, follow_pass, follow_end, follow_all, follow_refused}
 
 -- ---- lists with the same numbers
@@ -169,15 +175,13 @@ module _ (bytes : List ℕ) (table : Table) (old : Known) (ready : IsReady bytes
     tree_opened : List ℕ → Opened
     tree_opened nodes = record { label = Label.map (keys_of nodes); blocks = map block_of nodes; parts = values_of bytes table old ready T map_words U nodes }
 
-    traced_advance : (next : Stage) → Proceeds bytes stage next None → IsAscending (keys_of t.passed) → Advances bytes table old mid (record { at = at; type = T } ∷ [])
+    traced_advance : (next : Stage) → LiesAt bytes table (record { at = at; type = T }) → Proceeds bytes stage next None → IsAscending (keys_of t.passed) → Advances bytes table old mid (record { at = at; type = T } ∷ [])
     unfolding tree_opened
-    traced_advance next step ascending =
+    traced_advance next lies step ascending =
         let w = follow_end bytes at (count_at bytes at) stage turns t.passed t.entered t.followed next step in
         let same = hangs_once bytes at (count_at bytes at) stage.above.blacks t.passed t.entered w in
-        let waits = claimed_wait bytes table old ready T map_words U (Form.map U) f (λ p. refl) mid t.entered t.claimed in
         let blocks = mapped_same block_of t.entered t.passed same in
-        advance_mixed bytes table old mid (record { at = at; type = T }) (Form.map U) (tree_opened t.passed) (values_of bytes table old ready T map_words U t.entered) (turns_of has t.entered) f
-        (record {
+        let opens : Opens bytes table (record { at = at; type = T }) (Form.map U) (tree_opened t.passed) = record {
           tree = w.tree;
           is_tree = w.is_tree;
           red_black = record { root = w.black; height = stage.above.blacks; balanced = w.balanced };
@@ -185,7 +189,9 @@ module _ (bytes : List ℕ) (table : Table) (old : Known) (ready : IsReady bytes
           are_nodes = subst (AreNodes bytes tag each) (sym w.nodes_are) (same_each (λ p. IsBlock bytes p tag each) t.entered t.passed same t.claimed.are_nodes);
           ascending = subst (λ ps. IsAscending (keys_of ps)) (sym w.nodes_are) ascending;
           opened_is = ap tree_opened (sym w.nodes_are);
-        })
+        } in
+        let waits = claimed_wait bytes table old ready T map_words U (Form.map U) f (λ p. refl) mid t.entered (λ h there. by_cell (tree_opened t.passed) lies f opens (omega (arith, there, blocks h))) t.claimed in
+        advance_mixed bytes table old mid (record { at = at; type = T }) (Form.map U) (tree_opened t.passed) (values_of bytes table old ready T map_words U t.entered) (turns_of has t.entered) f opens
         refl
         (λ u left below others names. (
           values_in_any_order bytes table U map_words u left below t.passed t.entered others names (λ h. sym (same h)),
@@ -193,6 +199,7 @@ module _ (bytes : List ℕ) (table : Table) (old : Known) (ready : IsReady bytes
         ))
         (record {
           claimed = (λ h. t.claimed.claims.claimed h ∙ times-append h (map block_of t.entered) mid.unclaimed ∙ ap (λ n. n + times h mid.unclaimed) (blocks h) ∙ sym (times-append h (map block_of t.passed) mid.unclaimed));
+          allocated_kept = t.claimed.claims.allocated_kept;
           counted = t.claimed.claims.counted;
           turns_are = t.claimed.claims.turns_are;
           naming_kept = t.claimed.claims.naming_kept;
@@ -283,7 +290,57 @@ module _ (bytes : List ℕ) (table : Table) (old : Known) (ready : IsReady bytes
           (λ r. let p = planted r in
           some_there q p.hangs.tree (subst (λ o. IsTree bytes o p.hangs.tree) t p.hangs.is_tree) (ap length p.hangs.nodes_are ∙ p.hangs.counted ∙ c))
 
+  pub tree_counted_lack : (e : ContentFault) → LiesAt bytes table (record { at = at; type = T }) → blocks_counted_by at (target bytes at) (count_at bytes at) ≡ Err e → LacksAt bytes table e
+  tree_counted_lack e lies is = blocks_lack bytes table at (count_at bytes at) (target bytes at) e is
+      (null_lacks bytes table at T tag each (Form.map U) lies f (refl, refl))
+      (λ p names none. in_cell T (Form.map U) lies f (record {
+        names = λ null. absurd (let no : None ≡ Some p = sym null ∙ names in cc);
+        none = λ tree is_tree red_black counted within ascending. some_there p tree (subst (λ o. IsTree bytes o tree) names is_tree) (counted ∙ none);
+      }))
+    where
+      some_there : (p : ℕ) (tree : Tree) → IsTree bytes (Some p) tree → length (nodes_of tree) ≡ 0 → ⊥
+      some_there p leaf hangs counted = hangs
+      some_there p (fork left x colour right) hangs counted = omega (arith, length-append (nodes_of left) (x ∷ nodes_of right))
+
+  -- the nodes of a tree in allocated blocks are few
+  allocated_few : (nodes : List ℕ) → Within (map block_of nodes) (positions (live bytes)) → 16 + 32 * length nodes ≤ length bytes
+  allocated_few nodes within =
+      let less = within_length (map block_of nodes) (positions (live bytes)) within in
+      let same = mapped_length block_of nodes in
+      let blocks = length-map (live bytes) (λ (b : Span). b.at) in
+      let few = few_live (word bytes allocator_word) bytes ready.heap in
+      omega arith
+
+  -- a tree with its nodes in the order of a walk
+  hangs_of : (tree : Tree) → IsTree bytes (target bytes at) tree → (red_black : IsRedBlack tree) → length (nodes_of tree) ≡ count_at bytes at → Hangs bytes at (count_at bytes at) red_black.height (nodes_of tree) (entering_of tree)
+  hangs_of tree is_tree red_black counted = record {
+    tree = tree;
+    is_tree = is_tree;
+    black = red_black.root;
+    balanced = red_black.balanced;
+    nodes_are = refl;
+    entering_are = refl;
+    counted = counted;
+  }
+
+  -- a node can't be claimed
+  pub node_lacks : (bs : List ℕ) (word size : ℕ) → bs ≡ bytes → word ≡ tag → size ≡ each → (known : Known) → IsReady bytes table known → LiesAt bytes table (record { at = at; type = T }) → (pointer : ℕ) (e : ContentFault) → RefusesClaim bs known pointer word (1 * size) e → LacksAt bytes table e
+  node_lacks bs word size e t s known is lies pointer fault r =
+      let room : 1 * size ≡ each = (let one : 1 * size ≡ size = omega arith in one) ∙ s in
+      link_lacks bytes table known is at pointer T tag each (Form.map U) fault lies f tt (refl, refl) (refuses_as bs bytes known pointer word tag (1 * size) each fault e t room r)
+
   module _ (mid : Known) (stage : Stage) (turns : ℕ) (keys : Keys) (t : Traced mid stage turns keys) where
+    pub traced_ready : IsReady bytes table mid
+    traced_ready = claimed_ready bytes table old ready T map_words U mid t.entered t.claimed
+
+    -- if the walk can't continue, there is no such tree
+    pub traced_lacks : LiesAt bytes table (record { at = at; type = T }) → (target bytes at ≡ None → ⊥) → ((height : ℕ) (rest entering : List ℕ) → Completes bytes height stage rest entering → height < 30 → length rest + length entering < turns → ⊥) → LacksValueAt bytes table at
+    traced_lacks lies names never = in_cell T (Form.map U) lies f (record {
+      names = names;
+      none = λ tree is_tree red_black counted within ascending.
+          follow_refused bytes at (count_at bytes at) stage turns t.passed t.entered t.followed never red_black.height (nodes_of tree) (entering_of tree) (hangs_of tree is_tree red_black counted) (allocated_few (nodes_of tree) within);
+    })
+
     -- if the walk can't continue, the map can't be resolved
     pub traced_refused : ((height : ℕ) (rest entering : List ℕ) → Completes bytes height stage rest entering → height < 30 → length rest + length entering < turns → ⊥)
         → CanResolve bytes table old (record { at = at; type = T } ∷ []) → ⊥
@@ -316,19 +373,26 @@ module _ (bytes : List ℕ) (table : Table) (old : Known) (ready : IsReady bytes
         }
 
     -- at the walk's end, whether the map can be resolved depends on the order of its keys
-    pub traced_steps : {A : Type 0} (next : Stage) (r : Result A ContentFault) → Proceeds bytes stage next None
+    pub traced_steps : {A : Type 0} (next : Stage) (r : Result A ContentFault) → LiesAt bytes table (record { at = at; type = T }) → (target bytes at ≡ None → ⊥) → Proceeds bytes stage next None
         → ((ks : List ℤ) → HasKeys keys ks → MatchResult r (λ _. IsAscending ks) (λ e. (e ≡ BadValue at) × (IsAscending ks → ⊥))) → Steps bytes table old mid (record { at = at; type = T } ∷ []) r
-    traced_steps next r step decides = go r (decides (keys_of t.passed) (t.keys_are (all_low mid stage turns keys t next step)))
+    traced_steps next r lies names step decides = go r (decides (keys_of t.passed) (t.keys_are (all_low mid stage turns keys t next step)))
       where
         go : {A : Type 0} (r : Result A ContentFault) → MatchResult r (λ _. IsAscending (keys_of t.passed)) (λ e. (e ≡ BadValue at) × (IsAscending (keys_of t.passed) → ⊥))
             → Steps bytes table old mid (record { at = at; type = T } ∷ []) r
-        go (Ok x) m = traced_advance mid stage turns keys t next step m
+        go (Ok x) m = traced_advance mid stage turns keys t next lies step m
         go (Err e) m =
-            subst (λ g. Refutes g (CanResolve bytes table old (record { at = at; type = T } ∷ []))) (sym m.0)
-            (λ r.
-            let p = planted r in
-            let same = follow_all bytes at (count_at bytes at) stage turns t.passed t.entered t.followed next step p.height p.nodes p.all p.hangs in
-            m.1 (subst (λ ns. IsAscending (keys_of ns)) same p.ascending))
+            subst (λ g. Refutes g (CanResolve bytes table old (record { at = at; type = T } ∷ [])) × LacksAt bytes table g) (sym m.0) (
+              (λ r.
+                  let p = planted r in
+                  let same = follow_all bytes at (count_at bytes at) stage turns t.passed t.entered t.followed next step p.height p.nodes p.all p.hangs in
+                  m.1 (subst (λ ns. IsAscending (keys_of ns)) same p.ascending)),
+              in_cell T (Form.map U) lies f (record {
+                names = names;
+                none = λ tree is_tree red_black counted within ascending.
+                    let same = follow_all bytes at (count_at bytes at) stage turns t.passed t.entered t.followed next step red_black.height (nodes_of tree) (entering_of tree) (hangs_of tree is_tree red_black counted) in
+                    m.1 (subst (λ ns. IsAscending (keys_of ns)) same ascending);
+              }),
+            )
 
 -- ---- the claims of the program
 

@@ -13,25 +13,28 @@ use Rattle.seg_spec.specs.Value.{Label, Values}
 use Rattle.seg_spec.specs.Apart.{Separate}
 use Rattle.seg_spec.specs.Shared.{names_each}
 use Rattle.seg_spec.specs.Heap.{heap_start, units_at, live}
-use Rattle.seg_spec.specs.Block.{Kind, kind_number, tag_of, block_of, IsBlock, IsPayload}
+use Rattle.seg_spec.specs.Block.{Kind, kind_number, tag_of, block_of, payload_end, IsBlock, IsPayload}
 use Rattle.seg_spec.specs.Frozen.{frozen_words}
 use Rattle.seg_spec.specs.Reads.{Place, Opened, Opens, OpensShared, HoldsEach, holds, holds_none, named, count_at, shared_label}
 use Rattle.seg_spec.specs.Sound.{times, positions}
 use Rattle.seg_spec.proofs.Heap.LiveBlockLaws.{times-same, times-other, times-append, LiesIn, OneOrApart, live-lie, live-apart, there}
 use Rattle.seg_check.specs.declared.fault.ContentFault.{ContentFault}
 use Rattle.seg_check.specs.declared.marks.Waiting.{Waiting}
+use Rattle.seg_check.specs.declared.fault.ContentFault.TheVariants.{Memory, BadPointer}
 use Rattle.seg_check.specs.Claiming.{Refutes}
+use Rattle.seg_check.specs.Positions.{LacksValueAt, lacks_block, in_value, in_cell, LacksAt}
 use Rattle.seg_check.specs.Marks.{Known, Within}
 use Rattle.seg_check.specs.Naming.{IsFrozen, SameOthers, IsUnder, CanBeTarget, IsNameable, frozen_number_at, slot_of, less, one_less, Counts}
 use Rattle.seg_check.specs.Naming.{CountsBlock, blocks_of, unseen_at, standing_at, Finds, CanName, NamesFirst, NamesAgain, NamesBlock}
-use Rattle.seg_check.specs.Turns.{Limited, owned_places, awaited, IsWaiting, AreWaiting, AreLow}
+use Rattle.seg_check.specs.Turns.{LiesAt, by_sharing, Limited, owned_places, awaited, IsWaiting, AreWaiting, AreLow, EndsBy}
 use Rattle.seg_check.specs.Resolving.{ReadsEach, reads_more, ResolvesBy, Resolves, CanResolve, Advances, IsReady}
 use Rattle.seg_check.specs.Cells.{blocks_counted_by}
 use Rattle.seg_check.proofs.Queue.ReadPlaceLaws.{own_names, positions_of}
 use Rattle.seg_check.proofs.Blocks.FrozenClaimLaws.{blocks_append}
 use Rattle.seg_check.proofs.Queue.QueueStepLaws.{can_open, open_back, limit}
 use Rattle.seg_check.proofs.Blocks.CellClaimLaws.{named_some, named_none, advance_nothing}
-use Rattle.seg_check.proofs.Contents.BufferLaws.{blocks_refused, few_named}
+use Rattle.seg_check.proofs.Contents.BufferLaws.{blocks_refused, blocks_lack, none_counts, few_named}
+use Rattle.seg_check.proofs.Blocks.LackingBlockLaws.{null_lacks}
 use Rattle.seg_check.proofs.Heap.TagLaws.{places_tagged}
 use Rattle.seg_check.proofs.Queue.BlockLoopLaws.{frozen_is}
 
@@ -103,6 +106,27 @@ module _ (bytes : List ℕ) (table : Table) (at T U : ℕ) (f : form_at table T 
 
   pub shared_many : (known : Known) → 2 ≤ count_at bytes at → CanResolve bytes table known (record { at = at; type = T } ∷ []) → ⊥
   shared_many known many r = absurd (omega (arith, many, shared_counts known r, few_named bytes at))
+
+  pub shared_counted_lack : (e : ContentFault) → LiesAt bytes table (record { at = at; type = T }) → blocks_counted_by at (target bytes at) (count_at bytes at) ≡ Err e → LacksAt bytes table e
+  shared_counted_lack e lies is = blocks_lack bytes table at (count_at bytes at) (target bytes at) e is
+      (null_lacks bytes table at T tag room (Form.shared U) lies f (refl, refl))
+      (λ p names none. in_cell T (Form.shared U) lies f (inl (none_counts bytes at p names none)))
+
+  pub shared_many_lack : LiesAt bytes table (record { at = at; type = T }) → 2 ≤ count_at bytes at → LacksValueAt bytes table at
+  shared_many_lack lies many = in_cell T (Form.shared U) lies f (inl (inl many))
+
+  -- the cell doesn't point to a frozen object
+  pub shared_lacks : (known : Known) (e : ContentFault) → IsReady bytes table known → LiesAt bytes table (record { at = at; type = T }) → (e ≡ Memory) ⊎ (e ≡ BadPointer at) → Refutes e (CanName bytes known at tag room) → LacksAt bytes table e
+  shared_lacks known e ready lies (inl same) refused = subst (LacksAt bytes table) (sym same) tt
+  shared_lacks known e ready lies (inr same) refused =
+      let none = subst (λ x. Refutes x (CanName bytes known at tag room)) same refused in
+      subst (LacksAt bytes table) (sym same) (lacks_block tag room (in_value T (Form.shared U) lies f (refl, refl)) (λ p.
+      let frozen = ready.frozen (block_of p.start) (ap (λ t. t % 256) p.is_block.has_tag ∙ frozen_tag U) in
+      none (record { start = p.start; names = p.names; is_block = p.is_block; there = omega (arith, frozen, p.among) })))
+
+  -- the cell points to a frozen object, whose number isn't below the limit
+  pub shared_high : (old new : Known) (p : ℕ) → IsReady bytes table old → LiesAt bytes table (record { at = at; type = T }) → NamesBlock bytes old new at tag room p → LacksValueAt bytes table at
+  shared_high old new p ready lies n = in_cell T (Form.shared U) lies f (inr (record { start = p; names = n.names; is_block = n.is_block; among = omega (arith, n.there, ready.standing (block_of p)) }))
 
   -- if a cell can be resolved, it may point to its target
   pub shared_named : (known : Known) (p : ℕ) → target bytes at ≡ Some p → CanResolve bytes table known (record { at = at; type = T } ∷ []) → CanBeTarget bytes table known.naming.below (record { at = p; type = U })
@@ -238,6 +262,7 @@ module _ (bytes : List ℕ) (table : Table) (at T U : ℕ) (f : form_at table T 
       standing_within = λ h. omega (arith, standing_then h);
       standing_kept = λ h z. standing_then h;
       unseen_kept = λ h z. unseen_then h;
+      allocated_kept = n.allocated_kept;
       counts = counts_then;
     }
 
@@ -253,8 +278,8 @@ module _ (bytes : List ℕ) (table : Table) (at T U : ℕ) (f : form_at table T 
 
     -- ---- the queue's entry for the object
 
-    is_waiting : NamesFirst bytes old new start → IsWaiting bytes table (record { turn = record { start = start; count = 1 }; below = Some (frozen_number_at bytes start) })
-    is_waiting first =
+    is_waiting : LiesAt bytes table (record { at = at; type = T }) → NamesFirst bytes old new start → IsWaiting bytes table (record { turn = record { start = start; count = 1 }; below = Some (frozen_number_at bytes start) })
+    is_waiting lies first =
         let b = ready.blocks block (omega (arith, first.was_unclaimed)) in
         let places = places_tagged bytes table ready.is_table (record { start = start; count = 1 }) Kind.frozen U n.is_block.has_tag in
         let inside = b.0.inside in
@@ -262,8 +287,9 @@ module _ (bytes : List ℕ) (table : Table) (at T U : ℕ) (f : form_at table T 
         let room = n.is_block.room in
         let small = ready.small in
         let low : start + 8 ≤ 2 ^ 30 = omega (arith, after) in
+        let ends : start + 8 + Rattle.seg_spec.specs.Types.size table U ≤ payload_end bytes block = omega (arith, after) in
         record {
-          turn = record { low = subst AreLow (sym places) (low, tt); ownable = b.1 };
+          turn = record { reached = by_sharing lies f n.names; fits = subst (AllByRecursion (EndsBy table (payload_end bytes block))) (sym places) (ends, tt); low = subst AreLow (sym places) (low, tt); ownable = b.1 };
           frozen = λ z. record { one = refl; after_header = n.is_block.after_header; number_is = refl };
         }
 
@@ -273,14 +299,14 @@ module _ (bytes : List ℕ) (table : Table) (at T U : ℕ) (f : form_at table T 
       pub are_waiting : AreWaiting bytes table turns
       pub none_owned : awaited bytes table turns ≡ []
 
-    waits : Waits
-    waits = go n.changes
+    waits : LiesAt bytes table (record { at = at; type = T }) → Waits
+    waits lies = go n.changes
       where
         go : NamesFirst bytes old new start ⊎ NamesAgain old new start → Waits
         go (inl first) = record {
           turns = record { turn = record { start = start; count = 1 }; below = Some (frozen_number_at bytes start) } ∷ [];
           turns_are = first.turns_are;
-          are_waiting = (is_waiting first, tt);
+          are_waiting = (is_waiting lies first, tt);
           none_owned = append-nil (owned_places bytes table (record { turn = record { start = start; count = 1 }; below = Some (frozen_number_at bytes start) })) ∙ frozen_is bytes table (record {
             turn = record { start = start; count = 1 };
             below = Some
@@ -334,10 +360,10 @@ module _ (bytes : List ℕ) (table : Table) (at T U : ℕ) (f : form_at table T 
                 };
               }
 
-      pub advance_shared : IsUnder old.naming.below (frozen_number_at bytes start) → Advances bytes table old new (record { at = at; type = T } ∷ [])
+      pub advance_shared : LiesAt bytes table (record { at = at; type = T }) → IsUnder old.naming.below (frozen_number_at bytes start) → Advances bytes table old new (record { at = at; type = T } ∷ [])
       unfolding opened
-      advance_shared under =
-          let w = waits in
+      advance_shared lies under =
+          let w = waits lies in
           let below = old.naming.below in
           let p : Place = record { at = at; type = T } in
           record {

@@ -36,6 +36,7 @@ module _ (bytes : List ℕ) (table : Table) (front : HasFront bytes table) (tile
   ready_known known knows room = record {
     is_table = front.is_table;
     heap = is_heap;
+    allocated = knows.allocated;
     blocks = blocks_known known knows;
     few = few_known known knows;
     small = front.header.not_large;

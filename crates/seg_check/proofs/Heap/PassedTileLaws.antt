@@ -10,6 +10,7 @@ use Rattle.seg_check.specs.Marks.{Known, AddsBlock, AreBlocksCounted, KnowsTiles
 
 -- the blocks of these tiles are known, and no block was claimed
 pub record KnowsPassed (known : Known) (units slots : ℕ) (passed : List Tile) : Type 0 where
+  pub allocated : SameBlocks known.allocated (positions (live_of passed))
   pub unclaimed : SameBlocks known.unclaimed (positions (live_of passed))
   pub free : SameBlocks known.free (positions (free_of passed))
   pub counted : AreBlocksCounted known
@@ -21,6 +22,7 @@ pub record KnowsPassed (known : Known) (units slots : ℕ) (passed : List Tile) 
 
 pub knows_none : (known : Known) (units slots : ℕ) → known ≡ nothing_known units slots → KnowsPassed known units slots []
 knows_none known units slots new = record {
+  allocated = λ h. ap (λ (k : Known). times h k.allocated) new;
   unclaimed = λ h. ap (λ (k : Known). times h k.unclaimed) new;
   free = λ h. ap (λ (k : Known). times h k.free) new;
   counted = record {
@@ -54,14 +56,17 @@ module _ (old : Known) (units slots : ℕ) (passed : List Tile) (k : KnowsPassed
   pub no_live : times at old.unclaimed ≡ 0
   no_live = k.unclaimed at ∙ none_there at (positions (live_of passed)) (live_below at passed below)
 
+  pub no_block : times at old.allocated ≡ 0
+  no_block = k.allocated at ∙ none_there at (positions (live_of passed)) (live_below at passed below)
+
   pub no_free : times at old.free ≡ 0
   no_free = k.free at ∙ none_there at (positions (free_of passed)) (free_below at passed below)
 
-  live_more : (t : Tile) (h : ℕ) → t.at ≡ at → times h (cond t.live (at ∷ old.unclaimed) old.unclaimed) ≡ times h (positions (live_of (passed ++ t ∷ [])))
-  live_more t h here =
-      (elim t.live as (λ l. times h (cond l (at ∷ old.unclaimed) old.unclaimed) ≡ times h (positions (live_of passed ++ cond l (span_of t ∷ []) []))) [
-        | true ↦ ap (λ p. times h (p ∷ old.unclaimed)) (sym here) ∙ one_more h t.at t.units old.unclaimed (live_of passed) (k.unclaimed h)
-        | false ↦ k.unclaimed h ∙ ap (λ bs. times h (positions bs)) (sym (append-nil (live_of passed)))
+  live_more : (us : List ℕ) → SameBlocks us (positions (live_of passed)) → (t : Tile) (h : ℕ) → t.at ≡ at → times h (cond t.live (at ∷ us) us) ≡ times h (positions (live_of (passed ++ t ∷ [])))
+  live_more us were t h here =
+      (elim t.live as (λ l. times h (cond l (at ∷ us) us) ≡ times h (positions (live_of passed ++ cond l (span_of t ∷ []) []))) [
+        | true ↦ ap (λ p. times h (p ∷ us)) (sym here) ∙ one_more h t.at t.units us (live_of passed) (were h)
+        | false ↦ were h ∙ ap (λ bs. times h (positions bs)) (sym (append-nil (live_of passed)))
       ])
       ∙ ap (λ bs. times h (positions bs)) (sym (live_of-append passed (t ∷ [])))
 
@@ -75,7 +80,8 @@ module _ (old : Known) (units slots : ℕ) (passed : List Tile) (k : KnowsPassed
 
   pub knows_more : (new : Known) (t : Tile) → t.at ≡ at → AddsBlock old at t.live new → new.units ≡ old.units → KnowsPassed new units slots (passed ++ t ∷ [])
   knows_more new t here adds same = record {
-    unclaimed = λ h. adds.unclaimed h ∙ live_more t h here;
+    allocated = λ h. adds.allocated h ∙ live_more old.allocated k.allocated t h here;
+    unclaimed = λ h. adds.unclaimed h ∙ live_more old.unclaimed k.unclaimed t h here;
     free = λ h. adds.free h ∙ free_more t h here;
     counted = adds.counted k.counted;
     no_turns = adds.turns_kept ∙ k.no_turns;
@@ -88,6 +94,7 @@ module _ (old : Known) (units slots : ℕ) (passed : List Tile) (k : KnowsPassed
 pub knows_all : (bytes : List ℕ) (known : Known) (units slots : ℕ) (passed : List Tile) → KnowsPassed known units slots passed → tiles bytes ≡ passed → KnowsTiles bytes known
 unfolding live
 knows_all bytes known units slots passed k all = record {
+  allocated = λ h. k.allocated h ∙ ap (λ ts. times h (positions (live_of ts))) (sym all);
   unclaimed = λ h. k.unclaimed h ∙ ap (λ ts. times h (positions (live_of ts))) (sym all);
   free = λ h. k.free h ∙ ap (λ ts. times h (positions (free_of ts))) (sym all);
   counted = k.counted;

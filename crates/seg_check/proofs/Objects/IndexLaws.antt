@@ -9,12 +9,15 @@ use Rattle.seg_spec.proofs.Images.OwnedTagLaws.{index_other}
 use Rattle.std.proofs.lemmas.Bool.{cases_eq}
 use Rattle.seg_spec.specs.Block.{Kind, kind_number, IsBlock, block_of, tag_of}
 use Rattle.seg_spec.specs.Reads.{named, start, count_at, spaced}
-use Rattle.seg_spec.specs.Shapes.{Tree, leaf, nodes_of, IsTree, tree_words}
-use Rattle.seg_spec.specs.Index.{Root, Index, OpensFlat, OpensTreeIndex, OpensIndex, AreEntries, AreAscending}
+use Rattle.seg_spec.specs.Shapes.{Tree, leaf, fork, nodes_of, IsTree, tree_words}
+use Rattle.seg_spec.specs.Index.{Root, Index, OpensFlat, OpensTreeIndex, OpensIndex, AreEntries, AreAscending, index_node_size}
 use Rattle.seg_spec.specs.Sound.{times}
 use Rattle.seg_spec.proofs.Heap.LiveBlockLaws.{times-append, times-same}
 use Rattle.seg_spec.proofs.Values.OneValueLaws.{IsTree-one}
-use Rattle.seg_check.specs.Claiming.{CanClaim}
+use Rattle.seg_check.specs.declared.fault.ContentFault.{ContentFault}
+use Rattle.seg_check.specs.Claiming.{CanClaim, RefusesClaim}
+use Rattle.seg_check.specs.Positions.{AreEntriesBefore, no_name, LacksBlockAt, lacks_block, to_entries, to_index_node, LacksNameAt, as_index, LacksAt}
+use Rattle.seg_check.proofs.Blocks.LackingBlockLaws.{null_points, refuses_as, must_lack}
 use Rattle.seg_check.specs.Marks.{Known, ClaimsAll, Within}
 use Rattle.seg_check.specs.Naming.{SameOthers, Finds}
 use Rattle.seg_check.specs.Turns.{Limited, awaited}
@@ -22,7 +25,7 @@ use Rattle.seg_check.specs.Resolving.{IsReady}
 use Rattle.seg_check.specs.Roots.{Ahead, names_ahead, ResolvesRoots, ResolvesIndex, CanResolveRoots, CanResolveIndex, AdvancesRoots, AdvancesIndex}
 use Rattle.seg_check.proofs.Blocks.FrozenClaimLaws.{other_block, none_frozen, finds_claimed, finds_more}
 use Rattle.seg_check.proofs.Queue.QueueStepLaws.{within_taken, within_trans, ready_found}
-use Rattle.seg_check.proofs.Blocks.CellClaimLaws.{named_some, named_none, start_some, names_room, no_room, can_claim}
+use Rattle.seg_check.proofs.Blocks.CellClaimLaws.{named_some, named_none, start_some, names_room, no_room, none_counted, can_claim}
 use Rattle.seg_check.proofs.Objects.RootReadLaws.{roots_none}
 use Rattle.seg_check.specs.Claiming.{ClaimsBlock, turns_where, has_turns}
 use Rattle.seg_cells.specs.Contents.{IsIndexBuffer}
@@ -162,13 +165,34 @@ module _ (bytes : List ℕ) (table : Table) where
     pub index_empty : (old : Known) → word bytes index_kind_word ≤ 1 → count_at bytes index_cell ≡ 0 → AdvancesIndex bytes table old old
     index_empty old l n =
         index_advance old old (record { blocks = []; entries = [] }) (opens_empty (word bytes index_kind_word) l n) (one_empty (word bytes index_kind_word) l n)
-        (record { claimed = λ h. refl; counted = λ c. c; turns_are = sym (append-nil old.turns); naming_kept = refl }) old [] (roots_none bytes table old (names_ahead [] []))
+        (record { claimed = λ h. refl; allocated_kept = λ h. refl; counted = λ c. c; turns_are = sym (append-nil old.turns); naming_kept = refl }) old [] (roots_none bytes table old (names_ahead [] []))
 
   pub index_within : (known : Known) (can : CanResolveIndex bytes table known) → Within can.resolves.index.blocks known.unclaimed
   index_within known can h = ⊎_elim
       (λ frozen. omega (arith, none_frozen bytes h can.resolves.index.blocks frozen (index_other bytes (word bytes index_kind_word) can.resolves.index can.resolves.opens)))
       (λ other. omega (arith, can.resolves.owners h other, times-append h can.resolves.index.blocks can.resolves.rest))
       (cases_eq (tag_at bytes h % 256) (kind_number Kind.frozen))
+
+  -- an index with a null pointer has no names
+  pub index_counted : target bytes index_cell ≡ None → (known : Known) → 1 ≤ count_at bytes index_cell → CanResolveIndex bytes table known → ⊥
+  index_counted null known some can = go (word bytes index_kind_word) can.resolves.index can.resolves.opens
+    where
+      no_nodes : (tree : Tree) → IsTree bytes None tree → length (nodes_of tree) ≡ count_at bytes index_cell → ⊥
+      no_nodes leaf is counted = omega (arith, some, counted)
+      no_nodes (fork left x colour right) is counted = is
+
+      go : (k : ℕ) (index : Index) → OpensIndex bytes k index → ⊥
+      go zero index o = omega (arith, some, none_counted bytes index_cell (tag_of Kind.index_buffer 0) 8 null o.named_room)
+      go (suc k) index o = no_nodes o.tree (subst (λ t. IsTree bytes t o.tree) null o.is_tree) o.counted
+
+  -- the pointer is null although there are names
+  pub index_null : word bytes index_kind_word ≤ 1 → target bytes index_cell ≡ None → LacksBlockAt bytes table index_cell
+  index_null small null = go (word bytes index_kind_word) refl small
+    where
+      go : (k : ℕ) → word bytes index_kind_word ≡ k → k ≤ 1 → LacksBlockAt bytes table index_cell
+      go zero e l = lacks_block _ _ (to_entries refl e) (null_points bytes index_cell (tag_of Kind.index_buffer 0) (count_at bytes index_cell * 8) null)
+      go (suc zero) e l = lacks_block _ _ (to_index_node e) (null_points bytes index_cell (tag_of Kind.index_node 0) index_node_size null)
+      go (suc (suc k)) e l = absurd (omega arith)
 
   -- ---- a flat index
 
@@ -200,6 +224,12 @@ module _ (bytes : List ℕ) (table : Table) where
         let both : Some p ≡ None = sym named_it ∙ none in
         cc
 
+    pub flat_none : n ≡ 0 → LacksNameAt bytes table index_cell
+    flat_none e = as_index refl (λ index opens within.
+        let none = (flat_of index opens).none_if_empty (sym counted ∙ e) in
+        let both : Some p ≡ None = sym named_it ∙ none in
+        cc)
+
     pub flat_can : (old : Known) → CanResolveIndex bytes table old → CanClaim bytes old index_cell (tag_of Kind.index_buffer 0) (n * 8)
     flat_can old can =
         let o = flat_of can.resolves.index can.resolves.opens in
@@ -210,6 +240,12 @@ module _ (bytes : List ℕ) (table : Table) where
       pub flat_names : CanResolveIndex bytes table old → CanResolveRoots bytes table mid (names_ahead (spaced p 8 n) [])
       unfolding flat_index
       flat_names = index_names old mid flat_index (flat_opens some block) flat_one claims
+
+      -- the entries before the next one, and the index that they are of
+      pub flat_entry : {X : Type 0} (entries before : List ℕ) → (AreEntriesBefore bytes table (spaced p 8 n) (spaced p 8 n) [] → AreEntriesBefore bytes table (spaced p 8 n) entries before)
+          → ((index : Index) → OpensIndex bytes (word bytes index_kind_word) index → AreEntriesBefore bytes table index.entries entries before → X) → X
+      unfolding flat_index
+      flat_entry entries before named give = give flat_index (flat_opens some block) (named (record { before = []; entries_are = refl; last = no_name }))
 
       pub flat_advance : (new : Known) (last : List ℕ) → AdvancesRoots bytes table mid new (names_ahead (spaced p 8 n) []) (names_ahead [] last) → AdvancesIndex bytes table old new
       unfolding flat_index
@@ -246,6 +282,11 @@ module _ (bytes : List ℕ) (table : Table) where
         subst (λ ts. ClaimsBlock bytes old mid index_cell (tag_of Kind.index_buffer 0) (n * 8) ts s) (ap (λ h. turns_where (has_turns table h) s n) is.held_is)
         (subst (λ k. ClaimsBlock bytes old mid index_cell (tag_of Kind.index_buffer 0) (n * k) (turns_where (has_turns table content.entry.held) s n) s) is.size_is
         (subst (λ t. ClaimsBlock bytes old mid index_cell t (n * content.entry.size) (turns_where (has_turns table content.entry.held) s n) s) is.tag_is c))
+
+    pub buffer_lacks : word bytes index_kind_word ≡ 0 → n ≡ count_at bytes index_cell → IsReady bytes table old → (e : ContentFault) → RefusesClaim bytes old index_cell (word_of content.tag) (n * content.entry.size) e → LacksAt bytes table e
+    buffer_lacks flat counted ready e r =
+        must_lack bytes table old ready index_cell (tag_of Kind.index_buffer 0) (count_at bytes index_cell * 8) e (to_entries refl flat)
+        (refuses_as bytes bytes old index_cell (word_of content.tag) (tag_of Kind.index_buffer 0) (n * content.entry.size) (count_at bytes index_cell * 8) e refl is.tag_is (λ i. counted i * is.size_is i) r)
 
     pub buffer_can : CanClaim bytes old index_cell (tag_of Kind.index_buffer 0) (n * 8) → CanClaim bytes old index_cell (word_of content.tag) (n * content.entry.size)
     buffer_can c =

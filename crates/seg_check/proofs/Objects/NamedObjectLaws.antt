@@ -6,7 +6,7 @@ use Rattle.seg_spec.specs.Types.{Table, form_at, size}
 use Rattle.seg_spec.specs.Value.{Values, count}
 use Rattle.std.specs.List.{AllByRecursion}
 use Rattle.seg_spec.specs.Counting.{cells_in}
-use Rattle.seg_spec.specs.Block.{Kind, kind_number, IsBlock, AllowsType, block_of, tag_of}
+use Rattle.seg_spec.specs.Block.{Kind, kind_number, IsBlock, AllowsType, block_of, payload_end, tag_of}
 use Rattle.seg_spec.specs.Owing.{entries_at}
 use Rattle.seg_spec.specs.Reads.{Place, items, spaced, HoldsEach, holds_none, holds_more, holds}
 use Rattle.seg_spec.specs.Index.{Root, plain_root, IsName, IsEntry, AreEntries, AreAscending, Precedes}
@@ -21,7 +21,9 @@ use Rattle.seg_check.specs.Claiming.{CanClaim, ClaimsBlock, turns_where}
 use Rattle.seg_check.specs.declared.marks.Turn.{Turn}
 use Rattle.seg_check.specs.Marks.{Known, awaiting}
 use Rattle.seg_check.specs.Naming.{IsFrozen, CanBeTarget}
-use Rattle.seg_check.specs.Turns.{Limited, limited, AreLow, AreKnown, AreTurns, AreWaiting, AreOthers, places_in, places_with, waiting, awaited, with_cells}
+use Rattle.seg_check.specs.Turns.{IsReachedBlock, by_name, Limited, limited, AreLow, EndsBy, IsTurn, AreKnown, AreTurns, AreWaiting, AreOthers, places_in, places_with, waiting, awaited, with_cells}
+use Rattle.seg_check.specs.Positions.{HasEntryAt, name_of_last}
+use Rattle.std.proofs.lemmas.List.{append_assoc}
 use Rattle.seg_check.specs.Resolving.{ResolvesBy, IsReady}
 use Rattle.seg_check.specs.Roots.{names_ahead, ResolvesRoots, CanResolveRoots, AdvancesRoots, ClaimsNamed, CanClaimNamed}
 use Rattle.seg_entry.specs.Names.{type_at, name_after, name_of}
@@ -31,7 +33,7 @@ use Rattle.seg_check.proofs.Heap.TagLaws.{places_tagged, allowed_as}
 use Rattle.seg_check.proofs.Queue.ReadPlaceLaws.{positions_of}
 use Rattle.seg_check.proofs.Blocks.FrozenClaimLaws.{other_block, finds_claimed}
 use Rattle.seg_check.proofs.Queue.QueueStepLaws.{cells_forth, cells_back, within_taken, awaited_one, are_awaiting}
-use Rattle.seg_check.proofs.Blocks.CellClaimLaws.{entries_low, known_places, claimed_waiting}
+use Rattle.seg_check.proofs.Blocks.CellClaimLaws.{entries_low, entries_end, known_places, claimed_waiting}
 use Rattle.seg_check.proofs.Objects.RootReadLaws.{joined, rooted}
 use Rattle.seg_spec.proofs.Images.PlainRootLaws.{plain_of}
 
@@ -73,16 +75,26 @@ module _ (bytes : List ℕ) (table : Table) (old new : Known) (ready : IsReady b
   places : places_in bytes table (record { start = p; count = n }) ≡ entries_at table p 0 T n
   places = places_tagged bytes table ready.is_table (record { start = p; count = n }) (kind_with [] name) T c.is_block.has_tag ∙ places_by_name table name T p n
 
-  turns_of : (b : Bool) → AreTurns bytes table (turns_where b p n)
-  turns_of false = tt
-  turns_of true =
+  turns_of : IsReachedBlock bytes table (block_of p) → (b : Bool) → AreTurns bytes table (turns_where b p n)
+  turns_of reached false = tt
+  turns_of reached true =
       let whole : n * (0 + size table T) ≡ n * size table T = ap (λ k. n * k) (let e : 0 + size table T ≡ size table T = omega arith in e) in
       let inside = room_inside in
       let small = ready.small in
-      (record { low = subst AreLow (sym places) (entries_low table p 0 T n (omega arith)); ownable = (ready.blocks (block_of p) claimed_some).1 }, tt)
+      let large = (ready.blocks (block_of p) claimed_some).0.size in
+      let high = c.is_block.after_header in
+      let room = c.is_block.room in
+      let end = payload_end bytes (block_of p) in
+      let turn : IsTurn bytes table (record { start = p; count = n }) = record {
+        reached = reached;
+        fits = subst (AllByRecursion (EndsBy table end)) (sym places) (entries_end table p 0 T n end (omega arith));
+        low = subst AreLow (sym places) (entries_low table p 0 T n (omega arith));
+        ownable = (ready.blocks (block_of p) claimed_some).1;
+      } in
+      (turn, tt)
 
-  pub object_are_turns : AreTurns bytes table (turns_where (has_cells (form_at table T)) p n)
-  object_are_turns = turns_of (has_cells (form_at table T))
+  pub object_are_turns : IsReachedBlock bytes table (block_of p) → AreTurns bytes table (turns_where (has_cells (form_at table T)) p n)
+  object_are_turns reached = turns_of reached (has_cells (form_at table T))
 
   waits : waiting bytes table (turns_where (has_cells (form_at table T)) p n) ≡ with_cells table (items table p T n)
   waits = claimed_waiting bytes table old new ready at 0 n 0 T p (has_cells (form_at table T)) refl places ∙ ap (with_cells table) (items_entries table p T n)
@@ -106,8 +118,8 @@ module _ (bytes : List ℕ) (table : Table) (old new : Known) (ready : IsReady b
       go false other = tt
 
   module _ (below : Option ℕ) where
-    pub object_waits : AreWaiting bytes table (awaiting below (turns_where (has_cells (form_at table T)) p n))
-    object_waits = are_awaiting bytes table below (turns_where (has_cells (form_at table T)) p n) object_are_turns object_others
+    pub object_waits : IsReachedBlock bytes table (block_of p) → AreWaiting bytes table (awaiting below (turns_where (has_cells (form_at table T)) p n))
+    object_waits reached = are_awaiting bytes table below (turns_where (has_cells (form_at table T)) p n) (object_are_turns reached) object_others
 
     awaits : awaited bytes table (awaiting below (turns_where (has_cells (form_at table T)) p n)) ≡ limited below (with_cells table (items table p T n))
     awaits = awaited_one bytes table below (turns_where (has_cells (form_at table T)) p n) object_others ∙ ap (limited below) waits
@@ -229,12 +241,37 @@ module _ (bytes : List ℕ) (table : Table) where
           found_are = k.found_are;
         }
 
+    -- the entry has this name
+    has_entry : HasEntryAt bytes table at name
+    has_entry = record {
+      type = T;
+      n = n;
+      points = record {
+        start = p;
+        names = stands.points;
+        is_block = block_named;
+        among = omega (arith, ready.standing (block_of p), c.claims.claimed (block_of p), times-same (block_of p) new.unclaimed);
+      };
+      counted = stands.counted;
+      some = stands.some;
+      measured = stands.measured;
+      zero_is = stands.zero_is;
+      is_name = is_name;
+      name_is = stands.name_is;
+    }
+
     -- the object of an entry was claimed, and its values were put in the queue
     pub advance_entry : (es last : List ℕ) (t : ℕ) → Precedes last name → AdvancesRoots bytes table old new (record { entries = at ∷ es; last = last; type = t }) (record { entries = es; last = name; type = t })
+    unfolding has_entry
     advance_entry es last t above = record {
+      named = λ entries k. record {
+        before = k.before ++ at ∷ [];
+        entries_are = k.entries_are ∙ sym (append_assoc k.before (at ∷ []) es);
+        last = name_of_last k.before at has_entry;
+      };
       turns = awaiting old.naming.below turns;
       turns_are = c.claims.turns_are;
-      are_waiting = object_waits bytes table old new ready at p T n name c old.naming.below;
+      are_waiting = object_waits bytes table old new ready at p T n name c old.naming.below (by_name T block_named.has_tag has_entry.points.among);
       within = within_taken old.unclaimed new.unclaimed (block_of p ∷ []) c.claims.claimed;
       counted = c.claims.counted;
       finds = finds_claimed bytes old new (block_of p ∷ []) turns c.claims (object_other bytes table old new ready at p T n name c, tt) (object_others bytes table old new ready at p T n name c);
@@ -355,6 +392,18 @@ module _ (bytes : List ℕ) (table : Table) where
 
     pub entry_advance : (rest : List ℕ) → IsName name → Precedes before name → AdvancesRoots bytes table old new (names_ahead (at ∷ rest) before) (names_ahead rest name)
     entry_advance rest is_name above = advance_entry old new ready at c.start c.type n name stands_named is_name (claims_again is_name) rest before 0 above
+
+    -- an entry has one name
+    pub one_name : (other : List ℕ) → HasEntryAt bytes table at other → other ≡ name
+    one_name other e =
+        let s = stands_named in
+        let both : Some e.points.start ≡ Some c.start = sym e.points.names ∙ s.points in
+        let at_same : e.points.start ≡ c.start = cc in
+        let n_same : e.n ≡ n = sym e.counted ∙ s.counted in
+        let len_same : length other ≡ length name = sym e.measured ∙ s.measured in
+        let tags : tag_of Kind.named e.type ≡ tag_of Kind.named c.type = sym e.points.is_block.has_tag ∙ ap (λ q. Rattle.seg_spec.specs.Heap.tag_at bytes (block_of q)) at_same ∙ c.claims.is_block.has_tag in
+        let type_same : e.type ≡ c.type = (one_tag Kind.named Kind.named e.type c.type tags).1 in
+        sym e.name_is ∙ (λ i. slice bytes (at_same i + n_same i * size table (type_same i)) (len_same i)) ∙ s.name_is
 
     -- if an entry can be resolved, its name is valid, and is after the name before
     pub entry_names : (rest : List ℕ) → CanResolveRoots bytes table old (names_ahead (at ∷ rest) before) → Precedes before name × IsName name

@@ -51,6 +51,7 @@ module _ (bytes : List ℕ) (table : Table) where
 
   pub roots_none : (known : Known) (ahead : Ahead) → AdvancesRoots bytes table known known ahead ahead
   roots_none known ahead = record {
+    named = (λ entries k. k);
     turns = [];
     turns_are = sym (append-nil known.turns);
     are_waiting = tt;
@@ -69,6 +70,7 @@ module _ (bytes : List ℕ) (table : Table) where
       let below = old.naming.below in
       let kept = p.finds.below_kept in
       record {
+        named = (λ entries k. q.named entries (p.named entries k));
         turns = p.turns ++ q.turns;
         turns_are = q.turns_are ∙ ap (λ ts. ts ++ q.turns) p.turns_are ∙ append_assoc old.turns p.turns q.turns;
         are_waiting = waiting_both bytes table p.turns q.turns p.are_waiting q.are_waiting;

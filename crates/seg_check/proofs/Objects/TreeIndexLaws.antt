@@ -2,17 +2,24 @@
 use Rattle.std.proofs.Common.{◌≡◌, ℕ, ◌+◌, ◌*◌, ◌<◌, ◌≤◌, List, [], ◌∷◌, ◌++◌, length, map, Some, None, refl, sym, ap, ◌∙◌, subst, arith}
 use Rattle.std.proofs.lemmas.List.{append_assoc, append-nil, map-append, length-map}
 use Rattle.seg_spec.specs.Bytes.{word}
-use Rattle.seg_spec.specs.Header.{index_kind_word, index_cell}
+use Rattle.seg_spec.specs.Header.{index_kind_word, index_cell, allocator_word}
+use Rattle.seg_spec.specs.Heap.{Span, live}
+use Rattle.seg_spec.proofs.Heap.BlockCountLaws.{few_live}
+use Rattle.std.specs.List.{AllByRecursion}
 use Rattle.seg_spec.specs.Pointer.{target}
 use Rattle.seg_spec.specs.Types.{Table}
 use Rattle.seg_spec.specs.Block.{Kind, IsBlock, block_of, tag_of}
 use Rattle.seg_spec.specs.Reads.{count_at, AreNodes}
 use Rattle.seg_spec.specs.Shapes.{nodes_of, tree_words}
 use Rattle.seg_spec.specs.Index.{Index, OpensTreeIndex, OpensIndex}
-use Rattle.seg_spec.specs.Sound.{times}
+use Rattle.seg_spec.specs.Sound.{times, positions}
 use Rattle.seg_spec.proofs.Heap.LiveBlockLaws.{times-append, times-same}
 use Rattle.seg_spec.proofs.Values.OneValueLaws.{IsTree-one}
-use Rattle.seg_check.specs.Claiming.{HaveLiveHeaders, CanClaim, ClaimsBlock, turns_where, has_turns}
+use Rattle.seg_check.specs.Claiming.{HaveLiveHeaders, CanClaim, RefusesClaim, ClaimsBlock, turns_where, has_turns}
+use Rattle.seg_check.specs.declared.fault.ContentFault.{ContentFault}
+use Rattle.seg_check.specs.Naming.{IsFrozen}
+use Rattle.seg_check.specs.Positions.{LacksNameAt, as_index, to_index_node, LacksAt}
+use Rattle.seg_check.proofs.Blocks.LackingBlockLaws.{refuses_as, must_lack}
 use Rattle.seg_block.specs.Tags.{word_of}
 use Rattle.seg_cells.specs.declared.content.Content.{Content}
 use Rattle.seg_cells.specs.declared.entry.Held.TheVariants as held
@@ -24,7 +31,7 @@ use Rattle.seg_check.specs.declared.walk.Visit.TheVariants.{Enter, Pass}
 use Rattle.seg_check.specs.Roots.{names_ahead, CanResolveRoots, CanResolveIndex, AdvancesRoots, AdvancesIndex, ClaimsTree, CanClaimTree}
 use Rattle.seg_check.proofs.SameLengthLaws.{Splits, splits, within_length}
 use Rattle.seg_spec.proofs.Images.OwnedTagLaws.{index_other}
-use Rattle.seg_check.proofs.Blocks.FrozenClaimLaws.{finds_claimed}
+use Rattle.seg_check.proofs.Blocks.FrozenClaimLaws.{other_block, finds_claimed}
 use Rattle.seg_check.proofs.Queue.QueueStepLaws.{within_taken, ready_found}
 use Rattle.seg_check.proofs.Contents.NodeLaws.{claims_both, nodes_both}
 use Rattle.seg_check.proofs.WalkStateLaws.{Followed, follow_enter, follow_pass, follow_end, follow_refused, hangs_once}
@@ -61,7 +68,7 @@ module _ (bytes : List ℕ) (table : Table) (old : Known) (ready : IsReady bytes
     entered = [];
     followed = f;
     are_nodes = tt;
-    claims = record { claimed = λ h. refl; counted = λ c. c; turns_are = sym (append-nil old.turns); naming_kept = refl };
+    claims = record { claimed = λ h. refl; allocated_kept = λ h. refl; counted = λ c. c; turns_are = sym (append-nil old.turns); naming_kept = refl };
   }
 
   -- the facts about a tree index that a walk uses
@@ -141,6 +148,7 @@ module _ (bytes : List ℕ) (table : Table) (old : Known) (ready : IsReady bytes
           claims = record {
             claimed = λ h. t.claims.claimed h ∙ times-append h (map block_of t.entered) mid.unclaimed ∙ ap (λ n. n + times h mid.unclaimed) (blocks h ∙ ap (λ xs. times h (map block_of xs)) (sym w.nodes_are)) ∙
                 sym (times-append h (map block_of (nodes_of w.tree)) mid.unclaimed);
+            allocated_kept = t.claims.allocated_kept;
             counted = t.claims.counted;
             turns_are = t.claims.turns_are;
             naming_kept = t.claims.naming_kept;
@@ -151,6 +159,35 @@ module _ (bytes : List ℕ) (table : Table) (old : Known) (ready : IsReady bytes
     traced_refused never can =
         let p = planted can in
         follow_refused bytes index_cell (count_at bytes index_cell) stage turns t.passed t.entered t.followed never can.opens.red_black.height (nodes_of can.opens.tree) p.all p.hangs p.few
+
+    -- if the walk can't continue, there is no such index
+    pub traced_lacks : word bytes index_kind_word ≡ 1 → ((height : ℕ) (rest entering : List ℕ) → Completes bytes height stage rest entering → height < 30 → length rest + length entering < turns → ⊥) → LacksNameAt bytes table index_cell
+    traced_lacks kind never = as_index refl (λ index opens within. never_opens index (subst (λ k. OpensIndex bytes k index) kind opens) within)
+      where
+        never_opens : (index : Index) → OpensTreeIndex bytes index → Within index.blocks (positions (live bytes)) → ⊥
+        never_opens index o within =
+            let inside : Within (map block_of (nodes_of o.tree)) (positions (live bytes)) = subst (λ (x : Index). Within x.blocks (positions (live bytes))) o.index_is within in
+            let less = within_length (map block_of (nodes_of o.tree)) (positions (live bytes)) inside in
+            let same = length-map (nodes_of o.tree) block_of in
+            let blocks = length-map (live bytes) (λ (b : Span). b.at) in
+            let few = few_live (word bytes allocator_word) bytes ready.heap in
+            follow_refused bytes index_cell (count_at bytes index_cell) stage turns t.passed t.entered t.followed never o.red_black.height (nodes_of o.tree) (entering_of o.tree)
+            (record {
+              tree = o.tree;
+              is_tree = o.is_tree;
+              black = o.red_black.root;
+              balanced = o.red_black.balanced;
+              nodes_are = refl;
+              entering_are = refl;
+              counted = o.counted;
+            }) (omega arith)
+
+    blocks_others : (nodes : List ℕ) → AreNodes bytes (tag_of Kind.index_node 0) 24 nodes → AllByRecursion (λ b. IsFrozen bytes b → ⊥) (map block_of nodes)
+    blocks_others [] a = tt
+    blocks_others (p ∷ ps) a = (other_block bytes p (tag_of Kind.index_node 0) 24 (λ e. absurd (omega (arith, e))) a.0, blocks_others ps a.1)
+
+    pub traced_ready : IsReady bytes table mid
+    traced_ready = ready_found bytes table old mid [] ready traced_within (finds_claimed bytes old mid (map block_of t.entered) [] t.claims (blocks_others t.entered t.are_nodes) tt)
 
     pub traced_can : (next : Stage) (pointer : ℕ) → Proceeds bytes stage next (Some (Enter pointer)) → CanClaimTree bytes old.unclaimed → CanClaim bytes mid pointer (tag_of Kind.index_node 0) 24
     traced_can next pointer step can =
@@ -314,6 +351,11 @@ module _ (bytes : List ℕ) (table : Table) (old : Known) (ready : IsReady bytes
         subst (λ ts. ClaimsBlock bytes known new pointer (tag_of Kind.index_node 0) 24 ts p) (ap (λ h. turns_where (has_turns table h) p 1) held_is)
         (subst (λ k. ClaimsBlock bytes known new pointer (tag_of Kind.index_node 0) k (turns_where (has_turns table content.entry.held) p 1) p) one_node
         (subst (λ t. ClaimsBlock bytes known new pointer t (1 * content.entry.size) (turns_where (has_turns table content.entry.held) p 1) p) tag_is c))
+
+    -- a node can't be claimed
+    pub index_node_lacks : word bytes index_kind_word ≡ 1 → IsReady bytes table known → (e : ContentFault) → RefusesClaim bytes known pointer (word_of content.tag) (1 * content.entry.size) e → LacksAt bytes table e
+    index_node_lacks kind now e r =
+        must_lack bytes table known now pointer (tag_of Kind.index_node 0) 24 e (to_index_node kind) (refuses_as bytes bytes known pointer (word_of content.tag) (tag_of Kind.index_node 0) (1 * content.entry.size) 24 e refl tag_is one_node r)
 
     pub index_node_can : CanClaim bytes known pointer (tag_of Kind.index_node 0) 24 → CanClaim bytes known pointer (word_of content.tag) (1 * content.entry.size)
     index_node_can c = subst (λ k. CanClaim bytes known pointer (word_of content.tag) k) (sym one_node) (subst (λ t. CanClaim bytes known pointer t 24) (sym tag_is) c)

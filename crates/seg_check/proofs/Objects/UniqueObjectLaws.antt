@@ -16,11 +16,14 @@ use Rattle.seg_spec.proofs.Heap.LiveBlockLaws.{times-append, times-same}
 use Rattle.seg_spec.proofs.Images.RootLaws.{HoldsRoots-split, HoldsRoots-only}
 use Rattle.seg_spec.proofs.Images.UniqueLaws.{at_head, past_head, none_below}
 use Rattle.seg_layout.specs.Forms.{has_cells}
-use Rattle.seg_check.specs.Claiming.{CanClaim, ClaimsBlock, turns_where}
+use Rattle.seg_check.specs.declared.fault.ContentFault.{ContentFault}
+use Rattle.seg_check.specs.Claiming.{CanClaim, RefusesClaim, ClaimsBlock, turns_where}
+use Rattle.seg_check.specs.Positions.{to_unique, LacksAt}
+use Rattle.seg_check.proofs.Blocks.LackingBlockLaws.{refuses_as, must_lack}
 use Rattle.seg_check.specs.declared.marks.Turn.{Turn}
 use Rattle.seg_check.specs.Marks.{Known, awaiting}
 use Rattle.seg_check.specs.Naming.{CanBeTarget}
-use Rattle.seg_check.specs.Turns.{Limited, limited, awaited}
+use Rattle.seg_check.specs.Turns.{by_type, Limited, limited, awaited}
 use Rattle.seg_check.specs.Resolving.{ResolvesBy, IsReady}
 use Rattle.seg_check.specs.Roots.{Ahead, uniques_ahead, ResolvesRoots, CanResolveRoots, AdvancesRoots, AdvancesUniques}
 use Rattle.seg_check.proofs.Queue.ReadPlaceLaws.{positions_of}
@@ -94,6 +97,7 @@ module _ (bytes : List ℕ) (table : Table) where
   module _ (known : Known) (T : ℕ) (small : T < 32) (none : target bytes (unique_word T) ≡ None) where
     pub advance_unused : AdvancesRoots bytes table known known (from_type T) (from_type (suc T))
     advance_unused = record {
+      named = λ entries k. k;
       turns = [];
       turns_are = sym (append-nil known.turns);
       are_waiting = tt;
@@ -216,9 +220,10 @@ module _ (bytes : List ℕ) (table : Table) where
 
     pub advance_unique : AdvancesRoots bytes table old new (from_type T) (from_type (suc T))
     advance_unique = record {
+      named = λ entries k. k;
       turns = awaiting old.naming.below turns;
       turns_are = c.claims.turns_are;
-      are_waiting = object_waits bytes table old new ready (unique_word T) p T 1 [] c old.naming.below;
+      are_waiting = object_waits bytes table old new ready (unique_word T) p T 1 [] c old.naming.below (by_type T p small named);
       within = within_taken old.unclaimed new.unclaimed (block_of p ∷ []) c.claims.claimed;
       counted = c.claims.counted;
       finds = finds_claimed bytes old new (block_of p ∷ []) turns c.claims (object_other bytes table old new ready (unique_word T) p T 1 [] c, tt) (object_others bytes table old new ready (unique_word T) p T 1 [] c);
@@ -272,6 +277,11 @@ module _ (bytes : List ℕ) (table : Table) where
         let e = subst (λ m. ClaimsBlock bytes old new at (tag_of Kind.object T) m (turns_where (has_cells (form_at table T)) p 1) p) room d in
         let f = subst (λ a. ClaimsBlock bytes old new a (tag_of Kind.object T) (1 * size table T + 0) (turns_where (has_cells (form_at table T)) p 1) p) at_is e in
         subst (λ U. AdvancesRoots bytes table old new (from_type T) (from_type U)) (sym next_is) (advance_unique old new ready T p small f.names f)
+
+    pub unique_lacks : (e : ContentFault) → RefusesClaim bytes old at (word_of content.tag) (1 * content.entry.size) e → LacksAt bytes table e
+    unique_lacks e r =
+        let room : 1 * content.entry.size ≡ size table T = (let one : 1 * content.entry.size ≡ content.entry.size = omega arith in one) ∙ is.entry_is.size_is ∙ sym (zero_size T) in
+        must_lack bytes table old ready at (tag_of Kind.object T) (size table T) e (to_unique T small at_is) (refuses_as bytes bytes old at (word_of content.tag) (tag_of Kind.object T) (1 * content.entry.size) (size table T) e refl is.tag_is room r)
 
     pub unique_can : (p : ℕ) → target bytes (unique_word T) ≡ Some p → CanResolveRoots bytes table old (from_type T) → CanClaim bytes old at (word_of content.tag) (1 * content.entry.size)
     unique_can p named can =

@@ -80,14 +80,16 @@ module _ (bytes : List ℕ) (table : Table) where
   -- the entry was taken from the queue, and nothing else changed
   pub record Takes (was mid : Known) (turn : Turn) : Type 0 where
     pub turns_are : was.turns ≡ record { turn = turn; below = mid.naming.below } ∷ mid.turns
+    pub allocated_kept : mid.allocated ≡ was.allocated
     pub unclaimed_kept : mid.unclaimed ≡ was.unclaimed
     pub names_kept : KeepsNaming was mid
     pub counted : AreBlocksCounted was → AreBlocksCounted mid
 
-  pub ready_same : (old new : Known) → IsReady bytes table old → new.unclaimed ≡ old.unclaimed → KeepsNaming old new → IsReady bytes table new
-  ready_same old new ready same names = record {
+  pub ready_same : (old new : Known) → IsReady bytes table old → new.allocated ≡ old.allocated → new.unclaimed ≡ old.unclaimed → KeepsNaming old new → IsReady bytes table new
+  ready_same old new ready all same names = record {
     is_table = ready.is_table;
     heap = ready.heap;
+    allocated = (λ h. ap (times h) all ∙ ready.allocated h);
     blocks = (λ h some. ready.blocks h (subst (λ xs. 1 ≤ times h xs) same some));
     few = omega (arith, ready.few, ap length same);
     small = ready.small;
@@ -110,7 +112,7 @@ module _ (bytes : List ℕ) (table : Table) where
     are_waiting = subst (AreWaiting bytes table) t.turns_are so_far.turns
 
     pub mid_ready : IsReady bytes table mid
-    mid_ready = ready_same was mid so_far.ready t.unclaimed_kept t.names_kept
+    mid_ready = ready_same was mid so_far.ready t.allocated_kept t.unclaimed_kept t.names_kept
 
     pub next_turn : IsWaiting bytes table next
     next_turn = are_waiting.0

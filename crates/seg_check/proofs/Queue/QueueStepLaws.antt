@@ -24,6 +24,7 @@ use Rattle.seg_check.specs.declared.fault.ContentFault.TheVariants.{Memory, BadI
 use Rattle.seg_check.specs.declared.marks.Turn.{Turn}
 use Rattle.seg_check.specs.declared.marks.Waiting.{Waiting}
 use Rattle.seg_check.specs.Claiming.{Refutes}
+use Rattle.seg_check.specs.Positions.{LacksAt}
 use Rattle.seg_check.specs.Marks.{Known, ClaimsAll, Within, awaiting}
 use Rattle.seg_check.specs.Naming.{IsFrozen, SameOthers, CanBeTarget, Finds}
 use Rattle.seg_check.specs.Turns.{Limited, limited, places_in, waiting, owned_places, awaited, with_cells, AreKnown, IsTurn, AreTurns, IsWaiting, AreWaiting, AreOthers}
@@ -456,6 +457,7 @@ module _ (bytes : List ℕ) (table : Table) where
   ready_found old new names ready within finds = record {
     is_table = ready.is_table;
     heap = ready.heap;
+    allocated = (λ h. finds.allocated_kept h ∙ ready.allocated h);
     blocks = (λ h some. ready.blocks h (omega (arith, within h)));
     few = omega (arith, ready.few, within_length new.unclaimed old.unclaimed within);
     small = ready.small;
@@ -468,5 +470,5 @@ module _ (bytes : List ℕ) (table : Table) where
   ready_now old new ps ready a = ready_found old new a.found ready a.within a.finds
 
   pub steps_refused : {A : Type 0} (old new : Known) (places : List Place) (r : Result A ContentFault) (e : ContentFault) (P : Type 0) → r ≡ Err e → (CanResolve bytes table old places → P) → Refutes e P
-      → Steps bytes table old new places r
-  steps_refused old new places r e P is lead refused = subst (λ x. Steps bytes table old new places x) (sym is) (refuses_map e P (CanResolve bytes table old places) lead refused)
+      → LacksAt bytes table e → Steps bytes table old new places r
+  steps_refused old new places r e P is lead refused lacks = subst (λ x. Steps bytes table old new places x) (sym is) (refuses_map e P (CanResolve bytes table old places) lead refused, lacks)

@@ -29,6 +29,14 @@ returns-in_err-check_heap-clause-owner g c =
     let p = err_from_is_err_and c.from_residual-in_err-check_heap.result c.from_residual-in_err-check_heap.ensures.1 in
     rw (p.1, p.2) (c.in_err-check_heap.ensures.owner (record { header = header; types = types; is_table = table.0; of_version = table.1 }))
 
+pub returns-in_err-check_heap-clause-position : goal.returns-in_err-check_heap-clause-position
+returns-in_err-check_heap-clause-position g c =
+    let header = c.in_ok-check_header.ensures.header in
+    let table = (c.in_ok-types.ensures header).table in
+    let types = has_table c.args.view.bytes.now _ c.in_ok-types.types header refl table.2 in
+    let p = err_from_is_err_and c.from_residual-in_err-check_heap.result c.from_residual-in_err-check_heap.ensures.1 in
+    rw (p.1, p.2) (c.in_err-check_heap.ensures.position (record { header = header; types = types; is_table = table.0; of_version = table.1 }))
+
 pub returns-in_err-check_heap-clause-memory : goal.returns-in_err-check_heap-clause-memory
 returns-in_err-check_heap-clause-memory g c = λ e.
     let header = c.in_ok-check_header.ensures.header in

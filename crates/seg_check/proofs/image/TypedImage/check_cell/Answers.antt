@@ -8,7 +8,7 @@ use Rattle.seg_check.proofs.Contents.StructLaws.{no_cell}
 use Rattle.seg_check.proofs.image.TypedImage.check_cell.Goals as goal
 
 pub returns-in_default-of-clause-steps : goal.returns-in_default-of-clause-steps
-returns-in_default-of-clause-steps g c = λ ready known none.
+returns-in_default-of-clause-steps g c = λ ready known none lies.
     let table = c.args.self.now.types.now in
     let T = c.args.place.type_id in
     let form : form_at table T ≡ Some (form_of c.in-Some.kind) = c.in-Some.ensures in

@@ -5,11 +5,13 @@ use Rattle.seg_spec.specs.Header.{index_cell}
 use Rattle.seg_spec.specs.Block.{Kind, tag_of}
 use Rattle.seg_block.specs.Tags.{word_of}
 use Rattle.seg_check.specs.Claiming.{CanClaim}
+use Rattle.seg_check.specs.Positions.{AreEntriesBefore}
 use Rattle.seg_check.specs.Roots.{StepsIndex, AdvancesRoots, CanResolveRoots, CanResolveIndex, names_ahead}
 use Rattle.seg_check.proofs.Blocks.CellClaimLaws.{ready_live}
+use Rattle.seg_check.proofs.Blocks.LackingBlockLaws.{ready_allocated}
 use Rattle.seg_check.proofs.Queue.QueueStepLaws.{refuses_map}
 use Rattle.seg_check.proofs.Objects.RootReadLaws.{roots_none, roots_more, can_roots, ready_roots}
-use Rattle.seg_check.proofs.Objects.IndexLaws.{flat_ready, spaced_next, spaced_end, spaced_start, flat_some, flat_can, flat_names, flat_advance, buffer_claimed, buffer_can, block_inside}
+use Rattle.seg_check.proofs.Objects.IndexLaws.{flat_ready, spaced_next, spaced_end, spaced_start, flat_some, flat_none, flat_entry, buffer_lacks, flat_can, flat_names, flat_advance, buffer_claimed, buffer_can, block_inside}
 use Rattle.seg_check.proofs.image.TypedImage.check_flat_index.Goals as goal
 
 pub loop-index-init : goal.loop-index-init
@@ -51,14 +53,19 @@ returns-in_err-start g c = λ p named counted ready flat.
     let e = c.in_err-start.field-0.0 in
     let failed = err_from_is_err_and c.from_residual.result c.from_residual.ensures.1 in
     let same : failed.0 ≡ e = failed.2 in
-    subst (λ x. StepsIndex bytes table old c.claim_entries.new.claims x) (sym (failed.1 ∙ ap Err same))
-    (refuses_map e (CanClaim bytes old index_cell (word_of content.tag) (n * content.entry.size)) (CanResolveIndex bytes table old)
-    (λ can. buffer_can bytes table old c.claim_entries.new.claims n 0 content c.index_buffer-content.ensures (flat_can bytes table flat p n named counted old can))
-    (c.in_err-start.ensures.refused (ready_live bytes table old ready)))
+    subst (λ x. StepsIndex bytes table old c.claim_entries.new.claims x) (sym (failed.1 ∙ ap Err same)) (
+      (refuses_map e (CanClaim bytes old index_cell (word_of content.tag) (n * content.entry.size)) (CanResolveIndex bytes table old)
+          (λ can. buffer_can bytes table old c.claim_entries.new.claims n 0 content c.index_buffer-content.ensures (flat_can bytes table flat p n named counted old can))
+          (c.in_err-start.ensures.refused (ready_live bytes table old ready))),
+      buffer_lacks bytes table old c.claim_entries.new.claims n 0 content c.index_buffer-content.ensures flat counted ready e (c.in_err-start.ensures.lacks (ready_allocated bytes table old ready)),
+    )
 
 pub returns-then-count-eq0 : goal.returns-then-count-eq0
-returns-then-count-eq0 g c = λ p named counted ready flat can.
-    flat_some c.args.self.now.bytes.bytes.now c.args.self.now.types.now flat p c.args.count named counted c.args.claims.now can (omega arith)
+returns-then-count-eq0 g c = λ p named counted ready flat.
+    let bytes = c.args.self.now.bytes.bytes.now in
+    let table = c.args.self.now.types.now in
+    let none : c.args.count ≡ 0 = omega arith in
+    ((λ can. flat_some bytes table flat p c.args.count named counted c.args.claims.now can none), flat_none bytes table flat p c.args.count named counted none)
 
 pub returns-in_err-before : goal.returns-in_err-before
 returns-in_err-before g c = λ p named counted ready flat.
@@ -84,12 +91,18 @@ returns-in_err-before g c = λ p named counted ready flat.
     let e = c.in_err-before.field-0.0 in
     let failed = err_from_is_err_and c.from_residual-in_err-before.result c.from_residual-in_err-before.ensures.1 in
     let same : failed.0 ≡ e = failed.2 in
-    subst (λ x. StepsIndex bytes table old c.check_entry.new.claims x) (sym (failed.1 ∙ ap Err same))
-    (refuses_map e (CanResolveRoots bytes table now (names_ahead (c.at.result ∷ rest) before)) (CanResolveIndex bytes table old)
-    (λ can. subst (λ xs. CanResolveRoots bytes table now (names_ahead xs before)) (sym next)
-    (can_roots bytes table mid now (names_ahead (spaced s 8 n) []) (names_ahead (spaced (s + i * 8) 8 (n - i)) before) done
-    (flat_names bytes table flat s n claimed.names counted old mid some claimed.is_block claimed.claims can)))
-    (c.in_err-before.ensures.refused rest (ready_roots bytes table mid now (names_ahead (spaced s 8 n) []) (names_ahead (spaced (s + i * 8) 8 (n - i)) before) mid_ready done)))
+    let ahead = names_ahead (spaced (s + i * 8) 8 (n - i)) before in
+    let now_ready = ready_roots bytes table mid now (names_ahead (spaced s 8 n) []) ahead mid_ready done in
+    subst (λ x. StepsIndex bytes table old c.check_entry.new.claims x) (sym (failed.1 ∙ ap Err same)) (
+      (refuses_map e (CanResolveRoots bytes table now (names_ahead (c.at.result ∷ rest) before)) (CanResolveIndex bytes table old)
+          (λ can. subst (λ xs. CanResolveRoots bytes table now (names_ahead xs before)) (sym next)
+          (can_roots bytes table mid now (names_ahead (spaced s 8 n) []) (names_ahead (spaced (s + i * 8) 8 (n - i)) before) done
+          (flat_names bytes table flat s n claimed.names counted old mid some claimed.is_block claimed.claims can)))
+          (c.in_err-before.ensures.refused rest now_ready)),
+      flat_entry bytes table flat s n claimed.names counted old mid some claimed.is_block claimed.claims (c.at.result ∷ rest) before
+          (λ start. subst (λ xs. AreEntriesBefore bytes table (spaced s 8 n) xs before) (sym next) (done.named (spaced s 8 n) start))
+          (λ index opens named. c.in_err-before.ensures.lacks now_ready index rest opens named),
+    )
 
 pub returns : goal.returns
 returns g c = λ p named counted ready flat.

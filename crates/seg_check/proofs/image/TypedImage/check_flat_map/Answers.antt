@@ -10,13 +10,14 @@ use Rattle.seg_check.specs.Keys.{HasKeys}
 use Rattle.seg_check.specs.Resolving.{Steps}
 use Rattle.seg_check.proofs.Queue.QueueStepLaws.{steps_refused}
 use Rattle.seg_check.proofs.Blocks.CellClaimLaws.{ready_live}
+use Rattle.seg_check.proofs.Blocks.LackingBlockLaws.{ready_allocated}
 use Rattle.seg_check.proofs.Contents.BufferLaws.{counted_none, counted_some, counted_names}
 use Rattle.seg_check.proofs.Contents.AscendingKeyLaws.{keys_more}
-use Rattle.seg_check.proofs.Contents.FlatMapLaws.{flat_nothing, flat_counted, flat_can, flat_steps, flat_key}
+use Rattle.seg_check.proofs.Contents.FlatMapLaws.{flat_nothing, flat_counted, flat_can, flat_steps, flat_key, flat_counted_lack, flat_lacks}
 use Rattle.seg_check.proofs.image.TypedImage.check_flat_map.Goals as goal
 
 pub returns-in_err-count-clause-steps : goal.returns-in_err-count-clause-steps
-returns-in_err-count-clause-steps g c = λ T U by ready.
+returns-in_err-count-clause-steps g c = λ T U by ready lies.
     let bytes = c.args.self.now.bytes.bytes.now in
     let table = c.args.self.now.types.now in
     let old = c.args.claims.now in
@@ -24,17 +25,18 @@ returns-in_err-count-clause-steps g c = λ T U by ready.
     let e = c.in_err-count.field-0.0 in
     let failed = err_from_is_err_and c.from_residual.result c.from_residual.ensures.1 in
     let same : failed.0 ≡ e = failed.2 in
-    subst (λ r. Steps bytes table old old (object_at at T ∷ []) r) (sym (failed.1 ∙ ap Err same)) (flat_counted bytes table at T U c.args.content.now by old e (sym c.counted.ensures ∙ c.in_err-count.was))
+    subst (λ r. Steps bytes table old old (object_at at T ∷ []) r) (sym (failed.1 ∙ ap Err same))
+    (let was = sym c.counted.ensures ∙ c.in_err-count.was in (flat_counted bytes table at T U c.args.content.now by old e was, flat_counted_lack bytes table at T U c.args.content.now by e lies was))
 
 pub returns-in_default-clause-steps : goal.returns-in_default-clause-steps
-returns-in_default-clause-steps g c = λ T U by ready.
+returns-in_default-clause-steps g c = λ T U by ready lies.
     let bytes = c.args.self.now.bytes.bytes.now in
     let at = c.args.cell in
     let none = counted_none at (count_at bytes at) (target bytes at) (sym c.counted.ensures ∙ c.in_ok-count.was ∙ ap Ok c.in_default.is) in
     flat_nothing bytes c.args.self.now.types.now at T U c.args.content.now by c.args.claims.now none.0 none.1
 
 pub returns-in_err-start-clause-steps : goal.returns-in_err-start-clause-steps
-returns-in_err-start-clause-steps g c = λ T U by ready.
+returns-in_err-start-clause-steps g c = λ T U by ready lies.
     let bytes = c.args.self.now.bytes.bytes.now in
     let table = c.args.self.now.types.now in
     let old = c.args.claims.now in
@@ -48,6 +50,7 @@ returns-in_err-start-clause-steps g c = λ T U by ready.
     steps_refused bytes table old c.claim_entries.new.claims (object_at at T ∷ []) c.from_residual-in_err-start.result e _ (failed.1 ∙ ap Err same)
     (flat_can bytes table at T U c.args.content.now by old c.in-Some.count names.0 names.1 n_is)
     (c.in_err-start.ensures.refused (ready_live bytes table old ready))
+    (flat_lacks bytes table at T U c.args.content.now by old c.in-Some.count e ready lies n_is (c.in_err-start.ensures.lacks (ready_allocated bytes table old ready)))
 
 pub loop-index-preserved : goal.loop-index-preserved
 loop-index-preserved g c = λ T U by ready.
@@ -64,7 +67,7 @@ loop-index-preserved g c = λ T U by ready.
     subst (λ ks. HasKeys c.add.new.self ks) (sym (keys_more bytes p (8 + size table U) i)) (subst (λ (k : ℤ). HasKeys c.add.new.self (keys_at bytes (spaced p (8 + size table U) i) ++ k ∷ [])) key more)
 
 pub returns-clause-steps : goal.returns-clause-steps
-returns-clause-steps g c = λ T U by ready.
+returns-clause-steps g c = λ T U by ready lies.
     let bytes = c.args.self.now.bytes.bytes.now in
     let table = c.args.self.now.types.now in
     let old = c.args.claims.now in
@@ -74,4 +77,4 @@ returns-clause-steps g c = λ T U by ready.
     let n_is = counted_some at (count_at bytes at) c.in-Some.count (target bytes at) counts in
     let all : c.loop-index.index ≡ c.in-Some.count = omega (arith, c.loop-index-test.false, c.loop-index.auto.index-end) in
     let has = subst (λ n. HasKeys c.loop-index.keys (keys_at bytes (spaced p (8 + size table U) n))) all (c.loop-index.invariant T U by ready) in
-    flat_steps bytes table at T U c.args.content.now by old c.claim_entries.new.claims c.in-Some.count p c.check.result ready n_is (c.in_ok-start.ensures.claimed (ready_live bytes table old ready)) (c.check.ensures _ has)
+    flat_steps bytes table at T U c.args.content.now by old c.claim_entries.new.claims c.in-Some.count p c.check.result ready lies n_is (c.in_ok-start.ensures.claimed (ready_live bytes table old ready)) (c.check.ensures _ has)

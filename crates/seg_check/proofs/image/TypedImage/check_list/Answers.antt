@@ -10,8 +10,10 @@ use Rattle.seg_check.specs.Claiming.{HaveLiveHeaders, has_turns}
 use Rattle.seg_check.specs.Resolving.{Steps}
 use Rattle.seg_check.proofs.Queue.QueueStepLaws.{steps_refused}
 use Rattle.seg_check.proofs.Blocks.CellClaimLaws.{ready_live}
+use Rattle.seg_check.proofs.Blocks.LackingBlockLaws.{ready_allocated}
+use Rattle.seg_check.proofs.Contents.NodeLaws.{claimed_ready}
 use Rattle.seg_check.proofs.Contents.BufferLaws.{blocks_none, blocks_some, blocks_names}
-use Rattle.seg_check.proofs.Contents.ListLaws.{walked_first, walked_more, walked_live, ring_advance, ring_nothing, ring_counted, first_can, ring_closed, next_can, owner_claimed, owner_can, first_low, next_low}
+use Rattle.seg_check.proofs.Contents.ListLaws.{walked_first, walked_more, walked_live, ring_advance, ring_nothing, ring_counted, ring_counted_lack, ring_lacks, first_lacks, node_lacks, first_can, ring_closed, next_can, owner_claimed, owner_can, first_low, next_low}
 use Rattle.seg_check.proofs.image.TypedImage.check_list.Goals as goal
 use Rattle.seg_check.proofs.image.TypedImage.check_list.Goals.{then-is_linked, else-is_linked, then-eq, else-eq, else-is_linked-2-via-then-is_linked-2+else-is_closed, else-is_linked-2-via-else-is_linked-2}
 
@@ -27,7 +29,7 @@ eq_back None p e = cc
 eq_back (Some q) p e = let same : q ≡ p = cc in grind (arith, nat_tests)
 
 pub returns-in_err-count-clause-steps : goal.returns-in_err-count-clause-steps
-returns-in_err-count-clause-steps g c = λ T U by ready.
+returns-in_err-count-clause-steps g c = λ T U by ready lies.
     let bytes = c.args.self.now.bytes.bytes.now in
     let table = c.args.self.now.types.now in
     let old = c.args.claims.now in
@@ -35,7 +37,8 @@ returns-in_err-count-clause-steps g c = λ T U by ready.
     let e = c.in_err-count.field-0.0 in
     let failed = err_from_is_err_and c.from_residual.result c.from_residual.ensures.1 in
     let same : failed.0 ≡ e = failed.2 in
-    subst (λ r. Steps bytes table old old (object_at at T ∷ []) r) (sym (failed.1 ∙ ap Err same)) (ring_counted bytes table old ready at T U by.form_is e (sym c.counted_blocks.ensures ∙ c.in_err-count.was))
+    subst (λ r. Steps bytes table old old (object_at at T ∷ []) r) (sym (failed.1 ∙ ap Err same))
+    (let was = sym c.counted_blocks.ensures ∙ c.in_err-count.was in (ring_counted bytes table old ready at T U by.form_is e was, ring_counted_lack bytes table old ready at T U by.form_is e lies was))
 
 pub loop-init : goal.loop-init
 loop-init g c = record {
@@ -88,14 +91,14 @@ loop-preserved g c = record {
 }
 
 pub returns-in_default-clause-steps : goal.returns-in_default-clause-steps
-returns-in_default-clause-steps g c = λ T U by ready.
+returns-in_default-clause-steps g c = λ T U by ready lies.
     let bytes = c.args.self.now.bytes.bytes.now in
     let at = c.args.cell in
     let none = blocks_none at (count_at bytes at) (target bytes at) (sym c.counted_blocks.ensures ∙ c.in_ok-count.was ∙ ap Ok c.in_default.is) in
     ring_nothing bytes c.args.self.now.types.now c.args.claims.now ready at T U by.form_is none.0 none.1
 
 pub returns-in_err-first-clause-steps : goal.returns-in_err-first-clause-steps
-returns-in_err-first-clause-steps g c = λ T U by ready.
+returns-in_err-first-clause-steps g c = λ T U by ready lies.
     let bytes = c.args.self.now.bytes.bytes.now in
     let table = c.args.self.now.types.now in
     let old = c.args.claims.now in
@@ -112,9 +115,12 @@ returns-in_err-first-clause-steps g c = λ T U by ready.
     (λ r. owner_can bytes table old ready at T U by.form_is c.owner-owner.result.bytes.bytes.now (word_of c.owner-owner.result.tag) c.owner-owner.result.entry_size
     o.bytes (ap word_of o.tag ∙ is.tag_is) (o.entry_size ∙ is.entry_is.size_is) old at (first_can bytes table old ready at T U by.form_is names.0 names.1 r))
     (c.in_err-first.ensures.refused live)
+    (first_lacks bytes table old ready at T U by.form_is c.owner-owner.result.bytes.bytes.now (word_of c.owner-owner.result.tag) c.owner-owner.result.entry_size
+    o.bytes (ap word_of o.tag ∙ is.tag_is) (o.entry_size ∙ is.entry_is.size_is) lies e
+    (c.in_err-first.ensures.lacks (subst (λ bs. HaveLiveHeaders bs old.allocated) (sym o.bytes) (ready_allocated bytes table old ready))))
 
 pub returns-in_err-next-clause-steps : goal.returns-in_err-next-clause-steps
-returns-in_err-next-clause-steps g c = λ T U by ready.
+returns-in_err-next-clause-steps g c = λ T U by ready lies.
     let bytes = c.args.self.now.bytes.bytes.now in
     let table = c.args.self.now.types.now in
     let old = c.args.claims.now in
@@ -135,9 +141,13 @@ returns-in_err-next-clause-steps g c = λ T U by ready.
     o.bytes (ap word_of o.tag ∙ is.tag_is) (o.entry_size ∙ is.entry_is.size_is) mid c.loop.last
     (next_can bytes table old ready at T U by.form_is mid first c.loop.last c.loop.counter c.loop.is_linked w names (omega (arith, c.loop-test.true, n_is.0)) r))
     (c.in_err-next.ensures.refused (subst (λ bs. HaveLiveHeaders bs mid.unclaimed) (sym o.bytes) live))
+    (let now = claimed_ready bytes table old ready T 8 U mid _ w.claimed in
+    node_lacks bytes table old ready at T U by.form_is c.owner-owner.result.bytes.bytes.now (word_of c.owner-owner.result.tag) c.owner-owner.result.entry_size
+    o.bytes (ap word_of o.tag ∙ is.tag_is) (o.entry_size ∙ is.entry_is.size_is) mid now lies c.loop.last e
+    (c.in_err-next.ensures.lacks (subst (λ bs. HaveLiveHeaders bs mid.allocated) (sym o.bytes) (ready_allocated bytes table mid now))))
 
 pub returns-then-is_closed-clause-steps : goal.returns-then-is_closed-clause-steps
-returns-then-is_closed-clause-steps g c = λ T U by ready.
+returns-then-is_closed-clause-steps g c = λ T U by ready lies.
     let bytes = c.args.self.now.bytes.bytes.now in
     let table = c.args.self.now.types.now in
     let old = c.args.claims.now in
@@ -157,10 +167,10 @@ returns-then-is_closed-clause-steps g c = λ T U by ready.
       )
       | else-eq w ↦ absurd (false_true (sym w.if-eq.false ∙ sym w.is_closed-is ∙ c.if-is_closed.true))
     ] in
-    ring_advance bytes table old ready at T U by.form_is c.loop.claims first last c.loop.counter c.loop.is_linked w names all c.if-is_linked-2.true closed.0 closed.1
+    ring_advance bytes table old ready at T U by.form_is c.loop.claims first last c.loop.counter c.loop.is_linked w lies names all c.if-is_linked-2.true closed.0 closed.1
 
 pub returns-else-is_linked-2-clause-steps : goal.returns-else-is_linked-2-clause-steps
-returns-else-is_linked-2-clause-steps g c = λ T U by ready r.
+returns-else-is_linked-2-clause-steps g c = λ T U by ready lies.
     let bytes = c.args.self.now.bytes.bytes.now in
     let table = c.args.self.now.types.now in
     let old = c.args.claims.now in
@@ -173,7 +183,7 @@ returns-else-is_linked-2-clause-steps g c = λ T U by ready r.
     let names = subst (λ bs. target bs at ≡ Some first) o.bytes (c.in_ok-first.ensures.claimed (subst (λ bs. HaveLiveHeaders bs old.unclaimed) (sym o.bytes) (ready_live bytes table old ready))).names in
     let all : c.loop.counter ≡ count_at bytes at = omega (arith, c.loop-test.false, c.loop.auto.counter-end, n_is.0, n_is.1) in
     let low = first_low bytes table old ready at T U by.form_is c.loop.claims first last c.loop.counter c.loop.is_linked walked in
-    let closed = ring_closed bytes table old ready at T U by.form_is c.loop.claims first last c.loop.counter c.loop.is_linked walked names all r in
+    let never : (c.loop.is_linked ≡ true) × (target bytes last ≡ Some first) × (target bytes (first + 4) ≡ Some last) → ⊥ = λ closed.
     let next = c.target.ensures ∙ closed.1 in
     elim c.else-is_linked-2.branch [
       | else-is_linked-2-via-then-is_linked-2+else-is_closed w ↦ elim c.if-eq.branch [
@@ -181,4 +191,7 @@ returns-else-is_linked-2-clause-steps g c = λ T U by ready r.
         | else-eq v ↦ false_true (sym v.if-eq.false ∙ c.eq.ensures ∙ eq_back c.target.result first next)
       ]
       | else-is_linked-2-via-else-is_linked-2 w ↦ false_true (sym w.if-is_linked-2.false ∙ closed.0)
-    ]
+    ] in (
+      (λ r. never (ring_closed bytes table old ready at T U by.form_is c.loop.claims first last c.loop.counter c.loop.is_linked walked names all r)),
+      ring_lacks bytes table old ready at T U by.form_is c.loop.claims first last c.loop.counter c.loop.is_linked walked lies names all never,
+    )

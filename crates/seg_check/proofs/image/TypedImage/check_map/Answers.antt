@@ -12,16 +12,22 @@ use Rattle.seg_check.specs.declared.fault.ContentFault.TheVariants.{BadValue}
 use Rattle.seg_check.specs.declared.walk.Visit.TheVariants.{Enter, Pass}
 use Rattle.seg_check.specs.Claiming.{HaveLiveHeaders}
 use Rattle.seg_check.specs.Keys.{HasKeys}
+use Rattle.seg_check.specs.Positions.{LacksValueAt}
 use Rattle.seg_check.specs.Walks.{Completes, IsSteady, Proceeds}
 use Rattle.seg_check.specs.Resolving.{CanResolve, Steps}
 use Rattle.seg_check.proofs.Queue.QueueStepLaws.{steps_refused}
-use Rattle.seg_check.proofs.Contents.BufferLaws.{blocks_none, blocks_some}
+use Rattle.seg_check.proofs.Contents.BufferLaws.{blocks_none, blocks_some, blocks_names}
+use Rattle.seg_check.proofs.Blocks.LackingBlockLaws.{ready_allocated}
 use Rattle.seg_check.proofs.WalkStateLaws.{Followed, follow_start, steps_on}
-use Rattle.seg_check.proofs.Contents.MapLaws.{traced_start, tree_nothing, tree_counted, traced_refused, traced_can, traced_steps, traced_enter, traced_pass, traced_live, owned_node, owned_can, node_key, ok_was, err_was}
+use Rattle.seg_check.proofs.Contents.MapLaws.{traced_start, tree_nothing, tree_counted, tree_counted_lack, traced_ready, traced_lacks, node_lacks, traced_refused, traced_can, traced_steps, traced_enter, traced_pass, traced_live, owned_node, owned_can, node_key, ok_was, err_was}
 use Rattle.seg_check.proofs.image.TypedImage.check_map.Goals as goal
 
+-- the cell's pointer isn't null
+not_null : (bytes : List ℕ) (at : ℕ) → (p : ℕ) × (target bytes at ≡ Some p) → target bytes at ≡ None → ⊥
+not_null bytes at (p, names) null = absurd (let no : None ≡ Some p = sym null ∙ names in cc)
+
 pub returns-in_err-count-clause-steps : goal.returns-in_err-count-clause-steps
-returns-in_err-count-clause-steps g c = λ T U by ready.
+returns-in_err-count-clause-steps g c = λ T U by ready lies.
     let bytes = c.args.self.now.bytes.bytes.now in
     let table = c.args.self.now.types.now in
     let old = c.args.claims.now in
@@ -29,10 +35,11 @@ returns-in_err-count-clause-steps g c = λ T U by ready.
     let e = c.in_err-count.field-0.0 in
     let failed = err_from_is_err_and c.from_residual.result c.from_residual.ensures.1 in
     let same : failed.0 ≡ e = failed.2 in
-    subst (λ r. Steps bytes table old old (object_at at T ∷ []) r) (sym (failed.1 ∙ ap Err same)) (tree_counted bytes table old ready at T U by.form_is e (sym c.counted_blocks.ensures ∙ c.in_err-count.was))
+    subst (λ r. Steps bytes table old old (object_at at T ∷ []) r) (sym (failed.1 ∙ ap Err same))
+    (let was = sym c.counted_blocks.ensures ∙ c.in_err-count.was in (tree_counted bytes table old ready at T U by.form_is e was, tree_counted_lack bytes table old ready at T U by.form_is e lies was))
 
 pub returns-in_default-clause-steps : goal.returns-in_default-clause-steps
-returns-in_default-clause-steps g c = λ T U by ready.
+returns-in_default-clause-steps g c = λ T U by ready lies.
     let bytes = c.args.self.now.bytes.bytes.now in
     let at = c.args.cell in
     let none = blocks_none at (count_at bytes at) (target bytes at) (sym c.counted_blocks.ensures ∙ c.in_ok-count.was ∙ ap Ok c.in_default.is) in
@@ -41,6 +48,7 @@ returns-in_default-clause-steps g c = λ T U by ready.
 pub loop-visit-init : goal.loop-visit-init
 loop-visit-init g c = record {
   taken = refl;
+  root = c.walk-walk.ensures.root;
   same = c.walk-walk.ensures.bytes;
   traced = (λ T U by ready.
       let bytes = c.args.self.now.bytes.bytes.now in
@@ -54,7 +62,7 @@ loop-visit-init g c = record {
 }
 
 pub returns-in_err-visit-clause-steps : goal.returns-in_err-visit-clause-steps
-returns-in_err-visit-clause-steps g c = λ T U by ready.
+returns-in_err-visit-clause-steps g c = λ T U by ready lies.
     let bytes = c.args.self.now.bytes.bytes.now in
     let table = c.args.self.now.types.now in
     let old = c.args.claims.now in
@@ -72,11 +80,15 @@ returns-in_err-visit-clause-steps g c = λ T U by ready.
     steps_refused bytes table old c.loop-visit.claims (object_at at T ∷ []) c.from_residual-in_err-visit.result (BadValue was.0) (CanResolve bytes table old (object_at at T ∷ [])) (failed.1 ∙ ap Err (same ∙ fault))
     (λ r. r)
     (traced_refused bytes table old ready at T U by.form_is c.loop-visit.claims walk.stage walk.turns c.loop-visit.keys t never)
+    (subst (LacksValueAt bytes table) (sym (subst (λ r. IfErr r (λ x. x ≡ walk.root)) was.1 c.next.ensures.position ∙ c.loop-visit.invariant.root))
+    (traced_lacks bytes table old ready at T U by.form_is c.loop-visit.claims walk.stage walk.turns c.loop-visit.keys t lies
+    (not_null bytes at (blocks_names at (count_at bytes at) c.in-Some.count (target bytes at) (sym c.counted_blocks.ensures ∙ c.in_ok-count.was ∙ ap Ok c.in-Some.is))) never))
 
 pub loop-visit-preserved-in_ok-claim-in-Enter :
     goal.loop-visit-preserved-in_ok-claim-in-Enter
 loop-visit-preserved-in_ok-claim-in-Enter g c = record {
   taken = c.in_ok-claim-in-Enter.ensures.taken ∙ c.loop-visit.invariant.taken;
+  root = c.next.ensures.root ∙ c.loop-visit.invariant.root;
   same = c.next.ensures.bytes ∙ c.loop-visit.invariant.same;
   traced = (λ T U by ready.
       let bytes = c.args.self.now.bytes.bytes.now in
@@ -103,7 +115,7 @@ loop-visit-preserved-in_ok-claim-in-Enter g c = record {
 
 pub returns-in_err-claim-in-Enter-clause-steps :
     goal.returns-in_err-claim-in-Enter-clause-steps
-returns-in_err-claim-in-Enter-clause-steps g c = λ T U by ready.
+returns-in_err-claim-in-Enter-clause-steps g c = λ T U by ready lies.
     let bytes = c.args.self.now.bytes.bytes.now in
     let table = c.args.self.now.types.now in
     let old = c.args.claims.now in
@@ -126,10 +138,14 @@ returns-in_err-claim-in-Enter-clause-steps g c = λ T U by ready.
     (λ r. owned_can bytes table T U c.args.content.now by owner.bytes.bytes.now (word_of owner.tag) owner.entry_size o.bytes (ap word_of o.tag) o.entry_size mid c.in-Enter.pointer
     (traced_can bytes table old ready at T U by.form_is mid walk.stage walk.turns c.loop-visit.keys t new.stage c.in-Enter.pointer stepped.2 r))
     (c.in_err-claim-in-Enter.ensures.refused (subst (λ bs. HaveLiveHeaders bs mid.unclaimed) (sym o.bytes) (traced_live bytes table old ready at T U by.form_is mid walk.stage walk.turns c.loop-visit.keys t)))
+    (let now = traced_ready bytes table old ready at T U by.form_is mid walk.stage walk.turns c.loop-visit.keys t in
+    node_lacks bytes table old ready at T U by.form_is owner.bytes.bytes.now (word_of owner.tag) owner.entry_size o.bytes (ap word_of o.tag ∙ by.content_of.tag_is) (o.entry_size ∙ by.content_of.entry_is.size_is)
+    mid now lies c.in-Enter.pointer e (c.in_err-claim-in-Enter.ensures.lacks (subst (λ bs. HaveLiveHeaders bs mid.allocated) (sym o.bytes) (ready_allocated bytes table mid now))))
 
 pub loop-visit-preserved : goal.loop-visit-preserved
 loop-visit-preserved g c = record {
   taken = c.loop-visit.invariant.taken;
+  root = c.next.ensures.root ∙ c.loop-visit.invariant.root;
   same = c.next.ensures.bytes ∙ c.loop-visit.invariant.same;
   traced = (λ T U by ready.
       let bytes = c.args.self.now.bytes.bytes.now in
@@ -156,8 +172,9 @@ loop-visit-preserved g c = record {
 }
 
 pub returns-clause-steps : goal.returns-clause-steps
-returns-clause-steps g c = λ T U by ready.
+returns-clause-steps g c = λ T U by ready lies.
     let bytes = c.args.self.now.bytes.bytes.now in
+    let at = c.args.cell in
     let walk = c.loop-visit.walk in
     let new = c.next.new.self in
     let t = c.loop-visit.invariant.traced T U by ready in
@@ -165,4 +182,5 @@ returns-clause-steps g c = λ T U by ready.
     let was = ok_was c.next.result c.map_err.result _ visit c.in_ok-visit.was c.map_err.ensures.cases in
     let goes_on = subst (λ (bs : List ℕ). IsSteady bs walk.stage walk.turns → IfOk c.next.result (Proceeds bs walk.stage new.stage)) c.loop-visit.invariant.same c.next.ensures.goes_on t.followed.steady in
     let step : Proceeds bytes walk.stage new.stage None = subst (λ r. IfOk r (Proceeds bytes walk.stage new.stage)) (was ∙ ap Ok c.in_default-2.is) goes_on in
-    traced_steps bytes c.args.self.now.types.now c.args.claims.now ready c.args.cell T U by.form_is c.loop-visit.claims walk.stage walk.turns c.loop-visit.keys t new.stage c.check.result step c.check.ensures
+    traced_steps bytes c.args.self.now.types.now c.args.claims.now ready at T U by.form_is c.loop-visit.claims walk.stage walk.turns c.loop-visit.keys t new.stage c.check.result lies
+    (not_null bytes at (blocks_names at (count_at bytes at) c.in-Some.count (target bytes at) (sym c.counted_blocks.ensures ∙ c.in_ok-count.was ∙ ap Ok c.in-Some.is))) step c.check.ensures

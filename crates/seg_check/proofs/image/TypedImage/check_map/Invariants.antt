@@ -8,6 +8,7 @@ use Rattle.seg_check.proofs.image.TypedImage.check_map.Given as goal
 abbrev pub invariant-loop-visit : goal.invariant-loop-visit
 invariant-loop-visit g l = record {
   taken : l.claims.taken ≡ l.fn.claims.taken;
+  root : l.walk.root ≡ l.cell;
   same : l.walk.bytes.bytes.now ≡ l.self.bytes.bytes.now;
   traced : (T U : ℕ) (by : CellsPointTo l.self.types.now T (Form.map U) l.content) (ready : IsReady l.self.bytes.bytes.now l.self.types.now l.fn.claims) →
       Traced l.self.bytes.bytes.now l.self.types.now l.fn.claims ready l.cell T U by.form_is l.claims l.walk.stage l.walk.turns l.keys;

@@ -7,7 +7,7 @@ use Rattle.seg_block.specs.Headers.{header_at}
 use Rattle.seg_check.specs.declared.free_list.FreeList.{FreeList}
 use Rattle.seg_check.specs.Tiles.{Follows, KnowsGaps}
 use Rattle.seg_check.specs.Marks.{IsUnit, AddsBlock}
-use Rattle.seg_check.proofs.Heap.PassedTileLaws.{KnowsPassed, knows_none, knows_more, knows_all, no_live, no_free}
+use Rattle.seg_check.proofs.Heap.PassedTileLaws.{KnowsPassed, knows_none, knows_more, knows_all, no_live, no_free, no_block}
 use Rattle.seg_check.proofs.Heap.TileWalkLaws.{Walked, walked_none, walked_more, walked_all, next_is, fits_is, tile_at, end_at}
 use Rattle.seg_check.proofs.image.TypedImage.check_tiles.Goals as goal
 use Rattle.seg_check.proofs.image.TypedImage.check_tiles.Goals.{then-units-lt2-via-then-units-lt2, then-units-lt2-via-else-units-lt2+then-units-end}
@@ -82,7 +82,7 @@ loop-at-preserved g c = λ front.
       λ slots new.
           let k = (c.loop-at.invariant front).1 slots new in
           let below = w.tiled.below in
-          let adds = c.add.ensures.added (subst (λ n. IsUnit n at) (sym k.units_are) unit) (no_live _ _ _ w.passed k at below) (no_free _ _ _ w.passed k at below) in
+          let adds = c.add.ensures.added (subst (λ n. IsUnit n at) (sym k.units_are) unit) (no_live _ _ _ w.passed k at below) (no_free _ _ _ w.passed k at below) (no_block _ _ _ w.passed k at below) in
           subst (λ ts. KnowsPassed c.add.new.self ((length bytes - heap_start) / 16) slots ts) (sym all.1)
           (knows_more _ _ _ w.passed k at below c.add.new.self (tile_at bytes table at) refl (subst (λ l. AddsBlock c.loop-at.claims at l c.add.new.self) live adds) c.add.ensures.units),
     )

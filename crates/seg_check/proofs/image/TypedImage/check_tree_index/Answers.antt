@@ -4,6 +4,8 @@ use Rattle.std.proofs.lemmas.Result.{err_from_is_err_and}
 use Rattle.seg_spec.specs.Header.{index_cell}
 use Rattle.seg_spec.specs.Shapes.{tree_words}
 use Rattle.seg_check.specs.declared.walk.Visit.TheVariants.{Enter, Pass}
+use Rattle.seg_spec.specs.Index.{OpensIndex}
+use Rattle.seg_check.specs.Positions.{AreEntriesBefore, no_name}
 use Rattle.seg_check.specs.Walks.{Completes, IsSteady, Proceeds}
 use Rattle.seg_check.specs.Roots.{StepsIndex, AdvancesRoots, CanResolveRoots, CanResolveIndex, CanClaimTree, names_ahead}
 use Rattle.seg_check.proofs.Queue.QueueStepLaws.{refuses_map}
@@ -21,9 +23,11 @@ returns-in_err-claim_index_nodes g c = λ counted ready tree.
     let e = c.in_err-claim_index_nodes.field-0.0 in
     let failed = err_from_is_err_and c.from_residual.result c.from_residual.ensures.1 in
     let same : failed.0 ≡ e = failed.2 in
-    subst (λ x. StepsIndex bytes table old c.claim_index_nodes.new.claims x) (sym (failed.1 ∙ ap Err same))
-    (refuses_map e (CanClaimTree bytes old.unclaimed) (CanResolveIndex bytes table old) (planted_index bytes table old ready tree)
-    (c.in_err-claim_index_nodes.ensures.refused refl counted ready))
+    subst (λ x. StepsIndex bytes table old c.claim_index_nodes.new.claims x) (sym (failed.1 ∙ ap Err same)) (
+      (refuses_map e (CanClaimTree bytes old.unclaimed) (CanResolveIndex bytes table old) (planted_index bytes table old ready tree)
+          (c.in_err-claim_index_nodes.ensures.refused refl counted ready)),
+      c.in_err-claim_index_nodes.ensures.lacks refl counted tree ready,
+    )
 
 pub loop-visit-init : goal.loop-visit-init
 loop-visit-init g c = record {
@@ -109,11 +113,16 @@ returns-in_err-before g c = λ counted ready tree.
     let e = c.in_err-before.field-0.0 in
     let failed = err_from_is_err_and c.from_residual-in_err-before.result c.from_residual-in_err-before.ensures.1 in
     let same : failed.0 ≡ e = failed.2 in
-    subst (λ x. StepsIndex bytes table old c.check_entry.new.claims x) (sym (failed.1 ∙ ap Err same))
-    (refuses_map e (CanResolveRoots bytes table now (names_ahead (c.entry_in.result ∷ rest) last)) (CanResolveIndex bytes table old)
-    (λ can. subst (λ xs. CanResolveRoots bytes table now (names_ahead xs last)) (ap (map (λ p. p + tree_words)) next.1 ∙ sym (ap (λ a. a ∷ rest) at_is))
-    (can_roots bytes table start now (names_ahead claimed.index.entries []) ahead t.advances (tree_names bytes table old ready start claimed tree can)))
-    (c.in_err-before.ensures.refused rest mid_ready))
+    subst (λ x. StepsIndex bytes table old c.check_entry.new.claims x) (sym (failed.1 ∙ ap Err same)) (
+      (refuses_map e (CanResolveRoots bytes table now (names_ahead (c.entry_in.result ∷ rest) last)) (CanResolveIndex bytes table old)
+          (λ can. subst (λ xs. CanResolveRoots bytes table now (names_ahead xs last)) (ap (map (λ p. p + tree_words)) next.1 ∙ sym (ap (λ a. a ∷ rest) at_is))
+          (can_roots bytes table start now (names_ahead claimed.index.entries []) ahead t.advances (tree_names bytes table old ready start claimed tree can)))
+          (c.in_err-before.ensures.refused rest mid_ready)),
+      c.in_err-before.ensures.lacks mid_ready claimed.index rest
+          (subst (λ k. OpensIndex bytes k claimed.index) (sym tree) claimed.opens)
+          (subst (λ xs. AreEntriesBefore bytes table claimed.index.entries xs last) (ap (map (λ p. p + tree_words)) next.1 ∙ sym (ap (λ a. a ∷ rest) at_is))
+          (t.advances.named claimed.index.entries (record { before = []; entries_are = refl; last = no_name }))),
+    )
 
 pub loop-visit-preserved : goal.loop-visit-preserved
 loop-visit-preserved g c = record {

@@ -3,9 +3,10 @@ use Rattle.std.specs.Option.{is_some}
 use Rattle.std.proofs.lemmas.Result.{err_from_is_err_and}
 use Rattle.seg_check.specs.Roots.{uniques_ahead, AdvancesRoots, CanResolveRoots, StepsUniques}
 use Rattle.seg_check.proofs.Blocks.CellClaimLaws.{ready_live}
+use Rattle.seg_check.proofs.Blocks.LackingBlockLaws.{ready_allocated}
 use Rattle.seg_check.proofs.Queue.QueueStepLaws.{refuses_map}
 use Rattle.seg_check.proofs.Objects.RootReadLaws.{roots_none, roots_more, can_roots, ready_roots}
-use Rattle.seg_check.proofs.Objects.UniqueObjectLaws.{from_type, unique_advance, unique_can, unused_advance, all_unique}
+use Rattle.seg_check.proofs.Objects.UniqueObjectLaws.{from_type, unique_advance, unique_can, unique_lacks, unused_advance, all_unique}
 use Rattle.seg_check.proofs.image.TypedImage.check_uniques.Goals as goal
 use Rattle.seg_check.proofs.image.TypedImage.check_uniques.Goals.{then-is_some+in_ok-claim_entries, else-is_some}
 
@@ -54,11 +55,14 @@ returns-in_err-claim_entries g c = λ ready.
     let failed = err_from_is_err_and c.from_residual.result c.from_residual.ensures.1 in
     let same : failed.0 ≡ e = failed.2 in
     let some = some_of c.unique_in.result c.if-is_some.ensures in
-    subst (λ x. StepsUniques bytes table old c.claim_entries.new.claims x) (sym (failed.1 ∙ ap Err same))
-    (refuses_map e _ (CanResolveRoots bytes table old uniques_ahead)
-    (λ can. unique_can bytes table mid c.claim_entries.new.claims T _ (T + 1) _ c.object-content.result now c.loop-t-test.true c.word_of.ensures c.object-content.ensures.content some.0 (sym c.unique_in.ensures ∙ some.1)
-    (can_roots bytes table old mid uniques_ahead (from_type T) done can))
-    (c.in_err-claim_entries.ensures.refused (ready_live bytes table mid now)))
+    subst (λ x. StepsUniques bytes table old c.claim_entries.new.claims x) (sym (failed.1 ∙ ap Err same)) (
+      (refuses_map e _ (CanResolveRoots bytes table old uniques_ahead)
+          (λ can. unique_can bytes table mid c.claim_entries.new.claims T _ (T + 1) _ c.object-content.result now c.loop-t-test.true c.word_of.ensures c.object-content.ensures.content some.0 (sym c.unique_in.ensures ∙ some.1)
+          (can_roots bytes table old mid uniques_ahead (from_type T) done can))
+          (c.in_err-claim_entries.ensures.refused (ready_live bytes table mid now))),
+      unique_lacks bytes table mid c.claim_entries.new.claims T _ (T + 1) _ c.object-content.result now c.loop-t-test.true c.word_of.ensures c.object-content.ensures.content e
+          (c.in_err-claim_entries.ensures.lacks (ready_allocated bytes table mid now)),
+    )
 
 pub returns : goal.returns
 returns g c = λ ready. all_unique c.args.self.now.bytes.bytes.now c.args.self.now.types.now c.args.claims.now c.loop-t.claims c.loop-t.t c.loop-t-test.false (c.loop-t.invariant ready)

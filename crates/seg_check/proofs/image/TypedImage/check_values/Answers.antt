@@ -22,6 +22,7 @@ loop-turn-preserved g c = λ ready turns.
     let turn = c.in-Some.turn in
     let takes : Takes bytes table was mid turn = record {
       turns_are = c.in-Some.ensures.turns;
+      allocated_kept = c.next_turn.ensures.allocated;
       unclaimed_kept = c.next_turn.ensures.unclaimed;
       names_kept = c.next_turn.ensures.naming;
       counted = c.next_turn.ensures.counted;
@@ -40,6 +41,7 @@ returns-in_err-check_block g c = λ ready turns.
     let turn = c.in-Some.turn in
     let takes : Takes bytes table was mid turn = record {
       turns_are = c.in-Some.ensures.turns;
+      allocated_kept = c.next_turn.ensures.allocated;
       unclaimed_kept = c.next_turn.ensures.unclaimed;
       names_kept = c.next_turn.ensures.naming;
       counted = c.next_turn.ensures.counted;
@@ -49,7 +51,7 @@ returns-in_err-check_block g c = λ ready turns.
     let failed = err_from_is_err_and c.from_residual.result c.from_residual.ensures.1 in
     let equal : failed.0 ≡ e = failed.2 in
     subst (λ x. ResolvesTurns bytes table first c.check_block.new.claims x) (sym (failed.1 ∙ ap Err equal))
-    (refuses_map e _ _ (λ all. can_next bytes table first was mid turn so_far takes all) (c.in_err-check_block.ensures.steps (mid_ready bytes table first was mid turn so_far takes) waits.turn))
+    (let wrong = c.in_err-check_block.ensures.steps (mid_ready bytes table first was mid turn so_far takes) waits.turn in (refuses_map e _ _ (λ all. can_next bytes table first was mid turn so_far takes all) wrong.0, wrong.1))
 
 pub returns : goal.returns
 returns g c = λ ready turns.

@@ -10,11 +10,14 @@ use Rattle.seg_check.specs.Roots.{CanClaimTree}
 use Rattle.seg_check.proofs.Queue.QueueStepLaws.{refuses_map}
 use Rattle.seg_check.proofs.WalkStateLaws.{Followed, follow_start, steps_on}
 use Rattle.seg_check.proofs.Contents.MapLaws.{ok_was, err_was}
-use Rattle.seg_check.proofs.Objects.TreeIndexLaws.{traced_start, traced_enter, traced_pass, traced_end, traced_live, traced_refused, traced_can, index_node_claimed, index_node_can}
+use Rattle.seg_check.proofs.Objects.TreeIndexLaws.{traced_start, traced_enter, traced_pass, traced_end, traced_live, traced_refused, traced_lacks, traced_ready, traced_can, index_node_claimed, index_node_can, index_node_lacks}
+use Rattle.seg_check.proofs.Blocks.LackingBlockLaws.{ready_allocated}
+use Rattle.seg_check.specs.Positions.{LacksAt}
 use Rattle.seg_check.proofs.image.TypedImage.claim_index_nodes.Goals as goal
 
 pub loop-visit-init : goal.loop-visit-init
 loop-visit-init g c = record {
+  root = c.walk-walk.ensures.root;
   same = c.walk-walk.ensures.bytes;
   traced = (λ root nodes ready.
       let bytes = c.args.self.now.bytes.bytes.now in
@@ -44,8 +47,43 @@ returns-in_err-visit-clause-refused g c = λ root nodes ready.
     let fault : e ≡ BadIndex was.0 = was.2 in
     subst (λ x. IfErr x (λ f. Refutes f P)) (sym (failed.1 ∙ ap Err (same ∙ fault))) (traced_refused bytes table old ready c.loop-visit.claims walk.stage walk.turns t never)
 
+pub returns-in_err-visit-clause-lacks : goal.returns-in_err-visit-clause-lacks
+returns-in_err-visit-clause-lacks g c = λ root nodes kind ready.
+    let bytes = c.args.self.now.bytes.bytes.now in
+    let table = c.args.self.now.types.now in
+    let walk = c.loop-visit.walk in
+    let t = c.loop-visit.invariant.traced root nodes ready in
+    let e = c.in_err-visit.field-0.0 in
+    let failed = err_from_is_err_and c.from_residual.result c.from_residual.ensures.1 in
+    let same : failed.0 ≡ e = failed.2 in
+    let was = err_was c.next.result c.map_err.result _ e c.in_err-visit.was c.map_err.ensures.cases in
+    let refused = subst (λ (bs : List ℕ). IsSteady bs walk.stage walk.turns → IfErr c.next.result (λ _. (height : ℕ) (rest entering : List ℕ) → Completes bs height walk.stage rest entering → height < 30
+    → length rest + length entering < walk.turns → ⊥)) c.loop-visit.invariant.same c.next.ensures.refused t.followed.steady in
+    let never = subst (λ r. IfErr r (λ _. (height : ℕ) (rest entering : List ℕ) → Completes bytes height walk.stage rest entering → height < 30 → length rest + length entering < walk.turns → ⊥)) was.1 refused in
+    let position : was.0 ≡ index_cell = subst (λ r. IfErr r (λ x. x ≡ walk.root)) was.1 c.next.ensures.position ∙ c.loop-visit.invariant.root ∙ root in
+    let fault : e ≡ BadIndex index_cell = was.2 ∙ ap BadIndex position in
+    subst (λ x. IfErr x (LacksAt bytes table)) (sym (failed.1 ∙ ap Err (same ∙ fault))) (traced_lacks bytes table c.args.claims.now ready c.loop-visit.claims walk.stage walk.turns t kind never)
+
+pub returns-in_err-claim_entries-clause-lacks : goal.returns-in_err-claim_entries-clause-lacks
+returns-in_err-claim_entries-clause-lacks g c = λ root nodes kind ready.
+    let bytes = c.args.self.now.bytes.bytes.now in
+    let table = c.args.self.now.types.now in
+    let old = c.args.claims.now in
+    let mid = c.loop-visit.claims in
+    let walk = c.loop-visit.walk in
+    let t = c.loop-visit.invariant.traced root nodes ready in
+    let said = c.index_node-content.ensures in
+    let e = c.in_err-claim_entries.field-0.0 in
+    let failed = err_from_is_err_and c.from_residual-in_err-claim_entries.result c.from_residual-in_err-claim_entries.ensures.1 in
+    let same : failed.0 ≡ e = failed.2 in
+    let now = traced_ready bytes table old ready mid walk.stage walk.turns t in
+    subst (λ x. IfErr x (LacksAt bytes table)) (sym (failed.1 ∙ ap Err same))
+    (index_node_lacks bytes table old ready mid c.claim_entries.new.claims c.in-Enter.pointer 0 c.index_node-content.result said.tag_is said.size_is said.held_is kind now e
+    (c.in_err-claim_entries.ensures.lacks (ready_allocated bytes table mid now)))
+
 pub loop-visit-preserved-in_ok-claim_entries : goal.loop-visit-preserved-in_ok-claim_entries
 loop-visit-preserved-in_ok-claim_entries g c = record {
+  root = c.next.ensures.root ∙ c.loop-visit.invariant.root;
   same = c.next.ensures.bytes ∙ c.loop-visit.invariant.same;
   traced = (λ root nodes ready.
       let bytes = c.args.self.now.bytes.bytes.now in
@@ -92,6 +130,7 @@ returns-in_err-claim_entries-clause-refused g c = λ root nodes ready.
 
 pub loop-visit-preserved : goal.loop-visit-preserved
 loop-visit-preserved g c = record {
+  root = c.next.ensures.root ∙ c.loop-visit.invariant.root;
   same = c.next.ensures.bytes ∙ c.loop-visit.invariant.same;
   traced = (λ root nodes ready.
       let bytes = c.args.self.now.bytes.bytes.now in

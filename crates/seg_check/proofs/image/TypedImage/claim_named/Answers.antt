@@ -1,4 +1,4 @@
-use Rattle.std.proofs.Common.{◌≡◌, ℕ, ◌+◌, ◌*◌, ◌++◌, [], List, Option, None, Some, Result, Ok, Err, sym, ap, ◌∙◌, subst, arith}
+use Rattle.std.proofs.Common.{length, inr, ◌<◌, ◌≤◌, refl, ◌≡◌, ℕ, ◌+◌, ◌*◌, ◌++◌, [], List, Option, None, Some, Result, Ok, Err, sym, ap, ◌∙◌, subst, arith}
 use Rattle.std.specs.Prelude.{IfErr, OnOk}
 use Rattle.std.proofs.lemmas.List.{append-nil}
 use Rattle.std.proofs.lemmas.Result.{err_from_is_err_and}
@@ -14,6 +14,9 @@ use Rattle.seg_check.specs.declared.fault.ContentFault.{ContentFault}
 use Rattle.seg_check.specs.declared.fault.ContentFault.TheVariants.{Memory}
 use Rattle.seg_check.specs.declared.marks.Turn.{Turn}
 use Rattle.seg_check.specs.Claiming.{Refutes, HaveLiveHeaders, CanClaim, ClaimsBlock, turns_where}
+use Rattle.seg_spec.specs.Bytes.{half, byte}
+use Rattle.seg_check.specs.Positions.{PointsTo, lacks_object, LacksAt}
+use Rattle.seg_check.proofs.Blocks.LackingBlockLaws.{ready_allocated, refuses_as, claim_lacks}
 use Rattle.seg_check.specs.Marks.{Known, awaiting}
 use Rattle.seg_check.specs.Resolving.{IsReady}
 use Rattle.seg_check.specs.Roots.{ClaimsNamed, CanClaimNamed}
@@ -29,6 +32,11 @@ type_claimed bytes table known at n len object ready is can =
     let less = can.type_known in
     ap (type_of bytes) (is ∙ can.can.names) ∙ in_block bytes can.can.start can.can.is_block.after_header ∙ is_named _ can.type (can.can.is_block.has_tag ∙ omega arith) (omega arith)
 
+-- if an entry's pointer points to a named object, the object's block has its type
+type_pointed : (bytes : List ℕ) (table : Table) (at T room : ℕ) (object : Option ℕ) → length table ≤ 32 → object ≡ target bytes at → T < length table → PointsTo bytes at (tag_of Kind.named T) room → type_of bytes object ≡ Some T
+type_pointed bytes table at T room object few is less p =
+    ap (type_of bytes) (is ∙ p.names) ∙ in_block bytes p.start p.is_block.after_header ∙ is_named _ T (p.is_block.has_tag ∙ omega arith) (omega arith)
+
 -- the block was claimed, and then its values were put in the queue
 claims_waiting : (bytes : List ℕ) (old mid : Known) (at tag room start : ℕ) (turns : List Turn) → ClaimsBlock bytes old mid at tag room [] start
     → ClaimsBlock bytes old (record mid { turns = mid.turns ++ awaiting mid.naming.below turns }) at tag room turns start
@@ -39,6 +47,7 @@ claims_waiting bytes old mid at tag room start turns c =
       is_block = c.is_block;
       claims = record {
         claimed = a.claimed;
+        allocated_kept = a.allocated_kept;
         counted = λ i. record { unclaimed = (a.counted i).unclaimed; free = (a.counted i).free };
         turns_are = ap (λ ts. ts ++ awaiting mid.naming.below turns) (a.turns_are ∙ append-nil old.turns) ∙ ap (λ n. old.turns ++ awaiting n.below turns) a.naming_kept;
         naming_kept = a.naming_kept;
@@ -87,6 +96,44 @@ returns-in_default-clause-refused g c = λ ready is can.
     let some = type_claimed c.args.self.now.bytes.bytes.now c.args.self.now.types.now c.args.claims.now c.args.at c.args.entry.now.count c.args.entry.now.name_len c.args.entry.now.object ready is can in
     let both : None ≡ Some can.type = sym c.in_default.is ∙ c.type_in.ensures ∙ some in
     cc
+
+pub returns-in_default-clause-lacks : goal.returns-in_default-clause-lacks
+returns-in_default-clause-lacks g c = λ ready is counted measured.
+    lacks_object (λ T less p.
+    let some = type_pointed c.args.self.now.bytes.bytes.now c.args.self.now.types.now c.args.at T _ c.args.entry.now.object ready.is_table.few is less p in
+    let both : None ≡ Some T = sym c.in_default.is ∙ c.type_in.ensures ∙ some in
+    cc)
+
+pub returns-in_err-start-clause-lacks : goal.returns-in_err-start-clause-lacks
+returns-in_err-start-clause-lacks g c = λ ready is counted measured.
+    let bytes = c.args.self.now.bytes.bytes.now in
+    let table = c.args.self.now.types.now in
+    let old = c.args.claims.now in
+    let at = c.args.at in
+    let n = c.args.entry.now.count in
+    let T = c.in-Some.type_id in
+    let tag_is = tag_named c.named_tag.result T (ap kind_of c.named_tag.ensures.kind) c.named_tag.ensures.type_id in
+    let room_is = ap (λ l. l + c.from.result) (c.values_len.ensures.len ∙ ap (λ k. n * k) c.size.ensures.value) ∙ ap (λ l. n * size table T + l) c.from.ensures in
+    let len_is : n * size table T + c.args.entry.now.name_len ≡ half bytes (at + 4) * size table T + byte bytes (at + 6) = λ i. counted i * size table T + measured i in
+    let room = half bytes (at + 4) * size table T + byte bytes (at + 6) in
+    let e = c.in_err-start.field-0.0 in
+    let failed = err_from_is_err_and c.from_residual.result c.from_residual.ensures.1 in
+    let same : failed.0 ≡ e = failed.2 in
+    subst (λ x. IfErr x (LacksAt bytes table)) (sym (failed.1 ∙ ap Err same))
+    (claim_lacks bytes table old ready at (tag_of Kind.named T) room e (inr (T, refl, refl))
+    (refuses_as bytes bytes old at (word_of c.named_tag.result) (tag_of Kind.named T) (c.values_len.result + c.from.result) room e refl tag_is (room_is ∙ len_is) (c.in_err-start.ensures.lacks (ready_allocated bytes table old ready)))
+    (λ none. lacks_object (λ U less p.
+    let both : Some T ≡ Some U = sym c.in-Some.is ∙ c.type_in.ensures ∙ type_pointed bytes table at U _ c.args.entry.now.object ready.is_table.few is less p in
+    let type_is : U ≡ T = cc in
+    none (subst (λ V. PointsTo bytes at (tag_of Kind.named V) (half bytes (at + 4) * size table V + byte bytes (at + 6))) type_is p))))
+
+memory_lacks : {A : Type 0} (bytes : List ℕ) (table : Table) (result : Result A ContentFault) → IfErr result (λ f. f ≡ Memory) → IfErr result (LacksAt bytes table)
+memory_lacks bytes table (Ok x) e = tt
+memory_lacks bytes table (Err f) e = subst (LacksAt bytes table) (sym e) tt
+
+pub returns-clause-lacks : goal.returns-clause-lacks
+returns-clause-lacks g c = λ ready is counted measured.
+    memory_lacks c.args.self.now.bytes.bytes.now c.args.self.now.types.now c.await_values.result c.await_values.ensures.refused
 
 pub returns-in_err-start-clause-refused : goal.returns-in_err-start-clause-refused
 returns-in_err-start-clause-refused g c = λ ready is.
