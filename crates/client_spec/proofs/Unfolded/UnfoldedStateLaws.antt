@@ -125,7 +125,7 @@ module _ (m : ℕ → Value) where
   unique_found None t = refl
   unique_found (Some v) t = refl
 
-  origin_same : (s : State) (q : Origin) → at_origin (unfolded_state m s) q ≡ option_map unfolded_owned (at_origin s q)
+  pub origin_same : (s : State) (q : Origin) → at_origin (unfolded_state m s) q ≡ option_map unfolded_owned (at_origin s q)
   origin_same s (Origin.Name name i) = named_found (s.names name) i
   origin_same s (Origin.Unique t) = unique_found (s.uniques t) t
   origin_same s (Origin.Owned r) = owned_same s r
