@@ -24,7 +24,7 @@ use Rattle.client_spec.specs.Answer.{success, bad_alloc, path_of, path_form, int
 use Rattle.client_spec.specs.Effect.{effect, truth}
 use Rattle.client_spec.specs.Shape.{HasShape, AllHaveShape}
 use Rattle.client_spec.specs.Ties.{spot_of}
-use Rattle.client_spec.specs.Asks.{KeyGoes, cell_asks, found_key, lower_keys, if_absent}
+use Rattle.client_spec.specs.Asks.{KeyGoes, cell_asks, found_key, new_index, if_absent}
 use Rattle.client_spec.specs.Typed.{Class, RegisterType, RegisterTypes, Rule, known, is_owner, integer_needed, is_map, others_ended, gives, opens, rule}
 use Rattle.client_spec.specs.Typed as typed
 use Rattle.client_spec.proofs.TypedStates.ValueLaws.{Some_inj}
@@ -77,9 +77,9 @@ found_is i s path key keys vs is key_is there =
     ∙ ap (λ x. x >>= λ k. (path_value s path >>= entries_in) >>= λ es. key_place es.0 k) key_is
     ∙ ap (λ x. x >>= λ es. key_place es.0 key) there
 
-lower_is : (i : Instruction) (s : State) (path : Path) (key : ℤ) (keys : List ℤ) (vs : Values) → path_of s i.b ≡ Some path → integer_at s i.c ≡ Some key → (path_value s path >>= entries_in) ≡ Some (keys, vs)
-    → lower_keys i s ≡ Some (keys_below keys key)
-lower_is i s path key keys vs is key_is there =
+index_is : (i : Instruction) (s : State) (path : Path) (key : ℤ) (keys : List ℤ) (vs : Values) → path_of s i.b ≡ Some path → integer_at s i.c ≡ Some key → (path_value s path >>= entries_in) ≡ Some (keys, vs)
+    → new_index i s ≡ Some (keys_below keys key)
+index_is i s path key keys vs is key_is there =
     ap (λ x. x >>= λ p. integer_at s i.c >>= λ k. (path_value s p >>= entries_in) >>= λ es. Some (keys_below es.0 k)) is
     ∙ ap (λ x. x >>= λ k. (path_value s path >>= entries_in) >>= λ es. Some (keys_below es.0 k)) key_is
     ∙ ap (λ x. x >>= λ es. Some (keys_below es.0 key)) there
@@ -240,7 +240,7 @@ module _ (allocator : ℕ) (constants : List Constant) (role : Role) (a b c : �
         (Selector.key key) r.what part.0 (record { at = p; type = r.what }) within free (key_part r.form r.what key r.is) part.1 refl d.leads (put_is true None e)
         (changed_at_place succeeds.changes.back_kept refl refl (
           λ j some. absurd (let none : Some j ≡ None = sym some ∙ found_is i s r.its.path key keys vs r.path_is key_is there_put ∙ e in cc),
-          inr (place, r.form, led_to one h i r, (m, lower_is i s r.its.path key keys vs r.path_is key_is there_put, subst (λ (t : Table). KeepsParts w.image new t place m 0 1) h.table_is d.parts)),
+          inr (place, r.form, led_to one h i r, (m, index_is i s r.its.path key keys vs r.path_is key_is there_put, subst (λ (t : Table). KeepsParts w.image new t place m 0 1) h.table_is d.parts)),
         )
         (record { spot = spot_of s.types place; own = r.its.found.blocks; touches = place_touched one h i r; kept = kept_at_place s.types h.table_is succeeds.changes })
         (grants_asks constants i h.pictured allocator h.allocator_is (entry_asks r.form r.what) (place, r.form, led_to one h i r, asks_by None e) new w.table place later [] r.its.found.blocks d.others refl succeeds))
