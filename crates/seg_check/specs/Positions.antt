@@ -114,7 +114,8 @@ entry_room bytes table at T = half bytes (at + 4) * size table T + byte bytes (a
 -- the same for the pointer of an entry, whose object may have any type
 abbrev pub MayPointTo : List ℕ → Table → ℕ → ℕ → ℕ → Type 0
 MayPointTo bytes table at tag room = MustPointTo bytes table at tag room ⊎
-    (IsEntryAt bytes at × (T : ℕ) × (tag ≡ tag_of Kind.named T) × (room ≡ entry_room bytes table at T))
+    (IsEntryAt bytes at × (T : ℕ) × (tag ≡ tag_of Kind.named T) ×
+    (room ≡ entry_room bytes table at T))
 
 -- The pointer is null, or it points to something else than an allocated block with the right tag
 -- and enough room.
