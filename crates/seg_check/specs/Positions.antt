@@ -5,6 +5,10 @@
 --     IsBlockFor table T form n tag room
 --                                    the cell of a value of this type, which counts n, and the nodes to which it
 --                                    points, must point to blocks with this tag and room
+--     IsNodeAt bytes tag room node   a node of this tag and room is there
+--     IsLinkAt bytes tag room cell at
+--                                    the pointer there is the cell's, or one of such a node's
+--     IsEntryAt bytes at             an entry of the index is there
 --     MustPointTo, MayPointTo bytes table at tag room
 --                                    the pointer there must point to such a block, or may
 --     LacksBlockAt bytes table at    the pointer there must point to a block, and doesn't
@@ -65,6 +69,22 @@ HasNodes (Form.list U) = ⊤
 HasNodes (Form.map U) = ⊤
 HasNodes _ = ⊥
 
+-- a node of this tag and room
+pub record IsNodeAt (bytes : List ℕ) (tag room node : ℕ) : Type 0 where
+  pub is_block : IsBlock bytes node tag room
+  pub among : 1 ≤ times (block_of node) (positions (live bytes))
+
+-- a pointer in a list or a tree: the cell's, or one of the two at the start of a node
+pub data IsLinkAt (bytes : List ℕ) (tag room cell : ℕ) : ℕ → Type 0 where
+  of_cell : {at : ℕ} → at ≡ cell → IsLinkAt bytes tag room cell at
+  of_node : {at : ℕ} → IsNodeAt bytes tag room at → IsLinkAt bytes tag room cell at
+  of_right : (node : ℕ) → IsNodeAt bytes tag room node → IsLinkAt bytes tag room cell (node + 4)
+
+-- an entry of the index is there
+abbrev pub IsEntryAt : List ℕ → ℕ → Type 0
+IsEntryAt bytes at = (index : Index) × OpensIndex bytes (word bytes index_kind_word) index ×
+    (1 ≤ times at index.entries)
+
 -- What a pointer must point to, if it isn't null: a block with this tag and room.
 pub data MustPointTo (bytes : List ℕ) (table : Table) (at : ℕ) : ℕ → ℕ → Type 0 where
   -- the pointer to the buffer of a flat index
@@ -72,6 +92,7 @@ pub data MustPointTo (bytes : List ℕ) (table : Table) (at : ℕ) : ℕ → ℕ
       MustPointTo bytes table at (tag_of Kind.index_buffer 0) (count_at bytes at * 8)
   -- a pointer to a node of a tree index
   to_index_node : word bytes index_kind_word ≡ 1 →
+      IsLinkAt bytes (tag_of Kind.index_node 0) index_node_size index_cell at →
       MustPointTo bytes table at (tag_of Kind.index_node 0) index_node_size
   -- the pointer to a type's unique object
   to_unique : (T : ℕ) → T < 32 → at ≡ unique_word T →
@@ -84,7 +105,7 @@ pub data MustPointTo (bytes : List ℕ) (table : Table) (at : ℕ) : ℕ → ℕ
   in_node : {tag room : ℕ} (cell T : ℕ) (form : Form) →
       LiesAt bytes table (record { at = cell; type = T }) → form_at table T ≡ Some form →
       HasNodes form → IsBlockFor table T form (count_at bytes cell) tag room →
-      MustPointTo bytes table at tag room
+      IsLinkAt bytes tag room cell at → MustPointTo bytes table at tag room
 
 -- the room that the object of an entry needs for its values, of this type, and its name
 abbrev pub entry_room : List ℕ → Table → ℕ → ℕ → ℕ
@@ -93,7 +114,8 @@ entry_room bytes table at T = half bytes (at + 4) * size table T + byte bytes (a
 -- the same for the pointer of an entry, whose object may have any type
 abbrev pub MayPointTo : List ℕ → Table → ℕ → ℕ → ℕ → Type 0
 MayPointTo bytes table at tag room = MustPointTo bytes table at tag room ⊎
-    ((T : ℕ) × (tag ≡ tag_of Kind.named T) × (room ≡ entry_room bytes table at T))
+    (IsEntryAt bytes at × (T : ℕ) × (tag ≡ tag_of Kind.named T) ×
+    (room ≡ entry_room bytes table at T))
 
 -- The pointer is null, or it points to something else than an allocated block with the right tag
 -- and enough room.
@@ -101,7 +123,7 @@ pub data LacksBlockAt (bytes : List ℕ) (table : Table) (at : ℕ) : Type 0 whe
   lacks_block : (tag room : ℕ) → MustPointTo bytes table at tag room →
       (PointsTo bytes at tag room → ⊥) → LacksBlockAt bytes table at
   -- the pointer of an entry
-  lacks_object : ((T : ℕ) → T < length table →
+  lacks_object : IsEntryAt bytes at → ((T : ℕ) → T < length table →
       PointsTo bytes at (tag_of Kind.named T) (entry_room bytes table at T) → ⊥) →
       LacksBlockAt bytes table at
 

@@ -9,7 +9,7 @@ ghost use Rattle.seg_spec.specs.Reads.{count_at};
 ghost use Rattle.seg_layout.specs.Forms.{has_cells};
 ghost use Rattle.seg_check.specs.Claiming.{Refutes, turns_where};
 ghost use Rattle.seg_check.specs.Marks.{awaiting};
-ghost use Rattle.seg_check.specs.Positions.{AreEntriesBefore, LacksAt};
+ghost use Rattle.seg_check.specs.Positions.{AreEntriesBefore, IsEntryAt, LacksAt};
 ghost use Rattle.seg_check.specs.Resolving.{IsReady};
 ghost use Rattle.seg_check.specs.Roots.{StepsIndex, AdvancesRoots, CanResolveRoots, names_ahead, ClaimsNamed, CanClaimNamed, ClaimsTree, CanClaimTree};
 
@@ -186,6 +186,7 @@ impl<'a> TypedImage<'a> {
             entry.now.object ≡ target self.now.bytes.bytes.now at →
             entry.now.count ≡ half self.now.bytes.bytes.now (at + 4) →
             entry.now.name_len ≡ byte self.now.bytes.bytes.now (at + 6) →
+            IsEntryAt self.now.bytes.bytes.now at →
             IfErr result (LacksAt self.now.bytes.bytes.now self.now.types.now) }
     {
         let Some(type_id) = entry.type_in(self.bytes) else {

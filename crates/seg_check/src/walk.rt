@@ -36,6 +36,8 @@ impl Tree {
         ensures steady { IsSteady bytes.entry.bytes.now result.stage result.turns }
         ensures bytes { result.bytes.bytes.now ≡ bytes.entry.bytes.now }
         ensures root { result.root ≡ self.root }
+        ensures pointer { result.stage.pointer ≡ self.root }
+        ensures entered { result.stage.entered.items ≡ [] }
     {
         Walk {
             bytes,
@@ -237,7 +239,7 @@ pub(crate) struct Walk<'a> {
 
 impl Walk<'_> {
     ghost use Rattle.std.specs.Prelude.{ℕ, ◌+◌, List, length, IfErr, IfOk, IfSome};
-    ghost use Rattle.seg_check.specs.Walks.{Completes, IsSteady, Proceeds};
+    ghost use Rattle.seg_check.specs.Walks.{Completes, IsSteady, Proceeds, Moves};
 
     /// The next step of the walk, or `None` at its end.
     // Inlined with the two functions that make a step, since a check of trees consists mostly of steps.
@@ -255,6 +257,8 @@ impl Walk<'_> {
             → length rest + length entering < self.old.turns → ⊥) }
         ensures bytes { self.new.bytes.bytes.now ≡ self.old.bytes.bytes.now }
         ensures root { self.new.root ≡ self.old.root }
+        ensures moves { IfOk result (λ visit. IfSome visit
+            (Moves self.old.bytes.bytes.now self.old.stage self.new.stage)) }
         ensures position { IfErr result (λ at. at ≡ self.old.root) }
     {
         if self.turns == 0 {

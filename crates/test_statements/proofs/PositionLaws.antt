@@ -13,7 +13,7 @@ use Rattle.seg_spec.specs.Faulty.{HasFront}
 use Rattle.seg_spec.specs.Fixtures.{counter, two_owners}
 use Rattle.seg_raw.specs.declared.fault.Fault.TheVariants as fault
 use Rattle.seg_check.specs.Turns.{LiesAt, in_block, by_name, places_in}
-use Rattle.seg_check.specs.Positions.{PointsTo, IsBlockFor, HasNodes, MustPointTo, to_entries, to_index_node, to_unique, in_value, in_node, entry_room, LacksBlockAt, lacks_block, lacks_object, no_name, as_entry, in_cell, IsFaultAt}
+use Rattle.seg_check.specs.Positions.{PointsTo, IsBlockFor, HasNodes, IsEntryAt, MustPointTo, to_entries, to_index_node, to_unique, in_value, in_node, entry_room, LacksBlockAt, lacks_block, lacks_object, no_name, as_entry, in_cell, IsFaultAt}
 use Rattle.seg_check.proofs.Blocks.LackingBlockLaws.{null_points}
 use Rattle.test_definitions.proofs.ImageEvaluationLaws.{live_evaluated, one_type-valid, all_old, numbers-valid, numbers-old}
 use Rattle.test_definitions.proofs.SoundImages.{counter_tiles}
@@ -63,10 +63,10 @@ only_numbers (suc T) form f = cc
 no_block : (tag room : ℕ) → MustPointTo uncounted (Form.i64 ∷ []) 752 tag room → ⊥
 unfolding uncounted counter slice put set_number number number_of
 no_block tag room (to_entries e k) = omega (arith, e)
-no_block tag room (to_index_node k) = omega (arith, k)
+no_block tag room (to_index_node k link) = omega (arith, k)
 no_block tag room (to_unique T small e) = omega (arith, small, e)
 no_block tag room (in_value T form lies f is) = subst (λ g. IsBlockFor (Form.i64 ∷ []) T g (count_at uncounted 752) tag room) (sym (only_numbers T form f)) is
-no_block tag room (in_node cell T form lies f has is) = subst HasNodes (sym (only_numbers T form f)) has
+no_block tag room (in_node cell T form lies f has is link) = subst HasNodes (sym (only_numbers T form f)) has
 
 uncounted_live : live uncounted ≡ live_of counter_tiles
 unfolding uncounted counter slice put set_number number number_of
@@ -84,7 +84,7 @@ right_object = record {
 
 right_pointer : LacksBlockAt uncounted (Form.i64 ∷ []) 752 → ⊥
 right_pointer (lacks_block tag room must none) = no_block tag room must
-right_pointer (lacks_object none) = none 0 (lit< tt) right_object
+right_pointer (lacks_object listed none) = none 0 (lit< tt) right_object
 
 pub uncounted_pointer : IsFaultAt uncounted (fault.BadPointer 752) → ⊥
 uncounted_pointer (table, front, lacks) = right_pointer (subst (λ t. LacksBlockAt uncounted t 752) (HasTable-one uncounted 64 table (Form.i64 ∷ []) front.is_table numbers-valid front.types uncounted_front.types) lacks)
@@ -110,9 +110,17 @@ pointless_front = record {
   of_version = numbers-old;
 }
 
+listed : IsEntryAt pointless 752
+unfolding pointless counter slice put set_number number number_of target
+listed = (
+  record { blocks = 736 ∷ []; entries = 752 ∷ [] },
+  record { named_room = record { after_header = lit≤ tt; live = refl; has_tag = refl; room = lit≤ tt }; none_if_empty = λ e. cc; index_is = refl },
+  lit≤ tt,
+)
+
 pub pointless_pointer : IsFaultAt pointless (fault.BadPointer 752)
 unfolding pointless counter slice put set_number number number_of target
-pointless_pointer = (Form.i64 ∷ [], pointless_front, lacks_object (λ T less p. null_points pointless 752 _ _ refl p))
+pointless_pointer = (Form.i64 ∷ [], pointless_front, lacks_object listed (λ T less p. null_points pointless 752 _ _ refl p))
 
 -- ---- two entries for one object
 
@@ -135,6 +143,14 @@ two_owners_front = record {
   of_version = numbers-old;
 }
 
+two_listed : IsEntryAt two_owners 752
+unfolding two_owners counter slice put set_number number number_of target
+two_listed = (
+  record { blocks = 736 ∷ []; entries = 752 ∷ 760 ∷ [] },
+  record { named_room = record { after_header = lit≤ tt; live = refl; has_tag = refl; room = lit≤ tt }; none_if_empty = λ e. cc; index_is = refl },
+  lit≤ tt,
+)
+
 two_owners_live : live two_owners ≡ live_of counter_tiles
 unfolding two_owners counter slice put set_number number number_of
 two_owners_live = live_evaluated two_owners counter_tiles (refl, lit≤ tt, (refl, lit≤ tt, refl))
@@ -149,7 +165,7 @@ two_owners_owner = (
     pointer = 752;
     tag = 1;
     room = 9;
-    may = inr (0, refl, refl);
+    may = inr (two_listed, 0, refl, refl);
     points = record {
       start = 720;
       names = refl;

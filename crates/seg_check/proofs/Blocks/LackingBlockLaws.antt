@@ -1,5 +1,5 @@
 -- Pointers that don't point to the block that they must point to, and blocks with several owners.
-use Rattle.std.proofs.Common.{◌≡◌, ℕ, ◌+◌, ◌*◌, ◌≤◌, inl, List, length, Some, None, sym, ap, ◌∙◌, subst, arith}
+use Rattle.std.proofs.Common.{◌≡◌, ℕ, inl, List, length, Some, None, sym, ◌∙◌, subst, arith}
 use Rattle.seg_spec.specs.Bytes.{word}
 use Rattle.seg_spec.specs.Header.{allocator_word}
 use Rattle.seg_spec.specs.Heap.{heap_start, live}
@@ -7,14 +7,14 @@ use Rattle.seg_spec.specs.Block.{block_of}
 use Rattle.seg_spec.specs.Pointer.{target}
 use Rattle.seg_spec.specs.Types.{Form, Table, form_at}
 use Rattle.seg_spec.specs.Reads.{count_at}
-use Rattle.seg_spec.specs.Sound.{times, positions}
+use Rattle.seg_spec.specs.Sound.{positions}
 use Rattle.seg_spec.proofs.Heap.LiveBlockLaws.{LiesIn, live-lie, there}
 use Rattle.seg_check.specs.declared.fault.ContentFault.{ContentFault}
 use Rattle.seg_check.specs.declared.fault.ContentFault.TheVariants.{Memory, BadIndex, BadPointer, DoubleOwner, BadValue}
 use Rattle.seg_check.specs.Claiming.{HaveLiveHeaders, PointsAmong, RefusesClaim}
 use Rattle.seg_check.specs.Marks.{Known}
 use Rattle.seg_check.specs.Turns.{LiesAt}
-use Rattle.seg_check.specs.Positions.{PointsTo, IsBlockFor, HasNodes, MustPointTo, MayPointTo, in_value, in_node, LacksBlockAt, lacks_block, LacksAt}
+use Rattle.seg_check.specs.Positions.{PointsTo, IsLinkAt, IsBlockFor, HasNodes, MustPointTo, MayPointTo, in_value, in_node, LacksBlockAt, lacks_block, LacksAt}
 use Rattle.seg_check.specs.Resolving.{IsReady}
 
 -- a null pointer points to no block
@@ -62,5 +62,5 @@ module _ (bytes : List ℕ) (table : Table) (known : Known) (ready : IsReady byt
 
   -- a claim of a node's pointer that was refused
   pub link_lacks : (cell pointer T tag room : ℕ) (form : Form) (e : ContentFault) → LiesAt bytes table (record { at = cell; type = T }) → form_at table T ≡ Some form → HasNodes form → IsBlockFor table T form (count_at bytes cell) tag room
-      → RefusesClaim bytes known pointer tag room e → LacksAt bytes table e
-  link_lacks cell pointer T tag room form e lies f has is r = must_lack pointer tag room e (in_node cell T form lies f has is) r
+      → IsLinkAt bytes tag room cell pointer → RefusesClaim bytes known pointer tag room e → LacksAt bytes table e
+  link_lacks cell pointer T tag room form e lies f has is link r = must_lack pointer tag room e (in_node cell T form lies f has is link) r

@@ -8,13 +8,13 @@ use Rattle.seg_spec.specs.Shapes.{IsLinked, IsRing}
 use Rattle.seg_spec.specs.Value.{Label}
 use Rattle.seg_spec.specs.Reads.{Opened, Opens, AreNodes, count_at}
 use Rattle.seg_spec.specs.Sound.{times}
-use Rattle.seg_spec.proofs.Heap.LiveBlockLaws.{times-same, times-append}
+use Rattle.seg_spec.proofs.Heap.LiveBlockLaws.{times-same, times-append, times-more}
 use Rattle.seg_layout.specs.Forms.{has_cells}
 use Rattle.seg_check.specs.declared.fault.ContentFault.{ContentFault}
 use Rattle.seg_check.specs.Cells.{blocks_counted_by}
 use Rattle.seg_check.specs.Claiming.{Refutes, HaveLiveHeaders, CanClaim, RefusesClaim, ClaimsBlock, turns_where}
 use Rattle.seg_check.specs.Turns.{LiesAt, by_cell}
-use Rattle.seg_check.specs.Positions.{LacksValueAt, in_cell, LacksAt}
+use Rattle.seg_check.specs.Positions.{IsLinkAt, of_node, LacksValueAt, in_cell, LacksAt}
 use Rattle.seg_check.specs.Marks.{Known, Within}
 use Rattle.seg_check.specs.Resolving.{CanResolve, Advances, IsReady}
 use Rattle.seg_check.proofs.Queue.QueueStepLaws.{advance_open, can_open}
@@ -220,6 +220,19 @@ module _ (bytes : List ℕ) (table : Table) (old : Known) (ready : IsReady bytes
       none_there p [] ring many = absurd ring
       none_there p (x ∷ xs) ring many = absurd (omega arith)
 
+  last_there : (x : ℕ) (xs : List ℕ) (last : ℕ) → Chain bytes x xs last → AreNodes bytes tag each (x ∷ xs) → IsBlock bytes last tag each × (1 ≤ times (block_of last) (map block_of (x ∷ xs)))
+  last_there x [] last c are = (subst (λ p. IsBlock bytes p tag each) c are.0, subst (λ p. 1 ≤ times (block_of p) (block_of x ∷ [])) c (omega (arith, times-same (block_of x) [])))
+  last_there x (y ∷ ys) last c are =
+      let rest = last_there y ys last c.1 are.1 in
+      (rest.0, omega (arith, rest.1, times-more (block_of last) (block_of x) (map block_of (y ∷ ys))))
+
+  -- the last node that was claimed
+  pub last_link : (now : Known) (first last n : ℕ) (b : Bool) → Walked now first last n b → IsLinkAt bytes tag each at last
+  last_link now first last n b w =
+      let is = last_there first w.nodes last w.chain w.claimed.are_nodes in
+      let h = block_of last in
+      of_node (record { is_block = is.0; among = omega (arith, is.1, w.claimed.claims.claimed h, times-append h (map block_of (first ∷ w.nodes)) now.unclaimed, ready.standing h) })
+
   -- the first node can't be claimed
   pub first_lacks : (bs : List ℕ) (word size : ℕ) → bs ≡ bytes → word ≡ tag → size ≡ each → LiesAt bytes table (record { at = at; type = T }) → (e : ContentFault) → RefusesClaim bs old at word (1 * size) e → LacksAt bytes table e
   first_lacks bs word size e t s lies fault r =
@@ -227,10 +240,10 @@ module _ (bytes : List ℕ) (table : Table) (old : Known) (ready : IsReady bytes
       value_lacks bytes table old ready at T tag each (Form.list U) fault lies f (refl, refl) (refuses_as bs bytes old at word tag (1 * size) each fault e t room r)
 
   -- a node can't be claimed
-  pub node_lacks : (bs : List ℕ) (word size : ℕ) → bs ≡ bytes → word ≡ tag → size ≡ each → (known : Known) → IsReady bytes table known → LiesAt bytes table (record { at = at; type = T }) → (pointer : ℕ) (e : ContentFault) → RefusesClaim bs known pointer word (1 * size) e → LacksAt bytes table e
-  node_lacks bs word size e t s known is lies pointer fault r =
+  pub node_lacks : (bs : List ℕ) (word size : ℕ) → bs ≡ bytes → word ≡ tag → size ≡ each → (known : Known) → IsReady bytes table known → LiesAt bytes table (record { at = at; type = T }) → (pointer : ℕ) → IsLinkAt bytes tag each at pointer → (e : ContentFault) → RefusesClaim bs known pointer word (1 * size) e → LacksAt bytes table e
+  node_lacks bs word size e t s known is lies pointer link fault r =
       let room : 1 * size ≡ each = (let one : 1 * size ≡ size = omega arith in one) ∙ s in
-      link_lacks bytes table known is at pointer T tag each (Form.list U) fault lies f tt (refl, refl) (refuses_as bs bytes known pointer word tag (1 * size) each fault e t room r)
+      link_lacks bytes table known is at pointer T tag each (Form.list U) fault lies f tt (refl, refl) link (refuses_as bs bytes known pointer word tag (1 * size) each fault e t room r)
 
   pub ring_lacks : (now : Known) (first last n : ℕ) (b : Bool) → Walked now first last n b → LiesAt bytes table (record { at = at; type = T }) → target bytes at ≡ Some first → n ≡ count_at bytes at
       → ((b ≡ true) × (target bytes last ≡ Some first) × (target bytes (first + 4) ≡ Some last) → ⊥) → LacksValueAt bytes table at

@@ -27,11 +27,12 @@ use Rattle.seg_check.specs.declared.maps.Keys.{Keys}
 use Rattle.seg_check.specs.declared.walk.Stage.{Stage}
 use Rattle.seg_check.specs.declared.walk.Visit.TheVariants.{Enter, Pass}
 use Rattle.seg_check.specs.Claiming.{Refutes, HaveLiveHeaders, CanClaim, RefusesClaim, ClaimsBlock, turns_where, has_turns}
-use Rattle.seg_check.specs.Positions.{LacksValueAt, in_cell, LacksAt}
+use Rattle.seg_check.specs.Positions.{IsLinkAt, LacksValueAt, in_cell, LacksAt}
 use Rattle.seg_check.proofs.Blocks.LackingBlockLaws.{null_lacks, refuses_as, link_lacks}
 use Rattle.seg_check.specs.Marks.{Known, Within}
 use Rattle.seg_check.specs.Keys.{HasKeys}
-use Rattle.seg_check.specs.Walks.{Completes, Hangs, IsSteady, Proceeds, entering_of}
+use Rattle.seg_check.specs.Walks.{Completes, Hangs, IsSteady, Proceeds, Moves, entering_of}
+use Rattle.seg_check.proofs.PlacedWalkLaws.{Placed, placed_start, placed_enter, placed_pass}
 use Rattle.seg_check.specs.Turns.{LiesAt, by_cell, Limited, limited}
 use Rattle.seg_check.specs.Resolving.{ResolvesBy, CanResolve, Advances, IsReady, Steps}
 use Rattle.seg_check.specs.Cells.{CellsPointTo, blocks_counted_by}
@@ -40,7 +41,7 @@ use Rattle.seg_check.proofs.Queue.QueueOrderLaws.{without, in_any_order}
 use Rattle.seg_check.proofs.Queue.QueueStepLaws.{advance_mixed, can_open}
 use Rattle.seg_check.proofs.Blocks.CellClaimLaws.{advance_nothing}
 use Rattle.seg_check.proofs.Contents.BufferLaws.{content_claimed, content_can, blocks_lack}
-use Rattle.seg_check.proofs.Contents.NodeLaws.{turns_of, Claimed, one_node, claimed_none, claimed_more, claimed_live, claimed_ready, nodes_within, nodes_others, within_rest, node_room, values_of, values_known, claimed_wait}
+use Rattle.seg_check.proofs.Contents.NodeLaws.{turns_of, Claimed, one_node, claimed_none, claimed_more, claimed_within, claimed_live, claimed_ready, nodes_within, nodes_others, within_rest, node_room, values_of, values_known, claimed_wait}
 use Rattle.seg_check.proofs.WalkStateLaws.{Followed, hangs_once, follow_enter, follow_pass, follow_end, follow_all, follow_refused}
 
 -- ---- lists with the same numbers
@@ -121,18 +122,19 @@ module _ (bytes : List ℕ) (table : Table) (old : Known) (ready : IsReady bytes
     pub entered : List ℕ
     pub followed : Follows stage turns passed entered
     pub claimed : Claimed bytes table old ready T map_words U now entered
+    pub placed : Placed bytes table old ready tag each at stage
     pub keys_are : AreLow passed → HasKeys keys (keys_of passed)
 
-  pub traced_start : (stage : Stage) (turns : ℕ) (keys : Keys) → Follows stage turns [] [] → HasKeys keys [] → Traced old stage turns keys
-  traced_start stage turns keys follows has_keys = record { passed = []; entered = []; followed = follows; claimed = claimed_none bytes table old ready T map_words U; keys_are = (λ low. has_keys) }
+  pub traced_start : (stage : Stage) (turns : ℕ) (keys : Keys) → Follows stage turns [] [] → stage.pointer ≡ at → stage.entered.items ≡ [] → HasKeys keys [] → Traced old stage turns keys
+  traced_start stage turns keys follows pointer_is none has_keys = record { placed = placed_start bytes table old ready tag each at stage pointer_is none; passed = []; entered = []; followed = follows; claimed = claimed_none bytes table old ready T map_words U; keys_are = (λ low. has_keys) }
 
   module _ (mid : Known) (stage : Stage) (turns : ℕ) (keys : Keys) (t : Traced mid stage turns keys) where
     pub traced_live : HaveLiveHeaders bytes mid.unclaimed
     traced_live = claimed_live bytes table old ready T map_words U mid t.entered t.claimed
 
     module _ (next : Stage) (less : ℕ) (steady : IsSteady bytes next less) (spent : less + 1 ≡ turns) where
-      pub traced_enter : (new : Known) (pointer p : ℕ) → Proceeds bytes stage next (Some (Enter pointer)) → ClaimsBlock bytes mid new pointer tag (1 * each) (turns_where has p 1) p → Traced new next less keys
-      traced_enter new pointer p step c =
+      pub traced_enter : (new : Known) (pointer p : ℕ) → Proceeds bytes stage next (Some (Enter pointer)) → Moves bytes stage next (Enter pointer) → ClaimsBlock bytes mid new pointer tag (1 * each) (turns_where has p 1) p → Traced new next less keys
+      traced_enter new pointer p step moves c =
           let same : step.0 ≡ p = (let named : Some step.0 ≡ Some p = sym step.1 ∙ c.names in cc) in
           record {
             passed = t.passed;
@@ -140,12 +142,17 @@ module _ (bytes : List ℕ) (table : Table) (old : Known) (ready : IsReady bytes
             followed = subst (λ q. Follows next less t.passed (t.entered ++ q ∷ [])) same
                 (follow_enter bytes at (count_at bytes at) stage turns t.passed t.entered t.followed next less steady spent pointer step);
             claimed = claimed_more bytes table old ready T map_words U mid new t.entered pointer p t.claimed c;
+            placed = placed_enter bytes table old ready tag each at stage next pointer p t.placed moves c.names (record {
+              is_block = subst (λ m. IsBlock bytes p tag m) (one_node bytes table old ready T map_words U) c.is_block;
+              among = omega (arith, c.claims.claimed (block_of p), times-same (block_of p) new.unclaimed, claimed_within bytes table old ready T map_words U mid t.entered t.claimed (block_of p), ready.standing (block_of p));
+            });
             keys_are = t.keys_are;
           }
 
-      pub traced_pass : (node : ℕ) (more : Keys) → Proceeds bytes stage next (Some (Pass node))
+      pub traced_pass : (node : ℕ) (more : Keys) → Proceeds bytes stage next (Some (Pass node)) → Moves bytes stage next (Pass node)
           → (node + map_words < 2 ^ 32 → HasKeys keys (keys_of t.passed) → HasKeys more (keys_of t.passed ++ signed_long bytes (node + tree_words) ∷ [])) → Traced mid next less more
-      traced_pass node more step has_keys = record {
+      traced_pass node more step moves has_keys = record {
+        placed = placed_pass bytes table old ready tag each at stage next node t.placed moves;
         passed = t.passed ++ node ∷ [];
         entered = t.entered;
         followed = follow_pass bytes at (count_at bytes at) stage turns t.passed t.entered t.followed next less steady spent node step;
@@ -324,10 +331,10 @@ module _ (bytes : List ℕ) (table : Table) (old : Known) (ready : IsReady bytes
   }
 
   -- a node can't be claimed
-  pub node_lacks : (bs : List ℕ) (word size : ℕ) → bs ≡ bytes → word ≡ tag → size ≡ each → (known : Known) → IsReady bytes table known → LiesAt bytes table (record { at = at; type = T }) → (pointer : ℕ) (e : ContentFault) → RefusesClaim bs known pointer word (1 * size) e → LacksAt bytes table e
-  node_lacks bs word size e t s known is lies pointer fault r =
+  pub node_lacks : (bs : List ℕ) (word size : ℕ) → bs ≡ bytes → word ≡ tag → size ≡ each → (known : Known) → IsReady bytes table known → LiesAt bytes table (record { at = at; type = T }) → (pointer : ℕ) → IsLinkAt bytes tag each at pointer → (e : ContentFault) → RefusesClaim bs known pointer word (1 * size) e → LacksAt bytes table e
+  node_lacks bs word size e t s known is lies pointer link fault r =
       let room : 1 * size ≡ each = (let one : 1 * size ≡ size = omega arith in one) ∙ s in
-      link_lacks bytes table known is at pointer T tag each (Form.map U) fault lies f tt (refl, refl) (refuses_as bs bytes known pointer word tag (1 * size) each fault e t room r)
+      link_lacks bytes table known is at pointer T tag each (Form.map U) fault lies f tt (refl, refl) link (refuses_as bs bytes known pointer word tag (1 * size) each fault e t room r)
 
   module _ (mid : Known) (stage : Stage) (turns : ℕ) (keys : Keys) (t : Traced mid stage turns keys) where
     pub traced_ready : IsReady bytes table mid

@@ -16,7 +16,7 @@ use Rattle.seg_spec.proofs.Heap.LiveBlockLaws.{times-append, times-same}
 use Rattle.seg_spec.proofs.Values.OneValueLaws.{IsTree-one}
 use Rattle.seg_check.specs.declared.fault.ContentFault.{ContentFault}
 use Rattle.seg_check.specs.Claiming.{CanClaim, RefusesClaim}
-use Rattle.seg_check.specs.Positions.{AreEntriesBefore, no_name, LacksBlockAt, lacks_block, to_entries, to_index_node, LacksNameAt, as_index, LacksAt}
+use Rattle.seg_check.specs.Positions.{AreEntriesBefore, no_name, LacksBlockAt, lacks_block, of_cell, to_entries, to_index_node, LacksNameAt, as_index, LacksAt}
 use Rattle.seg_check.proofs.Blocks.LackingBlockLaws.{null_points, refuses_as, must_lack}
 use Rattle.seg_check.specs.Marks.{Known, ClaimsAll, Within}
 use Rattle.seg_check.specs.Naming.{SameOthers, Finds}
@@ -191,7 +191,7 @@ module _ (bytes : List ℕ) (table : Table) where
     where
       go : (k : ℕ) → word bytes index_kind_word ≡ k → k ≤ 1 → LacksBlockAt bytes table index_cell
       go zero e l = lacks_block _ _ (to_entries refl e) (null_points bytes index_cell (tag_of Kind.index_buffer 0) (count_at bytes index_cell * 8) null)
-      go (suc zero) e l = lacks_block _ _ (to_index_node e) (null_points bytes index_cell (tag_of Kind.index_node 0) index_node_size null)
+      go (suc zero) e l = lacks_block _ _ (to_index_node e (of_cell refl)) (null_points bytes index_cell (tag_of Kind.index_node 0) index_node_size null)
       go (suc (suc k)) e l = absurd (omega arith)
 
   -- ---- a flat index

@@ -18,14 +18,15 @@ use Rattle.seg_spec.proofs.Values.OneValueLaws.{IsTree-one}
 use Rattle.seg_check.specs.Claiming.{HaveLiveHeaders, CanClaim, RefusesClaim, ClaimsBlock, turns_where, has_turns}
 use Rattle.seg_check.specs.declared.fault.ContentFault.{ContentFault}
 use Rattle.seg_check.specs.Naming.{IsFrozen}
-use Rattle.seg_check.specs.Positions.{LacksNameAt, as_index, to_index_node, LacksAt}
+use Rattle.seg_check.specs.Positions.{IsLinkAt, LacksNameAt, as_index, to_index_node, LacksAt}
 use Rattle.seg_check.proofs.Blocks.LackingBlockLaws.{refuses_as, must_lack}
 use Rattle.seg_block.specs.Tags.{word_of}
 use Rattle.seg_cells.specs.declared.content.Content.{Content}
 use Rattle.seg_cells.specs.declared.entry.Held.TheVariants as held
 use Rattle.seg_check.specs.Marks.{Known, ClaimsAll, Within}
 use Rattle.seg_check.specs.Resolving.{IsReady}
-use Rattle.seg_check.specs.Walks.{Completes, Hangs, IsSteady, Proceeds, entering_of}
+use Rattle.seg_check.specs.Walks.{Completes, Hangs, IsSteady, Proceeds, Moves, entering_of}
+use Rattle.seg_check.proofs.PlacedWalkLaws.{Placed, placed_start, placed_enter, placed_pass}
 use Rattle.seg_check.specs.declared.walk.Stage.{Stage}
 use Rattle.seg_check.specs.declared.walk.Visit.TheVariants.{Enter, Pass}
 use Rattle.seg_check.specs.Roots.{names_ahead, CanResolveRoots, CanResolveIndex, AdvancesRoots, AdvancesIndex, ClaimsTree, CanClaimTree}
@@ -61,9 +62,11 @@ module _ (bytes : List ℕ) (table : Table) (old : Known) (ready : IsReady bytes
     pub followed : Followed bytes index_cell (count_at bytes index_cell) stage turns passed entered
     pub are_nodes : AreNodes bytes (tag_of Kind.index_node 0) 24 entered
     pub claims : ClaimsAll old now (map block_of entered) []
+    pub placed : Placed bytes table old ready (tag_of Kind.index_node 0) 24 index_cell stage
 
-  pub traced_start : (stage : Stage) (turns : ℕ) → Followed bytes index_cell (count_at bytes index_cell) stage turns [] [] → Traced old stage turns
-  traced_start stage turns f = record {
+  pub traced_start : (stage : Stage) (turns : ℕ) → Followed bytes index_cell (count_at bytes index_cell) stage turns [] [] → stage.pointer ≡ index_cell → stage.entered.items ≡ [] → Traced old stage turns
+  traced_start stage turns f pointer_is none = record {
+    placed = placed_start bytes table old ready (tag_of Kind.index_node 0) 24 index_cell stage pointer_is none;
     passed = [];
     entered = [];
     followed = f;
@@ -108,11 +111,15 @@ module _ (bytes : List ℕ) (table : Table) (old : Known) (ready : IsReady bytes
     traced_live h some = (ready.blocks h (omega (arith, traced_within h))).0
 
     module _ (next : Stage) (less : ℕ) (steady : IsSteady bytes next less) (spent : less + 1 ≡ turns) where
-      pub traced_enter : (new : Known) (pointer p : ℕ) → Proceeds bytes stage next (Some (Enter pointer)) → ClaimsBlock bytes mid new pointer (tag_of Kind.index_node 0) 24 [] p → Traced new next less
-      traced_enter new pointer p step c =
+      pub traced_enter : (new : Known) (pointer p : ℕ) → Proceeds bytes stage next (Some (Enter pointer)) → Moves bytes stage next (Enter pointer) → ClaimsBlock bytes mid new pointer (tag_of Kind.index_node 0) 24 [] p → Traced new next less
+      traced_enter new pointer p step moves c =
           let both : Some p ≡ Some step.0 = sym c.names ∙ step.1 in
           let same : p ≡ step.0 = cc in
           record {
+            placed = placed_enter bytes table old ready (tag_of Kind.index_node 0) 24 index_cell stage next pointer p t.placed moves c.names (record {
+              is_block = c.is_block;
+              among = omega (arith, c.claims.claimed (block_of p), times-same (block_of p) new.unclaimed, traced_within (block_of p), ready.standing (block_of p));
+            });
             passed = t.passed;
             entered = t.entered ++ step.0 ∷ [];
             followed = follow_enter bytes index_cell (count_at bytes index_cell) stage turns t.passed t.entered t.followed next less steady spent pointer step;
@@ -121,8 +128,9 @@ module _ (bytes : List ℕ) (table : Table) (old : Known) (ready : IsReady bytes
                 (claims_both old mid new (map block_of t.entered) (block_of step.0 ∷ []) [] [] t.claims (subst (λ q. ClaimsAll mid new (block_of q ∷ []) []) same c.claims));
           }
 
-      pub traced_pass : (node : ℕ) → Proceeds bytes stage next (Some (Pass node)) → Traced mid next less
-      traced_pass node step = record {
+      pub traced_pass : (node : ℕ) → Proceeds bytes stage next (Some (Pass node)) → Moves bytes stage next (Pass node) → Traced mid next less
+      traced_pass node step moves = record {
+        placed = placed_pass bytes table old ready (tag_of Kind.index_node 0) 24 index_cell stage next node t.placed moves;
         passed = t.passed ++ node ∷ [];
         entered = t.entered;
         followed = follow_pass bytes index_cell (count_at bytes index_cell) stage turns t.passed t.entered t.followed next less steady spent node step;
@@ -353,9 +361,9 @@ module _ (bytes : List ℕ) (table : Table) (old : Known) (ready : IsReady bytes
         (subst (λ t. ClaimsBlock bytes known new pointer t (1 * content.entry.size) (turns_where (has_turns table content.entry.held) p 1) p) tag_is c))
 
     -- a node can't be claimed
-    pub index_node_lacks : word bytes index_kind_word ≡ 1 → IsReady bytes table known → (e : ContentFault) → RefusesClaim bytes known pointer (word_of content.tag) (1 * content.entry.size) e → LacksAt bytes table e
-    index_node_lacks kind now e r =
-        must_lack bytes table known now pointer (tag_of Kind.index_node 0) 24 e (to_index_node kind) (refuses_as bytes bytes known pointer (word_of content.tag) (tag_of Kind.index_node 0) (1 * content.entry.size) 24 e refl tag_is one_node r)
+    pub index_node_lacks : word bytes index_kind_word ≡ 1 → IsReady bytes table known → IsLinkAt bytes (tag_of Kind.index_node 0) 24 index_cell pointer → (e : ContentFault) → RefusesClaim bytes known pointer (word_of content.tag) (1 * content.entry.size) e → LacksAt bytes table e
+    index_node_lacks kind now link e r =
+        must_lack bytes table known now pointer (tag_of Kind.index_node 0) 24 e (to_index_node kind link) (refuses_as bytes bytes known pointer (word_of content.tag) (tag_of Kind.index_node 0) (1 * content.entry.size) 24 e refl tag_is one_node r)
 
     pub index_node_can : CanClaim bytes known pointer (tag_of Kind.index_node 0) 24 → CanClaim bytes known pointer (word_of content.tag) (1 * content.entry.size)
     index_node_can c = subst (λ k. CanClaim bytes known pointer (word_of content.tag) k) (sym one_node) (subst (λ t. CanClaim bytes known pointer t 24) (sym tag_is) c)

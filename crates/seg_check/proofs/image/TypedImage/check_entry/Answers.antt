@@ -1,8 +1,10 @@
-use Rattle.std.proofs.Common.{◌≡◌, ℕ, ◌+◌, ◌≤◌, true, false, List, ◌∷◌, length, Err, sym, ap, ◌∙◌, subst, arith}
+use Rattle.std.proofs.Common.{◌≡◌, ℕ, ◌+◌, ◌≤◌, true, false, List, ◌∷◌, ◌++◌, length, Err, sym, ap, ◌∙◌, subst, arith}
 use Rattle.std.specs.Prelude.{IfErr}
 use Rattle.std.proofs.lemmas.Result.{err_from_is_err_and}
 use Rattle.seg_spec.specs.Bytes.{half, byte}
 use Rattle.seg_spec.specs.Index.{IsName, Precedes}
+use Rattle.seg_spec.specs.Sound.{times}
+use Rattle.seg_spec.proofs.Heap.LiveBlockLaws.{times-append, times-same}
 use Rattle.seg_spec.specs.Pointer.{target}
 use Rattle.seg_entry.specs.Entries.{entry_read}
 use Rattle.seg_entry.specs.declared.entry.NameEntry.{NameEntry}
@@ -46,6 +48,9 @@ returns-in_err-claim_named-clause-refused g c = λ rest ready.
     (named_can bytes table old at entry.count entry.name_len rest c.args.before.now said.count said.name_len)
     (c.in_err-claim_named.ensures.refused ready said.object))
 
+entry_there : (at : ℕ) (entries before rest : List ℕ) → entries ≡ before ++ at ∷ rest → 1 ≤ times at entries
+entry_there at entries before rest is = omega (arith, ap (times at) is, times-append at before (at ∷ rest), times-same at rest)
+
 -- a number of the entry is wrong
 pub returns-then-entry-eq0-clause-lacks : goal.returns-then-entry-eq0-clause-lacks
 returns-then-entry-eq0-clause-lacks g c = λ ready index rest opens before.
@@ -69,7 +74,7 @@ returns-in_err-claim_named-clause-lacks g c = λ ready index rest opens before.
     let e = c.in_err-claim_named.field-0.0 in
     let failed = err_from_is_err_and c.from_residual.result c.from_residual.ensures.1 in
     let same : failed.0 ≡ e = failed.2 in
-    subst (λ x. IfErr x (LacksAt bytes table)) (sym (failed.1 ∙ ap Err same)) (c.in_err-claim_named.ensures.lacks ready said.object said.count said.name_len)
+    subst (λ x. IfErr x (LacksAt bytes table)) (sym (failed.1 ∙ ap Err same)) (c.in_err-claim_named.ensures.lacks ready said.object said.count said.name_len (index, opens, entry_there c.args.at index.entries before.before rest before.entries_are))
 
 pub returns-else-is_before-clause-lacks : goal.returns-else-is_before-clause-lacks
 returns-else-is_before-clause-lacks g c = λ ready index rest opens before.

@@ -13,7 +13,7 @@ use Rattle.seg_check.proofs.Blocks.CellClaimLaws.{ready_live}
 use Rattle.seg_check.proofs.Blocks.LackingBlockLaws.{ready_allocated}
 use Rattle.seg_check.proofs.Contents.NodeLaws.{claimed_ready}
 use Rattle.seg_check.proofs.Contents.BufferLaws.{blocks_none, blocks_some, blocks_names}
-use Rattle.seg_check.proofs.Contents.ListLaws.{walked_first, walked_more, walked_live, ring_advance, ring_nothing, ring_counted, ring_counted_lack, ring_lacks, first_lacks, node_lacks, first_can, ring_closed, next_can, owner_claimed, owner_can, first_low, next_low}
+use Rattle.seg_check.proofs.Contents.ListLaws.{walked_first, walked_more, walked_live, ring_advance, ring_nothing, ring_counted, ring_counted_lack, ring_lacks, first_lacks, last_link, node_lacks, first_can, ring_closed, next_can, owner_claimed, owner_can, first_low, next_low}
 use Rattle.seg_check.proofs.image.TypedImage.check_list.Goals as goal
 use Rattle.seg_check.proofs.image.TypedImage.check_list.Goals.{then-is_linked, else-is_linked, then-eq, else-eq, else-is_linked-2-via-then-is_linked-2+else-is_closed, else-is_linked-2-via-else-is_linked-2}
 
@@ -143,7 +143,7 @@ returns-in_err-next-clause-steps g c = λ T U by ready lies.
     (c.in_err-next.ensures.refused (subst (λ bs. HaveLiveHeaders bs mid.unclaimed) (sym o.bytes) live))
     (let now = claimed_ready bytes table old ready T 8 U mid _ w.claimed in
     node_lacks bytes table old ready at T U by.form_is c.owner-owner.result.bytes.bytes.now (word_of c.owner-owner.result.tag) c.owner-owner.result.entry_size
-    o.bytes (ap word_of o.tag ∙ is.tag_is) (o.entry_size ∙ is.entry_is.size_is) mid now lies c.loop.last e
+    o.bytes (ap word_of o.tag ∙ is.tag_is) (o.entry_size ∙ is.entry_is.size_is) mid now lies c.loop.last (last_link bytes table old ready at T U by.form_is mid first c.loop.last c.loop.counter c.loop.is_linked w) e
     (c.in_err-next.ensures.lacks (subst (λ bs. HaveLiveHeaders bs mid.allocated) (sym o.bytes) (ready_allocated bytes table mid now))))
 
 pub returns-then-is_closed-clause-steps : goal.returns-then-is_closed-clause-steps

@@ -18,7 +18,8 @@ use Rattle.seg_check.specs.Resolving.{CanResolve, Steps}
 use Rattle.seg_check.proofs.Queue.QueueStepLaws.{steps_refused}
 use Rattle.seg_check.proofs.Contents.BufferLaws.{blocks_none, blocks_some, blocks_names}
 use Rattle.seg_check.proofs.Blocks.LackingBlockLaws.{ready_allocated}
-use Rattle.seg_check.proofs.WalkStateLaws.{Followed, follow_start, steps_on}
+use Rattle.seg_check.proofs.WalkStateLaws.{Followed, follow_start, steps_on, moves_on}
+use Rattle.seg_check.proofs.PlacedWalkLaws.{placed_link}
 use Rattle.seg_check.proofs.Contents.MapLaws.{traced_start, tree_nothing, tree_counted, tree_counted_lack, traced_ready, traced_lacks, node_lacks, traced_refused, traced_can, traced_steps, traced_enter, traced_pass, traced_live, owned_node, owned_can, node_key, ok_was, err_was}
 use Rattle.seg_check.proofs.image.TypedImage.check_map.Goals as goal
 
@@ -58,7 +59,7 @@ loop-visit-init g c = record {
       let turns = c.walk-walk.result.turns in
       let n_is = blocks_some at (count_at bytes at) c.in-Some.count (target bytes at) (sym c.counted_blocks.ensures ∙ c.in_ok-count.was ∙ ap Ok c.in-Some.is) in
       traced_start bytes c.args.self.now.types.now c.args.claims.now ready at T U by.form_is stage turns c.new-keys.result
-      (subst (λ n. Followed bytes at n stage turns [] []) n_is.0 (follow_start bytes at _ stage turns w.steady w.turns w.starts)) c.new-keys.ensures);
+      (subst (λ n. Followed bytes at n stage turns [] []) n_is.0 (follow_start bytes at _ stage turns w.steady w.turns w.starts)) w.pointer w.entered c.new-keys.ensures);
 }
 
 pub returns-in_err-visit-clause-steps : goal.returns-in_err-visit-clause-steps
@@ -108,6 +109,7 @@ loop-visit-preserved-in_ok-claim-in-Enter g c = record {
       c.loop-visit.invariant.same t.followed.steady c.next.ensures.fewer c.next.ensures.steady c.next.ensures.goes_on in
       traced_enter bytes table old ready at T U by.form_is mid walk.stage walk.turns c.loop-visit.keys t new.stage new.turns stepped.0 stepped.1 c.claim.new.claims c.in-Enter.pointer
       c.in_ok-claim-in-Enter.field-0 stepped.2
+      (moves_on bytes walk.bytes.bytes.now walk.stage new.stage c.next.result (Enter c.in-Enter.pointer) (was ∙ ap Ok is) c.loop-visit.invariant.same c.next.ensures.moves)
       (owned_node bytes table T U c.args.content.now by owner.bytes.bytes.now (word_of owner.tag) owner.entry_size owner.has_turns o.bytes (ap word_of o.tag) o.entry_size o.has_turns
       mid c.claim.new.claims c.in-Enter.pointer c.in_ok-claim-in-Enter.field-0
       (c.in_ok-claim-in-Enter.ensures.claimed (subst (λ bs. HaveLiveHeaders bs mid.unclaimed) (sym o.bytes) (traced_live bytes table old ready at T U by.form_is mid walk.stage walk.turns c.loop-visit.keys t)))));
@@ -140,7 +142,9 @@ returns-in_err-claim-in-Enter-clause-steps g c = λ T U by ready lies.
     (c.in_err-claim-in-Enter.ensures.refused (subst (λ bs. HaveLiveHeaders bs mid.unclaimed) (sym o.bytes) (traced_live bytes table old ready at T U by.form_is mid walk.stage walk.turns c.loop-visit.keys t)))
     (let now = traced_ready bytes table old ready at T U by.form_is mid walk.stage walk.turns c.loop-visit.keys t in
     node_lacks bytes table old ready at T U by.form_is owner.bytes.bytes.now (word_of owner.tag) owner.entry_size o.bytes (ap word_of o.tag ∙ by.content_of.tag_is) (o.entry_size ∙ by.content_of.entry_is.size_is)
-    mid now lies c.in-Enter.pointer e (c.in_err-claim-in-Enter.ensures.lacks (subst (λ bs. HaveLiveHeaders bs mid.allocated) (sym o.bytes) (ready_allocated bytes table mid now))))
+    mid now lies c.in-Enter.pointer
+    (placed_link bytes table old ready _ _ at walk.stage new.stage c.in-Enter.pointer t.placed
+    (moves_on bytes walk.bytes.bytes.now walk.stage new.stage c.next.result (Enter c.in-Enter.pointer) (was ∙ ap Ok is) c.loop-visit.invariant.same c.next.ensures.moves)) e (c.in_err-claim-in-Enter.ensures.lacks (subst (λ bs. HaveLiveHeaders bs mid.allocated) (sym o.bytes) (ready_allocated bytes table mid now))))
 
 pub loop-visit-preserved : goal.loop-visit-preserved
 loop-visit-preserved g c = record {
@@ -163,6 +167,7 @@ loop-visit-preserved g c = record {
       let stepped = steps_on bytes walk.bytes.bytes.now new.bytes.bytes.now walk.stage new.stage walk.turns new.turns c.next.result (Pass node) (was ∙ ap Ok is) c.next.ensures.bytes
       c.loop-visit.invariant.same t.followed.steady c.next.ensures.fewer c.next.ensures.steady c.next.ensures.goes_on in
       traced_pass bytes table old ready at T U by.form_is mid walk.stage walk.turns c.loop-visit.keys t new.stage new.turns stepped.0 stepped.1 node c.add.new.self stepped.2
+      (moves_on bytes walk.bytes.bytes.now walk.stage new.stage c.next.result (Pass node) (was ∙ ap Ok is) c.loop-visit.invariant.same c.next.ensures.moves)
       (λ low has.
       let stands = node_key bytes table T U c.args.content.now by node c.value_at.result low c.value_at.ensures in
       let same = to_z-of_z w64 c.key.result (record { sfits = c.key.type_inv }) in

@@ -8,7 +8,8 @@ use Rattle.seg_check.specs.Claiming.{Refutes}
 use Rattle.seg_check.specs.Walks.{Completes, IsSteady, Proceeds}
 use Rattle.seg_check.specs.Roots.{CanClaimTree}
 use Rattle.seg_check.proofs.Queue.QueueStepLaws.{refuses_map}
-use Rattle.seg_check.proofs.WalkStateLaws.{Followed, follow_start, steps_on}
+use Rattle.seg_check.proofs.WalkStateLaws.{Followed, follow_start, steps_on, moves_on}
+use Rattle.seg_check.proofs.PlacedWalkLaws.{placed_link}
 use Rattle.seg_check.proofs.Contents.MapLaws.{ok_was, err_was}
 use Rattle.seg_check.proofs.Objects.TreeIndexLaws.{traced_start, traced_enter, traced_pass, traced_end, traced_live, traced_refused, traced_lacks, traced_ready, traced_can, index_node_claimed, index_node_can, index_node_lacks}
 use Rattle.seg_check.proofs.Blocks.LackingBlockLaws.{ready_allocated}
@@ -26,7 +27,7 @@ loop-visit-init g c = record {
       let turns = c.walk-walk.result.turns in
       traced_start bytes c.args.self.now.types.now c.args.claims.now ready stage turns
       (subst (λ n. Followed bytes index_cell n stage turns [] []) nodes (subst (λ r. Followed bytes r c.args.tree.nodes stage turns [] []) root
-      (follow_start bytes c.args.tree.root c.args.tree.nodes stage turns w.steady w.turns w.starts))));
+      (follow_start bytes c.args.tree.root c.args.tree.nodes stage turns w.steady w.turns w.starts))) (w.pointer ∙ root) w.entered);
 }
 
 pub returns-in_err-visit-clause-refused : goal.returns-in_err-visit-clause-refused
@@ -76,9 +77,14 @@ returns-in_err-claim_entries-clause-lacks g c = λ root nodes kind ready.
     let e = c.in_err-claim_entries.field-0.0 in
     let failed = err_from_is_err_and c.from_residual-in_err-claim_entries.result c.from_residual-in_err-claim_entries.ensures.1 in
     let same : failed.0 ≡ e = failed.2 in
+    let new = c.next.new.self in
+    let was = ok_was c.next.result c.map_err.result _ c.in_ok-visit.field-0 c.in_ok-visit.was c.map_err.ensures.cases in
+    let is : c.in_ok-visit.field-0 ≡ Some (Enter c.in-Enter.pointer) = c.in-Some.is ∙ ap Some c.in-Enter.is in
+    let link = placed_link bytes table old ready _ _ index_cell walk.stage new.stage c.in-Enter.pointer t.placed
+    (moves_on bytes walk.bytes.bytes.now walk.stage new.stage c.next.result (Enter c.in-Enter.pointer) (was ∙ ap Ok is) c.loop-visit.invariant.same c.next.ensures.moves) in
     let now = traced_ready bytes table old ready mid walk.stage walk.turns t in
     subst (λ x. IfErr x (LacksAt bytes table)) (sym (failed.1 ∙ ap Err same))
-    (index_node_lacks bytes table old ready mid c.claim_entries.new.claims c.in-Enter.pointer 0 c.index_node-content.result said.tag_is said.size_is said.held_is kind now e
+    (index_node_lacks bytes table old ready mid c.claim_entries.new.claims c.in-Enter.pointer 0 c.index_node-content.result said.tag_is said.size_is said.held_is kind now link e
     (c.in_err-claim_entries.ensures.lacks (ready_allocated bytes table mid now)))
 
 pub loop-visit-preserved-in_ok-claim_entries : goal.loop-visit-preserved-in_ok-claim_entries
@@ -99,6 +105,7 @@ loop-visit-preserved-in_ok-claim_entries g c = record {
       let stepped = steps_on bytes walk.bytes.bytes.now new.bytes.bytes.now walk.stage new.stage walk.turns new.turns c.next.result (Enter c.in-Enter.pointer) (was ∙ ap Ok is) c.next.ensures.bytes
       c.loop-visit.invariant.same t.followed.steady c.next.ensures.fewer c.next.ensures.steady c.next.ensures.goes_on in
       traced_enter bytes table old ready mid walk.stage walk.turns t new.stage new.turns stepped.0 stepped.1 c.claim_entries.new.claims c.in-Enter.pointer c.in_ok-claim_entries.field-0 stepped.2
+      (moves_on bytes walk.bytes.bytes.now walk.stage new.stage c.next.result (Enter c.in-Enter.pointer) (was ∙ ap Ok is) c.loop-visit.invariant.same c.next.ensures.moves)
       (index_node_claimed bytes table old ready mid c.claim_entries.new.claims c.in-Enter.pointer c.in_ok-claim_entries.field-0 c.index_node-content.result said.tag_is said.size_is said.held_is
       (c.in_ok-claim_entries.ensures.claimed (traced_live bytes table old ready mid walk.stage walk.turns t))));
 }
@@ -142,7 +149,8 @@ loop-visit-preserved g c = record {
       let is : c.in_ok-visit.field-0 ≡ Some (Pass node) = c.in-Some.is ∙ ap Some c.in_default-visit.is in
       let stepped = steps_on bytes walk.bytes.bytes.now new.bytes.bytes.now walk.stage new.stage walk.turns new.turns c.next.result (Pass node) (was ∙ ap Ok is) c.next.ensures.bytes
       c.loop-visit.invariant.same t.followed.steady c.next.ensures.fewer c.next.ensures.steady c.next.ensures.goes_on in
-      traced_pass bytes c.args.self.now.types.now c.args.claims.now ready c.loop-visit.claims walk.stage walk.turns t new.stage new.turns stepped.0 stepped.1 node stepped.2);
+      traced_pass bytes c.args.self.now.types.now c.args.claims.now ready c.loop-visit.claims walk.stage walk.turns t new.stage new.turns stepped.0 stepped.1 node stepped.2
+      (moves_on bytes walk.bytes.bytes.now walk.stage new.stage c.next.result (Pass node) (was ∙ ap Ok is) c.loop-visit.invariant.same c.next.ensures.moves));
 }
 
 pub returns-clause-claimed : goal.returns-clause-claimed

@@ -98,14 +98,14 @@ returns-in_default-clause-refused g c = λ ready is can.
     cc
 
 pub returns-in_default-clause-lacks : goal.returns-in_default-clause-lacks
-returns-in_default-clause-lacks g c = λ ready is counted measured.
-    lacks_object (λ T less p.
+returns-in_default-clause-lacks g c = λ ready is counted measured listed.
+    lacks_object listed (λ T less p.
     let some = type_pointed c.args.self.now.bytes.bytes.now c.args.self.now.types.now c.args.at T _ c.args.entry.now.object ready.is_table.few is less p in
     let both : None ≡ Some T = sym c.in_default.is ∙ c.type_in.ensures ∙ some in
     cc)
 
 pub returns-in_err-start-clause-lacks : goal.returns-in_err-start-clause-lacks
-returns-in_err-start-clause-lacks g c = λ ready is counted measured.
+returns-in_err-start-clause-lacks g c = λ ready is counted measured listed.
     let bytes = c.args.self.now.bytes.bytes.now in
     let table = c.args.self.now.types.now in
     let old = c.args.claims.now in
@@ -120,9 +120,9 @@ returns-in_err-start-clause-lacks g c = λ ready is counted measured.
     let failed = err_from_is_err_and c.from_residual.result c.from_residual.ensures.1 in
     let same : failed.0 ≡ e = failed.2 in
     subst (λ x. IfErr x (LacksAt bytes table)) (sym (failed.1 ∙ ap Err same))
-    (claim_lacks bytes table old ready at (tag_of Kind.named T) room e (inr (T, refl, refl))
+    (claim_lacks bytes table old ready at (tag_of Kind.named T) room e (inr (listed, T, refl, refl))
     (refuses_as bytes bytes old at (word_of c.named_tag.result) (tag_of Kind.named T) (c.values_len.result + c.from.result) room e refl tag_is (room_is ∙ len_is) (c.in_err-start.ensures.lacks (ready_allocated bytes table old ready)))
-    (λ none. lacks_object (λ U less p.
+    (λ none. lacks_object listed (λ U less p.
     let both : Some T ≡ Some U = sym c.in-Some.is ∙ c.type_in.ensures ∙ type_pointed bytes table at U _ c.args.entry.now.object ready.is_table.few is less p in
     let type_is : U ≡ T = cc in
     none (subst (λ V. PointsTo bytes at (tag_of Kind.named V) (half bytes (at + 4) * size table V + byte bytes (at + 6))) type_is p))))
@@ -132,7 +132,7 @@ memory_lacks bytes table (Ok x) e = tt
 memory_lacks bytes table (Err f) e = subst (LacksAt bytes table) (sym e) tt
 
 pub returns-clause-lacks : goal.returns-clause-lacks
-returns-clause-lacks g c = λ ready is counted measured.
+returns-clause-lacks g c = λ ready is counted measured listed.
     memory_lacks c.args.self.now.bytes.bytes.now c.args.self.now.types.now c.await_values.result c.await_values.ensures.refused
 
 pub returns-in_err-start-clause-refused : goal.returns-in_err-start-clause-refused

@@ -1,7 +1,18 @@
-use Rattle.std.proofs.Common.{◌≡◌, ◌<◌, ◌^◌, true, false, [], None, refl, sym, ◌∙◌, arith}
+use Rattle.std.proofs.Common.{◌≡◌, ◌<◌, ◌^◌, true, false, [], ◌∷◌, ◌++◌, None, Some, refl, sym, ap, ◌∙◌, arith}
 use Rattle.seg_spec.specs.Pointer.{target}
 use Rattle.seg_check.proofs.WalkBoundLaws.{steady_enter, steady_pass, node_low, never_deep}
 use Rattle.seg_check.proofs.walk.Walk.next.Goals as goal
+
+pub returns-then-enter-clause-moves : goal.returns-then-enter-clause-moves
+returns-then-enter-clause-moves c = (
+  refl,
+  λ node names.
+      let same : c.in-Some.node ≡ node = (let both : Some c.in-Some.node ≡ Some node = c.in-Some.ensures ∙ names in cc) in
+      (c.enter.ensures.pointer c.if-enter.true ∙ same, c.enter.ensures.entered c.if-enter.true ∙ ap (λ n. c.args.self.now.stage.entered.items ++ record { node = n; above = c.enter.new.self.above } ∷ []) same),
+)
+
+pub returns-in-Some-pass-clause-moves : goal.returns-in-Some-pass-clause-moves
+returns-in-Some-pass-clause-moves c = (c.in-Some-pass.ensures.left, c.in-Some-pass.ensures.pointer)
 
 pub returns-then-enter-clause-steady : goal.returns-then-enter-clause-steady
 returns-then-enter-clause-steady c = λ s.
