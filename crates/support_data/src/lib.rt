@@ -1,9 +1,10 @@
-//! Data and helpers for several test crates: pseudo-random numbers, images and clients written by hand from their formats, and an
-//! output with a limit.
+//! Data and helpers for several test crates: pseudo-random numbers, images and clients written by hand from their formats, an
+//! output with a limit, and tests of what a call returned.
 #![tactic(auto)]
 
 mod changes;
 mod clients;
+mod comparison;
 mod examples;
 mod images;
 mod output;
@@ -12,6 +13,7 @@ mod transcript;
 
 pub use changes::{change, counter_where, number};
 pub use clients::{INCREMENT, INCREMENT_FILE, MAKE_EACH_KIND, chain};
+pub use comparison::{equal, is_true};
 pub use examples::{CACHE, CONFIGURE, COUNT, NOTICE, PUBLISH, SETTINGS};
 pub use images::{counter, counter_saved, front, sharing, write, write_words};
 pub use output::Limited;

@@ -7,12 +7,13 @@ use seg_seqfit::SeqFit;
 use std::alloc::Global;
 use std::process::Abort;
 use std::test::Fail;
+use support_data::{equal, is_true};
 
 /// A heap that ends at 960, with blocks of 4, 4 and 2 units, the second of which is freed.
 fn with_a_gap<F: Fit>(rt: &(impl Abort + AllocGlobal)) -> Result<Window<Global>, Fail> {
     let mut w = one_gap::<F>(rt.alloc(), 1024, 960)?;
     for (need, at) in [(4, 704), (4, 768), (2, 832)] {
-        assert!(rt; F::allocate(&mut w, need) == Some(at));
+        equal(F::allocate(&mut w, need), Some(at)).expect(rt, "equal");
     }
     F::free(&mut w, 768);
     Ok(w)
@@ -21,13 +22,13 @@ fn with_a_gap<F: Fit>(rt: &(impl Abort + AllocGlobal)) -> Result<Window<Global>,
 /// The first block grows into the free block after it, and shrinks again. At its end the heap grows and shrinks by two units.
 fn changes_blocks<F: Fit>(rt: &(impl Abort + AllocGlobal)) -> Result<(), Fail> {
     let mut w = with_a_gap::<F>(rt)?;
-    assert!(rt; F::expand(&mut w, 704, 5));
-    assert!(rt; units(&w, 704) == 5);
+    is_true(F::expand(&mut w, 704, 5)).expect(rt, "true");
+    equal(units(&w, 704), 5).expect(rt, "equal");
     F::shrink(&mut w, 704, 4);
-    assert!(rt; F::allocate(&mut w, 6) == Some(864));
+    equal(F::allocate(&mut w, 6), Some(864)).expect(rt, "equal");
     w.resize(992)?;
     F::extend_end(&mut w, 2);
-    assert!(rt; F::cut_end(&mut w) == 2);
+    equal(F::cut_end(&mut w), 2).expect(rt, "equal");
     w.resize(960)?;
     live_are(rt, &w, &[(704, 4), (832, 2), (864, 6)]);
     Ok(())
@@ -38,12 +39,12 @@ fn changes_blocks<F: Fit>(rt: &(impl Abort + AllocGlobal)) -> Result<(), Fail> {
 fn meets_requests<F: Fit>(rt: &(impl Abort + AllocGlobal)) -> Result<(), Fail> {
     let mut w = with_a_gap::<F>(rt)?;
     let grown = request::<F, Global>(&mut w, Some(704), 8, 5);
-    assert!(rt; grown == Some(Grant::Same(704)));
+    equal(grown, Some(Grant::Same(704))).expect(rt, "equal");
     let new = request::<F, Global>(&mut w, None, 9, 2);
-    assert!(rt; new == Some(Grant::New(864)));
+    equal(new, Some(Grant::New(864))).expect(rt, "equal");
     let moved = request::<F, Global>(&mut w, Some(832), 3, 3);
-    assert!(rt; moved == Some(Grant::New(896)));
-    assert!(rt; F::allocate(&mut w, 2).is_none());
+    equal(moved, Some(Grant::New(896))).expect(rt, "equal");
+    is_true(F::allocate(&mut w, 2).is_none()).expect(rt, "true");
     live_are(rt, &w, &[(704, 8), (832, 2), (864, 2), (896, 4)]);
     Ok(())
 }

@@ -8,7 +8,7 @@ use std::alloc::Global;
 use std::ops::Range;
 use std::process::Abort;
 use std::test::Fail;
-use support_data::counter;
+use support_data::{counter, equal};
 
 /// The number 41, named x: its object is at 704, the buffer of the index at 736.
 const COUNTER: &str = "
@@ -108,7 +108,11 @@ fn finds_each_changed_byte_of_the_counter(rt: HostRuntime) -> Result<(), Fail> {
     // accepted: version, allocator, second type, name, and the number with what the name and the index don't use
     let accepted = 1 + 1 + 2 + 93 + (8 + 7 + 24) * 255;
     // header, types, block, free, index, pointer, other
-    assert!(rt; results == [accepted, 13_257, 130_556, 8_154, 1_020, 622, 36_269, 0]);
+    equal(
+        results,
+        [accepted, 13_257, 130_556, 8_154, 1_020, 622, 36_269, 0],
+    )
+    .expect(&rt, "equal");
     Ok(())
 }
 
@@ -117,10 +121,10 @@ fn finds_each_changed_byte_of_the_counter(rt: HostRuntime) -> Result<(), Fail> {
 fn finds_changed_bytes_of_the_counter_in_version_2(rt: HostRuntime) -> Result<(), Fail> {
     let front = change_each(&rt, COUNTER_2, 0..64)?;
     // version, allocator, and the next number
-    assert!(rt; front[0] == 1 + 1 + 4 * 255);
+    equal(front[0], 1 + 1 + 4 * 255).expect(&rt, "equal");
     let heap = change_each(&rt, COUNTER_2, 704..784)?;
     // letters, and bytes that aren't used
-    assert!(rt; heap[0] == 93 + (8 + 7 + 24) * 255);
+    equal(heap[0], 93 + (8 + 7 + 24) * 255).expect(&rt, "equal");
     Ok(())
 }
 
@@ -128,7 +132,7 @@ fn finds_changed_bytes_of_the_counter_in_version_2(rt: HostRuntime) -> Result<()
 fn finds_each_changed_byte_of_the_greeting(rt: HostRuntime) -> Result<(), Fail> {
     let results = change_each(&rt, GREETING, 0..816)?;
     // version, allocator, types, letters, lengths, and bytes that aren't used
-    assert!(rt; results[0] == 1 + 1 + 2 + 93 + 16 + (7 + 24 + 16) * 255);
+    equal(results[0], 1 + 1 + 2 + 93 + 16 + (7 + 24 + 16) * 255).expect(&rt, "equal");
     Ok(())
 }
 
@@ -154,7 +158,7 @@ fn refuses_each_cut(rt: HostRuntime) -> Result<(), Fail> {
 #[test]
 fn reads_the_counter(rt: HostRuntime) -> Result<(), Fail> {
     let image = ImageBuilder::of(rt.alloc(), COUNTER)?;
-    assert!(rt; image.w.slice(0, 784) == counter(rt.alloc())?.as_slice());
+    equal(image.w.slice(0, 784), counter(rt.alloc())?.as_slice()).expect(&rt, "equal");
     Ok(())
 }
 

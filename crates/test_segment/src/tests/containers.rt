@@ -14,6 +14,7 @@ use seg_value::{Content, set_own, take_own};
 use std::alloc::Global;
 use std::process::Abort;
 use std::test::Fail;
+use support_data::{equal, is_true};
 
 /// A heap with a root of the second type.
 fn root_of<F: Fit>(alloc: Global, types: &str) -> Result<Rooted<F>, Fail> {
@@ -24,10 +25,14 @@ fn calls_on_texts<F: Fit>(rt: &(impl Abort + AllocGlobal)) -> Result<(), Fail> {
     let mut s = root_of::<F>(rt.alloc(), "i64, str")?;
     assign(&mut s.heap, s.root, b"hello")?;
     append(&mut s.heap, s.root, b", all")?;
-    assert!(rt; push_byte(&mut s.heap, s.root, b'!') == Ok(11));
-    assert!(rt; seg_seq::len(&s.heap, s.root) == Ok(11));
+    equal(push_byte(&mut s.heap, s.root, b'!'), Ok(11)).expect(rt, "equal");
+    equal(seg_seq::len(&s.heap, s.root), Ok(11)).expect(rt, "equal");
     let from = at(&s.heap, s.root, 0)?;
-    assert!(rt; s.heap.window().slice(from as usize, 11) == b"hello, all!".as_slice());
+    equal(
+        s.heap.window().slice(from as usize, 11),
+        b"hello, all!".as_slice(),
+    )
+    .expect(rt, "equal");
     s.heap.clear(s.root);
     is_one_gap(rt, s.heap.window());
     Ok(())
@@ -56,19 +61,22 @@ fn three_numbers<F: Fit>(rt: &(impl Abort + AllocGlobal)) -> Result<Rooted<F>, F
     push_number(&mut s, 3)?;
     let first = push_front(&mut s.heap, s.root)?;
     s.heap.store(first, 1);
-    assert!(rt; s.heap.load(next(&s.heap, first)) == 2);
-    assert!(rt; s.heap.load(previous(&s.heap, first)) == 3);
+    equal(s.heap.load(next(&s.heap, first)), 2).expect(rt, "equal");
+    equal(s.heap.load(previous(&s.heap, first)), 3).expect(rt, "equal");
     Ok(s)
 }
 
 fn calls_on_lists<F: Fit>(rt: &(impl Abort + AllocGlobal)) -> Result<(), Fail> {
     let mut s = three_numbers::<F>(rt)?;
-    assert!(rt; item(&s, 0) == Ok(1) && item(&s, 1) == Ok(2) && item(&s, 2) == Ok(3));
+    equal(item(&s, 0), Ok(1)).expect(rt, "equal");
+    equal(item(&s, 1), Ok(2)).expect(rt, "equal");
+    equal(item(&s, 2), Ok(3)).expect(rt, "equal");
     pop_front(&mut s.heap, s.root)?;
     pop_back(&mut s.heap, s.root)?;
-    assert!(rt; item(&s, 0) == Ok(2) && item(&s, 1) == Err(Code::OutOfRange));
+    equal(item(&s, 0), Ok(2)).expect(rt, "equal");
+    equal(item(&s, 1), Err(Code::OutOfRange)).expect(rt, "equal");
     pop_back(&mut s.heap, s.root)?;
-    assert!(rt; pop_back(&mut s.heap, s.root) == Err(Code::Null));
+    equal(pop_back(&mut s.heap, s.root), Err(Code::Null)).expect(rt, "equal");
     is_one_gap(rt, s.heap.window());
     Ok(())
 }
@@ -101,25 +109,27 @@ fn three_keys<F: Fit>(alloc: Global, types: &str) -> Result<Rooted<F>, Fail> {
 
 fn calls_on_maps<F: Fit>(rt: &(impl Abort + AllocGlobal), types: &str) -> Result<(), Fail> {
     let mut s = three_keys::<F>(rt.alloc(), types)?;
-    assert!(rt; seg_map::len(&s.heap, s.root) == Ok(3));
-    assert!(rt; first_key(&s.heap, s.root) == Ok(-5));
-    assert!(rt; next_key(&s.heap, s.root, -5) == Ok(3));
-    assert!(rt; value(&s, 3) == Ok(6) && value(&s, 4) == Ok(4));
-    assert!(rt; remove(&mut s.heap, s.root, 3) && !remove(&mut s.heap, s.root, 3));
-    assert!(rt; value(&s, 3) == Err(Code::Absent));
-    assert!(rt; push_back(&mut s.heap, s.root) == Err(Code::OtherType));
+    equal(seg_map::len(&s.heap, s.root), Ok(3)).expect(rt, "equal");
+    equal(first_key(&s.heap, s.root), Ok(-5)).expect(rt, "equal");
+    equal(next_key(&s.heap, s.root, -5), Ok(3)).expect(rt, "equal");
+    equal(value(&s, 3), Ok(6)).expect(rt, "equal");
+    equal(value(&s, 4), Ok(4)).expect(rt, "equal");
+    is_true(remove(&mut s.heap, s.root, 3)).expect(rt, "true");
+    is_true(!remove(&mut s.heap, s.root, 3)).expect(rt, "true");
+    equal(value(&s, 3), Err(Code::Absent)).expect(rt, "equal");
+    equal(push_back(&mut s.heap, s.root), Err(Code::OtherType)).expect(rt, "equal");
     Ok(())
 }
 
 /// The keys from the greatest one down, once from a key that the map doesn't have.
 fn keys_downwards<F: Fit>(rt: &(impl Abort + AllocGlobal), types: &str) -> Result<(), Fail> {
     let empty = root_of::<F>(rt.alloc(), types)?;
-    assert!(rt; last_key(&empty.heap, empty.root) == Err(Code::Null));
+    equal(last_key(&empty.heap, empty.root), Err(Code::Null)).expect(rt, "equal");
     let s = three_keys::<F>(rt.alloc(), types)?;
-    assert!(rt; last_key(&s.heap, s.root) == Ok(4));
-    assert!(rt; previous_key(&s.heap, s.root, 4) == Ok(3));
-    assert!(rt; previous_key(&s.heap, s.root, 0) == Ok(-5));
-    assert!(rt; previous_key(&s.heap, s.root, -5) == Err(Code::Null));
+    equal(last_key(&s.heap, s.root), Ok(4)).expect(rt, "equal");
+    equal(previous_key(&s.heap, s.root, 4), Ok(3)).expect(rt, "equal");
+    equal(previous_key(&s.heap, s.root, 0), Ok(-5)).expect(rt, "equal");
+    equal(previous_key(&s.heap, s.root, -5), Err(Code::Null)).expect(rt, "equal");
     Ok(())
 }
 
@@ -139,8 +149,8 @@ fn calls_on_owns<F: Fit>(rt: &(impl Abort + AllocGlobal)) -> Result<(), Fail> {
     let number = Content::object(s.heap.types(), 0);
     let object = s.heap.new_block(&number)?;
     set_own(&mut s.heap, s.root, object);
-    assert!(rt; take_own(&mut s.heap, s.root) == Some(object));
-    assert!(rt; take_own(&mut s.heap, s.root).is_none());
+    equal(take_own(&mut s.heap, s.root), Some(object)).expect(rt, "equal");
+    is_true(take_own(&mut s.heap, s.root).is_none()).expect(rt, "true");
     s.heap.destroy(object);
     is_one_gap(rt, s.heap.window());
     Ok(())

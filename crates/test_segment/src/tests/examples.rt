@@ -19,7 +19,7 @@ use seg_value::{Layouts, Reader, SegmentRead, freeze, share};
 use std::alloc::Global;
 use std::process::Abort;
 use std::test::Fail;
-use support_data::{counter, sharing, write_words};
+use support_data::{counter, equal, is_true, sharing, write_words};
 
 /// Maps of numbers.
 const MAP: TypeId = 1;
@@ -36,17 +36,17 @@ fn with_names<F: Fit>(
     let mut s = empty::<F>(rt.alloc(), index)?;
     let y = s.construct(b"y", NUMBER, 2)?;
     let x = s.find_or_construct(b"x", NUMBER)?;
-    assert!(rt; s.find(b"y", NUMBER) == Ok(Found { at: y, count: 2 }));
-    assert!(rt; s.find_or_construct(b"x", NUMBER) == Ok(x));
+    equal(s.find(b"y", NUMBER), Ok(Found { at: y, count: 2 })).expect(rt, "equal");
+    equal(s.find_or_construct(b"x", NUMBER), Ok(x)).expect(rt, "equal");
     Ok(s)
 }
 
 /// Calls on names are refused for each reason.
 fn refuses_names<F: Fit>(rt: &impl Abort, s: &mut Segment<F, Global>) {
-    assert!(rt; s.find(b"x", MAP) == Err(Code::OtherType));
-    assert!(rt; s.construct(b"x", MAP, 1) == Err(Code::AlreadyExists));
-    assert!(rt; s.construct(b"a b", NUMBER, 1) == Err(Code::OutOfRange));
-    assert!(rt; s.construct(b"z", NUMBER, 65535) == Err(Code::BadAlloc));
+    equal(s.find(b"x", MAP), Err(Code::OtherType)).expect(rt, "equal");
+    equal(s.construct(b"x", MAP, 1), Err(Code::AlreadyExists)).expect(rt, "equal");
+    equal(s.construct(b"a b", NUMBER, 1), Err(Code::OutOfRange)).expect(rt, "equal");
+    equal(s.construct(b"z", NUMBER, 65535), Err(Code::BadAlloc)).expect(rt, "equal");
 }
 
 fn is_named(listed: Option<Named>, name: &[u8], count: u16) -> bool {
@@ -57,11 +57,11 @@ fn is_named(listed: Option<Named>, name: &[u8], count: u16) -> bool {
 }
 
 fn lists_names<S: SegmentRead>(rt: &impl Abort, s: &S) {
-    assert!(rt; is_named(first_name(s), b"x", 1));
-    assert!(rt; is_named(next_name(s, b"x"), b"y", 2));
-    assert!(rt; next_name(s, b"y").is_none());
-    assert!(rt; num_named(s) == 2);
-    assert!(rt; matches!(find(s, b"y", NUMBER), Ok(Found { count: 2, .. })));
+    is_true(is_named(first_name(s), b"x", 1)).expect(rt, "true");
+    is_true(is_named(next_name(s, b"x"), b"y", 2)).expect(rt, "true");
+    is_true(next_name(s, b"y").is_none()).expect(rt, "true");
+    equal(num_named(s), 2).expect(rt, "equal");
+    is_true(matches!(find(s, b"y", NUMBER), Ok(Found { count: 2, .. }))).expect(rt, "true");
 }
 
 /// The names are listed from the segment and from its bytes alone.
@@ -81,9 +81,11 @@ fn calls_on_names<F: Fit>(rt: &(impl Abort + AllocGlobal), index: IndexKind) -> 
     let mut s = with_names::<F>(rt, index)?;
     refuses_names(rt, &mut s);
     lists_names_of(rt, &s);
-    assert!(rt; first_fault(rt.alloc(), s.window()).is_none());
-    assert!(rt; s.destroy(b"x", NUMBER) && !s.destroy(b"x", NUMBER));
-    assert!(rt; s.destroy(b"y", NUMBER) && all_memory_deallocated(&s));
+    is_true(first_fault(rt.alloc(), s.window()).is_none()).expect(rt, "true");
+    is_true(s.destroy(b"x", NUMBER)).expect(rt, "true");
+    is_true(!s.destroy(b"x", NUMBER)).expect(rt, "true");
+    is_true(s.destroy(b"y", NUMBER)).expect(rt, "true");
+    is_true(all_memory_deallocated(&s)).expect(rt, "true");
     Ok(())
 }
 
@@ -92,12 +94,13 @@ fn calls_on_unique_objects<F: Fit>(
     index: IndexKind,
 ) -> Result<(), Fail> {
     let mut s = empty::<F>(rt.alloc(), index)?;
-    assert!(rt; s.find_unique(MAP) == Err(Code::Absent));
+    equal(s.find_unique(MAP), Err(Code::Absent)).expect(rt, "equal");
     let map = s.construct_unique(MAP)?;
-    assert!(rt; s.construct_unique(MAP) == Err(Code::AlreadyExists));
-    assert!(rt; s.find_or_construct_unique(MAP) == Ok(map));
-    assert!(rt; s.num_unique() == 1);
-    assert!(rt; s.destroy_unique(MAP) && !s.destroy_unique(MAP));
+    equal(s.construct_unique(MAP), Err(Code::AlreadyExists)).expect(rt, "equal");
+    equal(s.find_or_construct_unique(MAP), Ok(map)).expect(rt, "equal");
+    equal(s.num_unique(), 1).expect(rt, "equal");
+    is_true(s.destroy_unique(MAP)).expect(rt, "true");
+    is_true(!s.destroy_unique(MAP)).expect(rt, "true");
     Ok(())
 }
 
@@ -108,9 +111,13 @@ fn calls_on_anonymous_objects<F: Fit>(
 ) -> Result<(), Fail> {
     let mut s = empty::<F>(rt.alloc(), index)?;
     let number = s.new_anonymous(NUMBER)?;
-    assert!(rt; first_fault(rt.alloc(), s.window()) == Some(Fault::Unowned(704)));
+    equal(
+        first_fault(rt.alloc(), s.window()),
+        Some(Fault::Unowned(704)),
+    )
+    .expect(rt, "equal");
     s.destroy_anonymous(number);
-    assert!(rt; all_memory_deallocated(&s));
+    is_true(all_memory_deallocated(&s)).expect(rt, "true");
     Ok(())
 }
 
@@ -135,9 +142,10 @@ fn each_call_on_other_objects(rt: HostRuntime) -> Result<(), Fail> {
 }
 
 fn refuses_to_grow<F: Fit>(rt: &impl Abort, s: &mut Segment<F, Global>) {
-    assert!(rt; grow(s, 24) == Err(Fault::BadSize));
-    assert!(rt; grow(s, 256) == Err(Fault::NoHostRoom));
-    assert!(rt; free_memory(s) == 0 && largest_gap(s) == 0);
+    equal(grow(s, 24), Err(Fault::BadSize)).expect(rt, "equal");
+    equal(grow(s, 256), Err(Fault::NoHostRoom)).expect(rt, "equal");
+    equal(free_memory(s), 0).expect(rt, "equal");
+    equal(largest_gap(s), 0).expect(rt, "equal");
 }
 
 /// A number and its name fill a segment of 784 bytes.
@@ -145,11 +153,12 @@ fn calls_on_memory<F: Fit>(rt: &(impl Abort + AllocGlobal), index: IndexKind) ->
     let mut s = segment_in::<F>(rt.alloc(), 1024, 784, index, "i64")?;
     construct_number(&mut s, b"x")?;
     refuses_to_grow(rt, &mut s);
-    assert!(rt; grow(&mut s, 240) == Ok(1024));
-    assert!(rt; free_memory(&s) == 240 && largest_gap(&s) == 240);
+    equal(grow(&mut s, 240), Ok(1024)).expect(rt, "equal");
+    equal(free_memory(&s), 240).expect(rt, "equal");
+    equal(largest_gap(&s), 240).expect(rt, "equal");
     zero_free_memory(&mut s);
-    assert!(rt; first_fault(rt.alloc(), s.window()).is_none());
-    assert!(rt; shrink_to_fit(&mut s) == 784);
+    is_true(first_fault(rt.alloc(), s.window()).is_none()).expect(rt, "true");
+    equal(shrink_to_fit(&mut s), 784).expect(rt, "equal");
     Ok(())
 }
 
@@ -166,7 +175,7 @@ fn each_call_on_memory(rt: HostRuntime) -> Result<(), Fail> {
 #[test]
 fn new_segments_are_zeroed(rt: HostRuntime) -> Result<(), Fail> {
     let s = segment::<SeqFit>(rt.alloc(), 1024, IndexKind::Flat, "i64")?;
-    assert!(rt; s.window().slice(720, 304) == [0; 304].as_slice());
+    equal(s.window().slice(720, 304), [0; 304].as_slice()).expect(&rt, "equal");
     Ok(())
 }
 
@@ -177,9 +186,9 @@ fn refused_regions_come_back(rt: HostRuntime) -> Result<(), Fail> {
     match create::<SeqFit, Global>(region, 0, 1000, IndexKind::Flat) {
         Ok(_) => Err(Fail::from("made")),
         Err((fault, region)) => {
-            assert!(rt; fault == Fault::BadSize);
+            equal(fault, Fault::BadSize).expect(&rt, "equal");
             let bytes = region.slice(0, region.len() as usize);
-            assert!(rt; bytes == [0xa5; 1024].as_slice());
+            equal(bytes, [0xa5; 1024].as_slice()).expect(&rt, "equal");
             Ok(())
         }
     }
@@ -205,7 +214,7 @@ fn saves_as(
     segment: &Segment<SeqFit, Global>,
     image: &[u8],
 ) -> Result<(), Fail> {
-    assert!(rt; save(rt.alloc(), segment.window())?.as_slice() == image);
+    equal(save(rt.alloc(), segment.window())?.as_slice(), image).expect(rt, "equal");
     Ok(())
 }
 
@@ -214,7 +223,7 @@ fn saves_as(
 fn opens_and_saves_the_counter(rt: HostRuntime) -> Result<(), Fail> {
     let mut image = counter(rt.alloc())?;
     let segment = opened(rt.alloc(), image.as_slice())?;
-    assert!(rt; segment.find(b"x", NUMBER) == Ok(Found { at: 720, count: 1 }));
+    equal(segment.find(b"x", NUMBER), Ok(Found { at: 720, count: 1 })).expect(&rt, "equal");
     write_words(image.as_mut_slice(), 8, &[2]);
     saves_as(&rt, &segment, image.as_slice())
 }
@@ -241,11 +250,15 @@ fn shares_a_number(rt: HostRuntime) -> Result<(), Fail> {
     let types = "i64, shared t0";
     let mut segment = segment::<SeqFit>(rt.alloc(), 1024, IndexKind::Flat, types)?;
     share_a_number(&mut segment)?;
-    assert!(rt; first_fault(rt.alloc(), segment.window()).is_none());
-    assert!(rt; free_memory(&segment) == 208);
+    is_true(first_fault(rt.alloc(), segment.window()).is_none()).expect(&rt, "true");
+    equal(free_memory(&segment), 208).expect(&rt, "equal");
     zero_free_memory(&mut segment);
     segment.heap_mut().window_mut().fill(760, 24, 0);
-    assert!(rt; segment.window().slice(0, 1024) == sharing(rt.alloc())?.as_slice());
+    equal(
+        segment.window().slice(0, 1024),
+        sharing(rt.alloc())?.as_slice(),
+    )
+    .expect(&rt, "equal");
     Ok(())
 }
 
@@ -255,9 +268,9 @@ fn opens_and_saves_what_is_shared(rt: HostRuntime) -> Result<(), Fail> {
     let image = sharing(rt.alloc())?;
     let mut segment = opened(rt.alloc(), image.as_slice())?;
     saves_as(&rt, &segment, image.as_slice())?;
-    assert!(rt; segment.destroy(b"b", SHARED));
-    assert!(rt; free_memory(&segment) == 320);
-    assert!(rt; first_fault(rt.alloc(), segment.window()).is_none());
+    is_true(segment.destroy(b"b", SHARED)).expect(&rt, "true");
+    equal(free_memory(&segment), 320).expect(&rt, "equal");
+    is_true(first_fault(rt.alloc(), segment.window()).is_none()).expect(&rt, "true");
     Ok(())
 }
 
@@ -267,7 +280,7 @@ fn opens_no_image_of_another_allocator(rt: HostRuntime) -> Result<(), Fail> {
     let image = counter(rt.alloc())?;
     let mut window = placed(rt.alloc(), image.as_slice())?;
     let opened = open::<BestFit, Global, Global>(rt.alloc(), &mut window);
-    assert!(rt; opened.err() == Some(Fault::BadHeader));
-    assert!(rt; window.slice(0, 784) == image.as_slice());
+    equal(opened.err(), Some(Fault::BadHeader)).expect(&rt, "equal");
+    equal(window.slice(0, 784), image.as_slice()).expect(&rt, "equal");
     Ok(())
 }

@@ -1,6 +1,6 @@
 //! The checker on frozen objects and shared cells.
 
-use crate::tests::image::checks;
+use crate::tests::image::check_each;
 use std::test::Fail;
 
 /// A unique cell, and the frozen number 7 that it shares: a count, a number, and the value.
@@ -13,13 +13,25 @@ const ONE: &str = "
     720->752 724=1
     752=1 756=0 760:7";
 
-#[test]
-fn finds_faults_of_a_frozen_object(rt: HostRuntime) -> Result<(), Fail> {
-    checks(
-        rt.alloc(),
-        &[
-            ONE,
-            "=> sound
+/// A frozen pair shares another one, which has a lower number. Their cells are at 768 and 816.
+const PAIRS: &str = "
+    8=2 28=2
+    type i64
+    type shared t2
+    type struct t0 t1
+    720 unique t1 2
+    752 frozen t2 3
+    800 frozen t2 3
+    720->752 724=1
+    752=1 756=1 768->800 772=1
+    800=1 804=0 816->null";
+
+// Frozen objects and cells that share them, and the faults in them.
+static SHARED: [&[&str]; 12] = [
+    // The count and the number of a frozen object.
+    &[
+        ONE,
+        "=> sound
         760:-1 => sound ; another value
         752=0 | 752=2 | 752=0xffffffff => value 752 ; the cells that name it
         ; its number, below the next one
@@ -28,17 +40,11 @@ fn finds_faults_of_a_frozen_object(rt: HostRuntime) -> Result<(), Fail> {
         756=0xffffffff 28=0xffffffff => value 752
         ; nothing names it, so that what it counts is of no matter
         720->null 724=0 | 720->null 724=0 752=9 756=9 => unowned 736",
-        ],
-    )
-}
-
-#[test]
-fn finds_faults_of_a_cell_that_shares(rt: HostRuntime) -> Result<(), Fail> {
-    checks(
-        rt.alloc(),
-        &[
-            ONE,
-            "724=0 | 724=2 | 724=0xffffffff => value 720
+    ],
+    // The pointer of a cell that shares, and the tag of what it shares.
+    &[
+        ONE,
+        "724=0 | 724=2 | 724=0xffffffff => value 720
         720->null 724=2 => value 720
         720->null => pointer 720
         720->720 | 720->753 | 720->16 | 720->768 | 720=0x7fffffff => pointer 720
@@ -46,17 +52,10 @@ fn finds_faults_of_a_cell_that_shares(rt: HostRuntime) -> Result<(), Fail> {
         744=2 | 744=0x107 => pointer 720
         744=0x207 | 744=0x100 | 744=8 => block 736 ; tags that no block has
         736=0x80000003 => block 736",
-        ],
-    )
-}
-
-/// A frozen value of 16 bytes needs 24 bytes with its count and its number.
-#[test]
-fn finds_frozen_objects_that_are_too_small(rt: HostRuntime) -> Result<(), Fail> {
-    checks(
-        rt.alloc(),
-        &[
-            "8=2 28=1
+    ],
+    // A frozen value of 16 bytes needs 24 bytes with its count and its number.
+    &[
+        "8=2 28=1
         type i64
         type struct t0 t0
         type shared t1
@@ -65,12 +64,9 @@ fn finds_frozen_objects_that_are_too_small(rt: HostRuntime) -> Result<(), Fail> 
         720->752 724=1
         752=1
         => pointer 720",
-        ],
-    )?;
-    checks(
-        rt.alloc(),
-        &[
-            "8=2 28=1
+    ],
+    &[
+        "8=2 28=1
         type i64
         type struct t0 t0
         type shared t1
@@ -79,17 +75,10 @@ fn finds_frozen_objects_that_are_too_small(rt: HostRuntime) -> Result<(), Fail> 
         720->752 724=1
         752=1
         => sound",
-        ],
-    )
-}
-
-/// A vector of three cells, two of which share the same frozen number. The second cell is counted, and isn't a second owner.
-#[test]
-fn counts_each_cell(rt: HostRuntime) -> Result<(), Fail> {
-    checks(
-        rt.alloc(),
-        &[
-            "8=2 28=5
+    ],
+    // A vector of three cells, two of which share the same frozen number. The second cell is counted, and isn't a second owner.
+    &[
+        "8=2 28=5
         type i64
         type shared t0
         type vec t1
@@ -115,30 +104,11 @@ fn counts_each_cell(rt: HostRuntime) -> Result<(), Fail> {
         836=4 => sound ; the checker doesn't compare the numbers of objects that don't name one another
         728->720 => sound ; the object of a cell doesn't matter
         760->null 764=0 => unowned 816",
-        ],
-    )
-}
-
-/// A frozen pair shares another one, which has a lower number. Their cells are at 768 and 816.
-const PAIRS: &str = "
-    8=2 28=2
-    type i64
-    type shared t2
-    type struct t0 t1
-    720 unique t1 2
-    752 frozen t2 3
-    800 frozen t2 3
-    720->752 724=1
-    752=1 756=1 768->800 772=1
-    800=1 804=0 816->null";
-
-#[test]
-fn finds_frozen_objects_that_name_later_ones(rt: HostRuntime) -> Result<(), Fail> {
-    checks(
-        rt.alloc(),
-        &[
-            PAIRS,
-            "=> sound
+    ],
+    // Frozen objects that share objects with higher numbers, or with counts of other cells.
+    &[
+        PAIRS,
+        "=> sound
         804=1 | 756=0 | 756=0 804=1 | 804=0xffffffff => value 768
         756=9 28=10 | 756=9 804=8 28=10 => sound
         756=2 => value 752
@@ -150,30 +120,16 @@ fn finds_frozen_objects_that_name_later_ones(rt: HostRuntime) -> Result<(), Fail
         768->null 772=0 => unowned 784
         752=2 800=2 => value 752
         800=2 => value 800",
-        ],
-    )
-}
-
-/// Cells outside frozen objects may share objects with any number.
-#[test]
-fn cells_may_name_objects_of_any_number(rt: HostRuntime) -> Result<(), Fail> {
-    checks(
-        rt.alloc(),
-        &[
-            PAIRS,
-            "768->null 772=0 800=1 720->800 752=0 => unowned 736
+    ],
+    // Cells outside frozen objects may share objects with any number.
+    &[
+        PAIRS,
+        "768->null 772=0 800=1 720->800 752=0 => unowned 736
         720->800 800=1 768->null 772=0 756=0 804=1 => unowned 736",
-        ],
-    )
-}
-
-/// A frozen struct of an own and a vector. The own has a cell, and the vector has two: all three cells share one number.
-#[test]
-fn numbers_fall_through_owns_and_vectors(rt: HostRuntime) -> Result<(), Fail> {
-    checks(
-        rt.alloc(),
-        &[
-            "8=2 28=2
+    ],
+    // A frozen struct of an own and a vector. The own has a cell, and the vector has two: all three cells share one number.
+    &[
+        "8=2 28=2
         type i64
         type shared t0
         type own t1
@@ -199,17 +155,10 @@ fn numbers_fall_through_owns_and_vectors(rt: HostRuntime) -> Result<(), Fail> {
         864=2 | 864=4 => value 864
         ; the first object's own value isn't looked at for what it names but by its cell
         756=0 => value 800",
-        ],
-    )
-}
-
-/// The same through a list and a map. The value in a list node is at offset 8, and in a map node at offset 24.
-#[test]
-fn numbers_fall_through_lists_and_maps(rt: HostRuntime) -> Result<(), Fail> {
-    checks(
-        rt.alloc(),
-        &[
-            "8=2 28=2
+    ],
+    // The same through a list and a map. The value in a list node is at offset 8, and in a map node at offset 24.
+    &[
+        "8=2 28=2
         type i64
         type shared t0
         type list t1
@@ -230,48 +179,35 @@ fn numbers_fall_through_lists_and_maps(rt: HostRuntime) -> Result<(), Fail> {
         884=1 => value 808
         808->null 812=0 884=1 => value 856
         880=1 => value 880",
-        ],
-    )
-}
-
-/// Only version 2 has shared cells, frozen objects, and a number for the next frozen object.
-#[test]
-fn only_version_2_has_frozen_objects(rt: HostRuntime) -> Result<(), Fail> {
-    checks(
-        rt.alloc(),
-        &[
-            ONE,
-            "8=1 => header
+    ],
+    // Only version 2 has shared cells, frozen objects, and a number for the next frozen object.
+    &[
+        ONE,
+        "8=1 => header
         8=0 | 8=3 | 8=0x102 | 8=0xffffffff => header
         8=1 28=0 => type 1",
-        ],
-    )?;
-    checks(
-        rt.alloc(),
-        &[
-            "type i64
+    ],
+    &[
+        "type i64
         720 unique t0 2
         752 frozen t0 2
         752=1
         => block 736
         28=1 | 28=0x80000000 => header
         8=2 28=1 | 8=2 28=0xffffffff | 8=2 => unowned 736",
-        ],
-    )
-}
-
-/// A type of shared cells has one part, which may be the type itself.
-#[test]
-fn finds_faults_of_the_types_of_cells_that_share(rt: HostRuntime) -> Result<(), Fail> {
-    checks(
-        rt.alloc(),
-        &[
-            ONE,
-            "80=0x0009 | 80=0x0209 | 80=0x020109 | 80=0x01000109 | 80=0x010a => type 1
+    ],
+    // A type of shared cells has one part, which may be the type itself.
+    &[
+        ONE,
+        "80=0x0009 | 80=0x0209 | 80=0x020109 | 80=0x01000109 | 80=0x010a => type 1
         80=0x010109 => pointer 720
         80=0x010109 744=0x107 760->null 764=0 => sound
         80=0x010109 744=0x107 760->752 764=1 752=2 => value 760
         80=0x010109 744=0x107 => value 760",
-        ],
-    )
+    ],
+];
+
+#[test]
+fn finds_faults_of_frozen_objects(rt: HostRuntime) -> Result<(), Fail> {
+    check_each(rt.alloc(), &SHARED)
 }

@@ -10,6 +10,7 @@ use seg_space::all_memory_deallocated;
 use seg_value::{Content, Heap, Place, set_own, take_own};
 use std::alloc::Global;
 use std::test::Fail;
+use support_data::{equal, is_true};
 
 /// A vector of numbers has room for 4, and then, in place, for 8. After the fifth push it is cut to 5.
 #[test]
@@ -43,11 +44,16 @@ fn a_value_is_deep(rt: HostRuntime) -> Result<(), Fail> {
     for _ in 0..20_000 {
         push_owned(s.heap_mut(), own)?;
     }
-    assert!(rt; first_fault(rt.alloc(), s.window()).is_none());
+    is_true(first_fault(rt.alloc(), s.window()).is_none()).expect(&rt, "true");
     s.heap_mut().window_mut().put32(764, 2);
-    assert!(rt; first_fault(rt.alloc(), s.window()) == Some(Fault::BadValue(760)));
+    equal(
+        first_fault(rt.alloc(), s.window()),
+        Some(Fault::BadValue(760)),
+    )
+    .expect(&rt, "equal");
     s.heap_mut().window_mut().put32(764, 0);
-    assert!(rt; s.destroy_unique(1) && all_memory_deallocated(&s));
+    is_true(s.destroy_unique(1)).expect(&rt, "true");
+    is_true(all_memory_deallocated(&s)).expect(&rt, "true");
     Ok(())
 }
 
@@ -58,9 +64,10 @@ fn shifted_values_read_the_same(rt: HostRuntime) -> Result<(), Fail> {
     assign(&mut s.heap, place_of(0, ROOT), b"ab")?;
     for (from, to) in [(ROOT, ROOT + 8), (ROOT + 8, ROOT)] {
         s.heap.shift(1, from, to, 1);
-        assert!(rt; s.heap.count(to) == 2 && s.heap.start(to) == 720);
+        equal(s.heap.count(to), 2).expect(&rt, "equal");
+        equal(s.heap.start(to), 720).expect(&rt, "equal");
     }
-    assert!(rt; s.heap.window().slice(720, 2) == b"ab".as_slice());
+    equal(s.heap.window().slice(720, 2), b"ab".as_slice()).expect(&rt, "equal");
     live_are(&rt, s.heap.window(), &[(704, 2)]);
     Ok(())
 }

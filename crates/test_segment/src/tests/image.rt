@@ -44,6 +44,14 @@ pub(crate) struct ImageBuilder {
     before: u32,
 }
 
+/// Tests each of several images, as [`checks`] tests one.
+pub(crate) fn check_each(alloc: Global, images: &[&[&str]]) -> Result<(), Fail> {
+    for texts in images {
+        checks(alloc, texts)?;
+    }
+    Ok(())
+}
+
 /// Tests that the image of these texts, one after the other, has the faults that they state.
 pub(crate) fn checks(alloc: Global, texts: &[&str]) -> Result<(), Fail> {
     let mut image = ImageBuilder::empty(alloc)?;

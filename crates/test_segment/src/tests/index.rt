@@ -9,6 +9,7 @@ use seg_seqfit::SeqFit;
 use seg_value::{Layouts, Reader, SegmentRead};
 use std::process::Abort;
 use std::test::Fail;
+use support_data::{equal, is_true};
 
 /// A heap of numbers without names, which is one free block.
 fn nameless(rt: &impl AllocGlobal, kind: IndexKind) -> Result<Rooted<SeqFit>, Fail> {
@@ -63,12 +64,12 @@ fn is_entry_of<S: SegmentRead>(source: &S, entry: Option<NameEntry>, name: &[u8]
 fn lists<S: SegmentRead>(rt: &impl Abort, source: &S, names: &[&[u8]]) {
     let mut entry = first_name(source);
     for name in names {
-        assert!(rt; is_entry_of(source, entry, name));
-        assert!(rt; is_entry_of(source, find(source, name), name));
+        is_true(is_entry_of(source, entry, name)).expect(rt, "true");
+        is_true(is_entry_of(source, find(source, name), name)).expect(rt, "true");
         entry = next_name(source, name);
     }
-    assert!(rt; entry.is_none());
-    assert!(rt; name_count_in(source.view()) as usize == names.len());
+    is_true(entry.is_none()).expect(rt, "true");
+    equal(name_count_in(source.view()) as usize, names.len()).expect(rt, "equal");
 }
 
 /// The same in the heap and in its bytes alone.
@@ -90,8 +91,9 @@ fn each_call_on_names(rt: HostRuntime) -> Result<(), Fail> {
             add_named(&mut s, name)?;
         }
         holds(&rt, &s, &[b"a", b"b", b"c", b"d", b"e"]);
-        assert!(rt; find(&s.heap, b"bb").is_none());
-        assert!(rt; remove(&mut s, b"c") && !remove(&mut s, b"c"));
+        is_true(find(&s.heap, b"bb").is_none()).expect(&rt, "true");
+        is_true(remove(&mut s, b"c")).expect(&rt, "true");
+        is_true(!remove(&mut s, b"c")).expect(&rt, "true");
         holds(&rt, &s, &[b"a", b"b", b"d", b"e"]);
     }
     Ok(())
@@ -103,6 +105,7 @@ fn a_type_has_one_unique_object(rt: HostRuntime) -> Result<(), Fail> {
     set_unique(s.heap.window_mut(), 30, None);
     set_unique(s.heap.window_mut(), 31, Some(720));
     let w = s.heap.window();
-    assert!(rt; unique(w, 30).is_none() && unique(w, 31) == Some(720));
+    is_true(unique(w, 30).is_none()).expect(&rt, "true");
+    equal(unique(w, 31), Some(720)).expect(&rt, "equal");
     Ok(())
 }

@@ -3,6 +3,7 @@ use seg_bestfit::BestFit;
 use seg_manager::{Code, IndexKind};
 use seg_map::{put, remove};
 use std::test::Fail;
+use support_data::{equal, is_true};
 
 /// A key is removed while a test goes through the keys.
 #[test]
@@ -12,10 +13,10 @@ fn keys_follow_one_another(rt: HostRuntime) -> Result<(), Fail> {
     for key in [4, 2, 6, 1, 3, 5, 7] {
         put(s.heap_mut(), map, key)?;
     }
-    assert!(rt; s.first_key(map) == Ok(1));
-    assert!(rt; s.next_key(map, 2) == Ok(3));
-    assert!(rt; remove(s.heap_mut(), map, 4));
-    assert!(rt; s.next_key(map, 3) == Ok(5));
-    assert!(rt; s.next_key(map, 7) == Err(Code::Null));
+    equal(s.first_key(map), Ok(1)).expect(&rt, "equal");
+    equal(s.next_key(map, 2), Ok(3)).expect(&rt, "equal");
+    is_true(remove(s.heap_mut(), map, 4)).expect(&rt, "true");
+    equal(s.next_key(map, 3), Ok(5)).expect(&rt, "equal");
+    equal(s.next_key(map, 7), Err(Code::Null)).expect(&rt, "equal");
     Ok(())
 }

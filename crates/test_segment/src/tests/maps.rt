@@ -1,6 +1,6 @@
 //! The checker on maps and flat maps.
 
-use crate::tests::image::checks;
+use crate::tests::image::check_each;
 use std::test::Fail;
 
 /// A unique map with the keys -9, 0 and 9: its cell is at 720, the root at 800. A node has its key at offset 16.
@@ -16,13 +16,21 @@ const MAP: &str = "
     800->752  804->848  808=0 816:0
     848->null 852->null 856=1 864:9";
 
-#[test]
-fn claims_the_nodes_of_a_map(rt: HostRuntime) -> Result<(), Fail> {
-    checks(
-        rt.alloc(),
-        &[
-            MAP,
-            "=> sound
+/// A unique flat map with the keys -5, 0 and 7: its cell is at 720, its entries have 16 bytes.
+const FLAT_MAP: &str = "
+    type flat_map t1
+    type i64
+    720 unique t0 2
+    752 buffer t0 4
+    720->752 724=3
+    752:-5 768:0 784:7";
+
+// Maps and flat maps, and the faults in them.
+static MAPS: [&[&str]; 6] = [
+    // The nodes of a map are claimed, each before what is below it.
+    &[
+        MAP,
+        "=> sound
         720->null | 720->720 => pointer 720
         800->720 => pointer 800
         804->849 => pointer 804
@@ -33,17 +41,11 @@ fn claims_the_nodes_of_a_map(rt: HostRuntime) -> Result<(), Fail> {
         804->720 760=2 764=1 768=1 772=0 724=2 => pointer 804
         724=0 720->720 => value 720 ; a number that the pointer doesn't allow comes before the claims
         720->null 724=0 => unowned 736",
-        ],
-    )
-}
-
-#[test]
-fn finds_what_is_no_tree(rt: HostRuntime) -> Result<(), Fail> {
-    checks(
-        rt.alloc(),
-        &[
-            MAP,
-            "760=0 856=0 => sound
+    ],
+    // Maps that are no red-black tree of the counted nodes.
+    &[
+        MAP,
+        "760=0 856=0 => sound
         724=0 | 724=2 | 724=4 => value 720 ; the number of nodes
         ; a red root, a third colour, other ways with another number of black nodes
         808=1 | 760=2 | 760=0 | 856=0 => value 720
@@ -52,29 +54,16 @@ fn finds_what_is_no_tree(rt: HostRuntime) -> Result<(), Fail> {
         804->null 752->848 864:-10 => value 720
         804->null 756->848 864:-8 => value 720
         804->null 724=2 => unowned 832",
-        ],
-    )
-}
-
-#[test]
-fn finds_keys_of_a_map_out_of_order(rt: HostRuntime) -> Result<(), Fail> {
-    checks(
-        rt.alloc(),
-        &[
-            MAP,
-            "768:0 | 768:5 | 816:9 | 816:-10 | 864:0 | 864:-9223372036854775808 => value 720
+    ],
+    // Keys of a map out of order.
+    &[
+        MAP,
+        "768:0 | 768:5 | 816:9 | 816:-10 | 864:0 | 864:-9223372036854775808 => value 720
         768:-9223372036854775808 864:9223372036854775807 => sound",
-        ],
-    )
-}
-
-/// A chain of nodes, each to the left of the one before. The 61st node is reported before it is claimed, and the 60th after.
-#[test]
-fn refuses_a_map_that_is_too_deep_at_once(rt: HostRuntime) -> Result<(), Fail> {
-    checks(
-        rt.alloc(),
-        &[
-            "type map t1
+    ],
+    // A chain of nodes, each to the left of the one before. The 61st node is reported before it is claimed, and the 60th after.
+    &[
+        "type map t1
         type i64
         720 unique t0 2
         724=60
@@ -83,44 +72,26 @@ fn refuses_a_map_that_is_too_deep_at_once(rt: HostRuntime) -> Result<(), Fail> {
         3584->5 | 3584->752 => value 720 ; the last node, at 752 + 59 * 48
         3536->5 => pointer 3536
         3536->752 => twice 736",
-        ],
-    )
-}
-
-/// A unique flat map with the keys -5, 0 and 7: its cell is at 720, its entries have 16 bytes.
-const FLAT_MAP: &str = "
-    type flat_map t1
-    type i64
-    720 unique t0 2
-    752 buffer t0 4
-    720->752 724=3
-    752:-5 768:0 784:7";
-
-#[test]
-fn finds_faults_of_a_flat_map(rt: HostRuntime) -> Result<(), Fail> {
-    checks(
-        rt.alloc(),
-        &[
-            FLAT_MAP,
-            "=> sound
+    ],
+    // The cell of a flat map, and keys out of order.
+    &[
+        FLAT_MAP,
+        "=> sound
         724=2 | 724=0 => sound
         724=4 | 724=0xffffffff | 720->null | 720->720 | 720->753 => pointer 720
         720->null 724=0 => unowned 736
         752:0 | 752:5 | 768:7 | 768:-6 | 784:0 | 784:-1 => value 720
         752:-9223372036854775808 784:9223372036854775807 => sound",
-        ],
-    )
-}
-
-/// The bytes after the counted keys may have any values.
-#[test]
-fn reads_only_the_keys_that_count(rt: HostRuntime) -> Result<(), Fail> {
-    checks(
-        rt.alloc(),
-        &[
-            FLAT_MAP,
-            "784:-7 => value 720
+    ],
+    // The bytes after the counted keys may have any values.
+    &[
+        FLAT_MAP,
+        "784:-7 => value 720
         784:-7 724=2 => sound",
-        ],
-    )
+    ],
+];
+
+#[test]
+fn finds_faults_of_maps(rt: HostRuntime) -> Result<(), Fail> {
+    check_each(rt.alloc(), &MAPS)
 }

@@ -1,15 +1,13 @@
 //! The checker reports the first of several faults.
 
-use crate::tests::image::checks;
+use crate::tests::image::check_each;
 use std::test::Fail;
 
-/// A named number, a unique own of a number, and a unique string.
-#[test]
-fn answers_the_earliest_fault(rt: HostRuntime) -> Result<(), Fail> {
-    checks(
-        rt.alloc(),
-        &[
-            "type i64
+// Images with several faults, of which the first is reported.
+static ORDERS: [&[&str]; 4] = [
+    // A named number, a unique own of a number, and a unique string. Each change makes a fault that comes before the others.
+    &[
+        "type i64
         type own t0
         type str
         720 named t0 2
@@ -42,17 +40,10 @@ fn answers_the_earliest_fault(rt: HostRuntime) -> Result<(), Fail> {
         => type 3
         8=3
         => header",
-        ],
-    )
-}
-
-/// The counts of frozen objects are checked after all values and before blocks without owners. The lowest object has no owner.
-#[test]
-fn answers_counts_after_values(rt: HostRuntime) -> Result<(), Fail> {
-    checks(
-        rt.alloc(),
-        &[
-            "8=2 28=1
+    ],
+    // The counts of frozen objects are checked after all values and before blocks without owners. The lowest object has no owner.
+    &[
+        "8=2 28=1
         type i64
         type shared t0
         type own t0
@@ -70,17 +61,10 @@ fn answers_counts_after_values(rt: HostRuntime) -> Result<(), Fail> {
         => value 784
         752->784
         => pointer 752",
-        ],
-    )
-}
-
-/// Blocks are checked in the order in which they were claimed: the second cell of an object comes before what the first one owns.
-#[test]
-fn takes_blocks_first_in_first_out(rt: HostRuntime) -> Result<(), Fail> {
-    checks(
-        rt.alloc(),
-        &[
-            "type own t1
+    ],
+    // Blocks are checked in the order in which they were claimed: the second cell of an object comes before what the first one owns.
+    &[
+        "type own t1
         type str
         type struct t0 t0
         720 unique t2 2
@@ -97,17 +81,10 @@ fn takes_blocks_first_in_first_out(rt: HostRuntime) -> Result<(), Fail> {
         752->null 728->null => pointer 728
         752->null 720->null => pointer 720
         784->816 => twice 800 ; both strings claim one buffer: the second one is too late",
-        ],
-    )
-}
-
-/// Unique objects are claimed after all names, and before any value is checked.
-#[test]
-fn claims_unique_objects_before_values(rt: HostRuntime) -> Result<(), Fail> {
-    checks(
-        rt.alloc(),
-        &[
-            "type own t1
+    ],
+    // Unique objects are claimed after all names, and before any value is checked.
+    &[
+        "type own t1
         type i64
         720 unique t0 2
         752 unique t1 2
@@ -116,6 +93,10 @@ fn claims_unique_objects_before_values(rt: HostRuntime) -> Result<(), Fail> {
         720->752 724=1 => twice 736
         724=2 580->720 => pointer 580
         724=1 580=2 => pointer 580",
-        ],
-    )
+    ],
+];
+
+#[test]
+fn finds_the_first_of_several_faults(rt: HostRuntime) -> Result<(), Fail> {
+    check_each(rt.alloc(), &ORDERS)
 }

@@ -4,6 +4,7 @@ use seg_manager::{Code, Fault, Region};
 use std::alloc::Global;
 use std::fmt::InlineText;
 use std::test::Fail;
+use support_data::{equal, is_true};
 
 static FAULTS: [(Fault, &str); 19] = [
     (Fault::Memory, "fault 1"),
@@ -38,7 +39,7 @@ fn prints_faults(rt: HostRuntime) {
     for (fault, line) in &FAULTS {
         assert!(rt; InlineText::<64>::of(*fault).as_str() == *line, "{line}");
     }
-    assert!(rt; Fault::BadMove(1).code() == 24);
+    equal(Fault::BadMove(1).code(), 24).expect(&rt, "equal");
 }
 
 static CODES: [(Code, &str); 7] = [
@@ -59,7 +60,7 @@ fn prints_codes(rt: HostRuntime) {
     for (code, line) in &CODES {
         assert!(rt; InlineText::<64>::of(*code).as_str() == *line, "{line}");
     }
-    assert!(rt; Code::NumbersUsedUp.number() == 7);
+    equal(Code::NumbersUsedUp.number(), 7).expect(&rt, "equal");
 }
 
 /// A region of 24 zeros.
@@ -79,10 +80,11 @@ fn reads_what_it_wrote(rt: HostRuntime) -> Result<(), Fail> {
     region.put8(3, 5);
     region.copy_in(20, &[5, 6]);
     region.move_within(3, 4, 5);
-    assert!(rt; region.slice(2, 8) == [7, 5, 5, 1, 2, 3, 4, 2].as_slice());
-    assert!(rt; region.get8(20) == 5);
-    assert!(rt; region.get32(4) == 0x0302_0105);
-    assert!(rt; region.get64(16) == 0x0707_0605_0707_0707);
-    assert!(rt; region.len() == 24 && !region.is_empty());
+    equal(region.slice(2, 8), [7, 5, 5, 1, 2, 3, 4, 2].as_slice()).expect(&rt, "equal");
+    equal(region.get8(20), 5).expect(&rt, "equal");
+    equal(region.get32(4), 0x0302_0105).expect(&rt, "equal");
+    equal(region.get64(16), 0x0707_0605_0707_0707).expect(&rt, "equal");
+    equal(region.len(), 24).expect(&rt, "equal");
+    is_true(!region.is_empty()).expect(&rt, "true");
     Ok(())
 }

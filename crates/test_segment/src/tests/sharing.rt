@@ -12,6 +12,7 @@ use seg_value::{Content, freeze, frozen, share};
 use std::alloc::Global;
 use std::process::Abort;
 use std::test::Fail;
+use support_data::equal;
 
 /// Cells that share a pair.
 const SHARED: TypeId = 1;
@@ -40,10 +41,10 @@ fn calls_on_shared<F: Fit>(rt: &(impl Abort + AllocGlobal)) -> Result<(), Fail> 
     freeze_on_top(&mut s)?;
     let second = frozen(&s.heap, s.root).ok_or("nothing")?;
     let field = place_of(SHARED, second.wrapping_add(8));
-    assert!(rt; frozen(&s.heap, field) == first);
+    equal(frozen(&s.heap, field), first).expect(rt, "equal");
     live_are(rt, s.heap.window(), &[(736, 3), (784, 3)]);
     share(&mut s.heap, s.root, field);
-    assert!(rt; frozen(&s.heap, s.root) == first);
+    equal(frozen(&s.heap, s.root), first).expect(rt, "equal");
     live_are(rt, s.heap.window(), &[(736, 3)]);
     s.heap.clear(s.root);
     is_one_gap(rt, s.heap.window());
@@ -63,7 +64,7 @@ fn a_chain_goes_with_its_cell(rt: HostRuntime) -> Result<(), Fail> {
     for _ in 0..20_000 {
         freeze_on_top(&mut s)?;
     }
-    assert!(rt; frozen(&s.heap, place_of(SHARED, ROOT)) == Some(960_712));
+    equal(frozen(&s.heap, place_of(SHARED, ROOT)), Some(960_712)).expect(&rt, "equal");
     s.heap.clear(s.root);
     is_one_gap(&rt, s.heap.window());
     Ok(())

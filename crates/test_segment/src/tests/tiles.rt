@@ -5,10 +5,11 @@ use seg_manager::Window;
 use seg_manager::header::FREE;
 use std::alloc::Global;
 use std::process::Abort;
+use support_data::is_true;
 
 /// Tests that these are the allocated blocks, with their positions and units.
 pub(crate) fn live_are(rt: &impl Abort, w: &Window<Global>, wanted: &[(u32, u32)]) {
-    assert!(rt; are_live(w, wanted));
+    is_true(are_live(w, wanted)).expect(rt, "true");
 }
 
 fn are_live(w: &Window<Global>, wanted: &[(u32, u32)]) -> bool {
@@ -45,5 +46,5 @@ fn is_gap(w: &Window<Global>) -> bool {
 
 /// Tests that the heap is one free block, to which the free structure points, with a null link.
 pub(crate) fn is_one_gap(rt: &impl Abort, w: &Window<Global>) {
-    assert!(rt; is_gap(w));
+    is_true(is_gap(w)).expect(rt, "true");
 }

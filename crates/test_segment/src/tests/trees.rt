@@ -13,6 +13,7 @@ use seg_rbtree::{Colour, NodeOrder, Path, Side, TREE_WORDS, Tree, UniqueKeys, ch
 use std::alloc::{AllocError, Allocator, Global};
 use std::cmp::Ordering;
 use std::test::Fail;
+use support_data::{equal, is_true};
 
 /// Nodes of 32 bytes with a number after the tree words.
 const NODE: u32 = 32;
@@ -119,9 +120,13 @@ fn five_nodes(alloc: Global) -> Result<Window<Global>, Fail> {
 fn finds_nodes_by_number(rt: HostRuntime) -> Result<(), Fail> {
     let w = five_nodes(rt.alloc())?;
     let tree = Tree::new(0);
-    assert!(rt; tree.find(w.view(), &ByNumber, 3) == Some(node_of(3)));
-    assert!(rt; tree.find(w.view(), &ByNumber, 5).is_none());
-    assert!(rt; numbers(rt.alloc(), &w)?.as_slice() == [1, 2, 3, 4, 6].as_slice());
+    equal(tree.find(w.view(), &ByNumber, 3), Some(node_of(3))).expect(&rt, "equal");
+    is_true(tree.find(w.view(), &ByNumber, 5).is_none()).expect(&rt, "true");
+    equal(
+        numbers(rt.alloc(), &w)?.as_slice(),
+        [1, 2, 3, 4, 6].as_slice(),
+    )
+    .expect(&rt, "equal");
     Ok(())
 }
 
@@ -129,11 +134,15 @@ fn finds_nodes_by_number(rt: HostRuntime) -> Result<(), Fail> {
 fn finds_nodes_beside_a_number(rt: HostRuntime) -> Result<(), Fail> {
     let w = five_nodes(rt.alloc())?;
     let tree = Tree::new(0);
-    assert!(rt; tree.first_at_least(w.view(), &ByNumber, 5).node == Some(node_of(6)));
-    assert!(rt; tree.next_after(w.view(), &ByNumber, 6).is_none());
-    assert!(rt; tree.last(w.view()) == Some(node_of(6)));
-    assert!(rt; tree.last_below(w.view(), &ByNumber, 5) == Some(node_of(4)));
-    assert!(rt; tree.last_below(w.view(), &ByNumber, 1).is_none());
+    equal(
+        tree.first_at_least(w.view(), &ByNumber, 5).node,
+        Some(node_of(6)),
+    )
+    .expect(&rt, "equal");
+    is_true(tree.next_after(w.view(), &ByNumber, 6).is_none()).expect(&rt, "true");
+    equal(tree.last(w.view()), Some(node_of(6))).expect(&rt, "equal");
+    equal(tree.last_below(w.view(), &ByNumber, 5), Some(node_of(4))).expect(&rt, "equal");
+    is_true(tree.last_below(w.view(), &ByNumber, 1).is_none()).expect(&rt, "true");
     Ok(())
 }
 
@@ -142,7 +151,8 @@ fn a_path_leads_to_a_node(rt: HostRuntime) -> Result<(), Fail> {
     let w = five_nodes(rt.alloc())?;
     let mut path = Path::new(0);
     let node = path.lead_to_first(&w, Tree::new(0), &ByNumber, 5);
-    assert!(rt; node == Some(node_of(6)) && path.node(&w) == node);
+    equal(node, Some(node_of(6))).expect(&rt, "equal");
+    equal(path.node(&w), node).expect(&rt, "equal");
     Ok(())
 }
 
@@ -153,11 +163,11 @@ fn removes_nodes(rt: HostRuntime) -> Result<(), Fail> {
     let tree = Tree::new(0);
     tree.remove(&mut w, &ByNumber, node_of(4));
     tree.path_to_key(&w, &ByNumber, 2).remove(&mut w);
-    assert!(rt; numbers(rt.alloc(), &w)?.as_slice() == [1, 3, 6].as_slice());
+    equal(numbers(rt.alloc(), &w)?.as_slice(), [1, 3, 6].as_slice()).expect(&rt, "equal");
     for n in [1, 3, 6] {
         tree.remove(&mut w, &ByNumber, node_of(n));
     }
-    assert!(rt; tree.is_empty(&w));
+    is_true(tree.is_empty(&w)).expect(&rt, "true");
     Ok(())
 }
 
@@ -166,7 +176,7 @@ fn reads_the_words_of_a_node(rt: HostRuntime) -> Result<(), Fail> {
     let mut w = window(rt.alloc(), 4)?;
     w.put32(32 + 8, 1);
     w.point(32, Some(64));
-    assert!(rt; node_colour(w.view(), 32) == Some(Colour::Red));
-    assert!(rt; child(&w, 32, Side::Left) == Some(64));
+    equal(node_colour(w.view(), 32), Some(Colour::Red)).expect(&rt, "equal");
+    equal(child(&w, 32, Side::Left), Some(64)).expect(&rt, "equal");
     Ok(())
 }

@@ -1,6 +1,7 @@
 use crate::tests::support::{spelled, table};
 use seg_manager::{Fault, TypeTable};
 use std::test::Fail;
+use support_data::{equal, is_true};
 
 // The types of a file, and how many types it has or its first wrong entry.
 static FILES: [(&str, Result<usize, Fault>); 9] = [
@@ -25,7 +26,7 @@ fn finds_the_first_wrong_entry(rt: HostRuntime) -> Result<(), Fail> {
         let read = TypeTable::read(&spelled(rt.alloc(), types)?);
         assert!(rt; len_of(read) == *wanted, "{types}");
     }
-    assert!(rt; TypeTable::read(b"")?.is_empty());
+    is_true(TypeTable::read(b"")?.is_empty()).expect(&rt, "true");
     Ok(())
 }
 
@@ -42,7 +43,7 @@ fn shared_types_are_of_version_2(rt: HostRuntime) -> Result<(), Fail> {
         let read = TypeTable::read_shared(&spelled(rt.alloc(), types)?);
         assert!(rt; len_of(read) == *wanted, "{types}");
     }
-    assert!(rt; table(rt.alloc(), "shared t0")?.size(0) == 8);
+    equal(table(rt.alloc(), "shared t0")?.size(0), 8).expect(&rt, "equal");
     Ok(())
 }
 
@@ -52,12 +53,15 @@ const NESTED: &str = "i64, str, struct t0 t1 t0, vec t2, struct t2 t3 t2 t0";
 #[test]
 fn lays_out_structs(rt: HostRuntime) -> Result<(), Fail> {
     let table = table(rt.alloc(), NESTED)?;
-    assert!(rt; table.size(2) == 24 && table.size(4) == 64);
-    assert!(rt; table.field_count(4) == 4);
+    equal(table.size(2), 24).expect(&rt, "equal");
+    equal(table.size(4), 64).expect(&rt, "equal");
+    equal(table.field_count(4), 4).expect(&rt, "equal");
     let field = table.field(4, 2).ok_or("no field")?;
-    assert!(rt; field.from == 32 && field.type_id == 2);
-    assert!(rt; table.has_pointers(4) && !table.has_pointers(0));
-    assert!(rt; table.entry(3) == *b"\x03\x01\x02\0\0\0\0\0\0\0\0\0\0\0\0\0");
+    equal(field.from, 32).expect(&rt, "equal");
+    equal(field.type_id, 2).expect(&rt, "equal");
+    is_true(table.has_pointers(4)).expect(&rt, "true");
+    is_true(!table.has_pointers(0)).expect(&rt, "true");
+    equal(table.entry(3), *b"\x03\x01\x02\0\0\0\0\0\0\0\0\0\0\0\0\0").expect(&rt, "equal");
     Ok(())
 }
 
@@ -66,10 +70,11 @@ fn extends_tables(rt: HostRuntime) -> Result<(), Fail> {
     let nested = table(rt.alloc(), NESTED)?;
     let two = table(rt.alloc(), "i64, str")?;
     let other = table(rt.alloc(), "i64, i64")?;
-    assert!(rt; two.extends(&nested)?.len() == 5);
-    assert!(rt; two.agrees(&nested).is_ok());
-    assert!(rt; nested.agrees(&other) == Err(Fault::TypeMismatch(1)));
-    assert!(rt; TypeTable::new().extends(&other)?.kind(1) == other.kind(0));
-    assert!(rt; TypeTable::new().is_empty() && !other.copy().is_empty());
+    equal(two.extends(&nested)?.len(), 5).expect(&rt, "equal");
+    is_true(two.agrees(&nested).is_ok()).expect(&rt, "true");
+    equal(nested.agrees(&other), Err(Fault::TypeMismatch(1))).expect(&rt, "equal");
+    equal(TypeTable::new().extends(&other)?.kind(1), other.kind(0)).expect(&rt, "equal");
+    is_true(TypeTable::new().is_empty()).expect(&rt, "true");
+    is_true(!other.copy().is_empty()).expect(&rt, "true");
     Ok(())
 }

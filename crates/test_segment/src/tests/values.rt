@@ -1,14 +1,13 @@
 //! The checker on strings, vectors, owns and structs, and on unique objects.
 
-use crate::tests::image::checks;
+use crate::tests::image::check_each;
 use std::test::Fail;
 
-#[test]
-fn finds_faults_of_a_string(rt: HostRuntime) -> Result<(), Fail> {
-    checks(
-        rt.alloc(),
-        &[
-            "type str
+// Values and unique objects, and the faults in them.
+static VALUES: [&[&str]; 7] = [
+    // A string of 20 bytes, in a buffer with room for 32.
+    &[
+        "type str
         720 unique t0 2
         752 buffer t0 3
         720->752 724=20
@@ -17,17 +16,10 @@ fn finds_faults_of_a_string(rt: HostRuntime) -> Result<(), Fail> {
         724=33 | 724=0xffffffff | 720->null | 720->720 | 720->753 | 720->704 => pointer 720
         720=0x7fffffff | 744=2 => pointer 720
         720->null 724=0 => unowned 736",
-        ],
-    )
-}
-
-/// A vector of two strings, the second of them empty, in a buffer with room for six.
-#[test]
-fn finds_faults_of_a_vector(rt: HostRuntime) -> Result<(), Fail> {
-    checks(
-        rt.alloc(),
-        &[
-            "type vec t1
+    ],
+    // A vector of two strings, the second of them empty, in a buffer with room for six.
+    &[
+        "type vec t1
         type str
         720 unique t0 2
         752 buffer t0 4
@@ -45,16 +37,10 @@ fn finds_faults_of_a_vector(rt: HostRuntime) -> Result<(), Fail> {
         760->816 => twice 800
         760->752 => pointer 760 ; the buffer of the vector isn't one of a string
         760->720 => pointer 760 ; a wrong tag comes before a second owner",
-        ],
-    )
-}
-
-#[test]
-fn finds_faults_of_an_own(rt: HostRuntime) -> Result<(), Fail> {
-    checks(
-        rt.alloc(),
-        &[
-            "type own t1
+    ],
+    // An own of a number.
+    &[
+        "type own t1
         type i64
         720 unique t0 2
         752 object t1 2
@@ -64,17 +50,10 @@ fn finds_faults_of_an_own(rt: HostRuntime) -> Result<(), Fail> {
         720->null | 720->720 => pointer 720
         720->null 724=0 => unowned 736
         580->752 => twice 736 ; the object is a unique one too",
-        ],
-    )
-}
-
-/// An own of a type that is an own of that type: objects inside objects.
-#[test]
-fn finds_an_own_in_itself(rt: HostRuntime) -> Result<(), Fail> {
-    checks(
-        rt.alloc(),
-        &[
-            "type own t0
+    ],
+    // An own of a type that is an own of that type: objects inside objects.
+    &[
+        "type own t0
         720 unique t0 2
         752 object t0 2
         784 object t0 2
@@ -87,17 +66,10 @@ fn finds_an_own_in_itself(rt: HostRuntime) -> Result<(), Fail> {
         816->816 820=1 => twice 800
         816->720 820=1 => twice 704
         784->784 => twice 768",
-        ],
-    )
-}
-
-/// A struct of a number, a string, and a struct with a string. Its cells are at 728 and 736.
-#[test]
-fn finds_faults_in_a_struct(rt: HostRuntime) -> Result<(), Fail> {
-    checks(
-        rt.alloc(),
-        &[
-            "type i64
+    ],
+    // A struct of a number, a string, and a struct with a string. Its cells are at 728 and 736.
+    &[
+        "type i64
         type str
         type struct t1
         type struct t0 t1 t2
@@ -111,17 +83,10 @@ fn finds_faults_in_a_struct(rt: HostRuntime) -> Result<(), Fail> {
         728->null 736->null => pointer 728
         736->null => pointer 736
         736->768 => twice 752",
-        ],
-    )
-}
-
-/// A named object has two strings as its values, and its name after them.
-#[test]
-fn finds_faults_in_each_value_of_an_object(rt: HostRuntime) -> Result<(), Fail> {
-    checks(
-        rt.alloc(),
-        &[
-            "type str
+    ],
+    // A named object has two strings as its values, and its name after them.
+    &[
+        "type str
         720 named t0 3
         768 index t0 2
         800 buffer t0 2
@@ -135,16 +100,10 @@ fn finds_faults_in_each_value_of_an_object(rt: HostRuntime) -> Result<(), Fail> 
         720->null 728->null => pointer 720
         732=17 => pointer 728
         728->800 => twice 784",
-        ],
-    )
-}
-
-#[test]
-fn finds_faults_of_unique_objects(rt: HostRuntime) -> Result<(), Fail> {
-    checks(
-        rt.alloc(),
-        &[
-            "type i64
+    ],
+    // Three unique objects, of two numbers and a struct.
+    &[
+        "type i64
         type i64
         type struct t0 t0 t0
         720 unique t0 2
@@ -159,6 +118,10 @@ fn finds_faults_of_unique_objects(rt: HostRuntime) -> Result<(), Fail> {
         700=0 => pointer 700
         744=0x202 584->752 => pointer 580 ; 16 bytes for a value of 24
         744=0x202 580->null 584->752 => pointer 584",
-        ],
-    )
+    ],
+];
+
+#[test]
+fn finds_faults_of_values(rt: HostRuntime) -> Result<(), Fail> {
+    check_each(rt.alloc(), &VALUES)
 }

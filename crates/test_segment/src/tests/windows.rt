@@ -1,6 +1,7 @@
 use seg_manager::{Region, Window};
 use std::alloc::Global;
 use std::test::Fail;
+use support_data::{equal, is_true};
 
 /// A segment of 32 bytes at base 16 of a region of 64.
 fn segment(alloc: Global) -> Result<Window<Global>, Fail> {
@@ -26,10 +27,13 @@ fn write_each(w: &mut Window<Global>) {
 fn reads_what_it_wrote(rt: HostRuntime) -> Result<(), Fail> {
     let mut w = segment(rt.alloc())?;
     write_each(&mut w);
-    assert!(rt; w.slice(0, 8) == [1, 1, 8, 7, 6, 5, 2, 3].as_slice());
-    assert!(rt; w.get64(0) == 0x0302_0506_0708_0101 && w.get32(2) == 0x0506_0708);
-    assert!(rt; w.get16(6) == 0x0302 && w.get8(31) == 9);
-    assert!(rt; w.get32(8) == 12 && w.target(8) == Some(20));
+    equal(w.slice(0, 8), [1, 1, 8, 7, 6, 5, 2, 3].as_slice()).expect(&rt, "equal");
+    equal(w.get64(0), 0x0302_0506_0708_0101).expect(&rt, "equal");
+    equal(w.get32(2), 0x0506_0708).expect(&rt, "equal");
+    equal(w.get16(6), 0x0302).expect(&rt, "equal");
+    equal(w.get8(31), 9).expect(&rt, "equal");
+    equal(w.get32(8), 12).expect(&rt, "equal");
+    equal(w.target(8), Some(20)).expect(&rt, "equal");
     Ok(())
 }
 
@@ -40,9 +44,12 @@ fn moves_and_grows(rt: HostRuntime) -> Result<(), Fail> {
     w.put8(31, 9);
     w.relocate(0)?;
     w.resize(48)?;
-    assert!(rt; w.base() == 0 && w.len() == 48 && w.room() == 64);
-    assert!(rt; w.get8(31) == 9);
-    assert!(rt; w.holds(40, 8) && !w.is_empty());
-    assert!(rt; w.into_region().len() == 64);
+    equal(w.base(), 0).expect(&rt, "equal");
+    equal(w.len(), 48).expect(&rt, "equal");
+    equal(w.room(), 64).expect(&rt, "equal");
+    equal(w.get8(31), 9).expect(&rt, "equal");
+    is_true(w.holds(40, 8)).expect(&rt, "true");
+    is_true(!w.is_empty()).expect(&rt, "true");
+    equal(w.into_region().len(), 64).expect(&rt, "equal");
     Ok(())
 }
