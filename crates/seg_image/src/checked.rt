@@ -5,6 +5,7 @@ ghost use Rattle.seg_spec.specs.Bytes.{word};
 ghost use Rattle.seg_spec.specs.Header.{allocator_word};
 ghost use Rattle.seg_check.specs.Faults.{IsImageOf, IsFaultOf};
 ghost use Rattle.seg_check.specs.Owners.{IsOwnerFaultOf};
+ghost use Rattle.seg_check.specs.Positions.{IsFaultAt};
 ghost use Rattle.seg_image.specs.Checked.{segment_in};
 
 use crate::opening::view_of;
@@ -31,6 +32,7 @@ impl<'a> CheckedImage<'a> {
         ensures image { IfOk result (λ image. IsImageOf bytes.now (segment_in image).types) }
         ensures fault { IfErr result (IsFaultOf bytes.now) }
         ensures owner { IfErr result (IsOwnerFaultOf bytes.now) }
+        ensures position { IfErr result (IsFaultAt bytes.now) }
     {
         let view = view_of(bytes)?;
         let types = seg_check::check(alloc, view)?;

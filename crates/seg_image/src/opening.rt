@@ -6,6 +6,7 @@ ghost use Rattle.seg_spec.specs.Window.{region_of};
 ghost use Rattle.seg_raw.specs.Homes.{home_of};
 ghost use Rattle.seg_check.specs.Faults.{IsImageOf, IsFaultOf};
 ghost use Rattle.seg_check.specs.Owners.{IsOwnerFaultOf};
+ghost use Rattle.seg_check.specs.Positions.{IsFaultAt};
 ghost use Rattle.seg_image.specs.Images.{segment_of, allocator_of, bytes_in};
 
 use crate::image::Image;
@@ -37,6 +38,7 @@ pub fn check<A: Allocator>(alloc: A, bytes: &[u8]) -> Result<TypeTable, Fault>
     ensures image { IfOk result (IsImageOf bytes.now) }
     ensures fault { IfErr result (IsFaultOf bytes.now) }
     ensures owner { IfErr result (IsOwnerFaultOf bytes.now) }
+    ensures position { IfErr result (IsFaultAt bytes.now) }
 {
     seg_check::check(alloc, view_of(bytes)?)
 }
@@ -46,6 +48,7 @@ pub(crate) fn view_of(bytes: &[u8]) -> Result<View<'_>, Fault>
     ensures view { IfOk result (λ view. view.bytes.now ≡ bytes.now) }
     ensures fault { IfErr result (IsFaultOf bytes.now) }
     ensures owner { IfErr result (IsOwnerFaultOf bytes.now) }
+    ensures position { IfErr result (IsFaultAt bytes.now) }
 {
     if bytes.len() > MAX_LEN as usize {
         return Err(Fault::BadHeader);
@@ -68,6 +71,7 @@ impl<A: Allocator> Image<A> {
             (λ image. word bytes.items allocator_word ≡ allocator_of image) }
         ensures fault { IfErr result (λ unopened. IsFaultOf bytes.items unopened.fault) }
         ensures owner { IfErr result (λ unopened. IsOwnerFaultOf bytes.items unopened.fault) }
+        ensures position { IfErr result (λ unopened. IsFaultAt bytes.items unopened.fault) }
         ensures refused { IfErr result (λ unopened. unopened.bytes.items ≡ bytes.items) }
         ensures home { IfOk result (λ image. (segment_of image).window.home ≡ home_of bytes) }
         ensures refused_home { IfErr result
@@ -108,6 +112,7 @@ fn window_of<A: Allocator>(bytes: Vec<u8, A>) -> Result<Window<A>, Unopened<A>>
     ensures whole { IfOk result (λ window. region_of window ≡ window.bytes) }
     ensures fault { IfErr result (λ unopened. IsFaultOf bytes.items unopened.fault) }
     ensures owner { IfErr result (λ unopened. IsOwnerFaultOf bytes.items unopened.fault) }
+    ensures position { IfErr result (λ unopened. IsFaultAt bytes.items unopened.fault) }
     ensures refused { IfErr result (λ unopened. unopened.bytes.items ≡ bytes.items) }
     ensures home { IfOk result (λ window. window.home ≡ home_of bytes) }
     ensures refused_home { IfErr result (λ unopened. home_of unopened.bytes ≡ home_of bytes) }
