@@ -1,10 +1,10 @@
 -- The number of a named object that a host found before a client ran, and reads after the run.
 use Rattle.std.proofs.Common.{◌≡◌, ℕ, ◌+◌, ◌*◌, ◌≤◌, ◌≢◌, Bool, true, false, List, [], ◌∷◌, ◌++◌, Option, Some, None, eqb-true, refl, sym, ◌∙◌, ap, subst, arith}
-use Rattle.std.specs.Prelude.{ℤ, if◌then◌else◌, ◌==◌, Ok, Err}
+use Rattle.std.specs.Prelude.{ℤ, if◌then◌else◌, ◌==◌, Result, Ok, Err}
 use Rattle.seg_spec.specs.Bytes.{word, signed_long}
 use Rattle.seg_spec.specs.Header.{next_word}
 use Rattle.seg_spec.specs.Types.{Form, form_at, size}
-use Rattle.seg_spec.specs.Value.{Value, Int, count, nth}
+use Rattle.seg_spec.specs.Value.{Value, Int, count}
 use Rattle.seg_spec.specs.Index.{Root, AreEntries, same_name, root_named}
 use Rattle.seg_spec.specs.Reads.{Place, here, Leads}
 use Rattle.seg_spec.specs.Sound.{Picture, IsHeld}
@@ -13,6 +13,7 @@ use Rattle.seg_spec.specs.Roots.{Listed, item_of, IsReached}
 use Rattle.seg_spec.proofs.Images.ReachedPlaceLaws.{found_place}
 use Rattle.seg_spec.proofs.Images.RootWriteLaws.{number_held}
 use Rattle.seg_spec.proofs.Values.OneValueLaws.{Holds-one}
+use Rattle.lezgauri.specs.Code.{Code}
 use Rattle.lezgauri.specs.Code.TheVariants as code
 use Rattle.lezgauri.specs.Image.{Image}
 use Rattle.lezgauri.specs.Images.{segment_of, allocator_of, types_of, bytes_in, IsOpen}
@@ -80,19 +81,22 @@ found_root names name T place e = by (root_named names name) refl e
     by None is f = cc
     by (Some root) is f = of_type (root.type == T) refl f
       where
-        of_type : (t : Bool) → (root.type == T) ≡ t → Ok place ≡ first_place T (if t then Ok (found_of root) else Err code.OtherType) → (root : Root) × (root_named names name ≡ Some root) × (root.type ≡ T) × (place ≡ record { at = root.at; type_id = T })
+        of_type : (t : Bool) → (root.type == T) ≡ t → Ok place ≡ first_place T (if t then Ok (found_of root) else Err code.OtherType)
+            → (root : Root) × (root_named names name ≡ Some root) × (root.type ≡ T) × (place ≡ record { at = root.at; type_id = T })
         of_type true g f = (root, is, eqb-true root.type T g, cc)
         of_type false g f = cc
 
 -- a call that returned a number was on a number
-number_form : {E : Type 0} (form : Option Form) (n : ℤ) (is : ℤ) (error : E) → (form ≡ Some Form.i64 → Ok n ≡ Ok is) → (form ≢ Some Form.i64 → Ok n ≡ Err error) → (form ≡ Some Form.i64) × (n ≡ is)
+number_form : (form : Option Form) (n : ℤ) (is : ℤ) (error : Code) → (form ≡ Some Form.i64 → ◌≡◌ {A = Result ℤ Code} (Ok n) (Ok is)) → (form ≢ Some Form.i64 → ◌≡◌ {A = Result ℤ Code} (Ok n) (Err error))
+    → (form ≡ Some Form.i64) × (n ≡ is)
 number_form None n is error number other = absurd (let e = other (λ f. cc) in cc)
 number_form (Some Form.i64) n is error number other = (refl, (let e = number refl in cc))
 number_form (Some form) n is error number other = absurd (let e = other (λ f. cc) in cc)
 
 pub read_after : {A : Type 0} (old new : Image A) (others : List Root) (tree : Client) → MayRun (allocator_of old) others (segment_of old).window (types_of old) tree [] → (name : List ℕ) (place : program.Place) (number : ℤ)
     → ((picture : Picture) → IsOpen old picture → Ok place ≡ first_place 0 (found_as 0 (root_named picture.names name))) → NameStays (bytes_in old) (bytes_in new) name
-    → (form_at (types_of new) place.type_id ≡ Some Form.i64 → Ok number ≡ Ok (signed_long (bytes_in new) place.at)) → (form_at (types_of new) place.type_id ≢ Some Form.i64 → Ok number ≡ Err code.OtherType)
+    → (form_at (types_of new) place.type_id ≡ Some Form.i64 → ◌≡◌ {A = Result ℤ Code} (Ok number) (Ok (signed_long (bytes_in new) place.at)))
+    → (form_at (types_of new) place.type_id ≢ Some Form.i64 → ◌≡◌ {A = Result ℤ Code} (Ok number) (Err code.OtherType))
     → (picture : Picture) → IsOpen new picture → HasNumber picture name number
 read_after old new others tree may name place number found stays is_number is_other picture opened =
     let ready = may.ready in
