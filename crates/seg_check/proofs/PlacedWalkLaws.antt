@@ -1,4 +1,4 @@
--- Where a walk through a tree is: at the pointer to the tree, or at a pointer in a node that was entered.
+-- The place of a walk through a tree: at the pointer to the tree, or at a pointer in a node that was entered.
 use Rattle.std.proofs.Common.{◌≡◌, ℕ, ◌+◌, ◌^◌, ◌<◌, List, [], ◌∷◌, ◌++◌, Some, sym, subst, arith}
 use Rattle.std.specs.List.{AllByRecursion}
 use Rattle.seg_spec.specs.Pointer.{target}

@@ -141,7 +141,7 @@ pub record HasEntryAt (bytes : List ℕ) (table : Table) (at : ℕ) (name : List
   pub is_name : IsName name
   pub name_is : slice bytes (points.start + n * size table type) (length name) ≡ name
 
--- the name of the last of these entries, or the empty name if there are none
+-- the name of the last of these entries, or the empty name without any
 pub data IsLastName (bytes : List ℕ) (table : Table) : List ℕ → List ℕ → Type 0 where
   no_name : IsLastName bytes table [] []
   name_of_last : {name : List ℕ} (before : List ℕ) (entry : ℕ) → HasEntryAt bytes table entry name →

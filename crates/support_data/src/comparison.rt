@@ -1,4 +1,4 @@
-//! Tests of what a call returned. `equal(found, wanted).expect(&rt, "equal")` names the line of a failure as `assert!` does, and
+//! Tests of what a call returned. `equal(found, wanted).expect(&rt, "equal")` shows the line of a failure as `assert!` does, and
 //! costs the prover half as much.
 
 /// `Some` if this is true.

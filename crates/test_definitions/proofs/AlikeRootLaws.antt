@@ -1,4 +1,4 @@
--- In two images that are alike, the same path from an object leads to the same place, which is alike.
+-- In two images that are alike, the same path from an object reaches the same place, which is alike.
 -- The buffer there has the same size.
 use Rattle.std.proofs.Common.{◌≡◌, ℕ, zero, suc, ◌<◌, ◌≤◌, inl, inr, true, false, Bool, List, [], ◌∷◌, ◌++◌, length, Option, Some, None, option_map, cond, eqb, refl, sym, ap, ◌∙◌, subst, arith}
 use Rattle.std.specs.List.{AllByRecursion}
@@ -127,7 +127,7 @@ module _ {others : List Root} {places first second : List ℕ} (alike : AreAlike
           inside = subst (λ k. k < count root.values) b.1 (one_value root (each_among IsPlain root (r.uniques ++ r.loose) (among_right root r.uniques r.loose loose) alike.held.laid_out.plain));
         }
 
-    -- where the path leads in both images
+    -- the place that the path reaches in both images
     pub record LeadsInBoth (path : Path) (place : Place) : Type 0 where
       pub leads : LeadsInImage q path place
       pub alike_at : AlikeAt first second p.picture.table place

@@ -155,7 +155,7 @@ module _ (at : ℕ) where
 above : (bytes : List ℕ) (p : Picture) (held : IsHeld bytes p) (n : ℕ) → 1 ≤ times (block_of n) held.index_blocks → heap_start ≤ block_of n
 above bytes p held n some = (there (LiesIn bytes heap_start (length bytes)) (block_of n) (positions (live bytes)) (live-lie bytes (word bytes allocator_word) held.laid_out.heap) (index_live bytes p held (block_of n) some)).low
 
--- the nodes of a tree index are those of its blocks
+-- the blocks of a tree index determine its nodes
 nodes_one : (ns ms : List ℕ) → AllByRecursion (λ n. 16 ≤ n) ns → AllByRecursion (λ n. 16 ≤ n) ms → map block_of ns ≡ map block_of ms → ns ≡ ms
 nodes_one [] [] a b e = refl
 nodes_one [] (m ∷ ms) a b e = cc

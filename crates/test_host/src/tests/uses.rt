@@ -37,7 +37,7 @@ fn a_counter_counts(rt: HostRuntime) -> Result<(), Fail> {
 #[test]
 fn a_number_is_read_after_a_run(rt: HostRuntime) -> Result<(), Fail> {
     let (_printed, image) = counted(&rt, new_counter(rt.alloc())?, COUNT, 3)?;
-    let mut image = Image::open(rt.alloc(), image)?;
+    let mut image = Image::open(rt.alloc(), image).map_err(Fault::from)?;
     let file = client(rt.alloc(), COUNT)?;
     let client = prepare(rt.alloc(), verify(&image, file.as_slice())?)?;
     let mut out = Through::new(Limited::unlimited(rt.alloc()));
