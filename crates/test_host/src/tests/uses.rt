@@ -1,9 +1,7 @@
 //! Hosts that embed the library.
 
-use lezgauri::{Code, Error, Fault, Image, Through, prepare, verify};
-use lezgauri_uses::{
-    Cache, Settings, count, new_counter, number_after, read_settings, write_settings,
-};
+use lezgauri::{Code, Error, Fault, Through};
+use lezgauri_uses::{Cache, Settings, count, new_counter, read_settings, write_settings};
 use std::fmt::InlineText;
 use std::process::Abort;
 use std::test::Fail;
@@ -30,19 +28,6 @@ fn a_counter_counts(rt: HostRuntime) -> Result<(), Fail> {
     assert_eq!(rt; printed.as_slice(), b"1\n2\n3\n".as_slice());
     let (printed, _image) = counted(&rt, image, COUNT, 1)?;
     assert_eq!(rt; printed.as_slice(), b"4\n".as_slice());
-    Ok(())
-}
-
-/// A host finds the number before a run, and reads it after the run.
-#[test]
-fn a_number_is_read_after_a_run(rt: HostRuntime) -> Result<(), Fail> {
-    let (_printed, image) = counted(&rt, new_counter(rt.alloc())?, COUNT, 3)?;
-    let mut image = Image::open(rt.alloc(), image).map_err(Fault::from)?;
-    let file = client(rt.alloc(), COUNT)?;
-    let client = prepare(rt.alloc(), verify(&image, file.as_slice())?)?;
-    let mut out = Through::new(Limited::unlimited(rt.alloc()));
-    let number = number_after(&mut image, &client, b"runs", &mut out)?;
-    assert_eq!(rt; number, 4);
     Ok(())
 }
 
