@@ -5,12 +5,14 @@ pub mod OwnedRootLaws
 pub mod PictureLaws
 pub mod ObjectPlaceLaws
 pub mod ObjectChangeLaws
+pub mod NewObjectLaws
 pub mod NamedChangeLaws
 pub mod NameByteLaws
 pub mod OwnedChangeLaws
 pub mod OwnedPictureLaws
 pub mod OwnedMoveLaws
 pub mod FrozenMoveLaws
+pub mod ObjectMoveLaws
 pub mod MoveWorldLaws
 pub mod OwnedObjectLaws
 pub mod UniqueChangeLaws

@@ -69,7 +69,9 @@ module _ (constants : List Constant) (others : List Root) (moves other : List Mo
     owned_before = w.owned_before;
     owned_after = w.owned_after;
     owners_stay = w.owners_stay;
+    owners_come = w.owners_come;
     objects_stay = w.objects_stay;
+    objects_come = w.objects_come;
   }
 
   picked_follows : (a b c d : Way Situation) → Follows a c → Follows b d → (answer : Answer) → Follows (picked answer a b) (picked answer c d)

@@ -11,7 +11,6 @@
 use Rattle.std.specs.Prelude.{◌≡◌, ℕ, ◌+◌, List, [], ◌∷◌, ◌++◌, length, Some, None}
 use Rattle.seg_spec.specs.Bytes.{set_word}
 use Rattle.seg_spec.specs.Pointer.{set_pointer}
-use Rattle.seg_spec.specs.Sharing.{Freezes}
 use Rattle.seg_spec.specs.Types.{Form, Table, form_at}
 use Rattle.seg_spec.specs.Value.{Value, Full, default_of}
 use Rattle.seg_spec.specs.Heap.{Span, live}
@@ -23,6 +22,7 @@ use Rattle.seg_spec.specs.Demand.{after_asks, after_gives}
 use Rattle.seg_spec.specs.Destroying.{HoldFrozen, KeepFrozen}
 use Rattle.seg_spec.specs.Frozen.{Frozen, blocks_by}
 use Rattle.seg_cells.specs.declared.place.Place as places
+use Rattle.seg_value.specs.Sharing.{FreezesParts}
 use Rattle.seg_manager.specs.Segments.{one_value}
 
 -- The own had `blocks`, and now has the object's block. `now` are the frozen objects before, which
@@ -50,10 +50,11 @@ abbrev pub AreShared : Table → places.Place → places.Place → ℕ → Type 
 AreShared table to from T = (form_at table to.type_id ≡ Some (Form.shared T))
     × (form_at table from.type_id ≡ Some (Form.shared T))
 
--- The object was frozen, and the cell points to it. After that the own became empty.
+-- The object was frozen with its parts, and the cell points to it. After that the own became empty.
 pub record FreezesOwn (allocator : ℕ) (old new : List ℕ) (table : Table) (own : ℕ) (cell : Place)
     (U object : ℕ) (v : Value) (inside blocks : List ℕ) (names : List Place)
     (theirs : ℕ → List ℕ) (now : List Frozen) : Type 0 where
   pub frozen : List ℕ
-  pub freezes : Freezes allocator old frozen table cell U object v inside blocks names theirs now
+  pub freezes : FreezesParts allocator old frozen table cell U object v inside blocks names theirs
+      now
   pub empties : new ≡ set_word (set_pointer frozen own None) (own + 4) 0

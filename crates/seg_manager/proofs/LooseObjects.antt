@@ -30,6 +30,7 @@ use Rattle.seg_value.specs.Contents.{GivesBlock}
 use Rattle.seg_value.specs.Stored.{Stored}
 use Rattle.seg_manager.specs.Segments.{IsSegment, Becomes, new_root, MakesLoose, LosesLoose}
 use Rattle.seg_spec.proofs.Images.LooseRootLaws.{Trades, holds_its, loose_traded, each_joined}
+use Rattle.seg_manager.proofs.ObjectAsks.{gets_one}
 use Rattle.seg_spec.proofs.Images.LooseRootLaws as roots
 use Rattle.seg_spec.proofs.Heap.RequestLaws.{spent_one, counts_one}
 use Rattle.seg_spec.proofs.Images.PlainRootLaws.{HoldsPlain, plain_of, root_of_plain}
@@ -147,6 +148,7 @@ module _ (allocator : ℕ) (old new : Stored) (picture : Picture) (is : IsSegmen
   pub made : MakesLoose allocator old new picture T at
   made = record {
     spends = rw sized at (spent_one allocator (live a) (live b) (length a) (need (0 + size old.types T)) given.granted_is);
+    gets_block = rw sized at (gets_one allocator (live a) (live b) (length a) (need (0 + size old.types T)) [] given.granted_is (block_of at) given.was_free given.now_live);
     joins = joined;
   }
 

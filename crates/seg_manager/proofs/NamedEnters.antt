@@ -38,7 +38,7 @@ use Rattle.seg_spec.proofs.Heap.RequestLaws.{counts_one}
 use Rattle.seg_manager.proofs.NewNamed.{count-copies, named_kind}
 use Rattle.seg_spec.proofs.Frozen.PartCountLaws.{defaults_none}
 use Rattle.seg_spec.proofs.Frozen.KeptCountLaws.{next_same, counted_still, counted_with}
-use Rattle.seg_manager.proofs.ObjectAsks.{entry_asks_kept, spent_after, asks_after, returned_one, no_room_first}
+use Rattle.seg_manager.proofs.ObjectAsks.{entry_asks_kept, spent_after, asks_after, gets_one, returned_one, no_room_first}
 use Rattle.seg_spec.proofs.Images.PlainRootLaws.{HoldsPlain, plain_of}
 
 times_cons : (h x : ℕ) (xs : List ℕ) → times h (x ∷ xs) ≡ times h (x ∷ []) + times h xs
@@ -168,6 +168,7 @@ module _ (allocator : ℕ) (old mid : List ℕ) (picture : Picture) (held : IsHe
           });
           nodes_kept = rw (new_is, old_is) nodes_then;
           spends = rw (new_is, old_is, table_is) granted;
+          gets_block = rw (old_is, table_is) (gets_one allocator (live old) (live mid) (length old) units [] granted_first (block_of object) g.was_free g.now_live);
         }
 
   -- ---- the index has no room for the entry, and the object's block is freed

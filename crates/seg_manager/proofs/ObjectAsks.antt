@@ -2,6 +2,7 @@
 --     entry_asks_kept     an index whose buffer keeps its room has the same request for an entry
 --     spent_after, asks_after, no_room_first
 --                         requests after one for a new block
+--     gets_one            the request gets the block that wasn't allocated before
 --     returned_one        the allocated blocks are the same after a new block is freed
 use Rattle.std.proofs.Common.{◌≡◌, ◌≢◌, ℕ, zero, suc, ◌+◌, ◌-◌, ◌*◌, ◌≤◌, ◌⊎◌, inl, inr, true, false, List, [], ◌∷◌, cond, eqb, leb, Option, Some, None, option_map, option_to_list, refl, sym, ap, ◌∙◌, arith}
 use Rattle.std.specs.Prelude.{nat_lt}
@@ -10,12 +11,12 @@ use Rattle.std.proofs.lemmas.Bool.{cases_eq}
 use Rattle.seg_spec.specs.Bytes.{word, IsSame}
 use Rattle.seg_spec.specs.Header.{index_kind_word, index_cell}
 use Rattle.seg_spec.specs.Pointer.{target}
-use Rattle.seg_spec.specs.Heap.{Span, units_at, pick, gaps_of, granted, with_block, without}
+use Rattle.seg_spec.specs.Heap.{Span, units_at, pick, gaps_of, granted, with_block, without, fresh}
 use Rattle.seg_spec.specs.Block.{block_of, payload_size}
 use Rattle.seg_spec.specs.Reads.{count_at}
 use Rattle.seg_spec.specs.Index.{Root, Index, OpensIndex, ListsNames}
 use Rattle.seg_spec.specs.Sound.{times, positions}
-use Rattle.seg_spec.specs.Demand.{Ask, units_for, growth, growth_if_needed, after_asks, NoRoom}
+use Rattle.seg_spec.specs.Demand.{Ask, units_for, growth, growth_if_needed, after_ask, after_asks, NoRoom}
 use Rattle.seg_spec.specs.Spending.{units_named, buffer_asks, entry_asks, spent}
 use Rattle.seg_spec.proofs.Values.PlaceFrameLaws.{cell-target, cell-count}
 use Rattle.seg_spec.proofs.Heap.LiveBlockLaws.{times-same, times-other, times-with_block, not_there}
@@ -86,8 +87,28 @@ module _ (allocator : ℕ) (bs mid : List Span) (end u : ℕ) (asks : List Ask) 
           let is : taking g ≡ mid = cc in
           rw (p, ← is) refl
 
-  -- the new block is freed again
   module _ (block : ℕ) (was_free : times block (positions bs) ≡ 0) (now_live : times block (positions mid) ≡ 1) where
+    pub gets_one : (blocks : List Span) × (after_ask allocator bs end (units_for u) ≡ Some (fresh block blocks))
+    gets_one = go (pick allocator (gaps_of bs end) u) refl
+      where
+        go : (o : Option Span) → pick allocator (gaps_of bs end) u ≡ o → (blocks : List Span) × (after_ask allocator bs end (units_for u) ≡ Some (fresh block blocks))
+        go None p = absurd (let f : None ≡ Some mid = rw p at e in cc)
+        go (Some g) p = (taking g, at_block (cases_eq g.at block))
+          where
+            is : taking g ≡ mid
+            is = let f : Some (taking g) ≡ Some mid = rw p at e in cc
+
+            gets : after_ask allocator bs end (units_for u) ≡ Some (fresh g.at (taking g))
+            gets = rw p refl
+
+            at_block : (g.at ≡ block) ⊎ (g.at ≢ block) → after_ask allocator bs end (units_for u) ≡ Some (fresh block (taking g))
+            at_block (inl same) = gets ∙ ap (λ at. Some (fresh at (taking g))) same
+            at_block (inr ne) =
+                let count = ap (λ cs. times block (positions cs)) (sym is) ∙ times-with_block block (record { at = g.at; units = granted g.units u }) bs in
+                let o = times-other block g.at (positions bs) ne in
+                absurd (omega arith)
+
+    -- the new block is freed again
     pub returned_one : without block mid ≡ bs
     returned_one = go (pick allocator (gaps_of bs end) u) refl
       where

@@ -107,6 +107,7 @@ module _ (allocator : ℕ) (old mid new : Stored) (picture : Picture) (is : IsSe
       record {
         none = none_root picture.uniques T no_position;
         spends = makes.spends ∙ ap Some (sym same_live);
+        gets_block = makes.gets_block;
         before = b.before;
         after = b.after;
         uniques_are = b.parts;

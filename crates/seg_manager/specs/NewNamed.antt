@@ -19,7 +19,7 @@ use Rattle.seg_spec.specs.Demand.{Ask, block_for, after_asks, NoRoom}
 use Rattle.seg_spec.specs.Spending.{object_asks}
 use Rattle.seg_spec.specs.Owing.{KeepsLinked}
 use Rattle.seg_value.specs.Stored.{Stored}
-use Rattle.seg_manager.specs.Segments.{Becomes, Spends, new_root}
+use Rattle.seg_manager.specs.Segments.{Becomes, Spends, GetsBlock, new_root}
 
 -- n values of a type of the table lie in the segment, from a position on
 pub record HasValuesRoom (bytes : List ℕ) (table : Table) (at T n : ℕ) : Type 0 where
@@ -48,8 +48,8 @@ pub record GivesNamed (allocator : ℕ) (old new : List ℕ) (table : Table) (ro
   pub kept : (h : ℕ) → 1 ≤ times h (positions (live old)) → KeepsLinked old new h
 
 -- The requests for a new named object of n default values and for its entry were granted. The
--- object is at this position, and in order among the others. Each allocated block outside the index
--- is kept, and other names keep their nodes in it.
+-- object is at this position, in the block that its own request gets, and in order among the
+-- others. Each allocated block outside the index is kept, and other names keep their nodes in it.
 pub record MakesNamed (allocator : ℕ) (old new : Stored) (picture : Picture)
     (index_blocks name : List ℕ) (T n at : ℕ) : Type 0 where
   pub before : List Root
@@ -60,6 +60,7 @@ pub record MakesNamed (allocator : ℕ) (old new : Stored) (picture : Picture)
       index_blocks
   pub nodes_kept : KeepsNodes old.window.bytes new.window.bytes index_blocks
   pub spends : Spends allocator old new (object_asks old.window.bytes old.types T n name) []
+  pub gets_block : GetsBlock allocator old (n * size old.types T + length name) at
 
 -- One of the requests wasn't granted. The segment has the same picture and the same allocated
 -- blocks with their bytes: what was allocated for the object was freed again.

@@ -6,24 +6,25 @@
 --                                         `gone` is kept
 --     Spends allocator old new asks gives
 --                                         the requests were granted, and these blocks were freed
+--     GetsBlock allocator old n at        the request for n bytes gets the block of this object
 --     new_root table name T n at          an object of n default values
 --     MakesLoose, LosesLoose              a loose object was made; a loose object was destroyed
 --     MakesUnique, FindsOrMakes, RefusesUnique, LosesUnique
 --                                         a unique object was made, found, refused; a unique object was destroyed
 --     AddsTypes                           the table was replaced by a longer one
 --     unique_at picture T                 the position of the unique object of a type
-use Rattle.std.specs.Prelude.{◌≡◌, ℕ, ◌+◌, ◌≤◌, List, [], ◌∷◌, ◌++◌, length, ◌⊎◌, Option, Some, None, IsSome, option_map}
+use Rattle.std.specs.Prelude.{◌≡◌, ℕ, ◌≤◌, List, [], ◌∷◌, ◌++◌, length, ◌⊎◌, Option, Some, None, IsSome, option_map}
 use Rattle.seg_spec.specs.Bytes.{word, ChangesOnly}
 use Rattle.seg_spec.specs.Header.{allocator_word, next_word, types_start, types_size, KeepsFront}
 use Rattle.seg_spec.specs.Types.{Table, size, longer}
 use Rattle.seg_spec.specs.Value.{copies, default_of}
-use Rattle.seg_spec.specs.Heap.{live}
-use Rattle.seg_spec.specs.Block.{KeepsBlock}
+use Rattle.seg_spec.specs.Heap.{Span, live, fresh}
+use Rattle.seg_spec.specs.Block.{block_of, KeepsBlock}
 use Rattle.seg_spec.specs.Index.{Root, root_of_type, plain_root}
 use Rattle.seg_spec.specs.Sound.{Picture, IsHeld, HoldsRoot, times, positions}
 use Rattle.seg_spec.specs.Roots.{Listed, with_roots}
 use Rattle.seg_spec.specs.Counting.{AreCounted, without_cells}
-use Rattle.seg_spec.specs.Demand.{Ask, block_for, after_gives}
+use Rattle.seg_spec.specs.Demand.{Ask, block_for, after_ask, after_gives}
 use Rattle.seg_spec.specs.Destroying.{HoldFrozen, KeepFrozen}
 use Rattle.seg_spec.specs.Frozen.{blocks_by}
 use Rattle.seg_spec.specs.Shared.{names_each, left, freed}
@@ -58,6 +59,12 @@ Spends allocator old new asks gives =
     spent allocator (live old.window.bytes) (length old.window.bytes) asks gives
     ≡ Some (live new.window.bytes)
 
+-- The request for a new block of n bytes gets the block of the object at this position.
+abbrev pub GetsBlock : ℕ → Stored → ℕ → ℕ → Type 0
+GetsBlock allocator old n at = (blocks : List Span) ×
+    (after_ask allocator (live old.window.bytes) (length old.window.bytes) (block_for n)
+    ≡ Some (fresh (block_of at) blocks))
+
 abbrev pub new_root : Table → List ℕ → ℕ → ℕ → ℕ → Root
 new_root table name T n at = plain_root name at T (copies n (default_of table T))
 
@@ -71,6 +78,7 @@ one_value table T = block_for (size table T) ∷ []
 pub record MakesLoose (allocator : ℕ) (old new : Stored) (picture : Picture)
     (T at : ℕ) : Type 0 where
   pub spends : Spends allocator old new (one_value old.types T) []
+  pub gets_block : GetsBlock allocator old (size old.types T) at
   pub joins : (before after : List Root) → picture.loose ≡ before ++ after →
       Becomes allocator old new
       (with_roots picture Listed.loose (before ++ new_root old.types [] T 1 at ∷ after)) []
@@ -108,6 +116,7 @@ pub record MakesUnique (allocator : ℕ) (old new : Stored) (picture : Picture)
     (T at : ℕ) : Type 0 where
   pub none : root_of_type picture.uniques T ≡ None
   pub spends : Spends allocator old new (one_value old.types T) []
+  pub gets_block : GetsBlock allocator old (size old.types T) at
   pub before : List Root
   pub after : List Root
   pub uniques_are : picture.uniques ≡ before ++ after

@@ -7,6 +7,7 @@ use Rattle.seg_spec.specs.Value.{Value, Values, nil, cons}
 use Rattle.seg_spec.specs.Heap.{IsHeap, IsLive, live, link_at, heap_start, Gives}
 use Rattle.seg_spec.specs.Block.{Kind, tag_of, IsBlock, IsInside, KeepsBlock, block_of}
 use Rattle.seg_spec.specs.Reads.{Place, items, Holds, HoldsEach, holds_none, holds_more}
+use Rattle.seg_spec.specs.Parts.{Persists, PersistEach, persist_none, persist_more}
 use Rattle.seg_spec.specs.Cells.{IsWithin}
 use Rattle.seg_spec.specs.Calls.{IsLoose}
 use Rattle.seg_spec.specs.Sound.{times, positions}
@@ -15,7 +16,8 @@ use Rattle.seg_spec.specs.Frozen.{frozen_words}
 use Rattle.seg_spec.specs.Owning.{StandsBeside}
 use Rattle.seg_spec.specs.Owing.{KeepsLinked}
 use Rattle.seg_spec.proofs.SliceLaws.{IsSame-part}
-use Rattle.seg_spec.proofs.Values.PlaceFrameLaws.{word-same, target-same, Holds-kept, IsBlock-kept, payload-same}
+use Rattle.seg_spec.proofs.Values.PlaceFrameLaws.{word-same, target-same, Persists-kept, IsBlock-kept, payload-same}
+use Rattle.seg_spec.proofs.Values.PersistenceLaws.{Holds-persists, persists_then}
 use Rattle.seg_spec.proofs.BytesLaws.{number-set_same, number-set_other, length-set_number}
 use Rattle.seg_spec.proofs.Images.RootWriteLaws.{set_number-changes}
 use Rattle.seg_spec.proofs.Heap.LiveBlockLaws.{times-same, times-other, times-more, times-without, there, each_there, LiesIn, live-lie, live-once}
@@ -29,7 +31,9 @@ use Rattle.seg_spec.proofs.Deallocation.CellDestructionLaws.{block_there}
 use Rattle.seg_spec.proofs.Deallocation.DestructionLaws.{heap_written, payload_written}
 use Rattle.seg_spec.proofs.Frozen.ReleaseLaws.{there_frozen}
 use Rattle.seg_value.specs.Contents.{GivesBlock}
-use Rattle.seg_spec.specs.Sharing.{frozen_now, MovesFrozen}
+use Rattle.seg_spec.specs.Sharing.{frozen_now}
+use Rattle.seg_cells.specs.Places.{object_at}
+use Rattle.seg_value.specs.Sharing.{MovesParts}
 use Rattle.seg_value.proofs.HeaderLaws.{header_fits, header_heap, header_live, header_kept}
 use Rattle.seg_value.proofs.Turns.{is_live}
 
@@ -43,8 +47,8 @@ is_twice a b c h j k = (kept_twice a b c h j.0 k.0, k.1 ∙ j.1)
 is_linked : (a b : List ℕ) (h : ℕ) → KeepsLinked a b h → IsKept a b h
 is_linked a b h k = (k.whole.kept, k.link_kept)
 
-one_value : {bytes : List ℕ} {table : Table} {place : Place} {v : Value} {xs : List ℕ} → HoldsEach bytes table (place ∷ []) (cons v nil) xs → Holds bytes table place v xs
-one_value (holds_more {blocks = mine} h holds_none) = rw (append-nil mine) h
+one_stays : {old new : List ℕ} {table : Table} {p q : Place} → PersistEach old new table (p ∷ []) (q ∷ []) → Persists old new table p q
+one_stays (persist_more one persist_none) = one
 
 module _ (allocator : ℕ) (a b c d : List ℕ) (table : Table) (valid : IsTable table) (T object p : ℕ) (v : Value) (inside : List ℕ) (heap : IsHeap allocator a) (loose : IsLoose a table (record { at = object; type = T }) v inside)
     (g : GivesBlock allocator a b table (tag_of Kind.frozen T) frozen_words T p) where
@@ -88,11 +92,14 @@ module _ (allocator : ℕ) (a b c d : List ℕ) (table : Table) (valid : IsTable
   place_inside : IsInside b own (p + 8) (size table T)
   place_inside = let room = g.is_block.room in let low = g.is_block.after_header in record { low = omega arith; high = omega (arith, lies_b.size) }
 
-  value_b : Holds b table (record { at = object; type = T }) v inside
-  value_b =
+  stays_b : Persists a b table (object_at object T) (object_at object T)
+  stays_b =
       let mine = (g.kept (block_of object) gone_live).0 in
-      Holds-kept a b table valid loose.holds_it (payload-same a b object (tag_of Kind.object T) (size table T) mine loose.block)
+      Persists-kept a b table valid loose.holds_it (payload-same a b object (tag_of Kind.object T) (size table T) mine loose.block)
       (each_there (KeepsBlock a b) inside (λ h some. (g.kept h (inside_live h some)).0))
+
+  value_b : Holds b table (object_at object T) v inside
+  value_b = Holds-persists a b table loose.holds_it stays_b
 
   one : 1 * size table T ≡ size table T
   one = omega arith
@@ -120,7 +127,7 @@ module _ (allocator : ℕ) (a b c d : List ℕ) (table : Table) (valid : IsTable
   values_b = subst (λ xs. HoldsEach b table (items table object T 1) (cons v nil) xs) (append-nil inside) (holds_more value_b holds_none)
 
   -- the value moves, and then its old block is freed
-  module _ (changes : ChangesOnly b c (p + 8) (1 * size table T)) (values : HoldsEach c table (items table (p + 8) T 1) (cons v nil) inside) where
+  module _ (changes : ChangesOnly b c (p + 8) (1 * size table T)) (values : PersistEach b c table (items table object T 1) (items table (p + 8) T 1)) where
     changes_c : ChangesOnly b c (p + 8) (size table T)
     changes_c = subst (ChangesOnly b c (p + 8)) one changes
 
@@ -171,11 +178,17 @@ module _ (allocator : ℕ) (a b c d : List ℕ) (table : Table) (valid : IsTable
       block_d : IsBlock d p (tag_of Kind.frozen T) (8 + size table T)
       block_d = IsBlock-kept c d p (tag_of Kind.frozen T) (8 + size table T) own_kept.whole.kept block_c
 
-      value_d : Holds d table (record { at = p + 8; type = T }) v inside
-      value_d =
+      value_c : Holds c table (object_at (p + 8) T) v inside
+      value_c = Holds-persists b c table value_b (one_stays values)
+
+      stays_d : Persists c d table (object_at (p + 8) T) (object_at (p + 8) T)
+      stays_d =
           let same = payload-same c d p (tag_of Kind.frozen T) (8 + size table T) own_kept.whole.kept block_c in
-          Holds-kept c d table valid (one_value values) (IsSame-part c d p (8 + size table T) (p + 8) (size table T) (omega arith) (omega arith) same)
+          Persists-kept c d table valid value_c (IsSame-part c d p (8 + size table T) (p + 8) (size table T) (omega arith) (omega arith) same)
           (each_there (KeepsBlock c d) inside (λ h some. (given_kept allocator c d (block_of object) heap_c gives h (subst (λ bs. 1 ≤ times h (positions bs)) (sym live_c) (old_b h (inside_live h some))) (inside_other h some)).whole.kept))
+
+      value_d : Holds d table (object_at (p + 8) T) v inside
+      value_d = Holds-persists c d table value_c stays_d
 
       -- ---- the frozen object's words and the next number are written
 
@@ -245,14 +258,26 @@ module _ (allocator : ℕ) (a b c d : List ℕ) (table : Table) (valid : IsTable
         link_f : link_at f own ≡ None
         link_f = (kept_then (block_of p) own_e).1 ∙ target-same d e (block_of p + 12) (but_e.outside (block_of p + 12) 4 (omega arith) (omega arith)) ∙ own_kept.link_kept ∙ link_c
 
-        value_f : Holds f table (record { at = p + 8; type = T }) v inside
-        value_f =
-            let h_e : Holds e table (record { at = p + 8; type = T }) v inside = Holds-kept d e table valid value_d (changes_e.others (p + 8) (size table T) (inr (omega arith)))
+        stays_e : Persists d e table (object_at (p + 8) T) (object_at (p + 8) T)
+        stays_e = Persists-kept d e table valid value_d (changes_e.others (p + 8) (size table T) (inr (omega arith)))
             (each_there (KeepsBlock d e) inside (λ h some.
             ((payload_written allocator d e p 8 (block_of p) gives.heap words_inside own_d changes_e).others h (old_d h (inside_live h some) (inside_other h some))
-            (times-other h (block_of p) [] (λ s. other h (inside_live h some) (sym s)))).whole.kept)) in
-            Holds-kept e f table valid h_e (changes_f.others (p + 8) (size table T) (inr (omega (arith, above_d))))
+            (times-other h (block_of p) [] (λ s. other h (inside_live h some) (sym s)))).whole.kept))
+
+        value_e : Holds e table (object_at (p + 8) T) v inside
+        value_e = Holds-persists d e table value_d stays_e
+
+        stays_f : Persists e f table (object_at (p + 8) T) (object_at (p + 8) T)
+        stays_f = Persists-kept e f table valid value_e (changes_f.others (p + 8) (size table T) (inr (omega (arith, above_d))))
             (each_there (KeepsBlock e f) inside (λ h some. (kept_then h (subst (λ bs. 1 ≤ times h (positions bs)) (sym live_e) (old_d h (inside_live h some) (inside_other h some)))).0))
+
+        value_f : Holds f table (object_at (p + 8) T) v inside
+        value_f = Holds-persists e f table value_e stays_f
+
+        -- the value keeps its parts in each step
+        stays : Persists a f table (object_at object T) (object_at (p + 8) T)
+        stays = persists_then a b f table stays_b (persists_then b c f table (one_stays values)
+            (persists_then c d f table stays_d (persists_then d e f table stays_e stays_f)))
 
         count_e : word e p ≡ 1
         unfolding e
@@ -272,44 +297,47 @@ module _ (allocator : ℕ) (a b c d : List ℕ) (table : Table) (valid : IsTable
         front_d : (IsSame c d 0 free_word) × (IsSame c d back_start back_size)
         front_d = front_kept c d gives.kept (header_fits allocator c heap_c)
 
-        pub moved : MovesFrozen allocator a (set_word (set_word (set_word d p 1) (p + 4) number) next_word (suc number)) table T object v inside p
+        pub moved : MovesParts allocator a (set_word (set_word (set_word d p 1) (p + 4) number) next_word (suc number)) table T object v inside p
         unfolding e f
-        moved = record {
-          length_kept = changes_f.length_kept ∙ changes_e.length_kept ∙ gives.kept.front_kept.length_kept ∙ changes.length_kept ∙ g.length_kept;
-          front_kept = changes_f.others 0 free_word (inl (omega arith)) ∙ changes_e.others 0 free_word (inl (omega (arith, above_d))) ∙ front_d.0
-              ∙ changes.others 0 free_word (inl (omega (arith, lies_b.low, place_inside.low))) ∙ g.front_kept;
-          next_is = next_f ∙ ap suc number_is;
-          back_kept = changes_f.others index_cell (heap_start - index_cell) (inr (omega arith)) ∙ changes_e.others index_cell (heap_start - index_cell) (inl (omega (arith, above_d)))
-              ∙ IsSame-part c d back_start back_size index_cell (heap_start - index_cell) (omega arith) (omega arith) front_d.1 ∙ changes.others index_cell (heap_start - index_cell) (inl (omega (arith, lies_b.low, place_inside.low)))
-              ∙ IsSame-part a b back_start back_size index_cell (heap_start - index_cell) (omega arith) (omega arith) g.back_kept;
-          heap = heap_f;
-          spans = live b;
-          granted_is = g.granted_is;
-          live_is = live_f ∙ gives.given ∙ ap (λ bs. after_gives bs (block_of object ∷ [])) live_c;
-          holds_it = there_frozen f table (frozen_now p T (word a next_word) v) (block_of p ∷ inside) (record {
-            block = block_f;
-            count_is = word-same e f p (changes_f.others p 4 (inr (omega (arith, above_d)))) ∙ count_e;
-            number_is = word-same e f (p + 4) (changes_f.others (p + 4) 4 (inr (omega (arith, above_d)))) ∙ number_e ∙ number_is;
-            inside = inside;
-            value = value_f;
-            blocks_are = refl;
-          });
-          link_is = link_f;
-          was_free = g.was_free;
-          live_are = λ h.
-              let l : times h (positions (live f)) ≡ times h (positions (live d)) = ap (λ bs. times h (positions bs)) live_f in
-              omega (arith, counts_d h, live_b h);
-          kept = kept_f;
-        }
+        moved = (
+          record {
+            length_kept = changes_f.length_kept ∙ changes_e.length_kept ∙ gives.kept.front_kept.length_kept ∙ changes.length_kept ∙ g.length_kept;
+            front_kept = changes_f.others 0 free_word (inl (omega arith)) ∙ changes_e.others 0 free_word (inl (omega (arith, above_d))) ∙ front_d.0
+                ∙ changes.others 0 free_word (inl (omega (arith, lies_b.low, place_inside.low))) ∙ g.front_kept;
+            next_is = next_f ∙ ap suc number_is;
+            back_kept = changes_f.others index_cell (heap_start - index_cell) (inr (omega arith)) ∙ changes_e.others index_cell (heap_start - index_cell) (inl (omega (arith, above_d)))
+                ∙ IsSame-part c d back_start back_size index_cell (heap_start - index_cell) (omega arith) (omega arith) front_d.1 ∙ changes.others index_cell (heap_start - index_cell) (inl (omega (arith, lies_b.low, place_inside.low)))
+                ∙ IsSame-part a b back_start back_size index_cell (heap_start - index_cell) (omega arith) (omega arith) g.back_kept;
+            heap = heap_f;
+            spans = live b;
+            granted_is = g.granted_is;
+            live_is = live_f ∙ gives.given ∙ ap (λ bs. after_gives bs (block_of object ∷ [])) live_c;
+            holds_it = there_frozen f table (frozen_now p T (word a next_word) v) (block_of p ∷ inside) (record {
+              block = block_f;
+              count_is = word-same e f p (changes_f.others p 4 (inr (omega (arith, above_d)))) ∙ count_e;
+              number_is = word-same e f (p + 4) (changes_f.others (p + 4) 4 (inr (omega (arith, above_d)))) ∙ number_e ∙ number_is;
+              inside = inside;
+              value = value_f;
+              blocks_are = refl;
+            });
+            link_is = link_f;
+            was_free = g.was_free;
+            live_are = λ h.
+                let l : times h (positions (live f)) ≡ times h (positions (live d)) = ap (λ bs. times h (positions bs)) live_f in
+                omega (arith, counts_d h, live_b h);
+            kept = kept_f;
+          },
+          stays,
+        )
 
 -- the whole call, from what each step ensures
 pub all_moved : (allocator : ℕ) (a b c d f : List ℕ) (table here : Table) (T object p to number next : ℕ) (v : Value) (inside : List ℕ) → IsTable table → IsHeap allocator a → IsLoose a table (record { at = object; type = T }) v inside
     → number ≡ word a next_word → suc number < 2 ^ 32 → GivesBlock allocator a b table (tag_of Kind.frozen T) frozen_words T p → here ≡ table → to ≡ (p + 8) % 2 ^ 32
     → (IsWithin b object (1 * size here T) → IsWithin b to (1 * size here T) → ChangesOnly b c to (1 * size here T))
     → ((n home : ℕ) (vs : Values) (blocks : List ℕ) → IsHeap n b → to % 8 ≡ 0 → IsWithin b object (1 * size here T) → StandsBeside b home to (1 * size here T) blocks → HoldsEach b here (items here object T 1) vs blocks
-    → HoldsEach c here (items here to T 1) vs blocks)
+    → PersistEach b c here (items here object T 1) (items here to T 1))
     → (IsHeap allocator c → IsLive c (block_of object) → Gives allocator c d (block_of object))
-    → f ≡ set_word (set_word (set_word d p 1) (p + 4) number) next_word next → next ≡ (number + 1) % 2 ^ 32 → MovesFrozen allocator a f table T object v inside p
+    → f ≡ set_word (set_word (set_word d p 1) (p + 4) number) next_word next → next ≡ (number + 1) % 2 ^ 32 → MovesParts allocator a f table T object v inside p
 all_moved allocator a b c d f table here T object p to number next v inside valid heap loose number_is small g same to_is changes values gives f_is next_is =
     let lies = lies_b allocator a b c d table valid T object p v inside heap loose g in
     let room = place_inside allocator a b c d table valid T object p v inside heap loose g in
@@ -317,7 +345,7 @@ all_moved allocator a b c d f table here T object p to number next v inside vali
     let Changes : ℕ → Table → Type 0 = λ x t. IsWithin b object (1 * size t T) → IsWithin b x (1 * size t T) → ChangesOnly b c x (1 * size t T) in
     let Moves : ℕ → Table → Type 0 = λ x t. (n home : ℕ) (vs : Values) (blocks : List ℕ) → IsHeap n b → x % 8 ≡ 0 → IsWithin b object (1 * size t T) → StandsBeside b home x (1 * size t T) blocks
     → HoldsEach b t (items t object T 1) vs blocks
-    → HoldsEach c t (items t x T 1) vs blocks in
+    → PersistEach b c t (items t object T 1) (items t x T 1) in
     let changes' : Changes (p + 8) table = subst (λ x. Changes x table) to_then (subst (λ t. Changes to t) same changes) in
     let values' : Moves (p + 8) table = subst (λ x. Moves x table) to_then (subst (λ t. Moves to t) same values) in
     let from = from_within allocator a b c d table valid T object p v inside heap loose g in
@@ -328,5 +356,5 @@ all_moved allocator a b c d f table here T object p to number next v inside vali
     (values_b allocator a b c d table valid T object p v inside heap loose g) in
     let given = gives (heap_c allocator a b c d table valid T object p v inside heap loose g changed held) (gone_c allocator a b c d table valid T object p v inside heap loose g changed held) in
     let next_then : next ≡ suc number = next_is ∙ omega arith in
-    subst (λ bytes. MovesFrozen allocator a bytes table T object v inside p) (sym (f_is ∙ ap (set_word (set_word (set_word d p 1) (p + 4) number) next_word) next_then))
+    subst (λ bytes. MovesParts allocator a bytes table T object v inside p) (sym (f_is ∙ ap (set_word (set_word (set_word d p 1) (p + 4) number) next_word) next_then))
     (moved allocator a b c d table valid T object p v inside heap loose g changed held given number number_is small)

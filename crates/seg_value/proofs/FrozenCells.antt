@@ -11,6 +11,7 @@ use Rattle.seg_spec.specs.Heap.{IsHeap, live, tag_at, link_at, heap_start}
 use Rattle.seg_spec.specs.Block.{Kind, tag_of, IsPayload, IsOwnable, KeepsBlock, block_of, payload_size}
 use Rattle.seg_spec.specs.Apart.{Separate, KeepsBlockAround}
 use Rattle.seg_spec.specs.Reads.{Place}
+use Rattle.seg_spec.specs.Parts.{Persists}
 use Rattle.seg_spec.specs.Sound.{HoldsRoot, times, positions}
 use Rattle.seg_spec.specs.Owning.{Stands}
 use Rattle.seg_spec.specs.Demand.{after_gives}
@@ -18,7 +19,8 @@ use Rattle.seg_spec.specs.Frozen.{Frozen, root_of_frozen, blocks_by}
 use Rattle.seg_spec.specs.Shared.{names_in, IsBelow, left}
 use Rattle.seg_spec.specs.Clearing.{ClearsPlace}
 use Rattle.seg_spec.proofs.SliceLaws.{IsSame-part}
-use Rattle.seg_spec.proofs.Values.PlaceFrameLaws.{word-same, each_weaker, each_left, each_right}
+use Rattle.seg_spec.proofs.Values.PlaceFrameLaws.{word-same, Persists-kept, each_weaker, each_left, each_right}
+use Rattle.seg_spec.proofs.Values.PersistenceLaws.{persists_then}
 use Rattle.seg_spec.proofs.Heap.BlockFrameLaws.{kept_twice, around_twice, around_kept}
 use Rattle.seg_spec.proofs.Heap.LiveBlockLaws.{times-append, times-same, times-other, there, each_there, LiesIn, live-lie, live-apart, live-once, OneOrApart}
 use Rattle.seg_spec.proofs.Frozen.FrozenBlockLaws.{hold_kept, frozen_twice, frozen_kept, left_each, left_fewer}
@@ -29,12 +31,20 @@ use Rattle.seg_spec.proofs.Frozen.OneMoreCellLaws.{one_frozen}
 use Rattle.seg_spec.proofs.Frozen.CountIncreaseLaws.{counted_moved}
 use Rattle.seg_spec.proofs.Values.CallPlaceLaws.{each_live_at, live_at, stands_still, still_home}
 use Rattle.seg_spec.specs.Sharing.{FrozenBeside, frozen_now, with_blocks, MovesFrozen, Freezes}
+use Rattle.seg_cells.specs.Places.{object_at}
+use Rattle.seg_value.specs.Sharing.{MovesParts, FreezesParts}
 use Rattle.seg_value.proofs.SharedCells.{ClearsCell, cell_changed}
+
+rest_is : {x y : ℕ} {xs ys : List ℕ} → x ∷ xs ≡ y ∷ ys → ys ≡ xs
+rest_is e = cc
 
 module _ (allocator : ℕ) (old mid : List ℕ) (table : Table) (cell : Place) (T object p : ℕ) (f : form_at table cell.type ≡ Some (Form.shared T)) (v w : Value) (blocks inside : List ℕ)
     (theirs : ℕ → List ℕ) (kept : List Place) (now : List Frozen)
     (s : Stands allocator old table cell v blocks) (b : FrozenBeside old table (s.home ∷ (blocks ++ block_of object ∷ inside)) (names_in w ++ (names_in v ++ kept)) (word old next_word) theirs now)
-    (allowed : (bytes : List ℕ) (h : ℕ) → tag_at bytes h ≡ tag_of Kind.frozen T → link_at bytes h ≡ None → IsOwnable bytes table h) (m : MovesFrozen allocator old mid table T object w inside p) where
+    (allowed : (bytes : List ℕ) (h : ℕ) → tag_at bytes h ≡ tag_of Kind.frozen T → link_at bytes h ≡ None → IsOwnable bytes table h) (move : MovesParts allocator old mid table T object w inside p) where
+  abbrev m : MovesFrozen allocator old mid table T object w inside p
+  m = move.0
+
   abbrev own : ℕ
   own = block_of p
 
@@ -162,6 +172,9 @@ module _ (allocator : ℕ) (old mid : List ℕ) (table : Table) (cell : Place) (
       let few = m.heap.small in
       (record { low = omega arith; aligned = omega arith }, omega arith)
 
+  it : IsFrozenThere mid table (frozen_now p T (word old next_word) w) (block_of p ∷ inside)
+  it = frozen_there mid table (frozen_now p T (word old next_word) w) (block_of p ∷ inside) m.holds_it
+
   -- a block inside the object is kept while the cell changes
   inside_there : (new : List ℕ) (h : ℕ) → 1 ≤ times h inside → KeepsBlockAround mid new p 4 h → KeepsBlock mid new h
   inside_there new h some k =
@@ -171,9 +184,6 @@ module _ (allocator : ℕ) (old mid : List ℕ) (table : Table) (cell : Place) (
       let pair = there (OneOrApart mid (block_of p)) h (positions (live mid)) (there (λ t. AllByRecursion (OneOrApart mid t) (positions (live mid))) (block_of p) (positions (live mid)) (live-apart mid allocator m.heap) own_mid) there_is in
       record { live = k.header.live; has_tag = k.header.has_tag; room = k.header.room; payload = k.payload (h + 16) (payload_size mid h) (omega arith) (omega arith) (off other (lies_mid h there_is) pair) }
     where
-      it : IsFrozenThere mid table (frozen_now p T (word old next_word) w) (block_of p ∷ inside)
-      it = frozen_there mid table (frozen_now p T (word old next_word) w) (block_of p ∷ inside) m.holds_it
-
       off : h ≢ own → LiesIn mid heap_start (length mid) h → OneOrApart mid (block_of p) h → Separate (h + 16) (payload_size mid h) p 4
       off ne l (inl e) = absurd (ne e)
       off ne l (inr (inl before)) = let room = it.block.room in let low = it.block.after_header in inr (omega arith)
@@ -194,9 +204,23 @@ module _ (allocator : ℕ) (old mid : List ℕ) (table : Table) (cell : Place) (
     alive_mid : (h : ℕ) → 1 ≤ times h (positions (live old)) → times h (gone ∷ []) ≡ 0 → 1 ≤ times h (positions (live mid))
     alive_mid h some none = omega (arith, live_mid h)
 
-    pub freezes : Freezes allocator old (set_word (set_pointer last cell.at (Some p)) (cell.at + 4) 1) table cell T object w inside blocks (names_in v) theirs now
+    around : AllByRecursion (KeepsBlockAround mid new p 4) (own ∷ inside)
+    around = subst (AllByRecursion (KeepsBlockAround mid new p 4)) (with_own p (own ∷ inside) theirs) c.shared_kept.0
+
+    inside_still : (h : ℕ) → 1 ≤ times h inside → KeepsBlock mid new h
+    inside_still h some = inside_there new h some (there (KeepsBlockAround mid new p 4) h inside around.1 some)
+
+    -- the value stays where it was moved to
+    stays : Persists mid new table (object_at (p + 8) T) (object_at (p + 8) T)
+    stays =
+        let room = it.block.room in
+        let low = it.block.after_header in
+        Persists-kept mid new table s.is_table it.value (around.0.payload (p + 8) (size table T) (omega arith) (omega (arith, room)) (inr (omega arith)))
+        (each_there (KeepsBlock mid new) it.inside (λ h some. inside_still h (let same : it.inside ≡ inside = rest_is it.blocks_are in subst (λ hs. 1 ≤ times h hs) same some)))
+
+    made : Freezes allocator old (set_word (set_pointer last cell.at (Some p)) (cell.at + 4) 1) table cell T object w inside blocks (names_in v) theirs now
     unfolding new
-    freezes = record {
+    made = record {
       length_kept = c.changes.length_kept ∙ m.length_kept;
       front_kept = c.changes.front_kept ∙ m.front_kept;
       next_is = word-same mid new next_word (IsSame-part mid new back_start back_size next_word 4 (omega arith) (omega arith) c.changes.back_kept) ∙ m.next_is;
@@ -221,15 +245,17 @@ module _ (allocator : ℕ) (old mid : List ℕ) (table : Table) (cell : Place) (
           let solid = (there (LiesIn old heap_start (length old)) h (positions (live old)) (live-lie old allocator s.heap) some).size in
           around_twice old mid new cell.at (size table cell.type) h (around_kept old mid cell.at (size table cell.type) h (omega (arith, solid)) (m.kept h some ne).0)
           (c.changes.kept h (alive_mid h some (omega arith)) (omega (arith, by_now h, times-append h blocks (blocks_by theirs_there now_there))));
-      inside_kept = each_there (KeepsBlock old new) inside (λ h some.
-          let around = there (KeepsBlockAround mid new p 4) h (own ∷ inside) (subst (AllByRecursion (KeepsBlockAround mid new p 4)) (with_own p (own ∷ inside) theirs) c.shared_kept.0) (omega arith) in
-          kept_twice old mid new h (kept_mid h (omega (arith, some))) (inside_there new h some around));
+      inside_kept = each_there (KeepsBlock old new) inside (λ h some. kept_twice old mid new h (kept_mid h (omega (arith, some))) (inside_still h some));
       shared_kept = frozen_twice old mid new theirs (left (names_in v) now)
           (frozen_kept allocator old mid s.heap theirs (left (names_in v) now) (λ h some. omega (arith, some, left_fewer theirs (names_in v) now h, counts h))
           (λ h some. kept_mid h (omega (arith, some, left_fewer theirs (names_in v) now h))))
           (keep_others p (own ∷ inside) theirs mid new (left (names_in v) now) apart_left c.shared_kept.1);
     }
 
+    pub freezes : FreezesParts allocator old (set_word (set_pointer last cell.at (Some p)) (cell.at + 4) 1) table cell T object w inside blocks (names_in v) theirs now
+    unfolding new made
+    freezes = (made, persists_then old mid new table move.1 stays)
+
 -- the same call, for an equal type
-pub moved_as : (allocator : ℕ) (old mid : List ℕ) (table : Table) (t T object p : ℕ) (w : Value) (inside : List ℕ) → t ≡ T → MovesFrozen allocator old mid table t object w inside p → MovesFrozen allocator old mid table T object w inside p
-moved_as allocator old mid table t T object p w inside e m = subst (λ x. MovesFrozen allocator old mid table x object w inside p) e m
+pub moved_as : (allocator : ℕ) (old mid : List ℕ) (table : Table) (t T object p : ℕ) (w : Value) (inside : List ℕ) → t ≡ T → MovesParts allocator old mid table t object w inside p → MovesParts allocator old mid table T object w inside p
+moved_as allocator old mid table t T object p w inside e m = subst (λ x. MovesParts allocator old mid table x object w inside p) e m

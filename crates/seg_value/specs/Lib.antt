@@ -6,3 +6,4 @@ pub mod Names
 pub mod Waiting
 pub mod Nodes
 pub mod Places
+pub mod Sharing

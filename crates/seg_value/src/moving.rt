@@ -3,6 +3,7 @@ ghost use Rattle.seg_spec.specs.Bytes.{slice, put, ChangesOnly};
 ghost use Rattle.seg_spec.specs.Cells.{IsWithin, Shifts};
 ghost use Rattle.seg_spec.specs.Heap.{IsHeap};
 ghost use Rattle.seg_spec.specs.Owning.{StandsBeside};
+ghost use Rattle.seg_spec.specs.Parts.{PersistEach};
 ghost use Rattle.seg_spec.specs.Reads.{items, HoldsEach};
 ghost use Rattle.seg_spec.specs.Types.{size};
 ghost use Rattle.seg_spec.specs.Value.{Values};
@@ -34,6 +35,14 @@ impl<F: Fit, A: Allocator> Heap<F, A> {
             (items self.old.types from t n) vs blocks →
             HoldsEach self.new.window.bytes self.old.types
             (items self.old.types to t n) vs blocks }
+        ensures parts { (allocator home : ℕ) (vs : Values) (blocks : List ℕ) →
+            IsHeap allocator self.old.window.bytes → to % 8 ≡ 0 →
+            IsWithin self.old.window.bytes from (n * size self.old.types t) →
+            StandsBeside self.old.window.bytes home to (n * size self.old.types t) blocks →
+            HoldsEach self.old.window.bytes self.old.types
+            (items self.old.types from t n) vs blocks →
+            PersistEach self.old.window.bytes self.new.window.bytes self.old.types
+            (items self.old.types from t n) (items self.old.types to t n) }
         ensures no_values { length self.old.window.bytes < from + n * size self.old.types t →
             self.new.window ≡ self.old.window }
         ensures no_room { length self.old.window.bytes < to + n * size self.old.types t →

@@ -19,7 +19,8 @@ ghost use Rattle.seg_spec.specs.Types.{Form, IsTable, form_at, size};
 ghost use Rattle.seg_spec.specs.Value.{Value};
 ghost use Rattle.seg_spec.specs.Window.{with_bytes, KeepsHost};
 ghost use Rattle.seg_cells.specs.Places.{place_of, object_at};
-ghost use Rattle.seg_spec.specs.Sharing.{FrozenBeside, cell_count, MovesFrozen, Freezes};
+ghost use Rattle.seg_value.specs.Sharing.{MovesParts, FreezesParts};
+ghost use Rattle.seg_spec.specs.Sharing.{FrozenBeside, cell_count};
 
 use crate::{Content, FROZEN_WORDS, Heap, SegmentRead};
 use seg_block::{Fit, PayloadAt};
@@ -88,7 +89,7 @@ pub fn freeze<F: Fit, A: Allocator>(
         (word heap.old.window.bytes next_word) theirs now →
         suc (word heap.old.window.bytes next_word) < 2 ^ 32 →
         MatchResult result
-        (λ done. Freezes F.allocator heap.old.window.bytes heap.new.window.bytes
+        (λ done. FreezesParts F.allocator heap.old.window.bytes heap.new.window.bytes
         heap.old.types (place_of cell) T object w inside blocks (names_in v) theirs now)
         (λ code. Refuses F.allocator heap.old.window.bytes heap.new.window.bytes
         (block_for (frozen_words + size heap.old.types T) ∷ [])) }
@@ -130,7 +131,7 @@ fn move_frozen<F: Fit, A: Allocator>(
         IsLoose heap.old.window.bytes heap.old.types (object_at object t) v inside →
         number ≡ word heap.old.window.bytes next_word → suc number < 2 ^ 32 →
         MatchResult result
-        (MovesFrozen F.allocator heap.old.window.bytes heap.new.window.bytes heap.old.types
+        (MovesParts F.allocator heap.old.window.bytes heap.new.window.bytes heap.old.types
         t object v inside)
         (λ code. Refuses F.allocator heap.old.window.bytes heap.new.window.bytes
         (block_for (frozen_words + size heap.old.types t) ∷ [])) }

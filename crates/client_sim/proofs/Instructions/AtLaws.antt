@@ -114,7 +114,7 @@ module _ (allocator : ℕ) (constants : List Constant) (role : Role) (a b c : �
             (λ f. cc),
             subst (λ n. Acts others types constants first allocator at_of out_of_range bad s w (with_number w a (pos n))) (sym code_is)
                 (subst (λ k. Acts others types constants first allocator at_of out_of_range k s w (with_number w a (pos (answer_number out_of_range)))) (sym g.2)
-                (refuses_with others types constants first allocator ks s w h at_of out_of_range true a within g.0 fails (unchanged refl refl))),
+                (refuses_with others types constants first allocator ks s w h at_of out_of_range true a within g.0 fails (unchanged refl refl refl))),
           )
 
   -- the byte of the text with the index in register c
@@ -131,7 +131,7 @@ module _ (allocator : ℕ) (constants : List Constant) (role : Role) (a b c : �
             let given = row h good bad l (Text v.1.0) v.1.1 ∙ ap (λ (o : Option ℕ). option_map_or (λ i. give_count a (slice_index v.1.0 i) s) o (fail a out_of_range s)) f.1 ∙ ap (λ m. give_count a m s) (sym f.2)
             ∙ answer_is types constants ks s h.as_known success a (Register.Int (pos n)) g.0 in
             subst (λ k. Acts others types constants first allocator at_of success k s w (with_number w a (pos n))) (sym g.1)
-            (number_given others types constants first allocator ks s w h at_of success a (pos n) valid.a g.0 given (unchanged refl (quiet constants at_of h.pictured refl refl)))
+            (number_given others types constants first allocator ks s w h at_of success a (pos n) valid.a g.0 given (unchanged refl refl (quiet constants at_of h.pictured refl refl)))
         | inr v ↦ absurd (no_items l.its.form v.0 (Some_inj (sym l.its.form_is ∙ str)) v.4)
       ]
 
@@ -150,7 +150,7 @@ module _ (allocator : ℕ) (constants : List Constant) (role : Role) (a b c : �
             let f = is l.its.form v.0 v.1 l.its.its.found.blocks l.its.form_is v.4 (stands_so h good bad l (Seq v.1) v.3) in
             let given = row h good bad l (Seq v.1) v.3 ∙ ap (λ (o : Option ℕ). option_map_or (λ i. refer a (extend (path h good bad l) (Selector.item i)) s) o (fail a out_of_range s)) f.1 in
             subst (λ k. Acts others types constants first allocator at_of success k s w (with_place w a to)) (sym g.1)
-            (part_given h (item_known l.class) b l.class l.type l.what l.its at_of a (Selector.item f.0) v.0 to valid.a g.0 (item_part l.its.form v.0 f.0 v.4) f.3 f.2 given (unchanged refl (quiet constants at_of h.pictured refl refl)))
+            (part_given h (item_known l.class) b l.class l.type l.what l.its at_of a (Selector.item f.0) v.0 to valid.a g.0 (item_part l.its.form v.0 f.0 v.4) f.3 f.2 given (unchanged refl refl (quiet constants at_of h.pictured refl refl)))
       ]
 
   -- the index isn't below n
@@ -213,7 +213,7 @@ module _ (allocator : ℕ) (constants : List Constant) (role : Role) (a b c : �
             (λ f. cc),
             subst (λ n. SeenActs others types constants first allocator at_of out_of_range bad t w (with_number w a (pos n))) (sym code_is)
                 (subst (λ k. SeenActs others types constants first allocator at_of out_of_range k t w (with_number w a (pos (answer_number out_of_range)))) (sym g.2)
-                (read_code h at_of out_of_range a (λ f. cc) within g.0 fails (unchanged refl refl))),
+                (read_code h at_of out_of_range a (λ f. cc) within g.0 fails (unchanged refl refl refl))),
           )
 
   byte_at_on_read : (n : ℕ) → form_at w.table (place_in w b).type ≡ Some Form.str → OfText allocator b w (IsByteAt n) → ActsOnRead allocator constants role at_of w (with_number w a (pos n))
@@ -226,7 +226,7 @@ module _ (allocator : ℕ) (constants : List Constant) (role : Role) (a b c : �
             let given = byte_row h good bad x T known_is l v.1.0 v.1.1 ∙ ap (λ (o : Option ℕ). option_map_or (λ i. give_count a (slice_index v.1.0 i) t) o (fail a out_of_range t)) f.1 ∙ ap (λ m. give_count a m t) (sym f.2)
             ∙ answer_is types constants ks t h.as_known success a (Register.Int (pos n)) g.0 in
             subst (λ k. SeenActs others types constants first allocator at_of success k t w (with_number w a (pos n))) (sym g.1)
-            (read_number h at_of success a (pos n) valid.a g.0 given (unchanged refl (quiet constants at_of h.shows.pictured refl refl)))
+            (read_number h at_of success a (pos n) valid.a g.0 given (unchanged refl refl (quiet constants at_of h.shows.pictured refl refl)))
         | inr v ↦ absurd (no_items l.its.form v.0 (Some_inj (sym l.its.form_is ∙ str)) v.4)
       ]
 
@@ -245,7 +245,7 @@ module _ (allocator : ℕ) (constants : List Constant) (role : Role) (a b c : �
             let leads = on_part h b x V known_is (Selector.item f.0) to f.2 in
             subst (λ k. SeenActs others types constants first allocator at_of success k t w (with_place w a to)) (sym g.1)
             (part_read h b x V known_is (item_known (Class.Frozen x)) l.what l.its at_of a (Selector.item f.0) v.0 to valid.a g.0
-            (item_part l.its.form v.0 f.0 v.4) f.3 leads given (unchanged refl (quiet constants at_of h.shows.pictured refl refl)))
+            (item_part l.its.form v.0 f.0 v.4) f.3 leads given (unchanged refl refl (quiet constants at_of h.shows.pictured refl refl)))
       ]
 
   at_refused_on_read : (code : ℕ) → OfText allocator b w (λ xs. HasNoneAt code (length xs)) → OfItems allocator b w (λ U vs. HasNoneAt code (count vs)) → IsRefusedOnRead allocator constants role at_of w (with_number w a (pos code))

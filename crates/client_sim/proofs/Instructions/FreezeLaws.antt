@@ -1,6 +1,6 @@
 -- FREEZE: an object that a register owns becomes frozen, and a cell shares it. The object that the
 -- cell shared before is released.
-use Rattle.std.proofs.Common.{◌≡◌, ◌≢◌, ℕ, suc, ◌+◌, ◌<◌, ℤ, pos, List, [], ◌∷◌, ◌++◌, length, Option, Some, None, true, false, inl, inr, ◌^◌, refl, sym, ◌∙◌, ap, subst, arith}
+use Rattle.std.proofs.Common.{◌≡◌, ◌≢◌, ℕ, suc, ◌+◌, ◌<◌, ◌≤◌, ℤ, pos, List, [], ◌∷◌, ◌++◌, length, Option, Some, None, true, false, inl, inr, ◌^◌, refl, sym, ◌∙◌, ap, subst, arith}
 use Rattle.std.specs.Prelude.{Ok, Bool, not, ◌==◌, ◌&&◌, if◌then◌else◌, slice_set}
 use Rattle.std.proofs.lemmas.Bool.{eqb-true, eq-eqb}
 use Rattle.std.proofs.lemmas.List.{length-map}
@@ -15,25 +15,26 @@ use Rattle.seg_spec.specs.Heap.{Span, Granted, live}
 use Rattle.seg_spec.specs.Heap as heap
 use Rattle.seg_spec.specs.Spending as Spending
 use Rattle.seg_spec.specs.Reads.{Place, Holds}
+use Rattle.seg_spec.specs.Parts.{Persists}
 use Rattle.seg_spec.specs.Owning.{Stands}
 use Rattle.seg_spec.specs.Calls.{IsLoose, Refuses}
-use Rattle.seg_spec.specs.Demand.{Ask, block_for, after_ask, after_asks}
+use Rattle.seg_spec.specs.Demand.{Ask, block_for, after_ask, after_asks, after_gives}
 use Rattle.seg_spec.specs.Frozen.{Frozen, frozen_words, blocks_by}
 use Rattle.seg_spec.specs.Shared.{names_in, IsBelow, AreDistinct, value_at_position, replaced, left}
 use Rattle.seg_spec.specs.Shared as Shared
 use Rattle.seg_spec.specs.Sharing.{FrozenBeside, frozen_now, Freezes}
 use Rattle.seg_spec.specs.Index.{Root}
-use Rattle.seg_spec.specs.Sound.{HoldsRoot, times, Picture}
+use Rattle.seg_spec.specs.Sound.{HoldsRoot, times, positions, Picture}
 use Rattle.seg_spec.proofs.Frozen.PictureCountLaws.{left_and_freed}
 use Rattle.seg_spec.proofs.Heap.FreeOrderLaws.{in_any_order}
 use Rattle.seg_spec.specs.Destroying.{HoldFrozen}
 use Rattle.seg_spec.proofs.Frozen.PartCountLaws.{names_same}
-use Rattle.seg_spec.proofs.Heap.LiveBlockLaws.{times-append}
+use Rattle.seg_spec.proofs.Heap.LiveBlockLaws.{times-append, times-same}
 use Rattle.seg_spec.proofs.Frozen.OneMoreObjectLaws.{not_there}
 use Rattle.client_spec.specs.Machine.{◌>>=◌, Origin, Path, Register, State, register, set_register, owned_by, path_value, put_at}
 use Rattle.client_spec.specs.Grammar.{IsInstruction}
 use Rattle.client_spec.specs.Asks.{LedTo, Asks, Refreezes}
-use Rattle.client_spec.specs.Ties.{spot_of, OfRoot, OfOwner, FrozenKept, Changes, ObjectsStay}
+use Rattle.client_spec.specs.Ties.{object_at, GetsBlock, spot_of, OfRoot, OfOwner, FrozenKept, Changes, FreezesOwned, ObjectsStay}
 use Rattle.seg_spec.specs.Apart.{KeepsBlockAround}
 use Rattle.client_spec.specs.Bare.{bare, bare_one}
 use Rattle.client_spec.specs.Pictures.{Pictures, meaning_in, trees_of}
@@ -64,20 +65,21 @@ use Rattle.client_spec.specs.Effect.{outcome, effect}
 use Rattle.client_spec.specs.Plain.{UsesUp}
 use Rattle.client_spec.specs.OnImages.{RowWith}
 use Rattle.client_spec.specs.Trees.{unfolded_register}
-use Rattle.client_sim.proofs.Objects.OwnedPlaceLaws.{owning}
+use Rattle.client_sim.proofs.Objects.OwnedPlaceLaws.{owned_less, owning}
 use Rattle.client_sim.specs.Shows.{World, place_in, owns_in, KeepsRegister, Shows, ChangesImage}
 use Rattle.client_sim.specs.Seeing.{Anchored, Sees, SeenActs}
-use Rattle.client_sim.specs.Sharing.{CellClaim, OnCell, FreezesObject, RefusesToFreeze}
+use Rattle.client_sim.specs.Sharing.{CellClaim, OnCell, FreezesParts, FreezesObject, RefusesToFreeze}
 use Rattle.client_sim.specs.Acting.{AreDeclarationsRight, ActsAs, IsRefusedAs}
 use Rattle.client_sim.proofs.ImageChangeLaws.{of_frozen, changed, unchanged}
 use Rattle.client_sim.proofs.Places.LeafPutLaws.{with_image}
 use Rattle.client_sim.proofs.Places.ReferencePlaceLaws.{Led, touched}
 use Rattle.client_sim.proofs.Frozen.UnfoldedOperationLaws.{changeable_bare}
+use Rattle.client_sim.proofs.Objects.ObjectMoveLaws.{cell_points}
 use Rattle.client_sim.proofs.Objects.FrozenMoveLaws.{MovedFrozen, frozen_beside, freeze_moves}
 use Rattle.client_sim.proofs.Objects.OwnedObjectLaws.{OwnsHere, owns_here, owns_apart}
 use Rattle.client_sim.proofs.Places.PathPlaceLaws.{shared_here, frozen_apart}
 use Rattle.client_sim.proofs.Instructions.PutLaws.{begins_elsewhere}
-use Rattle.client_sim.proofs.GrantLaws.{denies}
+use Rattle.client_sim.proofs.GrantLaws.{gets_block, fewer_left, gets_new, denies}
 use Rattle.client_sim.proofs.Frozen.ReadOnlyResultLaws.{in_words, words_picture, sees_number, number_picture}
 use Rattle.client_sim.proofs.UnchangedImageLaws.{set_there, set_beside}
 use Rattle.client_sim.proofs.FrameLaws.{owns_nothing, owner_apart}
@@ -305,7 +307,7 @@ module _ (allocator : ℕ) (constants : List Constant) (role : Role) (a b c : �
             objects_stay = objects_same same;
             length_kept = refl;
             header_kept = refl;
-            owning = owning h.shows g.shows (λ r had has. refl);
+            owning = owning freeze h.shows g.shows (λ r had has. refl) (λ r o. inl o);
             sees = g;
             same_input = refl;
           })
@@ -319,8 +321,11 @@ module _ (allocator : ℕ) (constants : List Constant) (role : Role) (a b c : �
         abbrev Frozen_so : Type 0
         Frozen_so = Freezes allocator w.image new table (place_in w b) f.held object o.value x.inside l.found.blocks (names_in l.value) x.theirs frozen
 
+        whole : FreezesParts allocator w.image new table (place_in w b) f.held object o.value x.inside l.found.blocks (names_in l.value) x.theirs frozen
+        whole = of_call (λ ts T v u blocks inside theirs now. FreezesParts allocator w.image new ts (place_in w b) T object u inside blocks (names_in v) theirs now) call some x
+
         z : Frozen_so
-        z = of_call (λ ts T v u blocks inside theirs now. Freezes allocator w.image new ts (place_in w b) T object u inside blocks (names_in v) theirs now) call some x
+        z = whole.0
 
         abbrev cell : Value
         cell = node (Label.shared f.held z.payload) nil
@@ -528,8 +533,49 @@ module _ (allocator : ℕ) (constants : List Constant) (role : Role) (a b c : �
           )));
         }
 
+        -- the new block is the one that the request gets
+        gets : GetsBlock w.image (frozen_words + size table f.held) z.payload
+        unfolding z
+        gets =
+            let p = block_of z.payload in
+            let k = (beside x).1 in
+            let left_here : 1 ≤ times p (positions (live new)) = omega (
+              arith,
+              z.live_are p,
+              z.was_free,
+              times-same p [],
+              times-append p (block_of object ∷ []) z.gives,
+              z.all_are p,
+              times-append p l.found.blocks (blocks_by x.theirs frozen),
+              times-append p z.gives (blocks_by x.theirs (left gone frozen)),
+              k.owned p,
+              times-append p (stands.home ∷ (l.found.blocks ++ block_of object ∷ x.inside)) (blocks_by x.theirs frozen),
+              times-append p (stands.home ∷ l.found.blocks) (block_of object ∷ x.inside),
+              times-append p (stands.home ∷ []) l.found.blocks,
+              times-append p (block_of object ∷ []) x.inside,
+            ) in
+            let kept = fewer_left p z.spans (block_of object ∷ z.gives) in
+            let same : times p (positions (live new)) ≡ times p (positions (after_gives z.spans (block_of object ∷ z.gives))) = ap (λ bs. times p (positions bs)) z.live_is in
+            gets_block allocator w.image (frozen_words + size table f.held) z.payload h.shows.allocator_is
+            (gets_new allocator (live w.image) z.spans (length w.image) (frozen_words + size table f.held) p z.granted_is z.was_free (omega (arith, left_here, kept, same)))
+
+        frozen_owned : FreezesOwned constants freeze pictured new
+        unfolding z
+        frozen_owned = record {
+          root = o.root;
+          owned = o.root_is;
+          place = place_in w b;
+          led_to = subst (λ T. LedTo constants freeze pictured (place_in w b) (Form.shared T)) (sym o.type_is) led_to;
+          payload = z.payload;
+          points_to = cell_points new table (place_in w b) f.held z.payload form_here z.holds_it;
+          gets_block = subst (λ (n : ℕ). GetsBlock w.image (frozen_words + n) z.payload) (ap (λ (ts : Table). size ts f.held) pictured.types ∙ ap (size h.plain.types) (sym o.type_is)) gets;
+          moves = subst (λ (ts : Table). Persists w.image new ts (object_at o.root.at o.root.type) (object_at (z.payload + frozen_words) o.root.type)) pictured.types
+              (subst (λ T. Persists w.image new table (object_at o.root.at T) (object_at (z.payload + frozen_words) T)) (sym o.type_is)
+              (subst (λ at. Persists w.image new table (object_at at f.held) (object_at (z.payload + frozen_words) f.held)) o.at_is whole.1));
+        }
+
         changes : ChangesImage constants freeze pictured success new
-        changes = changed z.next_is refl tt touches (record {
+        changes = changed z.next_is refl tt frozen_owned (λ u later. tt) touches (record {
           asks = block_for (frozen_words + size table f.held) ∷ [];
           asked = asked some;
           gives = gives;
@@ -565,7 +611,7 @@ module _ (allocator : ℕ) (constants : List Constant) (role : Role) (a b c : �
               objects_stay = subst (ObjectsStay pictured.picture) (sym same) moved.to.objects;
               length_kept = z.length_kept;
               header_kept = z.front_kept;
-              owning = owning h.shows g.shows (λ r had has. refl);
+              owning = owning freeze h.shows g.shows (λ r had has. refl) (λ r o. inl (owned_less w.owns c r o));
               sees = g;
               same_input = refl;
             })
@@ -582,7 +628,7 @@ module _ (allocator : ℕ) (constants : List Constant) (role : Role) (a b c : �
         bad_alloc,
         (λ q. cc),
         subst (λ bs. SeenActs others types constants first allocator freeze bad_alloc bad t w (with_number (with_image w bs) a (pos (answer_number bad_alloc)))) (sym r.same)
-            (failed right h valid e f bad_alloc (inl (false, denied_row right h valid e f)) (unchanged refl blocks)),
+            (failed right h valid e f bad_alloc (inl (false, denied_row right h valid e f)) (unchanged refl refl blocks)),
       )
 
   pub freeze_used : suc (word w.image next_word) ≡ 2 ^ 32 → new ≡ w.image → IsRefusedAs allocator constants role freeze w (with_number (with_image w new) a (pos (answer_number numbers_used_up)))
@@ -593,7 +639,7 @@ module _ (allocator : ℕ) (constants : List Constant) (role : Role) (a b c : �
         numbers_used_up,
         (λ q. cc),
         subst (λ bs. SeenActs others types constants first allocator freeze numbers_used_up bad t w (with_number (with_image w bs) a (pos (answer_number numbers_used_up)))) (sym same)
-            (failed right h valid e f numbers_used_up (inr (row, none)) (unchanged refl refl)),
+            (failed right h valid e f numbers_used_up (inr (row, none)) (unchanged refl refl refl)),
       )
 
   pub freeze_acts : suc (word w.image next_word) < 2 ^ 32 → FreezesObject allocator w.image new w.table (place_in w b) (place_in w c).at → ActsAs allocator constants role freeze w world_frozen

@@ -157,7 +157,7 @@ module _ {others : List Root} {types : Table} {constants : List Constant} (one :
     kept_number n new same within free row changes =
         let after = shows_ended r.class i.b in
         subst (λ m. Acts others types constants first allocator i success (slice_set known_then i.a RegisterType.Int) s w (with_number (with_image w m) i.a n)) (sym same)
-        (acts_so others types constants first allocator ks s w h i success true (slice_set known_then i.a RegisterType.Int) (set_register s i.a (Register.Int n)) (with_number w i.a n)
+        (acts_so others types constants first allocator ks s w h i success true (slice_set known_then i.a RegisterType.Int) (set_register s i.a (Register.Int n)) (with_number w i.a n) (λ r o. inl o)
         (row ∙ answer_is types constants known_then s after.as_known success i.a (Register.Int n) free) changes refl refl refl (shows_number others types constants first allocator known_then s w after i.a n within free)
         (frame_number others types constants first allocator known_then s w after i.a _ _ _ (frame_same _ _ _)))
 
@@ -173,7 +173,7 @@ module _ {others : List Root} {types : Table} {constants : List Constant} (one :
         let in_image : LeadsInImage h.pictured x_path target =
         leads_part h.pictured r.its.path x (place_in w i.b) target r.its.in_image (subst (λ (t : Table). Leads w.image t (place_in w i.b) (x ∷ []) target) (h.table_is ∙ sym h.pictured.types) leads) in
         subst (λ m. Acts others types constants first allocator i success (slice_set known_then i.a (RegisterType.Reference r.class T)) s w (with_place (with_image w m) i.a target)) (sym same)
-        (acts_so others types constants first allocator ks s w h i success true (slice_set known_then i.a (RegisterType.Reference r.class T)) (set_register s i.a (Register.Reference x_path)) (with_place w i.a target)
+        (acts_so others types constants first allocator ks s w h i success true (slice_set known_then i.a (RegisterType.Reference r.class T)) (set_register s i.a (Register.Reference x_path)) (with_place w i.a target) (λ r o. inl o)
         (row ∙ answer_is types constants known_then s after.as_known success i.a (Register.Reference x_path) free) changes refl refl refl
         (shows_reference others types constants first allocator known_then s w after i.a r.class T x_path target within free r.its.within to typed in_image)
         (frame_reference others types constants first allocator known_then s w after i.a _ _ _ _ _ _ _ _ _ _ (frame_same _ _ _)))
@@ -197,7 +197,7 @@ module _ {others : List Root} {types : Table} {constants : List Constant} (one :
       pub number_acts : (n : ℤ) → i.a < 16 → is_owner (known known_then i.a) ≡ false → outcome constants i true s ≡ give i.a (Register.Int n) state_then → ChangesImage constants i h.pictured success new
           → Acts others types constants first allocator i success (slice_set known_then i.a RegisterType.Int) s w (with_number (with_image w new) i.a n)
       number_acts n within free row changes =
-          acts_so others types constants first allocator ks s w h i success true (slice_set known_then i.a RegisterType.Int) (set_register state_then i.a (Register.Int n)) (with_number (with_image w new) i.a n)
+          acts_so others types constants first allocator ks s w h i success true (slice_set known_then i.a RegisterType.Int) (set_register state_then i.a (Register.Int n)) (with_number (with_image w new) i.a n) (λ r o. inl o)
           (row ∙ answer_is types constants known_then state_then after.as_known success i.a (Register.Int n) free) changes long front refl
           (shows_number others types constants first allocator known_then state_then (with_image w new) after i.a n within free)
           (frame_number others types constants first allocator known_then state_then (with_image w new) after i.a _ _ _ frame_after)
@@ -218,7 +218,7 @@ module _ {others : List Root} {types : Table} {constants : List Constant} (one :
           leads_part after.pictured r.its.path x (place_in w i.b) target (leads_changed one h i.b r.class r.type r.known_as r.its v shape new put front)
           (subst (λ (t : Table). Leads new t (place_in w i.b) (x ∷ []) target) (sym table) leads) in
           acts_so others types constants first allocator ks s w h i success true (slice_set known_then i.a (RegisterType.Reference r.class T)) (set_register state_then i.a (Register.Reference x_path))
-          (with_place (with_image w new) i.a target)
+          (with_place (with_image w new) i.a target) (λ r o. inl o)
           (row ∙ answer_is types constants known_then state_then after.as_known success i.a (Register.Reference x_path) free) changes long front refl
           (shows_reference others types constants first allocator known_then state_then (with_image w new) after i.a r.class T x_path target within free r.its.within to typed in_image)
           (frame_reference others types constants first allocator known_then state_then (with_image w new) after i.a _ _ _ _ _ _ _ _ _ _ frame_after)
@@ -423,7 +423,7 @@ module _ (allocator : ℕ) (constants : List Constant) (role : Role) (a b c : �
             (led_put h b r.class r.type r.its new (Text new_text) p.others (names_same (ap names_in v.1 ∙ names_text v.0 ∙ sym (names_text new_text))) p.succeeds.changes) p.succeeds.changes.length_kept p.succeeds.changes.front_kept
             (pos n) valid.a o.0 is_row
             (let alone = place_alone h.pictured (place_touched one h i r) (kept_at_place s.types h.table_is p.succeeds.changes) in
-            changed_at_place p.succeeds.changes.back_kept refl refl (inr (place, r.form, led_to one h i r, subst (LosesLast constants i h.pictured new place) (sym same) tt))
+            changed_at_place p.succeeds.changes.back_kept refl refl (inr (place, r.form, led_to one h i r, subst (LosesLast constants i h.pictured new place) (sym same) tt)) tt (λ u later. tt)
             (record { spot = spot_of s.types place; own = alone.0; touches = alone.1; kept = alone.2 })
             (grants_asks constants i h.pictured allocator h.allocator_is [] refl new w.table place (Text new_text) [] r.its.found.blocks p.others
             (place, r.form, led_to one h i r, subst (λ k. PopGoes constants i h.pictured place k (count_at w.image place.at - 1) []) (sym same) refl) p.succeeds))
@@ -439,7 +439,7 @@ module _ (allocator : ℕ) (constants : List Constant) (role : Role) (a b c : �
             let at : count v.0 - 1 ≡ count_at w.image place.at - 1 = ap (λ k. k - 1) (items_held w.image w.table place r.form is.0 v.0 r.its.found.blocks r.form_is is.1 stands.holds_it) in
             let is_row = row ∙ ap f v.1 ∙ last_popped a r.its.path v.0 s p.some ∙ ap (λ m. give_count a m (put_at s r.its.path (Seq left))) n_is in
             number_acts one h i r (Seq left) (v.3 left (all_without_last s.types is.0 v.0 v.2)) new t.put t.long t.front (pos n) valid.a o.0 is_row
-            (changed_at_place t.back refl refl (inr (place, r.form, led_to one h i r, last_lost one h i r.form is.0 place new is.1 (subst (λ n. KeepsParts w.image new s.types place n 1 0) at t.parts)))
+            (changed_at_place t.back refl refl (inr (place, r.form, led_to one h i r, last_lost one h i r.form is.0 place new is.1 (subst (λ n. KeepsParts w.image new s.types place n 1 0) at t.parts))) tt (λ u later. tt)
             (record { spot = spot_of s.types place; own = t.own; touches = t.touches; kept = t.kept }) (gives_back constants i h.pictured new refl t.gives
             (place, r.form, led_to one h i r, part_goes one h i r.form is.0 place (count_at w.image place.at - 1) t.gives is.1 (subst (λ k. PartGoes constants i h.pictured place k t.gives) at t.goes)) t.left_is))
       ])
@@ -476,7 +476,7 @@ module _ (allocator : ℕ) (constants : List Constant) (role : Role) (a b c : �
         null_or_none,
         (λ q. cc),
         subst (λ k. Acts others types constants first allocator i null_or_none k s w (with_number (with_image w new) a (pos n))) (sym o.2)
-            (code_acts one h i r null_or_none true new n fails.1 fails.2 valid.a o.0 (row ∙ fails.0) (unchanged refl refl)),
+            (code_acts one h i r null_or_none true new n fails.1 fails.2 valid.a o.0 (row ∙ fails.0) (unchanged refl refl refl)),
       ))
 
   -- POPF removes the first item
@@ -506,7 +506,8 @@ module _ (allocator : ℕ) (constants : List Constant) (role : Role) (a b c : �
       ∙ ap (λ vs. pop_first a r.its.path vs s) q.2 ∙ ap (λ m. give_count a m (put_at s r.its.path (Seq left))) n_is in
       subst (λ k. Acts others types constants first allocator i success k s w (with_number (with_image w new) a (pos n))) (sym o.1)
       (number_acts one h i r (Seq left) fits new t.put t.long t.front (pos n) valid.a o.0 row
-      (changed_at_place t.back refl refl (inr (place, r.form, led_to one h i r, t.parts)) (record { spot = spot_of s.types place; own = t.own; touches = t.touches; kept = t.kept }) (gives_back constants i h.pictured new refl t.gives
+      (changed_at_place t.back refl refl (inr (place, r.form, led_to one h i r, t.parts)) tt (λ u later. tt)
+      (record { spot = spot_of s.types place; own = t.own; touches = t.touches; kept = t.kept }) (gives_back constants i h.pictured new refl t.gives
       (place, r.form, led_to one h i r, part_goes one h i r.form r.what place 0 t.gives is t.goes) t.left_is))))
 
   pub pop_front_refused : (new : List ℕ) (n : ℕ) → EachList (λ U vs blocks. (count vs ≡ 0) × (new ≡ w.image) × (n ≡ 6)) → IsRefusedAs allocator constants role (of Operation.PopFront) w (with_number (with_image w new) a (pos n))
@@ -524,7 +525,7 @@ module _ (allocator : ℕ) (constants : List Constant) (role : Role) (a b c : �
         null_or_none,
         (λ q. cc),
         subst (λ k. Acts others types constants first allocator i null_or_none k s w (with_number (with_image w new) a (pos n))) (sym o.2)
-            (code_acts one h i r null_or_none true new n none.1 none.2 valid.a o.0 row (unchanged refl refl)),
+            (code_acts one h i r null_or_none true new n none.1 none.2 valid.a o.0 row (unchanged refl refl refl)),
       ))
 
   -- the requests for one more item
@@ -578,7 +579,7 @@ module _ (allocator : ℕ) (constants : List Constant) (role : Role) (a b c : �
       (led_put h b r.class r.type r.its new (Seq more) pushed.others
       (names_same (ap names_in v.1 ∙ names_seq v.0 ∙ sym (back_named v.0 d (default_names s.types r.what)) ∙ sym (names_seq more))) pushed.succeeds.changes)
       pushed.succeeds.changes.length_kept pushed.succeeds.changes.front_kept x r.what d target valid.a o.0 (item_part r.form r.what (count v.0) r.is) (last_item v.0 d) refl pushed.leads row
-      (changed_at_place pushed.succeeds.changes.back_kept refl refl (inr (place, r.form, led_to one h i r, parts))
+      (changed_at_place pushed.succeeds.changes.back_kept refl refl (inr (place, r.form, led_to one h i r, parts)) tt (λ u later. tt)
       (record { spot = spot_of s.types place; own = r.its.found.blocks; touches = place_touched one h i r; kept = kept_at_place s.types h.table_is pushed.succeeds.changes })
       (grants_asks constants i h.pictured allocator h.allocator_is (item_asks r.form r.what) (place, r.form, led_to one h i r, back_asks h r.form r.what r.is) new w.table place (Seq more) [] r.its.found.blocks pushed.others
       refl pushed.succeeds)))))
@@ -601,7 +602,7 @@ module _ (allocator : ℕ) (constants : List Constant) (role : Role) (a b c : �
         (λ q. cc),
         subst (λ k. Acts others types constants first allocator i bad_alloc k s w (with_number (with_image w new) a (pos n))) (sym o.2)
             (code_acts one h i r bad_alloc false new n q.1.same q.0 valid.a o.0 row
-            (unchanged refl (denies constants i h.pictured allocator h.allocator_is (item_asks r.form r.what) (place, r.form, led_to one h i r, back_asks h r.form r.what r.is) w.image here))),
+            (unchanged refl refl (denies constants i h.pictured allocator h.allocator_is (item_asks r.form r.what) (place, r.form, led_to one h i r, back_asks h r.form r.what r.is) w.image here))),
       ))
 
   -- PUSHF adds a default item at the front
@@ -630,7 +631,7 @@ module _ (allocator : ℕ) (constants : List Constant) (role : Role) (a b c : �
       (led_put h b r.class r.type r.its new (Seq more) pushed.others
       (names_same (ap names_in v.1 ∙ names_seq v.0 ∙ sym (front_named d v.0 (default_names s.types r.what)) ∙ sym (names_seq more))) pushed.succeeds.changes)
       pushed.succeeds.changes.length_kept pushed.succeeds.changes.front_kept (Selector.item 0) r.what d target valid.a o.0 part refl refl pushed.leads row
-      (changed_at_place pushed.succeeds.changes.back_kept refl refl (inr (place, r.form, led_to one h i r, subst (λ (t : Table). KeepsParts w.image new t place 0 0 1) h.table_is pushed.parts))
+      (changed_at_place pushed.succeeds.changes.back_kept refl refl (inr (place, r.form, led_to one h i r, subst (λ (t : Table). KeepsParts w.image new t place 0 0 1) h.table_is pushed.parts)) tt (λ u later. tt)
       (record { spot = spot_of s.types place; own = r.its.found.blocks; touches = place_touched one h i r; kept = kept_at_place s.types h.table_is pushed.succeeds.changes })
       (grants_asks constants i h.pictured allocator h.allocator_is asks (place, r.form, led_to one h i r, front_asks h r.form r.what r.is) new w.table place (Seq more) [] r.its.found.blocks pushed.others
       refl pushed.succeeds)))))
@@ -653,5 +654,5 @@ module _ (allocator : ℕ) (constants : List Constant) (role : Role) (a b c : �
         (λ q. cc),
         subst (λ k. Acts others types constants first allocator i bad_alloc k s w (with_number (with_image w new) a (pos n))) (sym o.2)
             (code_acts one h i r bad_alloc false new n q.1.same q.0 valid.a o.0 row
-            (unchanged refl (denies constants i h.pictured allocator h.allocator_is asks (place, r.form, led_to one h i r, front_asks h r.form r.what r.is) w.image here))),
+            (unchanged refl refl (denies constants i h.pictured allocator h.allocator_is asks (place, r.form, led_to one h i r, front_asks h r.form r.what r.is) w.image here))),
       ))

@@ -128,7 +128,7 @@ module _ (allocator : ℕ) (constants : List Constant) (role : Role) (a b c : �
     deleted new gone None e stands d =
         let i = of Operation.DeleteKey in
         subst (λ t. Acts others types constants first allocator i success (slice_set (others_ended r.class b ks) a RegisterType.Int) s w (with_number (with_image w new) a (truth t))) (sym d.0)
-        (kept_number one h i r (pos 0) new d.1 within free (row None e) (unchanged refl (quiet constants i h.pictured refl (place, r.form, led_to one h i r, goes_by None e [] refl))))
+        (kept_number one h i r (pos 0) new d.1 within free (row None e) (unchanged refl refl (quiet constants i h.pictured refl (place, r.form, led_to one h i r, goes_by None e [] refl))))
     deleted new gone (Some j) e stands d =
         let i = of Operation.DeleteKey in
         let later = without_entry (keys, vs) j in
@@ -140,7 +140,7 @@ module _ (allocator : ℕ) (constants : List Constant) (role : Role) (a b c : �
         (changed_at_place t.back refl refl (
           λ none. absurd (let some : None ≡ Some j = sym none ∙ found_is i s r.its.path key keys vs r.path_is key_is there ∙ e in cc),
           inr (place, r.form, led_to one h i r, (j, found_is i s r.its.path key keys vs r.path_is key_is there ∙ e, t.parts)),
-        ) (record {
+        ) tt (λ u later. tt) (record {
           spot = spot_of s.types place;
           own = t.own;
           touches = t.touches;
@@ -219,7 +219,7 @@ module _ (allocator : ℕ) (constants : List Constant) (role : Role) (a b c : �
         let i = of Operation.PutKey in
         let part = value_at_key keys vs key j long e in
         kept_reference one h i r (Selector.key key) r.what part.0 (record { at = p; type = r.what }) new d.0 within free (key_part r.form r.what key r.is) (ap (λ u. selected u (Selector.key key)) value_is ∙ part.1) refl d.1
-        (put_is true (Some j) e) (unchanged refl (quiet constants i h.pictured (place, r.form, led_to one h i r, asks_by (Some j) e) refl))
+        (put_is true (Some j) e) (unchanged refl refl (quiet constants i h.pictured (place, r.form, led_to one h i r, asks_by (Some j) e) refl))
     put_by new p None e d =
         let i = of Operation.PutKey in
         let m = keys_below keys key in
@@ -241,7 +241,7 @@ module _ (allocator : ℕ) (constants : List Constant) (role : Role) (a b c : �
         (changed_at_place succeeds.changes.back_kept refl refl (
           λ j some. absurd (let none : Some j ≡ None = sym some ∙ found_is i s r.its.path key keys vs r.path_is key_is there_put ∙ e in cc),
           inr (place, r.form, led_to one h i r, (m, index_is i s r.its.path key keys vs r.path_is key_is there_put, subst (λ (t : Table). KeepsParts w.image new t place m 0 1) h.table_is d.parts)),
-        )
+        ) tt (λ u later. tt)
         (record { spot = spot_of s.types place; own = r.its.found.blocks; touches = place_touched one h i r; kept = kept_at_place s.types h.table_is succeeds.changes })
         (grants_asks constants i h.pictured allocator h.allocator_is (entry_asks r.form r.what) (place, r.form, led_to one h i r, asks_by None e) new w.table place later [] r.its.found.blocks d.others refl succeeds))
 
@@ -250,7 +250,7 @@ module _ (allocator : ℕ) (constants : List Constant) (role : Role) (a b c : �
     put_denied new n n_is e d =
         let i = of Operation.PutKey in
         code_acts one h i r bad_alloc false new n d.same n_is within free (put_is false None e)
-        (unchanged refl (denies constants i h.pictured allocator h.allocator_is (entry_asks r.form r.what) (place, r.form, led_to one h i r, asks_by None e) w.image
+        (unchanged refl refl (denies constants i h.pictured allocator h.allocator_is (entry_asks r.form r.what) (place, r.form, led_to one h i r, asks_by None e) w.image
         (subst (λ m. Refuses allocator w.image m (entry_asks r.form r.what)) d.same d)))
 
   pub put_key_acts : (new : List ℕ) (p T : ℕ) → EachMap (λ form U keys vs blocks. (U ≡ T) × Puts new form U keys vs blocks p (key_place keys key))

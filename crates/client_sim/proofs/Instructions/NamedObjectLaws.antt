@@ -1,6 +1,6 @@
 -- Making, finding and destroying named objects, for every state that the world represents.
 use Rattle.std.proofs.Common.{◌≡◌, ◌≢◌, ℕ, zero, suc, ◌^◌, ◌<◌, ◌≤◌, ◌⊎◌, inl, inr, ℤ, pos, negsuc, List, [], ◌∷◌, ◌++◌, length, Bool, true, false, Option, Some, None, refl, sym, ◌∙◌, ap, subst, arith}
-use Rattle.std.specs.Prelude.{◌/◌, ◌%◌, ◌==◌, ◌&&◌, ⊤, Ok, if◌then◌else◌, option_map, slice_get, slice_set, slice_index_or, nat_lt, nat_le, unwrap_or}
+use Rattle.std.specs.Prelude.{◌+◌, ◌*◌, ◌/◌, ◌%◌, ◌==◌, ◌&&◌, ⊤, Ok, if◌then◌else◌, option_map, slice_get, slice_set, slice_index_or, nat_lt, nat_le, unwrap_or}
 use Rattle.std.specs.Option.{option_map_or}
 use Rattle.std.specs.Int.Signed.{mag}
 use Rattle.std.proofs.lemmas.Bool.{eq-eqb, lt-ltb, ltb-true, le-leb, leb-true}
@@ -8,7 +8,7 @@ use Rattle.std.proofs.lemmas.Option.{slice_get_within}
 use Rattle.std.proofs.lemmas.List.{length-map}
 use Rattle.seg_spec.specs.Bytes.{word}
 use Rattle.seg_spec.specs.Header.{allocator_word, next_word, index_kind_word, KeepsFront}
-use Rattle.seg_spec.specs.Types.{Table}
+use Rattle.seg_spec.specs.Types.{Table, size}
 use Rattle.seg_spec.specs.Value.{Value, nth, count, copies, default_of}
 use Rattle.seg_spec.specs.Heap.{live}
 use Rattle.seg_spec.specs.Block.{KeepsBlock}
@@ -33,7 +33,7 @@ use Rattle.client_spec.specs.Typed.{Class, RegisterType, RegisterTypes, known, i
 use Rattle.client_spec.specs.Typed as typed
 use Rattle.client_spec.specs.Meaning.{IsNamedBy, InClass, LeadsToType, IsAsKnown}
 use Rattle.client_spec.specs.Pictures.{Pictures, LeadsInImage, object_of}
-use Rattle.client_spec.specs.Ties.{nowhere, OfRoot, Changes, ObjectsStay}
+use Rattle.client_spec.specs.Ties.{nowhere, GetsBlock, OfRoot, Changes, ObjectsStay, NamesCome}
 use Rattle.client_spec.specs.Asks.{NamedGoes, GrantsAsks, Denies, named_asks, name_operand, new_count, if_absent}
 use Rattle.client_spec.proofs.TypedStates.ValueFormLaws.{first_of_many}
 use Rattle.client_spec.proofs.TypedStates.KnowledgeChangeLaws.{agrees_make, agrees_kill}
@@ -51,13 +51,14 @@ use Rattle.client_sim.proofs.EffectLaws.{with_place, acts_so, shows_reference, s
 use Rattle.client_sim.proofs.FrameLaws.{Frame, frame_same, unknown_same}
 use Rattle.client_sim.proofs.Frozen.FrozenPathLaws.{KeepsFrozen, frozen_same_image, frozen_left, frozen_beside_index}
 use Rattle.client_sim.proofs.Instructions.FindLaws.{IsNameFor, name_at, first_place}
-use Rattle.client_sim.proofs.GrantLaws.{grants_spent}
+use Rattle.client_sim.proofs.GrantLaws.{GrantsBlock, gets_block, grants_spent}
 use Rattle.client_sim.proofs.Places.LeafPutLaws.{with_image}
 use Rattle.client_sim.proofs.Objects.NameByteLaws.{name_right}
 use Rattle.client_sim.proofs.Objects.NamedChangeLaws.{Comes, Goes, Stays, named_comes, named_goes, picture_stays}
 use Rattle.client_sim.proofs.Instructions.NumberLaws.{with_number, quiet, gives_both, number_shown, unowned}
 use Rattle.client_sim.proofs.Objects.ObjectChangeLaws.{BeginsFrom, KeepsRoots, Remains, SameBesides, all_paths, other_paths, shows_rooted, pictured_rooted, frame_rooted, objects_rooted}
 use Rattle.client_sim.proofs.Objects.ObjectPlaceLaws.{objects_same}
+use Rattle.client_sim.proofs.Objects.NewObjectLaws.{no_objects_come, name_comes}
 
 -- ---- contracts of calls
 
@@ -71,7 +72,8 @@ abbrev pub object_root : Table → List ℕ → ℕ → ℕ → ℕ → Root
 object_root table name T n at = plain_root name at T (copies n (default_of table T))
 
 module _ (allocator : ℕ) (old : List ℕ) (table : Table) (name : List ℕ) (T : ℕ) (picture : Picture) (index_blocks new : List ℕ) where
-  -- the requests for a new object and its entry were granted, and the object is here
+  -- the requests for a new object and its entry were granted, and the object is here, in the block
+  -- that its own request got
   pub record IsMade (n at : ℕ) : Type 0 where
     pub before : List Root
     pub after : List Root
@@ -84,6 +86,7 @@ module _ (allocator : ℕ) (old : List ℕ) (table : Table) (name : List ℕ) (T
     pub kept : (h : ℕ) → 1 ≤ times h (positions (live old)) → times h index_blocks ≡ 0 → KeepsBlock old new h
     pub nodes : KeepsNodes old new index_blocks
     pub left : spent allocator (live old) (length old) (object_asks old table T n name) [] ≡ Some (live new)
+    pub gets : GrantsBlock allocator old (n * size table T + length name) at
 
   -- one of the requests had no room
   pub record IsDenied (n : ℕ) : Type 0 where
@@ -137,6 +140,10 @@ uncounted (pos n) h = choose (nat_lt 0 n) (nat_le n 65535) refl refl
     choose true true f g = absurd (h n (ltb-true 0 n f) (leb-true n 65535 g) refl)
     choose true false f g = ap (λ p. if p && nat_le n 65535 then Some n else None) f ∙ ap (λ q. if true && q then Some n else None) g
     choose false q f g = ap (λ p. if p && nat_le n 65535 then Some n else None) f
+
+count_copies : (n : ℕ) (v : Value) → count (copies n v) ≡ n
+count_copies zero v = refl
+count_copies (suc n) v = ap suc (count_copies n v)
 
 -- if KILL destroys nothing, there is no object of this name, or it has another type
 why_kept : (T : ℕ) (o : Option Root) → killed o T ≡ None → (o ≡ None) ⊎ ((root : Root) × (o ≡ Some root) × ((root.type == T) ≡ false))
@@ -282,7 +289,7 @@ module _ {others : List Root} {types : Table} {constants : List Constant} {first
       let table = comes.later.picture.table in
       let led : LeadsInImage comes.later path place = record { root = root; item = 0; begins = comes.begins; leads = subst (λ p. Leads new table (item_of table root 0) [] p) (first_place table root at T refl refl) here } in
       acts_so others types constants first allocator ks s w h i success true (slice_set ks a (RegisterType.Reference (Class.Name k) T)) (set_register (state_then n) a (Register.Reference path))
-      (with_place (with_image w new) a place) (row ∙ answer_is types constants ks (state_then n) known_now success a (Register.Reference path) free) changes m.long m.front refl
+      (with_place (with_image w new) a place) (λ r o. inl o) (row ∙ answer_is types constants ks (state_then n) known_now success a (Register.Reference path) free) changes m.long m.front refl
       (shows_reference others types constants first allocator ks (state_then n) (with_image w new) shows.0 a (Class.Name k) T path place within free by typed_so refl
       (subst (λ p. LeadsInImage p path place) (sym shows.1) led))
       (frame_reference others types constants first allocator ks (state_then n) (with_image w new) shows.0 a _ _ _ _ _ _ _ _ _ _
@@ -292,6 +299,14 @@ module _ {others : List Root} {types : Table} {constants : List Constant} {first
         owners = λ r had has. refl;
         objects = objects_rooted comes.keeps (λ name e. absurd e) (λ U e. absurd e);
       })))
+
+  -- the new object is in the block that the request for it gets
+  pub comes : (n at : ℕ) → IsMade allocator w.image s.types bytes T h.pictured.picture h.pictured.held.index_blocks new n at → (t : State) (later : Pictures others t new) → NamesCome i h.pictured later
+  comes n at m t later =
+      let root = object_root s.types bytes T n at in
+      let gets = gets_block allocator w.image (n * size s.types T + length bytes) at h.allocator_is m.gets in
+      name_comes i h.pictured later m.before root m.after m.names_are m.held
+      (subst (λ c. GetsBlock w.image (c * size s.types T + length bytes) at) (sym (count_copies n (default_of s.types T))) gets)
 
   pub not_made : (n code : ℕ) → code ≡ answer_number bad_alloc → IsDenied allocator w.image s.types bytes T h.pictured.picture h.pictured.held.index_blocks new n
       → outcome constants i false s ≡ fail a bad_alloc s → ChangesImage constants i h.pictured bad_alloc new
@@ -303,7 +318,7 @@ module _ {others : List Root} {types : Table} {constants : List Constant} {first
       let shows = all_stays h s new stays.later stays.keeps d.front h.as_known refl (record { table = refl; input = refl; read = refl; taken = refl; types = refl; state_input = refl; state_output = refl }) in
       let x : Register = Register.Int (pos 2) in
       subst (λ m. Acts others types constants first allocator i bad_alloc (slice_set ks a RegisterType.Int) s w (with_number (with_image w new) a (pos m))) (sym code_is)
-      (acts_so others types constants first allocator ks s w h i bad_alloc false (slice_set ks a RegisterType.Int) (set_register s a x) (with_number (with_image w new) a (pos 2))
+      (acts_so others types constants first allocator ks s w h i bad_alloc false (slice_set ks a RegisterType.Int) (set_register s a x) (with_number (with_image w new) a (pos 2)) (λ r o. inl o)
       (row ∙ answer_is types constants ks s h.as_known bad_alloc a x free) changes d.long d.front refl
       (shows_number others types constants first allocator ks s (with_image w new) shows.0 a (pos 2) within free)
       (frame_number others types constants first allocator ks s (with_image w new) shows.0 a _ _ _
@@ -357,6 +372,7 @@ module _ {others : List Root} {types : Table} {constants : List Constant} {first
       let shows = all_but_class h one class paths_end its_class (λ r z. z) state_after new goes.later goes.keeps m.front known_now refl
       (record { table = refl; input = refl; read = refl; taken = refl; types = refl; state_input = refl; state_output = refl }) in
       acts_so others types constants first allocator ks s w h i success true (slice_set (ended (sharing class) ks) a RegisterType.Int) (set_register state_after a (Register.Int (pos 1))) (with_number (with_image w new) a (pos 1))
+      (λ r o. inl o)
       (row ∙ answer_is types constants (ended (sharing class) ks) state_after known_now success a (Register.Int (pos 1)) free) changes m.long m.front refl
       (shows_number others types constants first allocator (ended (sharing class) ks) state_after (with_image w new) shows a (pos 1) within free)
       (frame_number others types constants first allocator _ state_after (with_image w new) shows a _ _ _ (frame_but_class h one class paths_end _ _ state_after new goes.later goes.keeps m.front known_now _ _ goes.stays
@@ -371,7 +387,7 @@ module _ {others : List Root} {types : Table} {constants : List Constant} {first
       let keeps : KeepsRoots {old = w.image} {new = w.image} h.pictured h.pictured paths_end = record { table = refl; begins = λ o root item e. inr (e, λ j path target lt led. led) } in
       let shows = all_but_class h one class paths_end its_class (λ r z. z) s w.image h.pictured keeps refl known_now refl
       (record { table = refl; input = refl; read = refl; taken = refl; types = refl; state_input = refl; state_output = refl }) in
-      acts_so others types constants first allocator ks s w h i success true (slice_set (ended (sharing class) ks) a RegisterType.Int) (set_register s a (Register.Int (pos 0))) (with_number w a (pos 0))
+      acts_so others types constants first allocator ks s w h i success true (slice_set (ended (sharing class) ks) a RegisterType.Int) (set_register s a (Register.Int (pos 0))) (with_number w a (pos 0)) (λ r o. inl o)
       (row ∙ answer_is types constants (ended (sharing class) ks) s known_now success a (Register.Int (pos 0)) free) changes refl refl refl
       (shows_number others types constants first allocator (ended (sharing class) ks) s w shows a (pos 0) within free)
       (frame_number others types constants first allocator _ s w shows a _ _ _
@@ -461,7 +477,7 @@ module _ (allocator : ℕ) (constants : List Constant) (role : Role) (a b c : �
       let asked = asks_are Operation.Make s m.values n.name_is (ap (λ (o : Option ℤ). o >>= object_count) index ∙ count_is) none n.type_is in
       let blocks = grants_spent constants i h.pictured allocator h.allocator_is (object_asks w.image s.types T m.values bytes) asked new [] refl (live new) its.left refl in
       subst (λ z. Acts others types constants first allocator i success z s w (with_place (with_image w new) a (record { at = at; type = T }))) (sym (g.1 ∙ ap (λ n. slice_set ks a (RegisterType.Reference (Class.Name k) n)) n.type_is))
-      (made right h a k T bytes n.by n.below valid.a g.0 i new m.values at m.some m.missing its row (changed its.next refl its.nodes (record {
+      (made right h a k T bytes n.by n.below valid.a g.0 i new m.values at m.some m.missing its row (changed its.next refl its.nodes tt (comes right h a k T bytes n.by n.below valid.a g.0 i new m.values at its) (record {
         spot = nowhere;
         own = h.pictured.held.index_blocks;
         touches = (refl, refl);
@@ -497,13 +513,13 @@ module _ (allocator : ℕ) (constants : List Constant) (role : Role) (a b c : �
               out_of_range,
               (λ q. cc),
               bad_is out_of_range (refused right h a k T bytes n.by n.below valid.a g.0 i new out_of_range code f.0 f.1
-                  (row true ∙ ap (λ o. after o true) (uncounted wanted none)) (unchanged refl refl)),
+                  (row true ∙ ap (λ o. after o true) (uncounted wanted none)) (unchanged refl refl refl)),
             )
         | inr (inl f) ↦ (
           already_exists,
           λ q. cc,
           bad_is already_exists (refused right h a k T bytes n.by n.below valid.a g.0 i new already_exists code f.4 f.5
-              (row true ∙ ap (λ o. after o true) (ap object_count f.1 ∙ counted f.0 f.2 f.3) ∙ ap (λ (o : Option Object). add_object a bytes T o f.0 true s) (n.object ∙ ap (option_map object_of) f.6.1)) (unchanged refl refl)),
+              (row true ∙ ap (λ o. after o true) (ap object_count f.1 ∙ counted f.0 f.2 f.3) ∙ ap (λ (o : Option Object). add_object a bytes T o f.0 true s) (n.object ∙ ap (option_map object_of) f.6.1)) (unchanged refl refl refl)),
         )
         | inr (inr f) ↦
             let none : s.names bytes ≡ None = n.object ∙ ap (option_map object_of) f.5 in
@@ -520,7 +536,7 @@ module _ (allocator : ℕ) (constants : List Constant) (role : Role) (a b c : �
               (λ q. cc),
               bad_is bad_alloc (not_made right h a k T bytes n.by n.below valid.a g.0 i new f.0 code f.4 its
                   (row false ∙ ap (λ o. after o false) count_is ∙ ap (λ (o : Option Object). add_object a bytes T o f.0 false s) none)
-                  (changed its.next refl (nodes_kept h.pictured.held its.kept)
+                  (changed its.next refl (nodes_kept h.pictured.held its.kept) tt (λ t later. no_objects_come i h.pictured later its.held Operation.Make)
                   (record { spot = nowhere; own = h.pictured.held.index_blocks; touches = (refl, refl); kept = kept_nowhere _ h.pictured.held.laid_out.heap (λ x some away. its.kept x some) }) blocks)),
             )
       ])
@@ -576,8 +592,8 @@ module _ (allocator : ℕ) (constants : List Constant) (role : Role) (a b c : �
             ∙ answer_is types constants ks s h.as_known success a (Register.Reference path) g.0 in
             subst (λ z. Acts others types constants first allocator i success z s w (with_place (with_image w new) a place)) (sym good_is)
             (subst (λ z. Acts others types constants first allocator i success (slice_set ks a (RegisterType.Reference (Class.Name k) T)) s w (with_place (with_image w z) a place)) (sym f.4)
-            (acts_so others types constants first allocator ks s w h i success true (slice_set ks a (RegisterType.Reference (Class.Name k) T)) (set_register s a (Register.Reference path)) (with_place w a place) here_row
-            (unchanged refl (quiet constants i h.pictured (asks_none Operation.FindOrMake s 1 (object_of root) n.name_is refl object) refl)) refl refl refl
+            (acts_so others types constants first allocator ks s w h i success true (slice_set ks a (RegisterType.Reference (Class.Name k) T)) (set_register s a (Register.Reference path)) (with_place w a place) (λ r o. inl o) here_row
+            (unchanged refl refl (quiet constants i h.pictured (asks_none Operation.FindOrMake s 1 (object_of root) n.name_is refl object) refl)) refl refl refl
             (shows_reference others types constants first allocator ks s w h a (Class.Name k) T path place valid.a g.0 n.by typed_so refl led)
             (frame_reference others types constants first allocator ks s w h a _ _ _ _ _ _ _ _ _ _ (frame_same _ _ _))))
         | inr f ↦
@@ -587,7 +603,8 @@ module _ (allocator : ℕ) (constants : List Constant) (role : Role) (a b c : �
             let blocks = grants_spent constants i h.pictured allocator h.allocator_is (object_asks w.image s.types T 1 bytes) asked new [] refl (live new) its.left refl in
             subst (λ z. Acts others types constants first allocator i success z s w (with_place (with_image w new) a place)) (sym good_is)
             (made right h a k T bytes n.by n.below valid.a g.0 i new 1 at (omega arith) f.0 its (row ∙ ap (λ (o : Option Object). find_or_add a bytes T o true s) none)
-            (changed its.next refl ((λ root some. absurd (let g : Some root ≡ None = sym some ∙ named_here Operation.FindOrMake h.pictured n.name_is ∙ f.0 in cc)), its.nodes)
+            (changed its.next refl ((λ root some. absurd (let g : Some root ≡ None = sym some ∙ named_here Operation.FindOrMake h.pictured n.name_is ∙ f.0 in cc)), its.nodes) tt
+            (comes right h a k T bytes n.by n.below valid.a g.0 i new 1 at its)
             (record { spot = nowhere; own = h.pictured.held.index_blocks; touches = (refl, refl); kept = kept_nowhere _ h.pictured.held.laid_out.heap its.kept }) blocks))
       ])
 
@@ -617,7 +634,7 @@ module _ (allocator : ℕ) (constants : List Constant) (role : Role) (a b c : �
           λ q. cc,
           bad_is other_type (refused right h a k T bytes n.by n.below valid.a g.0 i new other_type code f.0 f.1
               (row true ∙ ap (λ (o : Option Object). find_or_add a bytes T o true s) (n.object ∙ ap (option_map object_of) f.2.1)
-              ∙ ap (λ z. if z then refer a (path_from (Origin.Name bytes 0)) s else fail a other_type s) f.2.2) (unchanged refl refl)),
+              ∙ ap (λ z. if z then refer a (path_from (Origin.Name bytes 0)) s else fail a other_type s) f.2.2) (unchanged refl refl refl)),
         )
         | inr (inr f) ↦
             let none : s.names bytes ≡ None = n.object ∙ ap (option_map object_of) f.1 in
@@ -631,7 +648,8 @@ module _ (allocator : ℕ) (constants : List Constant) (role : Role) (a b c : �
               bad_alloc,
               (λ q. cc),
               bad_is bad_alloc (not_made right h a k T bytes n.by n.below valid.a g.0 i new 1 code f.0 its (row false ∙ ap (λ (o : Option Object). find_or_add a bytes T o false s) none)
-                  (changed its.next refl ((λ root some. absurd (let g : Some root ≡ None = sym some ∙ named_here Operation.FindOrMake h.pictured n.name_is ∙ f.1 in cc)), nodes_kept h.pictured.held its.kept)
+                  (changed its.next refl ((λ root some. absurd (let g : Some root ≡ None = sym some ∙ named_here Operation.FindOrMake h.pictured n.name_is ∙ f.1 in cc)), nodes_kept h.pictured.held its.kept) tt
+                  (λ t later. no_objects_come i h.pictured later its.held Operation.FindOrMake)
                   (record { spot = nowhere; own = h.pictured.held.index_blocks; touches = (refl, refl); kept = kept_nowhere _ h.pictured.held.laid_out.heap (λ x some away. its.kept x some) }) blocks)),
             )
       ])
@@ -696,7 +714,7 @@ module _ (allocator : ℕ) (constants : List Constant) (role : Role) (a b c : �
         left = m.left;
       } in
       subst (λ z. Acts others types constants first allocator i success z s w (with_number (with_image w new) a (pos 1))) (sym g.1) (lost right h a k T bytes n.by valid.a g.0 i new m row
-      (changed m.next refl ((λ none. absurd (let f : None ≡ Some m.root = sym none ∙ killed_here Operation.Kill h.pictured n.name_is n.type_is ∙ m.root_is in cc)), m.nodes) touches blocks)))
+      (changed m.next refl ((λ none. absurd (let f : None ≡ Some m.root = sym none ∙ killed_here Operation.Kill h.pictured n.name_is n.type_is ∙ m.root_is in cc)), m.nodes) tt (λ t later. tt) touches blocks)))
 
   -- if no object of the name has the type, KILL gives 0
   pub kill_none_acts : OfHeld allocator w (λ p held. killed (root_named p.names bytes) T ≡ None) → ActsAs allocator constants role (on Operation.Kill) w (with_number w a (pos 0))
@@ -723,4 +741,4 @@ module _ (allocator : ℕ) (constants : List Constant) (role : Role) (a b c : �
         granted = refl;
         left = refl;
       } in
-      subst (λ z. Acts others types constants first allocator i success z s w (with_number w a (pos 0))) (sym g.1) (not_lost right h a k T bytes n.by valid.a g.0 i (row ∙ killed_row) (unchanged refl blocks)))
+      subst (λ z. Acts others types constants first allocator i success z s w (with_number w a (pos 0))) (sym g.1) (not_lost right h a k T bytes n.by valid.a g.0 i (row ∙ killed_row) (unchanged refl refl blocks)))

@@ -1,6 +1,6 @@
 -- NEW and DROP: a register gets a new object, and a register's object is destroyed.
 use Rattle.std.proofs.Common.{◌≡◌, ℕ, ◌+◌, ◌<◌, inl, inr, ℤ, pos, List, [], ◌∷◌, ◌++◌, length, Bool, true, false, Option, Some, refl, sym, ◌∙◌, ap, subst, arith}
-use Rattle.std.specs.Prelude.{◌*◌, ◌%◌, nat_abs, slice_set}
+use Rattle.std.specs.Prelude.{◌*◌, ◌%◌, nat_abs, slice_set, slice_index_or}
 use Rattle.std.specs.List.{AllByRecursion}
 use Rattle.std.proofs.lemmas.Bool.{cases_eq}
 use Rattle.std.proofs.lemmas.List.{get_or-set_same, get_or-set_other, set-get_or, length-map}
@@ -28,7 +28,7 @@ use Rattle.client_spec.specs.Machine.{◌>>=◌, Origin, Register, State, regist
 use Rattle.client_spec.specs.Answer.{success, bad_alloc, answer_number, path_from, fail, give, proceed}
 use Rattle.client_spec.specs.Effect.{outcome, effect}
 use Rattle.client_spec.specs.Asks.{GrantsAsks, RootGoes}
-use Rattle.client_spec.specs.Ties.{nowhere, Both, OfFrozen, OfRoot}
+use Rattle.client_spec.specs.Ties.{nowhere, GetsBlock, Both, OfFrozen, OfRoot}
 use Rattle.client_spec.specs.Shape.{HasShape}
 use Rattle.client_spec.specs.Typed.{Class, RegisterType, RegisterTypes, known, is_owner, owner_needed, known_after, ended, without_class, rule}
 use Rattle.client_spec.specs.Meaning.{InClass}
@@ -41,7 +41,7 @@ use Rattle.client_spec.proofs.TypedStates.DefaultLaws.{default_has}
 use Rattle.client_spec.proofs.Rows.RuleRowLaws.{bind_ok, Ok_inj, opens_ok, answer_is}
 use Rattle.client_spec.proofs.Rows.RowPartLaws.{owner_found}
 use Rattle.client_spec.proofs.Spelling.ConstantNameLaws.{one_each}
-use Rattle.client_sim.proofs.Objects.OwnedPlaceLaws.{owner_elsewhere}
+use Rattle.client_sim.proofs.Objects.OwnedPlaceLaws.{GainsOwners, owned_less, owner_elsewhere}
 use Rattle.client_sim.specs.Shows.{World, place_in, owns_in, Shown, Shows, Acts}
 use Rattle.client_sim.proofs.ImageChangeLaws.{kept_nowhere, changed, unchanged}
 use Rattle.client_sim.proofs.Frozen.FrozenPathLaws.{KeepsFrozen, frozen_left, frozen_beside_index}
@@ -51,7 +51,7 @@ use Rattle.client_sim.specs.Acting.{ActsAs, IsRefusedAs}
 use Rattle.client_sim.proofs.Frozen.UnfoldedOperationLaws.{lifted_acts, lifted_refused}
 use Rattle.client_sim.proofs.Instructions.NumberLaws.{with_number, unowned}
 use Rattle.client_sim.proofs.EffectLaws.{acts_so, refuses_with, place_one, place_there}
-use Rattle.client_sim.proofs.GrantLaws.{grants_spent, denies}
+use Rattle.client_sim.proofs.GrantLaws.{GrantsBlock, gets_block, grants_spent, denies}
 use Rattle.client_sim.proofs.Places.RootPutLaws.{root_of_pair}
 use Rattle.client_sim.proofs.Objects.ObjectChangeLaws.{shows_rooted, all_paths, other_paths, frame_rooted, objects_rooted}
 use Rattle.client_sim.proofs.Instructions.FindLaws.{OfPicture, of_picture, first_place}
@@ -185,6 +185,7 @@ module _ {others : List Root} {types : Table} {constants : List Constant} (one :
 -- a new object is added to the loose ones, at any index
 pub record JoinsLoose (allocator : ℕ) (old new : List ℕ) (table : Table) (picture : Picture) (T at : ℕ) : Type 0 where
   pub spends : spent allocator (live old) (length old) (block_for (size table T) ∷ []) [] ≡ Some (live new)
+  pub gets : GrantsBlock allocator old (size table T) at
   pub joins : (before after : List Root) → picture.loose ≡ before ++ after → LeavesPicture old new (with_roots picture Listed.loose (before ++ new_object table T at ∷ after)) []
 
 -- a root was freed with its blocks, and with the frozen objects that only it shared; the picture is
@@ -288,9 +289,18 @@ module _ (allocator : ℕ) (constants : List Constant) (role : Role) (a b c : �
       ap (λ u. give a (Register.Owner (default_of s.types u) u) s) t.0 ∙ answer_is types constants ks s h.as_known success a (Register.Owner d T) g.0 in
       let asked : (block_for (size w.table T) ∷ []) ≡ (block_for (size s.types (nat_abs number)) ∷ []) = ap (λ (z : Table). block_for (size z T) ∷ []) h.table_is ∙ ap (λ u. block_for (size s.types u) ∷ []) (sym t.0) in
       let blocks : GrantsAsks constants i h.pictured new = grants_spent constants i h.pictured allocator h.allocator_is (block_for (size w.table T) ∷ []) asked new [] refl (live new) call.spends refl in
+      let gets : GetsBlock w.image (size s.types (nat_abs number)) at =
+      subst (λ n. GetsBlock w.image n at) (ap (λ (z : Table). size z T) h.table_is ∙ ap (size s.types) (sym t.0)) (gets_block allocator w.image (size w.table T) at h.allocator_is call.gets) in
+      let at_there : slice_index_or (slice_set w.positions a at) a 0 ≡ at = get_or-set_same w.positions a at 0 (let p = h.registers.positions in omega (arith, p, within)) in
+      let gains : GainsOwners constants i w (with_owner w new a place) h.pictured = λ q o. elim (cases_eq a q) [
+        | inl same ↦
+            inr (subst (λ r. GetsBlock w.image (size s.types (nat_abs number)) (slice_index_or (slice_set w.positions a at) r 0)) same
+            (subst (GetsBlock w.image (size s.types (nat_abs number))) (sym at_there) gets))
+        | inr far ↦ inl (sym (set_beside w.owns a q true false far) ∙ o)
+      ] in
       subst (λ k. Acts others types constants first allocator i success k s w (with_owner w new a place)) (sym good_is)
-      (acts_so others types constants first allocator ks s w h i success true (slice_set ks a (RegisterType.Owner T)) (set_register s a (Register.Owner d T)) (with_owner w new a place) row
-      (changed alone.next_kept refl tt (record { spot = nowhere; own = []; touches = (refl, refl); kept = kept_nowhere [] h.pictured.held.laid_out.heap alone.kept }) blocks)
+      (acts_so others types constants first allocator ks s w h i success true (slice_set ks a (RegisterType.Owner T)) (set_register s a (Register.Owner d T)) (with_owner w new a place) gains row
+      (changed alone.next_kept refl tt tt (λ t later. tt) (record { spot = nowhere; own = []; touches = (refl, refl); kept = kept_nowhere [] h.pictured.held.laid_out.heap alone.kept }) blocks)
       alone.length_kept alone.front_kept refl shows (frame_owning one h a within g.0 d place fits root refl refl new come alone.front_kept)))
 
   -- NEW fails if there is no room
@@ -313,7 +323,7 @@ module _ (allocator : ℕ) (constants : List Constant) (role : Role) (a b c : �
         (λ f. cc),
         subst (λ k. Acts others types constants first allocator i bad_alloc k s w (with_number (without_owner w new a) a (pos code))) (sym g.2)
             (subst (λ z. Acts others types constants first allocator i bad_alloc (slice_set ks a RegisterType.Int) s w z) (sym world)
-            (refuses_with others types constants first allocator ks s w h i bad_alloc false a valid.a g.0 row (unchanged refl blocks))),
+            (refuses_with others types constants first allocator ks s w h i bad_alloc false a valid.a g.0 row (unchanged refl refl blocks))),
       ))
 
   -- DROP destroys the object of register b
@@ -340,7 +350,8 @@ module _ (allocator : ℕ) (constants : List Constant) (role : Role) (a b c : �
       (call.blocks, subst (λ (t : Table). HoldsRoot w.image t r.0 call.blocks) h.table_is call.holds_it, (shared, gone_with h new r.0 refl call, refl)) in
       let blocks : GrantsAsks constants i h.pictured new = record { asks = []; asked = refl; gives = call.blocks ++ shared; returned = returned; blocks = live w.image; granted = refl; left = call.live_is } in
       subst (λ k. Acts others types constants first allocator i success k s w (without_owner w new b)) (ap (λ (r : RegisterTypes × RegisterTypes). r.0) pair)
-      (acts_so others types constants first allocator ks s w h i success true after (set_register s b Register.Undefined) (without_owner w new b) row (changed call.becomes.next_kept refl tt (record {
+      (acts_so others types constants first allocator ks s w h i success true after (set_register s b Register.Undefined) (without_owner w new b) (λ r o. inl (owned_less w.owns b r o)) row
+      (changed call.becomes.next_kept refl tt tt (λ t later. tt) (record {
         spot = nowhere;
         own = call.blocks ++ blocks_by call.theirs h.pictured.picture.frozen;
         touches = (refl, root_touched h new r.0 refl call (root_of_register s.registers h.pictured.owned b) r.1);

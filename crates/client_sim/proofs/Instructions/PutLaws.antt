@@ -7,11 +7,12 @@ use Rattle.seg_spec.specs.Types.{Form, Table, form_at}
 use Rattle.seg_spec.specs.Value.{Value, Full}
 use Rattle.seg_spec.specs.Block.{block_of}
 use Rattle.seg_spec.specs.Reads.{Holds}
+use Rattle.seg_spec.specs.Parts.{Persists}
 use Rattle.seg_spec.specs.Index.{Root}
 use Rattle.seg_spec.specs.Sound.{HoldsRoot}
 use Rattle.seg_spec.specs.Owning.{Stands}
 use Rattle.seg_spec.specs.Calls.{IsLoose}
-use Rattle.seg_spec.specs.Frozen.{blocks_by}
+use Rattle.seg_spec.specs.Frozen.{Frozen, blocks_by}
 use Rattle.seg_spec.specs.Shared.{names_in, names_each, named_in, left, freed}
 use Rattle.seg_spec.specs.Clearing.{SharedBeside, BesideShared, ClearsPlace}
 use Rattle.seg_spec.proofs.Frozen.CountDecreaseLaws.{named_positions}
@@ -23,8 +24,8 @@ use Rattle.client_spec.specs.Machine.{◌>>=◌, Origin, Path, Register, State, 
 use Rattle.client_spec.specs.Answer.{success, path_of, path_form, content_in, owned_type, begins_at, provided, proceed}
 use Rattle.client_spec.specs.Effect.{outcome, effect}
 use Rattle.client_spec.specs.Shape.{HasShape}
-use Rattle.client_spec.specs.Asks.{PlaceGoes}
-use Rattle.client_spec.specs.Ties.{spot_of, Both, OfFrozen, OfRoot, OfOwner, OfPlace}
+use Rattle.client_spec.specs.Asks.{LedTo, PlaceGoes}
+use Rattle.client_spec.specs.Ties.{object_at, spot_of, Both, OfFrozen, OfRoot, OfOwner, PutsOwned, OfPlace}
 use Rattle.client_spec.specs.Typed.{Class, RegisterType, Reason, RegisterTypes, known, same_class, sharing, owner_needed, required, known_after, without_class, ended, others_ended, rule}
 use Rattle.client_spec.specs.Typed as typed
 use Rattle.client_spec.proofs.TypedStates.ValueFormLaws.{own_value, own_fits, not_is, required_is}
@@ -48,7 +49,9 @@ use Rattle.client_sim.proofs.EffectLaws.{acts_so}
 use Rattle.client_sim.proofs.Instructions.ItemLaws.{reaches, led_to, place_touched}
 use Rattle.client_sim.proofs.Objects.OwnedMoveLaws.{put_moves}
 use Rattle.client_sim.proofs.Objects.MoveWorldLaws.{with_owning, shows_moved, put_known, stays_released, frame_moved}
+use Rattle.client_sim.proofs.Objects.ObjectMoveLaws.{KeepsEach, object_stays, own_points}
 use Rattle.client_sim.proofs.Objects.OwnedObjectLaws.{owns_here, owns_apart}
+use Rattle.client_sim.proofs.Objects.OwnedPlaceLaws.{owned_less}
 
 -- another origin doesn't begin at the register
 pub begins_elsewhere : (c : ℕ) (o : Origin) → o ≢ Origin.Owned c → begins_at c o ≡ false
@@ -83,6 +86,11 @@ module _ (allocator : ℕ) (constants : List Constant) (role : Role) (a b c : �
       ∙ ap (λ o. o >>= λ _. last p U (new_value, U)) content
       ∙ ap (λ t. provided t (proceed (set_register (put_at s p (Full new_value)) c Register.Undefined))) test
 
+  -- the own has the object at this position, whose blocks are kept
+  pub record PutsIn (table : Table) (object : ℕ) (x : Value) (blocks inside : List ℕ) (theirs : ℕ → List ℕ) (now final : List Frozen) : Type 0 where
+    pub clears : ClearsPlace w.image new table (place_in w b) (Full x) (blocks ++ block_of object ∷ inside) (block_of object ∷ inside) theirs now final
+    pub kept : KeepsEach w.image new (block_of object ∷ inside)
+
   -- the call's contract for an own at register b's place and the object of register c, whatever
   -- frozen objects there are
   abbrev pub PutsOwn : Table → Type 0
@@ -90,7 +98,7 @@ module _ (allocator : ℕ) (constants : List Constant) (role : Role) (a b c : �
       (U : ℕ) (v x : Value) (blocks inside : List ℕ) → form_at table (place_in w b).type ≡ Some (Form.own U) → (stands : Stands allocator w.image table (place_in w b) v blocks)
       → IsLoose w.image table (record { at = (place_in w c).at; type = U }) x inside
       → BesideShared w.image table (stands.home ∷ (blocks ++ block_of (place_in w c).at ∷ inside)) (named_in v)
-      (ClearsPlace w.image new table (place_in w b) (Full x) (blocks ++ block_of (place_in w c).at ∷ inside) (block_of (place_in w c).at ∷ inside))
+      (PutsIn table (place_in w c).at x blocks inside)
 
   put_plainly : PutsOwn w.table
       → ActsPlainly allocator constants role put w (with_owning w new c false w.positions w.type_ids)
@@ -125,11 +133,12 @@ module _ (allocator : ℕ) (constants : List Constant) (role : Role) (a b c : �
       let gone = names_in l.value in
       let all = shared_here h.pictured l.in_image l.value l.found (stands.home ∷ (l.found.blocks ++ its)) gone [] (names_same (sym (append-nil gone))) apart.3 in
       let beside = subst (λ ns. SharedBeside w.image picture_table (stands.home ∷ (l.found.blocks ++ its)) ns all.theirs all.kept picture.frozen (left gone picture.frozen)) (named_positions l.value) all.beside in
-      let called : BesideShared w.image picture_table (stands.home ∷ (l.found.blocks ++ its)) (named_in l.value) (ClearsPlace w.image new picture_table (place_in w b) (Full o.value) (l.found.blocks ++ its) its) =
+      let called : BesideShared w.image picture_table (stands.home ∷ (l.found.blocks ++ its)) (named_in l.value) (PutsIn picture_table o.root.at o.value l.found.blocks apart.0) =
       subst (λ n. BesideShared w.image picture_table (stands.home ∷ (l.found.blocks ++ block_of n ∷ apart.0)) (named_in l.value)
-      (ClearsPlace w.image new picture_table (place_in w b) (Full o.value) (l.found.blocks ++ block_of n ∷ apart.0) (block_of n ∷ apart.0))) o.at_is
+      (PutsIn picture_table n o.value l.found.blocks apart.0)) o.at_is
       (subst PutsOwn table call r.what l.value o.value l.found.blocks apart.0 form stands loose) in
-      let clears = called all.theirs all.kept picture.frozen (left gone picture.frozen) beside in
+      let puts = called all.theirs all.kept picture.frozen (left gone picture.frozen) beside in
+      let clears = puts.clears in
       let changes = clears.changes in
       let names : names_in (Full o.value) ≡ names_each o.root.values = names_full o.value ∙ sym (names_one o.value) ∙ ap names_each (sym o.values_are) in
       let moved = put_moves h.pictured l.in_image l.value l.found new (Full o.value) c o.root its far o.root_is apart.1 names all.theirs all.beside.holds clears in
@@ -154,10 +163,19 @@ module _ (allocator : ℕ) (constants : List Constant) (role : Role) (a b c : �
       let object : OfOwner h.pictured c its = subst (λ (o : Option Root). OfRoot h.pictured o its) (sym o.root_is) (subst (λ (t : Table). HoldsRoot w.image t o.root its) h.pictured.types apart.1) in
       let touches : Both (Both (OfPlace constants put h.pictured (spot_of s.types (place_in w b))) (OfOwner h.pictured c)) (OfFrozen h.pictured) ((l.found.blocks ++ its) ++ blocks_by all.theirs picture.frozen) =
       (l.found.blocks ++ its, blocks_by all.theirs picture.frozen, (l.found.blocks, its, place_touched one h put r, object, refl), of_frozen h.pictured all.theirs all.beside.holds, refl) in
+      let moved_by : PutsOwned constants put h.pictured new = record {
+        root = o.root;
+        owned = o.root_is;
+        place = place_in w b;
+        led_to = subst (LedTo constants put h.pictured (place_in w b)) (own_is r.form r.what r.is ∙ ap Form.own (sym o.type_is)) (led_to one h put r);
+        points_to = own_points new picture_table (place_in w b) r.what form apart.2.block.after_header changes.holds_it;
+        stays = subst (λ (t : Table). Persists w.image new t (object_at o.root.at o.root.type) (object_at o.root.at o.root.type)) h.pictured.types
+            (object_stays stands.is_table apart.2.block apart.2.holds_it puts.kept);
+      } in
       let blocks = gives_back constants put h.pictured new refl (l.found.blocks ++ given) (place_in w b, r.form, led_to one h put r, goes) (given_back gone picture.frozen l.found.blocks (λ n. refl) clears) in
       subst (λ k. Acts others types constants first allocator put success k s w (with_owning w new c false w.positions w.type_ids)) (ap (λ (k : RegisterTypes × RegisterTypes). k.0) pair)
       (acts_so others types constants first allocator ks s w h put success true (slice_set ks' c RegisterType.Undefined) (set_register (put_at s l.path (Full o.value)) c Register.Undefined)
-      (with_owning w new c false w.positions w.type_ids) row (changed_at_place changes.back_kept refl refl tt (record {
+      (with_owning w new c false w.positions w.type_ids) (λ r o. inl (owned_less w.owns c r o)) row (changed_at_place changes.back_kept refl refl tt moved_by (λ t later. tt) (record {
         spot = spot_of s.types (place_in w b);
         own = _;
         touches = touches;

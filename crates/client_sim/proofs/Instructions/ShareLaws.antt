@@ -24,7 +24,7 @@ use Rattle.client_spec.specs.Answer.{success, path_in, path_of, path_form, share
 use Rattle.client_spec.specs.Effect.{outcome, effect}
 use Rattle.client_spec.specs.Grammar.{IsInstruction}
 use Rattle.client_spec.specs.Asks.{LedTo, Renames}
-use Rattle.client_spec.specs.Ties.{spot_of}
+use Rattle.client_spec.specs.Ties.{spot_of, SharesFrozen}
 use Rattle.client_spec.specs.Bare.{bare, bare_one}
 use Rattle.client_spec.specs.Meaning.{IsAsKnown}
 use Rattle.client_spec.specs.Pictures.{Pictures, meaning_in, value_through, PicturesTrees, trees_of}
@@ -366,8 +366,20 @@ module _ (allocator : ℕ) (constants : List Constant) (role : Role) (a b c : �
         gives_are = refl;
       }
 
+      shares : SharesFrozen constants share pictured new
+      shares = record {
+        place = place_in w b;
+        form = Form.shared f.held;
+        led_to = led_to;
+        path = from.path;
+        path_is = ap path_in from.plain_is;
+        cell = value;
+        there = from.reads;
+        now_there = subst (λ (ts : Table). Holds new ts (place_in w b) value []) pictured.types s.clears.changes.holds_it;
+      }
+
       changes : ChangesImage constants share pictured success new
-      changes = changed_at_place s.clears.changes.back_kept refl refl tt
+      changes = changed_at_place s.clears.changes.back_kept refl refl tt shares (λ u later. tt)
           (record {
             spot = spot_of h.plain.types (place_in w b);
             own = l.found.blocks ++ blocks_by s.theirs (frozen h);
@@ -387,7 +399,7 @@ module _ (allocator : ℕ) (constants : List Constant) (role : Role) (a b c : �
         objects_stay = frame.objects;
         length_kept = s.clears.changes.length_kept;
         header_kept = s.clears.changes.front_kept;
-        owning = owning h.shows plainly (λ r had has. refl);
+        owning = owning share h.shows plainly (λ r had has. refl) (λ r o. inl o);
         sees = sees;
         same_input = refl;
       }

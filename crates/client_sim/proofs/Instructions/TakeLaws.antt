@@ -1,13 +1,15 @@
 -- TAKE: a register gets the object of an own, or a code if the own is empty.
 use Rattle.std.proofs.Common.{◌≡◌, ◌≢◌, ℕ, zero, suc, ◌<◌, ℤ, pos, List, [], ◌∷◌, ◌++◌, length, Bool, true, false, inl, inr, Option, Some, None, refl, sym, ◌∙◌, ap, subst, arith}
 use Rattle.std.specs.Prelude.{slice_set, slice_index_or}
+use Rattle.std.proofs.lemmas.Bool.{cases_eq}
 use Rattle.std.proofs.lemmas.List.{length-map}
 use Rattle.seg_spec.specs.Types.{Form, Table, form_at}
 use Rattle.seg_spec.specs.Value.{Value, node, Label, nil, cons, Empty, Full}
 use Rattle.seg_spec.specs.Heap.{live}
 use Rattle.seg_spec.specs.Block.{block_of}
 use Rattle.seg_spec.specs.Index.{Root}
-use Rattle.seg_spec.specs.Reads.{Place, Leads, here}
+use Rattle.seg_spec.specs.Reads.{Place, Holds, Leads, here}
+use Rattle.seg_spec.specs.Parts.{Persists}
 use Rattle.seg_spec.specs.Sound.{IsPlain, HoldsRoot}
 use Rattle.seg_spec.specs.Owning.{Stands}
 use Rattle.seg_spec.specs.Calls.{IsLoose}
@@ -20,8 +22,8 @@ use Rattle.client_spec.specs.Answer.{success, null_or_none, answer_number, path_
 use Rattle.client_spec.specs.Effect.{outcome, effect}
 use Rattle.client_spec.specs.Effect as effects
 use Rattle.client_spec.specs.Shape.{HasShape}
-use Rattle.client_spec.specs.Asks.{GrantsAsks}
-use Rattle.client_spec.specs.Ties.{spot_of}
+use Rattle.client_spec.specs.Asks.{LedTo, GrantsAsks}
+use Rattle.client_spec.specs.Ties.{object_at, spot_of, ComesBy, TakesContent}
 use Rattle.client_spec.specs.Meaning.{LeadsToType, IsAsKnown}
 use Rattle.client_spec.specs.Pictures.{LeadsInImage}
 use Rattle.client_spec.specs.Typed.{Class, RegisterType, known, sharing, without_class, ended, others_ended, opens, rule}
@@ -33,7 +35,7 @@ use Rattle.client_spec.proofs.TypedStates.ShapeLaws.{value_of_form}
 use Rattle.client_spec.proofs.Spelling.ConstantNameLaws.{one_each}
 use Rattle.client_spec.proofs.TypedStates.StateLaws.{not_owner}
 use Rattle.client_spec.proofs.TypedStates.ValueLaws.{length_set}
-use Rattle.client_sim.proofs.Objects.OwnedPlaceLaws.{owner_elsewhere}
+use Rattle.client_sim.proofs.Objects.OwnedPlaceLaws.{GainsOwners, owner_elsewhere}
 use Rattle.client_sim.specs.Shows.{World, place_in, owns_in, Acts}
 use Rattle.client_sim.specs.Acting.{ActsAs, IsRefusedAs, ActsPlainly}
 use Rattle.client_sim.proofs.ImageChangeLaws.{kept_at_place, changed_at_place, unchanged}
@@ -41,10 +43,11 @@ use Rattle.client_sim.proofs.Frozen.UnfoldedOperationLaws.{lifted_acts, lifted_r
 use Rattle.client_sim.proofs.UnchangedImageLaws.{set_there, set_beside, not_given}
 use Rattle.client_sim.proofs.Instructions.NumberLaws.{unowned}
 use Rattle.client_sim.proofs.EffectLaws.{acts_so}
-use Rattle.client_sim.proofs.Instructions.ItemLaws.{reaches, place_touched, opens_then, shows_ended, code_acts}
+use Rattle.client_sim.proofs.Instructions.ItemLaws.{reaches, led_to, place_touched, opens_then, shows_ended, code_acts}
 use Rattle.seg_spec.specs.Shared.{names_in, names_each}
 use Rattle.seg_spec.proofs.Frozen.PartCountLaws.{names_same}
 use Rattle.seg_spec.proofs.Frozen.ValueCellLaws.{names_empty, names_full, names_one}
+use Rattle.client_sim.proofs.Objects.ObjectMoveLaws.{KeepsEach, own_points, content_stays}
 use Rattle.client_sim.proofs.Objects.OwnedMoveLaws.{take_moves}
 use Rattle.client_sim.proofs.Objects.MoveWorldLaws.{with_owning, shows_moved, stays_put, frame_moved}
 use Rattle.client_sim.proofs.Objects.OwnedObjectLaws.{root_of, root_of_loose}
@@ -63,6 +66,9 @@ empty_is : (v : Value) → content_in v ≡ Some None → v ≡ Empty
 empty_is (node Label.opt nil) e = refl
 empty_is (node Label.opt (cons w nil)) e = cc
 empty_is v e = cc
+
+is_known : (U : ℕ) → RegisterType.Owner U ≢ RegisterType.Undefined
+is_known U e = cc
 
 -- the empty path from a root ends at the root
 leads_itself : (bytes : List ℕ) (table : Table) (root : Root) → Leads bytes table (item_of table root 0) [] (record { at = root.at; type = root.type })
@@ -91,7 +97,7 @@ module _ (allocator : ℕ) (constants : List Constant) (role : Role) (a b c : �
       (Stands allocator w.image table (place_in w b) Empty blocks → ⊥) ×
       ((v : Value) → Stands allocator w.image table (place_in w b) (Full v) blocks
       → (T ≡ U) × (inside : List ℕ) × (blocks ≡ block_of at ∷ inside) × IsLoose new table (record { at = at; type = U }) v inside
-      × ChangesPlace w.image new table (place_in w b) Empty [] (live w.image) blocks blocks)
+      × ChangesPlace w.image new table (place_in w b) Empty [] (live w.image) blocks blocks × KeepsEach w.image new blocks)
 
   -- the own is empty, and nothing changes
   abbrev pub FindsEmpty : ℕ → Table → Type 0
@@ -124,7 +130,8 @@ module _ (allocator : ℕ) (constants : List Constant) (role : Role) (a b c : �
             let U = r.what in
             let v = some.0 in
             let after = others_ended r.class b ks in
-            let t = told.1 v (subst (λ x. Stands allocator w.image w.table (place_in w b) x l.found.blocks) some.1 l.stands) in
+            let full = subst (λ x. Stands allocator w.image w.table (place_in w b) x l.found.blocks) some.1 l.stands in
+            let t = told.1 v full in
             let table : w.table ≡ h.pictured.picture.table = h.table_is ∙ sym h.pictured.types in
             let picture_table = h.pictured.picture.table in
             let root = root_of (record { at = at; type = U }) v in
@@ -162,12 +169,32 @@ module _ (allocator : ℕ) (constants : List Constant) (role : Role) (a b c : �
             (λ n far. stays_put one h b r.class r.type r.known_as l Empty fits new a owner (λ o. ⊥) moved.0.to (λ o z. z) n) (owns_here, ap (λ (q : Place). q.type) at_here, led) in
             let row : outcome constants take true s ≡ Some (success, state) =
             take_row s l.path r.form U l.value (Some v) r.path_is r.path_form_is r.is l.there (ap content_in some.1) ∙ answer_is types constants after after_put known_then success a owner o.0 in
+            let low = t.3.block.after_header in
+            let own_holds : Holds w.image w.table (place_in w b) (Full v) (block_of at ∷ t.1) = subst (Holds w.image w.table (place_in w b) (Full v)) t.2 full.holds_it in
+            let led_here : LedTo constants take h.pictured (place_in w b) (Form.own U) = subst (LedTo constants take h.pictured (place_in w b)) (own_is r.form U r.is) (led_to one h take r) in
+            let pointed_to = own_points w.image w.table (place_in w b) U form low own_holds in
+            let moved_by : TakesContent constants take h.pictured new = record {
+              object = at;
+              type = U;
+              place = place_in w b;
+              led_to = led_here;
+              pointed_to = pointed_to;
+              stays = subst (λ (t : Table). Persists w.image new t (object_at at U) (object_at at U)) h.table_is
+                  (content_stays w.image w.table (place_in w b) U form low own_holds full.is_table (subst (KeepsEach w.image new) t.2 t.5));
+            } in
+            let at_there : slice_index_or positions a 0 ≡ at = set_there w.positions a at 0 (let n = h.registers.positions in omega (arith, n, valid.a)) in
+            let gains : GainsOwners constants take w w' h.pictured = λ q o. elim (cases_eq a q) [
+              | inl same ↦
+                  inr (subst (λ n. ComesBy constants take h.pictured Operation.Take (slice_index_or positions n 0)) same
+                  (subst (ComesBy constants take h.pictured Operation.Take) (sym at_there) (place_in w b, Form.own U, led_here, pointed_to)))
+              | inr far ↦ inl (sym (set_beside w.owns a q true false far) ∙ o)
+            ] in
             let blocks : GrantsAsks constants take h.pictured new = record { asks = []; asked = refl; gives = []; returned = refl; blocks = live w.image; granted = refl; left = changes.live_is } in
             subst (λ n. Acts others types constants first allocator take success (slice_set after a (RegisterType.Owner U)) s w (owner_then at n)) (sym t.0)
-            (acts_so others types constants first allocator ks s w h take success true (slice_set after a (RegisterType.Owner U)) state w' row (changed_at_place changes.back_kept refl refl tt
+            (acts_so others types constants first allocator ks s w h take success true (slice_set after a (RegisterType.Owner U)) state w' gains row (changed_at_place changes.back_kept refl refl tt moved_by (λ t later. tt)
             (record { spot = spot_of s.types (place_in w b); own = l.found.blocks; touches = place_touched one h take r; kept = kept_at_place s.types h.table_is t.4 }) blocks) changes.length_kept changes.front_kept refl shows
             (frame_moved one h b r.class r.type r.known_as l Empty fits new a owner (λ o. ⊥) moved.0.to _ _ _ _ _ _ _ _ _ _ _ _ _ _
-            (λ n e free. not_given after a n (RegisterType.Owner U) (let m = valid.a in omega (arith, sixteen, m)) (λ f. cc) e) moved.0.stays
+            (λ n e free. not_given after a n (RegisterType.Owner U) (let m = valid.a in omega (arith, sixteen, m)) (is_known U) e) moved.0.stays
             (λ n had has. ap (λ (q : Place). q.at) (others_placed w at U n (owner_elsewhere (shows_ended one h r.class b) a o.0 n had)))))
       ])
 
@@ -193,7 +220,7 @@ module _ (allocator : ℕ) (constants : List Constant) (role : Role) (a b c : �
               subst (λ k. Acts others types constants first allocator take null_or_none k s w (with_code w new a code)) (sym o.2)
                   (subst (λ (owns : List Bool). Acts others types constants first allocator take null_or_none (slice_set after a RegisterType.Int) s w
                   (record w { image = new; owns = owns; numbers = slice_set w.numbers a (pos code) })) (sym (none_set w.owns a none))
-                  (code_acts one h take r null_or_none true new code t.0 t.1 valid.a o.0 row (unchanged refl refl))),
+                  (code_acts one h take r null_or_none true new code t.0 t.1 valid.a o.0 row (unchanged refl refl refl))),
             )
         | inr some ↦ absurd (told.1 some.0 (subst (λ x. Stands allocator w.image w.table (place_in w b) x r.its.found.blocks) some.1 r.its.stands))
       ])

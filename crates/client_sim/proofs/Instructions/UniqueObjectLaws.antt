@@ -24,7 +24,7 @@ use Rattle.client_spec.specs.Machine.{Origin, Path, Register, State, with_unique
 use Rattle.client_spec.specs.Answer.{Answer, Outcome, success, bad_alloc, already_exists, answer_number, path_from, refer, fail, give_count}
 use Rattle.client_spec.specs.Effect.{outcome, effect, add_unique, truth}
 use Rattle.client_spec.specs.Asks.{GrantsAsks, Denies, Asks, Returns, RootGoes, if_absent}
-use Rattle.client_spec.specs.Ties.{nowhere, KeepsBut}
+use Rattle.client_spec.specs.Ties.{nowhere, GetsBlock, KeepsBut, UniquesCome}
 use Rattle.client_spec.specs.Grammar.{IsNumber, IsInstruction}
 use Rattle.client_spec.specs.Shape.{HasShape}
 use Rattle.client_spec.specs.Typed.{Class, RegisterType, RegisterTypes, known, is_owner, sharing, ended, without_class, opens, rule}
@@ -44,18 +44,20 @@ use Rattle.client_sim.proofs.Instructions.NumberLaws.{with_number, quiet, gives_
 use Rattle.client_sim.proofs.EffectLaws.{acts_so, refuses_with, with_place, shows_number, shows_reference, frame_number, frame_reference}
 use Rattle.client_sim.proofs.FrameLaws.{Frame, frame_same, unknown_same}
 use Rattle.client_sim.proofs.Frozen.FrozenPathLaws.{frozen_same_image}
-use Rattle.client_sim.proofs.GrantLaws.{grants_spent, denies}
+use Rattle.client_sim.proofs.GrantLaws.{GrantsBlock, gets_block, grants_spent, denies}
 use Rattle.client_sim.proofs.Objects.ObjectChangeLaws.{shows_rooted, pictured_rooted, frame_rooted, objects_rooted}
 use Rattle.client_sim.proofs.Instructions.FindLaws.{OfPicture, of_picture, begins_unique, type_number, unique_found, none_unique, leads_unique, unique_typed}
 use Rattle.client_sim.proofs.EndedReferenceLaws.{LeavesPicture, type_known, ended_shown}
 use Rattle.client_sim.proofs.Instructions.OwnerLaws.{new_object, LeavesWithout, root_touched, paths_with, frozen_with, paths_without, frozen_without, gone_with}
 use Rattle.client_sim.proofs.Objects.UniqueChangeLaws.{UniqueComes, unique_comes, UniqueGoes, unique_goes}
 use Rattle.client_sim.proofs.Objects.ObjectPlaceLaws.{objects_same}
+use Rattle.client_sim.proofs.Objects.NewObjectLaws as new_objects
 
 -- the type has no unique object, and a new one is added
 pub record JoinsUniques (allocator : ℕ) (old new : List ℕ) (table : Table) (picture : Picture) (T at : ℕ) : Type 0 where
   pub none : root_of_type picture.uniques T ≡ None
   pub spends : spent allocator (live old) (length old) (block_for (size table T) ∷ []) [] ≡ Some (live new)
+  pub gets : GrantsBlock allocator old (size table T) at
   pub before : List Root
   pub after : List Root
   pub uniques_are : picture.uniques ≡ before ++ after
@@ -203,10 +205,16 @@ module _ (allocator : ℕ) (constants : List Constant) (role : Role) (a b c : �
         let shows = shows_reference others types constants first allocator ks s' (with_image w new) more a (Class.Unique T) T path_is place within its.0 refl (unique_typed more T at u) refl (leads_unique more T at u) in
         let blocks : GrantsAsks constants i h.pictured new = grants_spent constants i h.pictured allocator h.allocator_is (asks_one w.table) asked new [] returned (live new) call.spends refl in
         subst (λ k. Acts others types constants first allocator i success k s w (with_place (with_image w new) a place)) (sym good_is)
-        (acts_so others types constants first allocator ks s w h i success true (ks_then ks) (set_register s' a (Register.Reference path_is)) (with_place (with_image w new) a place)
+        (acts_so others types constants first allocator ks s w h i success true (ks_then ks) (set_register s' a (Register.Reference path_is)) (with_place (with_image w new) a place) (λ r o. inl o)
         (row ∙ answer_is types constants ks s' more.as_known success a (Register.Reference path_is) its.0) (changes blocks call.becomes.next_kept
         (kept_nowhere [] h.pictured.held.laid_out.heap call.becomes.kept)) call.becomes.length_kept call.becomes.front_kept refl shows
         (frame_reference others types constants first allocator ks s' (with_image w new) more a _ _ _ _ _ _ _ _ _ _ (frame_more one h T d fits none root new come call.becomes.front_kept)))
+
+    -- the new object is in the block that the request for it gets
+    comes : (operation : Operation) (at : ℕ) → JoinsUniques allocator w.image new w.table h.pictured.picture T at → (t : State) (later : Pictures others t new) → UniquesCome (of operation) h.pictured later
+    comes operation at call t later =
+        let gets = gets_block allocator w.image (size w.table T) at h.allocator_is call.gets in
+        new_objects.unique_comes (of operation) h.pictured later call.before (new_object w.table T at) call.after call.uniques_are call.becomes.held (subst (λ (z : Table). GetsBlock w.image (size z T) at) h.table_is gets)
 
     -- the machine does a row that finds the unique object
     found : (operation : Operation) (at : ℕ) → begins_unique h.pictured.picture T ≡ Some at → new ≡ w.image → ((v : Value) → s.uniques T ≡ Some v → GrantsAsks constants (of operation) h.pictured w.image)
@@ -220,7 +228,7 @@ module _ (allocator : ℕ) (constants : List Constant) (role : Role) (a b c : �
         let shows = shows_reference others types constants first allocator ks s w h a (Class.Unique T) T path_is place within its.0 refl (unique_typed h T at u) refl (leads_unique h T at u) in
         subst (λ k. Acts others types constants first allocator i success k s w (with_place (with_image w new) a place)) (sym good_is)
         (subst (λ (image : List ℕ). Acts others types constants first allocator i success (ks_then ks) s w (with_place (with_image w image) a place)) (sym same)
-        (acts_so others types constants first allocator ks s w h i success true (ks_then ks) (set_register s a (Register.Reference path_is)) (with_place w a place)
+        (acts_so others types constants first allocator ks s w h i success true (ks_then ks) (set_register s a (Register.Reference path_is)) (with_place w a place) (λ r o. inl o)
         (row u.plain.value u.there ∙ answer_is types constants ks s h.as_known success a (Register.Reference path_is) its.0) (changes (granted u.plain.value u.there)) refl refl refl shows
         (frame_reference others types constants first allocator ks s w h a _ _ _ _ _ _ _ _ _ _ (frame_same _ _ _))))
 
@@ -266,7 +274,8 @@ module _ (allocator : ℕ) (constants : List Constant) (role : Role) (a b c : �
   make_unique_acts at says = lifted_acts refl (λ types others first ks good bad s right valid e h.
       let call = said right valid.number valid.a e h {P = λ p. JoinsUniques allocator w.image new w.table p T at} says in
       let none = none_at right valid.number valid.a e h call.none in
-      made right valid.number valid.a e h Operation.MakeUnique at call (asks_some right valid.number valid.a e h none) refl (λ g next kept. changed next refl tt (record { spot = nowhere; own = []; touches = (refl, refl); kept = kept }) g)
+      made right valid.number valid.a e h Operation.MakeUnique at call (asks_some right valid.number valid.a e h none) refl
+      (λ g next kept. changed next refl tt tt (comes right valid.number valid.a e h Operation.MakeUnique at call) (record { spot = nowhere; own = []; touches = (refl, refl); kept = kept }) g)
       (row_none right valid.number valid.a e h (λ n. fail a already_exists s) (λ n. add_unique a n true s) none))
 
   -- UMAKE fails if there is one, or no room
@@ -279,14 +288,14 @@ module _ (allocator : ℕ) (constants : List Constant) (role : Role) (a b c : �
             let u = unique_found h T r.1.0 r.1.1 in (
               already_exists,
               λ f. cc,
-              refused right valid.number valid.a e h Operation.MakeUnique already_exists true code r.0 r.2 (unchanged refl refl)
+              refused right valid.number valid.a e h Operation.MakeUnique already_exists true code r.0 r.2 (unchanged refl refl refl)
                   (row_there right valid.number valid.a e h (λ n. fail a already_exists s) (λ n. add_unique a n true s) u.plain.value u.there),
             )
         | inr r ↦ (
           bad_alloc,
           λ f. cc,
           refused right valid.number valid.a e h Operation.MakeUnique bad_alloc false code r.0 r.2.same
-              (unchanged refl (no_room right valid.number valid.a e h Operation.MakeUnique (asks_some right valid.number valid.a e h r.1) r.2))
+              (unchanged refl refl (no_room right valid.number valid.a e h Operation.MakeUnique (asks_some right valid.number valid.a e h r.1) r.2))
               (row_none right valid.number valid.a e h (λ n. fail a already_exists s) (λ n. add_unique a n false s) r.1),
         )
       ])
@@ -298,13 +307,13 @@ module _ (allocator : ℕ) (constants : List Constant) (role : Role) (a b c : �
   find_or_make_unique_acts at says = lifted_acts refl (λ types others first ks good bad s right valid e h.
       let i = of Operation.FindOrMakeUnique in
       elim (said right valid.number valid.a e h {P = IsFoundOrJoins allocator w.image new w.table T at} says) [
-        | inl r ↦ found right valid.number valid.a e h Operation.FindOrMakeUnique at r.0 r.1 (λ v there. quiet constants i h.pictured (asks_none right valid.number valid.a e h v there) refl) (unchanged refl)
+        | inl r ↦ found right valid.number valid.a e h Operation.FindOrMakeUnique at r.0 r.1 (λ v there. quiet constants i h.pictured (asks_none right valid.number valid.a e h v there) refl) (unchanged refl refl)
             (λ v there. row_there right valid.number valid.a e h (λ n. refer a (path_from (Origin.Unique n)) s) (λ n. add_unique a n true s) v there)
         | inr call ↦
             let none = none_at right valid.number valid.a e h call.none in
             made right valid.number valid.a e h Operation.FindOrMakeUnique at call (asks_some right valid.number valid.a e h none) refl
             (λ g next kept. changed next refl (λ root some. absurd (let f : Some root ≡ None = sym some ∙ ap (root_of_type h.pictured.picture.uniques)
-            (known_type right valid.number valid.a e h).0 ∙ call.none in cc)) (record { spot = nowhere; own = []; touches = (refl, refl); kept = kept }) g)
+            (known_type right valid.number valid.a e h).0 ∙ call.none in cc)) tt (comes right valid.number valid.a e h Operation.FindOrMakeUnique at call) (record { spot = nowhere; own = []; touches = (refl, refl); kept = kept }) g)
             (row_none right valid.number valid.a e h (λ n. refer a (path_from (Origin.Unique n)) s) (λ n. add_unique a n true s) none)
       ])
 
@@ -316,7 +325,7 @@ module _ (allocator : ℕ) (constants : List Constant) (role : Role) (a b c : �
         bad_alloc,
         λ f. cc,
         refused right valid.number valid.a e h Operation.FindOrMakeUnique bad_alloc false code r.0 r.2.same
-            (unchanged refl (no_room right valid.number valid.a e h Operation.FindOrMakeUnique (asks_some right valid.number valid.a e h r.1) r.2))
+            (unchanged refl refl (no_room right valid.number valid.a e h Operation.FindOrMakeUnique (asks_some right valid.number valid.a e h r.1) r.2))
             (row_none right valid.number valid.a e h (λ n. refer a (path_from (Origin.Unique n)) s) (λ n. add_unique a n false s) r.1),
       ))
 
@@ -366,9 +375,9 @@ module _ (allocator : ℕ) (constants : List Constant) (role : Role) (a b c : �
           subst (λ (o : Option Root). RootGoes constants i h.pictured o (c.blocks ++ shared)) (sym (ap (root_of_type picture.uniques) operand ∙ call.root_is))
           (c.blocks, subst (λ (t : Table). HoldsRoot w.image t call.root c.blocks) h.table_is c.holds_it, (shared, gone_with h new call.root refl c, refl)) in
           let blocks : GrantsAsks constants i h.pictured new = record { asks = []; asked = refl; gives = c.blocks ++ shared; returned = returned; blocks = live w.image; granted = refl; left = c.live_is } in
-          acts_so others types constants first allocator ks s w h i success true (slice_set (ended (Class.Unique T) ks) a RegisterType.Int) (set_register s' a (Register.Int (pos 1))) (with_number (with_image w new) a (pos 1))
+          acts_so others types constants first allocator ks s w h i success true (slice_set (ended (Class.Unique T) ks) a RegisterType.Int) (set_register s' a (Register.Int (pos 1))) (with_number (with_image w new) a (pos 1)) (λ r o. inl o)
           (row (Some u.plain.value) u.there ∙ answer_is types constants (ended (Class.Unique T) ks) s' less.as_known success a (Register.Int (pos 1)) free) (changed c.becomes.next_kept refl (λ none. absurd
-          (let f : None ≡ Some call.root = sym none ∙ ap (root_of_type picture.uniques) operand ∙ call.root_is in cc)) (record {
+          (let f : None ≡ Some call.root = sym none ∙ ap (root_of_type picture.uniques) operand ∙ call.root_is in cc)) tt (λ t later. tt) (record {
             spot = nowhere;
             own = c.blocks ++ blocks_by c.theirs picture.frozen;
             touches = (refl, root_touched h new call.root refl c (root_of_type picture.uniques (nat_abs number)) (ap (root_of_type picture.uniques) operand ∙ call.root_is));
@@ -383,7 +392,7 @@ module _ (allocator : ℕ) (constants : List Constant) (role : Role) (a b c : �
           let returned : RootGoes constants i h.pictured (root_of_type picture.uniques (nat_abs number)) [] =
           subst (λ (o : Option Root). RootGoes constants i h.pictured o []) (sym (ap (root_of_type picture.uniques) operand ∙ none_begins (root_of_type picture.uniques T) call.0)) refl in
           subst (λ (image : List ℕ). Acts others types constants first allocator i success (slice_set (ended (Class.Unique T) ks) a RegisterType.Int) s w (with_number (with_image w image) a (pos 0))) (sym call.1)
-          (acts_so others types constants first allocator ks s w h i success true (slice_set (ended (Class.Unique T) ks) a RegisterType.Int) (set_register s a (Register.Int (pos 0))) (with_number w a (pos 0))
-          (row None (none_unique h T call.0) ∙ answer_is types constants (ended (Class.Unique T) ks) s still.as_known success a (Register.Int (pos 0)) free) (unchanged refl (quiet constants i h.pictured refl returned)) refl refl refl
+          (acts_so others types constants first allocator ks s w h i success true (slice_set (ended (Class.Unique T) ks) a RegisterType.Int) (set_register s a (Register.Int (pos 0))) (with_number w a (pos 0)) (λ r o. inl o)
+          (row None (none_unique h T call.0) ∙ answer_is types constants (ended (Class.Unique T) ks) s still.as_known success a (Register.Int (pos 0)) free) (unchanged refl refl (quiet constants i h.pictured refl returned)) refl refl refl
           (shows_number others types constants first allocator (ended (Class.Unique T) ks) s w still a (pos 0) within free)
           (frame_number others types constants first allocator _ s w still a _ _ _ (frame_ended one h (Class.Unique T))))

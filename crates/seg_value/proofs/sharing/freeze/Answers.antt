@@ -12,7 +12,7 @@ use Rattle.seg_spec.specs.Shared.{names_in}
 use Rattle.seg_spec.specs.Window.{Placement, with_bytes}
 use Rattle.seg_spec.proofs.WindowLaws.{bytes_of}
 use Rattle.seg_cells.specs.Places.{place_of, object_at}
-use Rattle.seg_spec.specs.Sharing.{Freezes}
+use Rattle.seg_value.specs.Sharing.{FreezesParts}
 use Rattle.seg_value.proofs.ClearLaws.{typed}
 use Rattle.seg_value.proofs.SharedCells.{ClearsCell}
 use Rattle.seg_value.proofs.FrozenCells.{freezes, moved_as}
@@ -31,7 +31,7 @@ returns-in_err-payload-clause-frozen g c = λ T v w blocks inside theirs kept no
     let known = subst (λ x. x < length old.types) (sym t_is) (typed old.window.bytes old.types (object_at c.args.object T) w inside loose.holds_it) in
     let loose_as = subst (λ x. IsLoose old.window.bytes old.types (object_at c.args.object x) w inside) (sym t_is) loose in
     let refused = c.in_err-payload.ensures.moved w inside s.is_table known s.heap loose_as number_is (subst (λ n. suc n < 4294967296) (sym number_is) small) in
-    only_err c.from_residual.result (λ done. Freezes g.F.Fit.allocator old.window.bytes last old.types (place_of c.args.cell) T c.args.object w inside blocks (names_in v) theirs now)
+    only_err c.from_residual.result (λ done. FreezesParts g.F.Fit.allocator old.window.bytes last old.types (place_of c.args.cell) T c.args.object w inside blocks (names_in v) theirs now)
     (Refuses g.F.Fit.allocator old.window.bytes last (block_for (8 + size old.types T) ∷ [])) c.from_residual.ensures.0
     (subst (λ x. Refuses g.F.Fit.allocator old.window.bytes last (block_for (8 + size old.types x) ∷ [])) t_is refused)
 
@@ -53,4 +53,4 @@ returns-clause-frozen g c = λ T v w blocks inside theirs kept now f s loose b s
     let allowed : AllowsType old.types Kind.frozen T = typed old.window.bytes old.types (object_at c.args.object T) w inside loose.holds_it in
     let made = freezes g.F.Fit.allocator old.window.bytes mid.window.bytes old.types (place_of cell) T c.args.object p f v w blocks inside theirs kept now s b
     (λ bytes h tag link. record { kind = Kind.frozen; type = T; allowed = allowed; tag_is = tag; link_is = link }) moved last.bytes clears in
-    subst (λ bytes. Freezes g.F.Fit.allocator old.window.bytes bytes old.types (place_of cell) T c.args.object w inside blocks (names_in v) theirs now) (sym named) made
+    subst (λ bytes. FreezesParts g.F.Fit.allocator old.window.bytes bytes old.types (place_of cell) T c.args.object w inside blocks (names_in v) theirs now) (sym named) made

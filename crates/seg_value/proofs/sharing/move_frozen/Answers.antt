@@ -21,4 +21,4 @@ returns-clause-moved g c = λ v inside valid known heap loose number_is small.
     let given = c.in_ok-payload.ensures.given 8 T (tag_of Kind.frozen T) shape.Object content (omega arith) tag_small valid known heap in
     let written = bytes_of c.count_frozen.new.heap.window (with_bytes freed (set_word (set_word (set_word freed.bytes p 1) (p + 4) number) next_word ((number + 1) % 2 ^ 32))) c.count_frozen.ensures.window in
     all_moved g.F.Fit.allocator old.window.bytes c.new_block.new.self.window.bytes c.shift.new.self.window.bytes freed.bytes c.count_frozen.new.heap.window.bytes old.types c.new_block.new.self.types T c.args.object p _ number _
-    v inside valid heap loose number_is small given c.new_block.ensures.types refl c.shift.ensures.changes c.shift.ensures.values c.free_block.ensures.gives written refl
+    v inside valid heap loose number_is small given c.new_block.ensures.types refl c.shift.ensures.changes c.shift.ensures.parts c.free_block.ensures.gives written refl

@@ -11,5 +11,4 @@ returns-clause-does g c =
     let gives = c.take-object.ensures.taken in
     put_does g.F.Fit.allocator i c.args.self.now c.take-object.new.self c.args.segment.now c.set_own.new.heap (c.set_own.ensures.types ∙ ap (λ (s : Stored). s.types) c.heap_mut.ensures.value)
     c.heap_mut.result.now c.heap_mut.ensures.value c.place.result (c.place.ensures.at ∙ ap (λ (m : Machine). slice_index_or m.positions i.b 0) gives)
-    (c.place.ensures.type_id ∙ ap (λ (m : Machine). slice_index_or m.type_ids i.b 0) gives) c.take-object.result.at c.take-object.ensures.at gives
-    (λ U v x blocks inside form stands loose theirs kept now final beside. (c.set_own.ensures.set U v x blocks inside form stands loose theirs kept now final beside).clears)
+    (c.place.ensures.type_id ∙ ap (λ (m : Machine). slice_index_or m.type_ids i.b 0) gives) c.take-object.result.at c.take-object.ensures.at gives c.set_own.ensures.set
