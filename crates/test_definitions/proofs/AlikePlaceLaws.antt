@@ -8,13 +8,13 @@ use Rattle.seg_spec.specs.Value.{Value, Values, Selector}
 use Rattle.seg_spec.specs.Block.{IsBlock, block_of, has_buffer}
 use Rattle.seg_spec.specs.Reads.{Place, Opened, Opens, Holds, holds, HoldsEach, holds_none, holds_more, Leads, here, into, count_at, named, NamesRoom}
 use Rattle.seg_spec.proofs.Values.OneValueLaws.{Opens-one}
-use Rattle.test_definitions.specs.Alike.{AlikeAt, opens_alike, AlikeEach, none_alike, more_alike}
+use Rattle.test_definitions.specs.Alike.{has_count, AlikeAt, opens_alike, AlikeEach, none_alike, more_alike}
 
 module _ (first second : List ℕ) (table : Table) where
   -- how the place opens in both images
   pub record OpenAlike (place : Place) (form : Form) (opened : Opened) : Type 0 where
     pub opens : Opens second table place form opened
-    pub counts : count_at second place.at ≡ count_at first place.at
+    pub counts : has_count form ≡ true → count_at second place.at ≡ count_at first place.at
     pub parts : AlikeEach first second table opened.parts
 
   pub open_alike : {place : Place} (form : Form) (opened : Opened) → form_at table place.type ≡ Some form → Opens first table place form opened → AlikeAt first second table place → OpenAlike place form opened
@@ -23,7 +23,7 @@ module _ (first second : List ℕ) (table : Table) where
       let same : opened' ≡ opened = Opens-one first table place form opened' opened (subst (λ (k : Form). Opens first table place k opened') forms o') o in
       record {
         opens = subst (λ (q : Opened). Opens second table place form q) same (subst (λ (k : Form). Opens second table place k opened') forms p);
-        counts = n;
+        counts = subst (λ (k : Form). has_count k ≡ true → count_at second place.at ≡ count_at first place.at) forms n;
         parts = subst (λ (q : Opened). AlikeEach first second table q.parts) same each;
       }
 
@@ -55,13 +55,19 @@ module _ (first second : List ℕ) (table : Table) where
 module _ (bytes : List ℕ) (table : Table) where
   mutual
     pub alike_itself : {place : Place} {v : Value} {blocks : List ℕ} → Holds bytes table place v blocks → AlikeAt bytes bytes table place
-    alike_itself {place = place} (holds form opened inside owned f o hs v_is blocks_are) = opens_alike form opened f o o refl (each_itself hs)
+    alike_itself {place = place} (holds form opened inside owned f o hs v_is blocks_are) = opens_alike form opened f o o (λ e. refl) (each_itself hs)
 
     pub each_itself : {places : List Place} {vs : Values} {blocks : List ℕ} → HoldsEach bytes table places vs blocks → AlikeEach bytes bytes table places
     each_itself holds_none = none_alike
     each_itself (holds_more h hs) = more_alike (alike_itself h) (each_itself hs)
 
 -- ---- buffers
+
+-- a cell with a buffer has a count
+pub buffer_counts : (form : Form) → has_buffer (Some form) ≡ true → has_count form ≡ true
+buffer_counts Form.i64 e = cc
+buffer_counts (Form.struct fields) e = cc
+buffer_counts form e = refl
 
 -- the blocks of two pointers are the same only if the pointers are
 one_target : (s t : Option ℕ) → MatchOption s (⊤) (λ p. 16 ≤ p) → MatchOption t (⊤) (λ p. 16 ≤ p) → option_to_list (option_map block_of s) ≡ option_to_list (option_map block_of t) → s ≡ t

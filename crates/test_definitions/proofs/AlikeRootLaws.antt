@@ -27,12 +27,12 @@ use Rattle.test_definitions.proofs.OneState.{AsPictured, as_pictured}
 
 -- ---- the root where a path begins
 
-nth_inside : (vs : Values) (i : ℕ) (v : Value) → nth vs i ≡ Some v → i < count vs
+pub nth_inside : (vs : Values) (i : ℕ) (v : Value) → nth vs i ≡ Some v → i < count vs
 nth_inside nil i v e = cc
 nth_inside (cons w vs) zero v e = omega arith
 nth_inside (cons w vs) (suc i) v e = (let l = nth_inside vs i v e in omega arith)
 
-begun : (o : Option Root) (n : ℕ) (root : Root) (item : ℕ) → ◌≡◌ {A = Option (Root × ℕ)} (option_map (λ (r : Root). (r, n)) o) (Some (root, item)) → (o ≡ Some root) × (n ≡ item)
+pub begun : (o : Option Root) (n : ℕ) (root : Root) (item : ℕ) → ◌≡◌ {A = Option (Root × ℕ)} (option_map (λ (r : Root). (r, n)) o) (Some (root, item)) → (o ≡ Some root) × (n ≡ item)
 begun None n root item e = cc
 begun (Some r) n root item e = (let both : ◌≡◌ {A = Root × ℕ} (r, n) (root, item) = cc in (ap (λ (z : Root × ℕ). Some z.0) both, ap (λ (z : Root × ℕ). z.1) both))
 

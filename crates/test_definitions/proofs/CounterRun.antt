@@ -39,7 +39,7 @@ use Rattle.client_spec.proofs.TypedStates.ValueLaws.{Some_inj}
 use Rattle.client_spec.proofs.TypedStates.PictureLaws.{owned_one}
 use Rattle.client_spec.proofs.Unfolded.PictureTreeLaws.{own_trees}
 use Rattle.client_spec.specs.Asks.{LedTo}
-use Rattle.client_spec.specs.Ties.{places_of, OwnersStay, ObjectsStay, FrozenKept, spot_of, Changes}
+use Rattle.client_spec.specs.Ties.{places_of, OwnersStay, OwnersCome, ObjectsStay, FrozenKept, spot_of, Changes}
 use Rattle.client_spec.specs.OnImages.{Situation, image_machine, RowOn, Given, Left, IsFirst, IsLeftAfter, RunsClient}
 use Rattle.client_spec.specs.Clients.{AreAccepted}
 use Rattle.client_spec.specs.Outcome.{given_first, IsOutcome}
@@ -179,6 +179,10 @@ none_stay : {s s' : State} {old new : List ℕ} (before : Pictures [] s old) (af
 none_stay {s = s} before after none = λ r a b had has.
     absurd (let e : None ≡ Some a = sym (root_of_none s.registers r) ∙ ap (λ roots. root_of_register s.registers roots r) (sym (no_places before.owned none)) ∙ had in cc)
 
+none_come : (i : Instruction) {s s' : State} {old new : List ℕ} (before : Pictures [] s old) (after : Pictures [] s' new) → places_of after.owned ≡ [] → OwnersCome increment.constants i before after
+none_come i {s' = s'} before after none = λ r root free has.
+    absurd (let e : None ≡ Some root = sym (root_of_none s'.registers r) ∙ ap (λ roots. root_of_register s'.registers roots r) (sym (no_places after.owned none)) ∙ has in cc)
+
 none_here : (rs : List Register) (a : AreOwned rs []) → places_of (pictured rs a).pictured.owned ≡ []
 unfolding pictured own_trees plain_pictured
 none_here rs a = refl
@@ -250,7 +254,9 @@ kept_row i s t host n row before after none_before none_after no_frozen changes 
   owned_before = none_before;
   owned_after = none_after;
   owners_stay = none_stay before.pictured after.pictured none_before;
+  owners_come = none_come i before.pictured after.pictured none_after;
   objects_stay = still_there start before.pictured.picture after.pictured.picture before.pictured.held after.pictured.held;
+  objects_come = changes.objects_come after.plain after.pictured;
 }
 
 header_kept : IsSame start image 0 24
@@ -317,7 +323,7 @@ module _ (h : List ℕ) where
 
   finds : Row (at Operation.Find 0 16 16 (pos 0)) (situation counted start h 0) (situation found start h1 1)
   unfolding effect
-  finds = kept_row _ counted found h 0 refl (pictured counted.registers tt) (pictured found.registers tt) (none_here counted.registers tt) (none_here found.registers tt) (no_frozen_here counted.registers tt) (unchanged refl (record {
+  finds = kept_row _ counted found h 0 refl (pictured counted.registers tt) (pictured found.registers tt) (none_here counted.registers tt) (none_here found.registers tt) (no_frozen_here counted.registers tt) (unchanged refl refl (record {
     asks = [];
     asked = refl;
     gives = [];
@@ -329,7 +335,7 @@ module _ (h : List ℕ) where
 
   loads : Row (at Operation.Load 1 0 0 (pos 0)) (situation found start h1 1) (situation loaded start h2 2)
   unfolding effect
-  loads = kept_row _ found loaded h1 1 refl (pictured found.registers tt) (pictured loaded.registers tt) (none_here found.registers tt) (none_here loaded.registers tt) (no_frozen_here found.registers tt) (unchanged refl (record {
+  loads = kept_row _ found loaded h1 1 refl (pictured found.registers tt) (pictured loaded.registers tt) (none_here found.registers tt) (none_here loaded.registers tt) (no_frozen_here found.registers tt) (unchanged refl refl (record {
     asks = [];
     asked = refl;
     gives = [];
@@ -341,20 +347,21 @@ module _ (h : List ℕ) where
 
   sets_one : Row (at Operation.Const 2 0 0 (pos 1)) (situation loaded start h2 2) (situation with_one start h3 3)
   unfolding effect
-  sets_one = kept_row _ loaded with_one h2 2 refl (pictured loaded.registers tt) (pictured with_one.registers tt) (none_here loaded.registers tt) (none_here with_one.registers tt) (no_frozen_here loaded.registers tt) (unchanged refl
+  sets_one = kept_row _ loaded with_one h2 2 refl (pictured loaded.registers tt) (pictured with_one.registers tt) (none_here loaded.registers tt) (none_here with_one.registers tt) (no_frozen_here loaded.registers tt) (unchanged refl refl
       (record { asks = []; asked = refl; gives = []; returned = refl; blocks = live start; granted = refl; left = refl }))
 
   adds : Row (at Operation.Add 1 1 2 (pos 0)) (situation with_one start h3 3) (situation added start h4 4)
   unfolding effect
-  adds = kept_row _ with_one added h3 3 refl (pictured with_one.registers tt) (pictured added.registers tt) (none_here with_one.registers tt) (none_here added.registers tt) (no_frozen_here with_one.registers tt) (unchanged refl (record {
-    asks = [];
-    asked = refl;
-    gives = [];
-    returned = refl;
-    blocks = live start;
-    granted = refl;
-    left = refl;
-  }))
+  adds = kept_row _ with_one added h3 3 refl (pictured with_one.registers tt) (pictured added.registers tt) (none_here with_one.registers tt) (none_here added.registers tt) (no_frozen_here with_one.registers tt)
+      (unchanged refl refl (record {
+        asks = [];
+        asked = refl;
+        gives = [];
+        returned = refl;
+        blocks = live start;
+        granted = refl;
+        left = refl;
+      }))
 
   stores : Row (at Operation.Store 0 0 1 (pos 0)) (situation added start h4 4) (situation (more []) image h5 5)
   unfolding effect
@@ -363,7 +370,7 @@ module _ (h : List ℕ) where
     before = pictured added.registers tt;
     after = pictured_then [];
     blocks = record { asks = []; asked = refl; gives = []; returned = refl; blocks = live start; granted = refl; left = same_live };
-    ties = record { next_is = word-same start image next_word next_same; image_kept = λ e. cc; kept_by = tt; changes = inr stores_x };
+    ties = record { next_is = word-same start image next_word next_same; image_kept = λ e. cc; kept_by = tt; moved_by = tt; changes = inr stores_x };
     frozen_kept = none_kept (no_frozen_here added.registers tt);
     length_kept = same_length;
     header_kept = header_kept;
@@ -371,7 +378,9 @@ module _ (h : List ℕ) where
     owned_before = none_here added.registers tt;
     owned_after = none_then [];
     owners_stay = none_stay (pictured added.registers tt).pictured (pictured_then []).pictured (none_here added.registers tt);
+    owners_come = none_come (at Operation.Store 0 0 1 (pos 0)) (pictured added.registers tt).pictured (pictured_then []).pictured (none_then []);
     objects_stay = subst (λ p. ObjectsStay p (pictured_then []).pictured.picture) (sym (picture_here added.registers tt)) (subst (ObjectsStay counter_picture) (sym (picture_then [])) x_stays);
+    objects_come = tt;
   }
 
   prints : Row (at Operation.OutInt 0 1 0 (pos 0)) (situation (more []) image h5 5) (situation (more (codes "42\n")) image h6 6)
@@ -381,7 +390,7 @@ module _ (h : List ℕ) where
     before = pictured_then [];
     after = pictured_then (codes "42\n");
     blocks = record { asks = []; asked = refl; gives = []; returned = refl; blocks = live image; granted = refl; left = refl };
-    ties = record { next_is = refl; image_kept = λ e. refl; kept_by = tt; changes = inl refl };
+    ties = record { next_is = refl; image_kept = λ e. refl; kept_by = tt; moved_by = tt; changes = inl refl };
     frozen_kept = none_kept (no_frozen_then []);
     length_kept = refl;
     header_kept = refl;
@@ -389,7 +398,9 @@ module _ (h : List ℕ) where
     owned_before = none_then [];
     owned_after = none_then (codes "42\n");
     owners_stay = none_stay (pictured_then []).pictured (pictured_then (codes "42\n")).pictured (none_then []);
+    owners_come = none_come (at Operation.OutInt 0 1 0 (pos 0)) (pictured_then []).pictured (pictured_then (codes "42\n")).pictured (none_then (codes "42\n"));
     objects_stay = still_there image _ _ (pictured_then []).pictured.held (pictured_then (codes "42\n")).pictured.held;
+    objects_come = tt;
   }
 
   none : (s : Situation) → Nothing Situation s s 0 finished

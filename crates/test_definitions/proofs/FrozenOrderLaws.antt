@@ -20,23 +20,23 @@ each_of P f [] i a = absurd i
 each_of P f (g ∷ gs) (inl e) a = subst P (sym e) a.0
 each_of P f (g ∷ gs) (inr i) a = each_of P f gs i a.1
 
-record Taken (f : Frozen) (gs : List Frozen) : Type 0 where
-  before : List Frozen
-  after : List Frozen
-  are : gs ≡ before ++ f ∷ after
+pub record Taken (f : Frozen) (gs : List Frozen) : Type 0 where
+  pub before : List Frozen
+  pub after : List Frozen
+  pub are : gs ≡ before ++ f ∷ after
 
-taken : (f : Frozen) (gs : List Frozen) → IsOneOf f gs → Taken f gs
+pub taken : (f : Frozen) (gs : List Frozen) → IsOneOf f gs → Taken f gs
 taken f [] i = absurd i
 taken f (g ∷ gs) (inl e) = record { before = []; after = gs; are = ap (λ x. x ∷ gs) (sym e) }
 taken f (g ∷ gs) (inr i) = let t = taken f gs i in record { before = g ∷ t.before; after = t.after; are = ap (λ xs. g ∷ xs) t.are }
 
 module _ (f : Frozen) (after : List Frozen) where
-  one_of_parts : (x : Frozen) (before : List Frozen) → IsOneOf x (before ++ f ∷ after) → (x ≡ f) ⊎ IsOneOf x (before ++ after)
+  pub one_of_parts : (x : Frozen) (before : List Frozen) → IsOneOf x (before ++ f ∷ after) → (x ≡ f) ⊎ IsOneOf x (before ++ after)
   one_of_parts x [] i = i
   one_of_parts x (b ∷ bs) (inl e) = inr (inl e)
   one_of_parts x (b ∷ bs) (inr i) = elim (one_of_parts x bs i) [ inl e ↦ inl e | inr j ↦ inr (inr j) ]
 
-  part_one_of : (x : Frozen) (before : List Frozen) → IsOneOf x (before ++ after) → IsOneOf x (before ++ f ∷ after)
+  pub part_one_of : (x : Frozen) (before : List Frozen) → IsOneOf x (before ++ after) → IsOneOf x (before ++ f ∷ after)
   part_one_of x [] i = inr i
   part_one_of x (b ∷ bs) (inl e) = inl e
   part_one_of x (b ∷ bs) (inr i) = inr (part_one_of x bs i)
@@ -50,7 +50,7 @@ module _ (f : Frozen) (after : List Frozen) where
   each_parts P [] a = a
   each_parts P (b ∷ bs) a = let rest = each_parts P bs a.1 in (rest.0, (a.0, rest.1))
 
-  distinct_parts : (before : List Frozen) → AreDistinct (before ++ f ∷ after) → AllByRecursion (λ g. g.at ≢ f.at) (before ++ after) × AreDistinct (before ++ after)
+  pub distinct_parts : (before : List Frozen) → AreDistinct (before ++ f ∷ after) → AllByRecursion (λ g. g.at ≢ f.at) (before ++ after) × AreDistinct (before ++ after)
   distinct_parts [] d = d
   distinct_parts (b ∷ bs) d =
       let rest = distinct_parts bs d.1 in

@@ -30,7 +30,7 @@ pub failed_keeps : (constants : List Constant) (others : List Root) (moves : Lis
 failed_keeps constants others moves i x y answer row fails had_room = row.ties.image_kept (keeps i.operation answer fails had_room)
 
 -- a block is kept whole if it is kept around no bytes
-whole : (old new : List ℕ) (h : ℕ) → KeepsBlockAround old new 0 0 h → KeepsBlock old new h
+pub whole : (old new : List ℕ) (h : ℕ) → KeepsBlockAround old new 0 0 h → KeepsBlock old new h
 whole old new h k = record {
   live = k.header.live;
   has_tag = k.header.has_tag;

@@ -27,7 +27,7 @@ use Rattle.test_definitions.proofs.FrozenOrderLaws.{IsOneOf, each_of, PointLower
 -- ---- where frozen objects are
 
 -- an object is determined by its position
-frozen-one : (bytes : List ℕ) (table : Table) (f g : Frozen) (xs ys : List ℕ) → f.at ≡ g.at → HoldsRoot bytes table (root_of_frozen f) xs → HoldsRoot bytes table (root_of_frozen g) ys → f ≡ g
+pub frozen-one : (bytes : List ℕ) (table : Table) (f g : Frozen) (xs ys : List ℕ) → f.at ≡ g.at → HoldsRoot bytes table (root_of_frozen f) xs → HoldsRoot bytes table (root_of_frozen g) ys → f ≡ g
 frozen-one bytes table f g xs ys at h k =
     let a = frozen_there bytes table f xs h in
     let b = frozen_there bytes table g ys k in
@@ -54,10 +54,10 @@ roots_not_frozen : (roots : List Root) → AllByRecursion (λ (r : Root). r.word
 roots_not_frozen [] a = tt
 roots_not_frozen (r ∷ roots) a = (subst (λ words. NotFrozen (tag_of (kind_with words r.name) r.type)) (sym a.0) (root_not_frozen r.name r.type), roots_not_frozen roots a.1)
 
-record IsFrozenAt (h : ℕ) (fs : List Frozen) : Type 0 where
-  object : Frozen
-  among : IsOneOf object fs
-  block_is : block_of object.at ≡ h
+pub record IsFrozenAt (h : ℕ) (fs : List Frozen) : Type 0 where
+  pub object : Frozen
+  pub among : IsOneOf object fs
+  pub block_is : block_of object.at ≡ h
 
 pub among_frozen : (f : Frozen) (fs : List Frozen) → IsOneOf f fs → IsAmong (root_of_frozen f) (map root_of_frozen fs)
 among_frozen f [] i = absurd i
@@ -91,7 +91,7 @@ module _ (bytes : List ℕ) where
     none_before h is roots xs plain hs = none_of h (Tagged bytes NotFrozen) xs (roots_tagged bytes NotFrozen values_not_frozen p.table (roots_not_frozen roots plain) hs) (λ q. q is)
 
     -- a block with the tag of a frozen object is one of the picture
-    of_frozen : (h : ℕ) → 1 ≤ times h (positions (live bytes)) → tag_at bytes h % 256 ≡ 7 → IsFrozenAt h p.frozen
+    pub of_frozen : (h : ℕ) → 1 ≤ times h (positions (live bytes)) → tag_at bytes h % 256 ≡ 7 → IsFrozenAt h p.frozen
     of_frozen h some is =
         let a = HoldsRoots-split bytes p.table p.names (p.uniques ++ (p.loose ++ frozen_roots p)) held.root_blocks held.roots in
         let b = HoldsRoots-split bytes p.table p.uniques (p.loose ++ frozen_roots p) a.right a.rights in
@@ -110,12 +110,12 @@ module _ (bytes : List ℕ) where
         let g = ap (times h) c.blocks_are ∙ times-append h c.left c.right in
         find_frozen p.table p.frozen h c.rights is (omega (arith, some, counts bytes p held h, no_index, in_names, in_uniques, in_loose, e, f, g))
 
-    record IsThere (f : Frozen) : Type 0 where
-      its : List ℕ
-      holds : HoldsRoot bytes p.table (root_of_frozen f) its
-      is_live : 1 ≤ times (block_of f.at) (positions (live bytes))
+    pub record IsThere (f : Frozen) : Type 0 where
+      pub its : List ℕ
+      pub holds : HoldsRoot bytes p.table (root_of_frozen f) its
+      pub is_live : 1 ≤ times (block_of f.at) (positions (live bytes))
 
-    is_there : (f : Frozen) → IsOneOf f p.frozen → IsThere f
+    pub is_there : (f : Frozen) → IsOneOf f p.frozen → IsThere f
     is_there f i =
         let root = root_of_frozen f in
         let among = among_right root p.names (p.uniques ++ (p.loose ++ frozen_roots p)) (among_right root p.uniques (p.loose ++ frozen_roots p) (among_right root p.loose (frozen_roots p) (among_frozen f p.frozen i))) in
@@ -211,7 +211,7 @@ raised_by_both [] fs gs r = r
 raised_by_both (q ∷ names) fs gs r = raised_both q.at (raised_by names fs) (raised_by names gs) (raised_by_both names fs gs r)
 
 -- an object doesn't point to one that has no lower number
-point_lower : (next : ℕ) (fs : List Frozen) (cells : List Place) → IsCounted next fs cells → PointLower fs
+pub point_lower : (next : ℕ) (fs : List Frozen) (cells : List Place) → IsCounted next fs cells → PointLower fs
 point_lower next fs cells c f g i j no_higher = none (names_in f.value) (each_of _ f fs i c.falling)
   where
     apart : (n : ℕ) (gs : List Frozen) (q : Place) → n ≤ g.number → AreDistinct gs → IsOneOf g gs → IsBelow n gs q → q.at ≢ g.at

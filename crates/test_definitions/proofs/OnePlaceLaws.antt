@@ -32,7 +32,7 @@ use Rattle.seg_spec.proofs.Values.ValueTypeLaws.{length-spaced}
 use Rattle.test_definitions.proofs.RootMemberLaws.{as_many, index_live}
 use Rattle.test_definitions.proofs.PathOriginLaws.{at_place}
 use Rattle.test_definitions.specs.Alike.{AreAlike}
-use Rattle.test_definitions.proofs.AlikePlaceLaws.{SameCell, same_pointer, open_alike, buffer_cell, buffer_blocks}
+use Rattle.test_definitions.proofs.AlikePlaceLaws.{buffer_counts, SameCell, same_pointer, open_alike, buffer_cell, buffer_blocks}
 use Rattle.test_definitions.proofs.AlikeRootLaws.{same_units, LeadsInBoth, leads_in_both}
 
 -- a path reaches one place
@@ -100,7 +100,7 @@ module _ (constants : List Constant) (i : Instruction) {others : List Root} {s :
           let forms : form' ≡ form = (let e : Some form' ≡ Some form = sym f ∙ ap (λ (t : Table). form_at t place.type) types ∙ a.form_is in cc) in
           let two = open_alike first second table form' opened f o l.alike_at in
           let buffer : has_buffer (Some form') ≡ true = ap (λ (k : Form). has_buffer (Some k)) forms ∙ some in
-          let cell = buffer_cell first second table place opened form' buffer (o, two.opens, two.counts) in
+          let cell = buffer_cell first second table place opened form' buffer (o, two.opens, two.counts (buffer_counts form' buffer)) in
           record {
             cell = cell;
             units = units_by first second place.at cell (λ h there. same_units alike h (

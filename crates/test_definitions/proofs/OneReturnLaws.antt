@@ -7,7 +7,7 @@ use Rattle.seg_spec.specs.Bytes.{word}
 use Rattle.seg_spec.specs.Header.{heap_start, allocator_word, next_word, index_kind_word, index_cell}
 use Rattle.seg_spec.specs.Pointer.{target}
 use Rattle.seg_spec.specs.Shapes.{tree_words, nodes_of}
-use Rattle.seg_spec.specs.Types.{Form, Table}
+use Rattle.seg_spec.specs.Types.{Form, Table, form_at}
 use Rattle.seg_spec.specs.Value.{Label, Value, node, nil, Selector}
 use Rattle.seg_spec.specs.Heap.{Span, live}
 use Rattle.seg_spec.specs.Block.{block_of, has_buffer}
@@ -40,7 +40,7 @@ use Rattle.client_sim.proofs.Names.OnePictureLaws.{OpensIndex-one, Held-one}
 use Rattle.test_definitions.proofs.RootMemberLaws.{IsAmong, each_among, among_left, among_right, times_in, index_live, names_once, looked_up}
 use Rattle.test_definitions.proofs.FrozenOrderLaws.{IsOneOf, each_of}
 use Rattle.test_definitions.proofs.PathOriginLaws.{at_place}
-use Rattle.test_definitions.specs.Alike.{AlikeAt, opens_alike, AlikeRoot, AreAlike}
+use Rattle.test_definitions.specs.Alike.{has_count, AlikeAt, opens_alike, AlikeRoot, AreAlike}
 use Rattle.test_definitions.proofs.AlikePlaceLaws.{open_alike, holds_alike, each_alike, nth_alike}
 use Rattle.test_definitions.proofs.AlikeRootLaws.{both, of_type, of_register}
 use Rattle.test_definitions.proofs.OneState.{AsPictured, as_pictured}
@@ -77,7 +77,7 @@ found_or_none p (f ∷ fs) = go (eqb f.at p) refl (found_or_none p fs)
     go false is (inr a) = inr (record { object = a.object; among = inr a.among; at_is = a.at_is })
 
 module _ (fs gs : List Frozen) (order : Reordered fs gs) where
-  one_value_at : (p : ℕ) → value_at_position fs p ≡ value_at_position gs p
+  pub one_value_at : (p : ℕ) → value_at_position fs p ≡ value_at_position gs p
   one_value_at p = go (found_or_none p fs) (found_or_none p gs)
     where
       go : (value_at_position fs p ≡ None) ⊎ IsAt p fs → (value_at_position gs p ≡ None) ⊎ IsAt p gs → value_at_position fs p ≡ value_at_position gs p
@@ -100,12 +100,12 @@ contained [] x c = absurd (omega (arith, c.1))
 contained (y ∷ ys) x (zero, fits, is) = subst (λ z. 1 ≤ times x (z ∷ ys)) (sym is) (let n = times-same x ys in omega arith)
 contained (y ∷ ys) x (suc i, fits, is) = let n = contained ys x (i, omega (arith, fits), is) in let more = times-more x y ys in omega arith
 
-record IsNode (block : ℕ) (ns : List ℕ) : Type 0 where
-  it : ℕ
-  inside : In it ns
-  block_is : block_of it ≡ block
+pub record IsNode (block : ℕ) (ns : List ℕ) : Type 0 where
+  pub it : ℕ
+  pub inside : In it ns
+  pub block_is : block_of it ≡ block
 
-node_in : (block : ℕ) (ns : List ℕ) → In block (map block_of ns) → IsNode block ns
+pub node_in : (block : ℕ) (ns : List ℕ) → In block (map block_of ns) → IsNode block ns
 node_in block [] i = absurd i
 node_in block (n ∷ ns) (inl e) = record { it = n; inside = inl refl; block_is = sym e }
 node_in block (n ∷ ns) (inr i) = let k = node_in block ns i in record { it = k.it; inside = inr k.inside; block_is = k.block_is }
@@ -125,7 +125,7 @@ module _ (at : ℕ) where
   pointed_to bytes (x ∷ ns) (r ∷ names) n e (inl same) t = record { root = r; among = inl refl; at_is = points bytes (x + tree_words) r e.0 (subst (λ y. target bytes (y + tree_words) ≡ Some at) same t) }
   pointed_to bytes (x ∷ ns) (r ∷ names) n e (inr i) t = let k = pointed_to bytes ns names n e.1 i t in record { root = k.root; among = inr k.among; at_is = k.at_is }
 
-  among_block : (r : Root) (names : List Root) → IsAmong r names → 1 ≤ times (block_of r.at) (map (λ (x : Root). block_of x.at) names)
+  pub among_block : (r : Root) (names : List Root) → IsAmong r names → 1 ≤ times (block_of r.at) (map (λ (x : Root). block_of x.at) names)
   among_block r [] i = absurd i
   among_block r (x ∷ names) (inl e) = subst (λ (y : Root). 1 ≤ times (block_of r.at) (block_of y.at ∷ map (λ (z : Root). block_of z.at) names)) e (let n = times-same (block_of r.at) (map (λ (z : Root). block_of z.at) names) in omega arith)
   among_block r (x ∷ names) (inr i) = (let n = among_block r names i in let more = times-more (block_of r.at) (block_of x.at) (map (λ (z : Root). block_of z.at) names) in omega arith)
@@ -156,7 +156,7 @@ above : (bytes : List ℕ) (p : Picture) (held : IsHeld bytes p) (n : ℕ) → 1
 above bytes p held n some = (there (LiesIn bytes heap_start (length bytes)) (block_of n) (positions (live bytes)) (live-lie bytes (word bytes allocator_word) held.laid_out.heap) (index_live bytes p held (block_of n) some)).low
 
 -- the blocks of a tree index determine its nodes
-nodes_one : (ns ms : List ℕ) → AllByRecursion (λ n. 16 ≤ n) ns → AllByRecursion (λ n. 16 ≤ n) ms → map block_of ns ≡ map block_of ms → ns ≡ ms
+pub nodes_one : (ns ms : List ℕ) → AllByRecursion (λ n. 16 ≤ n) ns → AllByRecursion (λ n. 16 ≤ n) ms → map block_of ns ≡ map block_of ms → ns ≡ ms
 nodes_one [] [] a b e = refl
 nodes_one [] (m ∷ ms) a b e = cc
 nodes_one (n ∷ ns) [] a b e = cc
@@ -167,7 +167,7 @@ nodes_one (n ∷ ns) (m ∷ ms) a b e = (
     let rest : ns ≡ ms = nodes_one ns ms a.1 b.1 more in
     cc)
 
-nodes_above : (bytes : List ℕ) (tag each : ℕ) (ns : List ℕ) → AreNodes bytes tag each ns → AllByRecursion (λ n. 16 ≤ n) ns
+pub nodes_above : (bytes : List ℕ) (tag each : ℕ) (ns : List ℕ) → AreNodes bytes tag each ns → AllByRecursion (λ n. 16 ≤ n) ns
 nodes_above bytes tag each [] a = tt
 nodes_above bytes tag each (n ∷ ns) a = (a.0.after_header, nodes_above bytes tag each ns a.1)
 
@@ -222,7 +222,7 @@ module _ {others : List Root} {places first second : List ℕ} (alike : AreAlike
       h.blocks_are ∙ ap (λ zs. block_of (payload_of root) ∷ zs) insides ∙ sym k.blocks_are
 
 -- the blocks of the index
-one_index : (bytes : List ℕ) (p q : Picture) (h : IsHeld bytes p) (k : IsHeld bytes q) → h.index_blocks ≡ k.index_blocks
+pub one_index : (bytes : List ℕ) (p q : Picture) (h : IsHeld bytes p) (k : IsHeld bytes q) → h.index_blocks ≡ k.index_blocks
 one_index bytes p q h k =
     let n = h.laid_out.names in
     let m = k.laid_out.names in
@@ -247,8 +247,8 @@ killed_is (Some r) T root e = go (eqb r.type T) e
     go true f = f
     go false f = cc
 
-count_alike : {first second : List ℕ} {table : Table} {place : Place} → AlikeAt first second table place → count_at second place.at ≡ count_at first place.at
-count_alike (opens_alike form opened f o p n each) = n
+count_alike : {first second : List ℕ} {table : Table} {place : Place} (form : Form) → form_at table place.type ≡ Some form → has_count form ≡ true → AlikeAt first second table place → count_at second place.at ≡ count_at first place.at
+count_alike form f e (opens_alike form' opened f' o p n each) = (let forms : form ≡ form' = cc in n (sym (ap has_count forms) ∙ e))
 
 module _ (constants : List Constant) (i : Instruction) {others : List Root} {s : State} {places first second : List ℕ} (alike : AreAlike others places first second) (p : Pictures others s first) (q : Pictures others s second)
     (at : places_of p.owned ≡ places) (at_too : places_of q.owned ≡ places) where
@@ -418,7 +418,8 @@ module _ (constants : List Constant) (i : Instruction) {others : List Root} {s :
 
 module _ (constants : List Constant) (i : Instruction) {others : List Root} {s : State} {places first second : List ℕ} (alike : AreAlike others places first second) (p : Pictures others s first) (q : Pictures others s second)
     (at : places_of p.owned ≡ places) (at_too : places_of q.owned ≡ places) (there : at_place i.operation ≡ true → RefersTo s i.b)
-    (cuts : i.operation ≡ Operation.Shrink → (place : Place) (form : Form) → LedTo constants i p place form → has_buffer (Some form) ≡ true) where
+    (cuts : i.operation ≡ Operation.Shrink → (place : Place) (form : Form) → LedTo constants i p place form → has_buffer (Some form) ≡ true)
+    (pops : i.operation ≡ Operation.PopBack → (place : Place) (form : Form) → LedTo constants i p place form → has_count form ≡ true) where
   -- the place is alike in both images
   alike_at : RefersTo s i.b → (place : Place) (form : Form) → LedTo constants i p place form → AlikeAt first second s.types place
   alike_at found place form a = subst (λ (t : Table). AlikeAt first second t place) p.types (led_in_both constants i alike p q at at_too found place form a).alike_at
@@ -444,7 +445,7 @@ module _ (constants : List Constant) (i : Instruction) {others : List Root} {s :
       let one = one_led (there (ap at_place is)) a.0 b.0 a.1 b.1 a.2 b.2 in
       let like = alike_at (there (ap at_place is)) a.0 a.1 a.2 in
       pop_goes constants i alike p q at at_too a.0 b.0 a.1 b.1 (count_at first a.0.at - 1) (count_at second b.0.at - 1) xs ys like one.0 one.1
-      (ap (λ n. n - 1) (sym (count_alike like)) ∙ ap (λ (z : Place). count_at second z.at - 1) one.0) a.3 b.3
+      (ap (λ n. n - 1) (sym (count_alike a.1 a.2.form_is (pops is a.0 a.1 a.2) like)) ∙ ap (λ (z : Place). count_at second z.at - 1) one.0) a.3 b.3
   returns_by Operation.PopFront is xs ys a b =
       let one = one_led (there (ap at_place is)) a.0 b.0 a.1 b.1 a.2 b.2 in
       pop_goes constants i alike p q at at_too a.0 b.0 a.1 b.1 0 0 xs ys (alike_at (there (ap at_place is)) a.0 a.1 a.2) one.0 one.1 refl a.3 b.3

@@ -27,11 +27,11 @@ use Rattle.std.specs.List.{AllByRecursion}
 use Rattle.seg_spec.proofs.Values.PlaceFrameLaws.{each_weaker}
 use Rattle.client_spec.specs.Asks.{LedTo}
 use Rattle.test_definitions.proofs.PathOriginLaws.{at_place}
-use Rattle.test_definitions.specs.Alike.{AlikeAt, opens_alike, AlikeEach, none_alike, more_alike, AlikeRoot, AreAlike}
+use Rattle.test_definitions.specs.Alike.{has_count, AlikeAt, opens_alike, AlikeEach, none_alike, more_alike, AlikeRoot, AreAlike}
 use Rattle.test_definitions.proofs.AlikePlaceLaws.{each_itself}
 use Rattle.test_definitions.proofs.OneState.{as_pictured, plain_same}
 use Rattle.test_definitions.proofs.OnePlaceLaws.{RefersTo, asks_by}
-use Rattle.test_definitions.proofs.PlaceRowLaws.{refers_to, buffer_there}
+use Rattle.test_definitions.proofs.PlaceRowLaws.{refers_to, buffer_there, count_there}
 use Rattle.test_definitions.proofs.OneReturnLaws.{left_same, one_live}
 
 pub pair_is : {A B : Type 0} (a b : A) (s t : B) → ◌≡◌ {A = Option (A × B)} (Some (a, s)) (Some (b, t)) → (a ≡ b) × (s ≡ t)
@@ -55,13 +55,13 @@ none_and_some x o e f = (let g : Some x ≡ None = sym e ∙ f in cc)
 module _ (first second : List ℕ) (table : Table) where
   mutual
     at_swapped : {place : Place} → AlikeAt first second table place → AlikeAt second first table place
-    at_swapped (opens_alike form opened f o p n each) = opens_alike form opened f p o (sym n) (each_swapped each)
+    at_swapped (opens_alike form opened f o p n each) = opens_alike form opened f p o (λ e. sym (n e)) (each_swapped each)
 
     each_swapped : {places : List Place} → AlikeEach first second table places → AlikeEach second first table places
     each_swapped none_alike = none_alike
     each_swapped (more_alike a rest) = more_alike (at_swapped a) (each_swapped rest)
 
-swapped : {others : List Root} {places first second : List ℕ} → AreAlike others places first second → AreAlike others places second first
+pub swapped : {others : List Root} {places first second : List ℕ} → AreAlike others places first second → AreAlike others places second first
 swapped {first = first} {second = second} a = record {
   length_same = sym a.length_same;
   front_same = sym a.front_same;
@@ -78,7 +78,7 @@ swapped {first = first} {second = second} a = record {
   roots = each_weaker (AlikeRoot first second a.picture.table) (AlikeRoot second first a.picture.table) (λ r. each_swapped first second a.picture.table) (roots_of a.picture) a.roots;
 }
 
-itself : (others : List Root) (places bytes : List ℕ) {s : State} (p : Pictures others s bytes) → places_of p.owned ≡ places → AreAlike others places bytes bytes
+pub itself : (others : List Root) (places bytes : List ℕ) {s : State} (p : Pictures others s bytes) → places_of p.owned ≡ places → AreAlike others places bytes bytes
 itself others places bytes p at = record {
   length_same = refl;
   front_same = refl;
@@ -131,6 +131,9 @@ module _ (constants : List Constant) (others : List Root) (i : Instruction) (s :
     cuts : i.operation ≡ Operation.Shrink → (place : Place) (form : Form) → LedTo constants i x.before.pictured place form → has_buffer (Some form) ≡ true
     cuts = buffer_there constants i s first x.before a t x.row
 
+    pops : i.operation ≡ Operation.PopBack → (place : Place) (form : Form) → LedTo constants i x.before.pictured place form → has_count form ≡ true
+    pops = count_there constants i s first x.before a t x.row
+
     never : a ≡ success → b ≡ bad_alloc → ⊥
     never e f =
         let c = subst (λ k. ChangesBlocks constants i x.before.pictured k new) e x.blocks in
@@ -174,7 +177,7 @@ module _ (constants : List Constant) (others : List Root) (i : Instruction) (s :
     live_too e =
         let c = subst (λ k. ChangesBlocks constants i x.before.pictured k new) e x.blocks in
         subst (λ z. (q : Pictures others z second) → places_of q.owned ≡ places → ChangesBlocks constants i q b other → live new ≡ live other) plain
-        (λ q at d. one_live constants i alike x.before.pictured q x.owned at there cuts b new other c d) y.before.pictured y.owned y.blocks
+        (λ q at d. one_live constants i alike x.before.pictured q x.owned at there cuts pops b new other c d) y.before.pictured y.owned y.blocks
 
   one_answer : (first second : List ℕ) → AreAlike others places first second → (a b : Answer) (t u : State) (new other : List ℕ)
       → Row constants others i s places first a t new → Row constants others i s places second b u other → (a ≡ b) × (t ≡ u)

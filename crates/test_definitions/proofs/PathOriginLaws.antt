@@ -1,5 +1,5 @@
 -- An instruction on a place has a row only if the path in register b begins at an object.
-use Rattle.std.proofs.Common.{◌≡◌, ℕ, zero, suc, ◌+◌, ℤ, Bool, true, false, List, [], ◌∷◌, Option, Some, None, refl, sym, ap, ◌∙◌}
+use Rattle.std.proofs.Common.{inl, inr, subst, ◌⊎◌, ◌≡◌, ℕ, zero, suc, ◌+◌, ℤ, Bool, true, false, List, [], ◌∷◌, Option, Some, None, refl, sym, ap, ◌∙◌}
 use Rattle.std.specs.Prelude.{slice_get}
 use Rattle.seg_spec.specs.Types.{Form, Table, size}
 use Rattle.seg_spec.specs.Value.{Label, Value, Selector, index_of}
@@ -8,7 +8,7 @@ use Rattle.seg_spec.specs.Reads.{Place, Opened, Opens, Leads, here, into, places
 use Rattle.client_spec.specs.declared.table.Operation.{Operation}
 use Rattle.client_spec.specs.Syntax.{Constant}
 use Rattle.client_spec.specs.Machine.{◌>>=◌, Path, State, at_origin, path_value, part_type, type_along}
-use Rattle.client_spec.specs.Answer.{Answer, path_of, path_form, integer_at}
+use Rattle.client_spec.specs.Answer.{Answer, path_of, path_form, integer_at, text_in, items_in, int_in}
 use Rattle.client_spec.specs.Effect.{effect}
 use Rattle.client_spec.proofs.TypedStates.ValueLaws.{Some_inj}
 
@@ -82,6 +82,46 @@ shrinks_buffer constants a b c number room X r e p k is form = go (has_buffer (S
     go true f o g = refl
     go false f None g = absurd (let h : None ≡ Some r = cc in cc)
     go false f (Some v) g = absurd (let h : None ≡ Some r = cc in cc)
+
+-- POP has a row only for a text or for items
+pub pops_from : (constants : List Constant) (a b c : ℕ) (number : ℤ) (room : Bool) (X : State) (r : Answer × State) → effect constants Operation.PopBack a b c number room X ≡ Some r → (p : Path) → path_of X b ≡ Some p
+    → (v : Value) × (path_value X p ≡ Some v) × (text_in v ≡ None → items_in v ≡ None → ⊥)
+unfolding effect
+pops_from constants a b c number room X r e p is = go (path_value X p) refl
+  where
+    go : (o : Option Value) → path_value X p ≡ o → (v : Value) × (path_value X p ≡ Some v) × (text_in v ≡ None → items_in v ≡ None → ⊥)
+    go None f = absurd (let h : None ≡ Some r = cc in cc)
+    go (Some v) f = (v, f, λ no_text no_items. (let h : None ≡ Some r = cc in cc))
+
+-- STORE has a row only for a number
+pub stores_in : (constants : List Constant) (a b c : ℕ) (number : ℤ) (room : Bool) (X : State) (r : Answer × State) → effect constants Operation.Store a b c number room X ≡ Some r → (p : Path) → path_of X b ≡ Some p
+    → (v : Value) × (path_value X p ≡ Some v) × (int_in v ≡ None → ⊥)
+unfolding effect
+stores_in constants a b c number room X r e p is = go (path_value X p) refl
+  where
+    go : (o : Option Value) → path_value X p ≡ o → (v : Value) × (path_value X p ≡ Some v) × (int_in v ≡ None → ⊥)
+    go None f = absurd (let h : None ≡ Some r = cc in cc)
+    go (Some v) f = (v, f, λ no_number. (let h : None ≡ Some r = cc in cc))
+
+-- SETS, ADDS and ADDB have a row only for a text
+pub writes_text : (constants : List Constant) (a b c : ℕ) (number : ℤ) (room : Bool) (X : State) (r : Answer × State) {op : Operation} → (op ≡ Operation.SetStr) ⊎ (op ≡ Operation.AddStr) ⊎ (op ≡ Operation.AddByte)
+    → effect constants op a b c number room X ≡ Some r → (p : Path) → path_of X b ≡ Some p → (v : Value) × (path_value X p ≡ Some v) × (text_in v ≡ None → ⊥)
+unfolding effect
+writes_text constants a b c number room X r (inl is_op) e p is = go (path_value X p) refl (subst (λ o. effect constants o a b c number room X ≡ Some r) is_op e)
+  where
+    go : (o : Option Value) → path_value X p ≡ o → effect constants Operation.SetStr a b c number room X ≡ Some r → (v : Value) × (path_value X p ≡ Some v) × (text_in v ≡ None → ⊥)
+    go None f e = absurd (let h : None ≡ Some r = cc in cc)
+    go (Some v) f e = (v, f, λ no_text. (let h : None ≡ Some r = cc in cc))
+writes_text constants a b c number room X r (inr (inl is_op)) e p is = go (path_value X p) refl (subst (λ o. effect constants o a b c number room X ≡ Some r) is_op e)
+  where
+    go : (o : Option Value) → path_value X p ≡ o → effect constants Operation.AddStr a b c number room X ≡ Some r → (v : Value) × (path_value X p ≡ Some v) × (text_in v ≡ None → ⊥)
+    go None f e = absurd (let h : None ≡ Some r = cc in cc)
+    go (Some v) f e = (v, f, λ no_text. (let h : None ≡ Some r = cc in cc))
+writes_text constants a b c number room X r (inr (inr is_op)) e p is = go (path_value X p) refl (subst (λ o. effect constants o a b c number room X ≡ Some r) is_op e)
+  where
+    go : (o : Option Value) → path_value X p ≡ o → effect constants Operation.AddByte a b c number room X ≡ Some r → (v : Value) × (path_value X p ≡ Some v) × (text_in v ≡ None → ⊥)
+    go None f e = absurd (let h : None ≡ Some r = cc in cc)
+    go (Some v) f e = (v, f, λ no_text. (let h : None ≡ Some r = cc in cc))
 
 -- ---- the type at the end of a path
 

@@ -1,3 +1,4 @@
 pub mod RefusedOutcomes
 pub mod Alike
+pub mod Agreement
 pub mod MovedBuffers

@@ -2,6 +2,7 @@
 //! `ensures` clauses are the lemmas.
 #![tactic(auto)]
 
+pub mod agreement;
 pub mod asking;
 pub mod bytes;
 pub mod clients;

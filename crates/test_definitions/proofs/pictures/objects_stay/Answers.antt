@@ -1,4 +1,4 @@
-use Rattle.std.proofs.Common.{◌≡◌, Some, refl, ap, sym, ◌∙◌}
+use Rattle.std.proofs.Common.{refl, ap, sym, ◌∙◌}
 use Rattle.seg_spec.specs.Index.{Root}
 use Rattle.client_spec.proofs.TypedStates.ValueLaws.{Some_inj}
 use Rattle.client_sim.proofs.Names.ObjectRunLaws.{row_keeps_name, row_keeps_unique, client_keeps_name, client_keeps_unique}

@@ -1,5 +1,6 @@
 use Rattle.test_definitions.proofs.OwnerTieLaws.{next_owners, exchanged}
+use Rattle.test_definitions.proofs.MovedObjectLaws.{no_owner_comes}
 use Rattle.test_definitions.proofs.pictures.owners_between_rows.Goals as goal
 
 pub returns : goal.returns
-returns c = record { same = next_owners; refused = exchanged }
+returns c = record { same = next_owners; refused = exchanged; no_other = no_owner_comes }

@@ -1,0 +1,5 @@
+use Rattle.test_definitions.proofs.AlikeEndLaws.{ends_alike_too}
+use Rattle.test_definitions.proofs.agreement.last_situations.Goals as goal
+
+pub returns : goal.returns
+returns c = ends_alike_too
