@@ -1,162 +1,96 @@
 use crate::error::Error;
+use crate::parser::Parser;
 use crate::tree::{
-    Block, Container, Declaration, Expression, ExpressionAt, Field, Held, Item, Range, Statement,
-    Step, Tree,
+    Block, Container, Declaration, ExpressionAt, ExpressionKind, Field, Held, Item, Range, Span,
+    Statement, Step, StepKind, part,
 };
-use std::alloc::{AllocError, Allocator};
+use std::alloc::AllocError;
 
-/// A tree that is being made, with the lists that aren't complete.
-#[derive(Drop)]
-pub struct Builder<'a, A: Allocator> {
-    pub tree: Tree<'a, A>,
-    pub errors: Vec<Error, A>,
-    /// The first expression that belongs to the outermost one that is being read.
-    outermost: usize,
-    /// The steps, arguments and statements that were read, of the innermost list last.
-    steps: Vec<Step, A>,
-    arguments: Vec<ExpressionAt, A>,
-    statements: Vec<Statement, A>,
-}
-
-impl<'a, A: Allocator + Copy> Builder<'a, A> {
-    pub fn new(alloc: A, text: &'a [u8], bytes: Vec<u8, A>) -> Builder<'a, A> {
-        Builder {
-            tree: Tree {
-                text,
-                bytes,
-                expressions: Vec::new(alloc),
-                arguments: Vec::new(alloc),
-                steps: Vec::new(alloc),
-                containers: Vec::new(alloc),
-                items: Vec::new(alloc),
-                held: Vec::new(alloc),
-                fields: Vec::new(alloc),
-                statements: Vec::new(alloc),
-                declarations: Vec::new(alloc),
-                body: Block::EMPTY,
-            },
-            errors: Vec::new(alloc),
-            outermost: 0,
-            steps: Vec::new(alloc),
-            arguments: Vec::new(alloc),
-            statements: Vec::new(alloc),
+impl Parser {
+    /// The name of the method whose call ends a place.
+    pub fn last_method(&self, at: ExpressionAt) -> Option<Span> {
+        let ExpressionKind::Place(steps) = self.nodes.expressions.get(at.0)?.kind else {
+            return None;
+        };
+        let last = part(self.nodes.steps.as_slice(), steps).last()?;
+        match last.kind {
+            StepKind::Method(_) => Some(last.span),
+            _ => None,
         }
     }
-}
 
-impl<'a, A: Allocator> Builder<'a, A> {
-    /// Begins an expression that is in no other.
-    pub fn begin_expression(&mut self) {
-        self.outermost = self.tree.expressions.len();
+    pub fn container(&mut self, container: Container) {
+        self.is_out_of_memory |= self.nodes.containers.push(container).is_err();
     }
 
-    /// The number of expressions in the outermost one.
-    pub fn expression_size(&self) -> usize {
-        self.tree.expressions.len().saturating_sub(self.outermost)
+    pub fn item(&mut self, item: Item) {
+        self.is_out_of_memory |= self.nodes.items.push(item).is_err();
     }
 
-    /// Adds an expression, after its operands.
-    pub fn expression(&mut self, expression: Expression) -> Result<ExpressionAt, AllocError> {
-        let at = ExpressionAt(self.tree.expressions.len());
-        self.tree.expressions.push(expression)?;
-        Ok(at)
+    pub fn held(&mut self, held: Held) {
+        self.is_out_of_memory |= self.nodes.held.push(held).is_err();
     }
 
-    pub fn container(&mut self, container: Container) -> Result<(), AllocError> {
-        Ok(self.tree.containers.push(container)?)
+    pub fn field(&mut self, field: Field) {
+        self.is_out_of_memory |= self.nodes.fields.push(field).is_err();
     }
 
-    pub fn item(&mut self, item: Item) -> Result<(), AllocError> {
-        Ok(self.tree.items.push(item)?)
+    pub fn declaration(&mut self, declaration: Declaration) {
+        self.is_out_of_memory |= self.nodes.declarations.push(declaration).is_err();
     }
 
-    pub fn held(&mut self, held: Held) -> Result<(), AllocError> {
-        Ok(self.tree.held.push(held)?)
+    pub fn error(&mut self, error: Error) {
+        self.is_out_of_memory |= self.errors.push(error).is_err();
     }
 
-    pub fn field(&mut self, field: Field) -> Result<(), AllocError> {
-        Ok(self.tree.fields.push(field)?)
-    }
-
-    pub fn declaration(&mut self, declaration: Declaration) -> Result<(), AllocError> {
-        Ok(self.tree.declarations.push(declaration)?)
-    }
-
-    pub fn error(&mut self, error: Error) -> Result<(), AllocError> {
-        Ok(self.errors.push(error)?)
-    }
-
-    /// The beginning of the list whose steps are added next.
-    pub fn steps_begin(&self) -> usize {
-        self.steps.len()
-    }
-
-    pub fn step(&mut self, step: Step) -> Result<(), AllocError> {
-        Ok(self.steps.push(step)?)
+    pub fn step(&mut self, step: Step) {
+        self.is_out_of_memory |= self.steps.push(step).is_err();
     }
 
     /// Ends the list of steps that began here.
-    pub fn steps_end(&mut self, begin: usize) -> Result<Range, AllocError> {
-        end_list(&mut self.steps, begin, &mut self.tree.steps)
+    pub fn steps_end(&mut self, begin: usize) -> Range {
+        let moved = move_end(&mut self.steps, begin, &mut self.nodes.steps);
+        self.moved(moved)
     }
 
-    /// The beginning of the list whose arguments are added next.
-    pub fn arguments_begin(&self) -> usize {
-        self.arguments.len()
-    }
-
-    pub fn argument(&mut self, argument: ExpressionAt) -> Result<(), AllocError> {
-        Ok(self.arguments.push(argument)?)
+    pub fn argument(&mut self, argument: ExpressionAt) {
+        self.is_out_of_memory |= self.arguments.push(argument).is_err();
     }
 
     /// Ends the list of arguments that began here.
-    pub fn arguments_end(&mut self, begin: usize) -> Result<Range, AllocError> {
-        end_list(&mut self.arguments, begin, &mut self.tree.arguments)
+    pub fn arguments_end(&mut self, begin: usize) -> Range {
+        let moved = move_end(&mut self.arguments, begin, &mut self.nodes.arguments);
+        self.moved(moved)
     }
 
-    /// The beginning of the block whose statements are added next.
-    pub fn block_begin(&self) -> usize {
-        self.statements.len()
-    }
-
-    pub fn statement(&mut self, statement: Statement) -> Result<(), AllocError> {
-        Ok(self.statements.push(statement)?)
+    pub fn statement(&mut self, statement: Statement) {
+        self.is_out_of_memory |= self.statements.push(statement).is_err();
     }
 
     /// Ends the block that began here.
-    pub fn block_end(&mut self, begin: usize) -> Result<Block, AllocError> {
-        let statements = end_list(&mut self.statements, begin, &mut self.tree.statements)?;
-        Ok(Block {
-            statements,
-            following: Range::NONE,
-            leaves: false,
-        })
+    pub fn block_end(&mut self, begin: usize) -> Block {
+        let moved = move_end(&mut self.statements, begin, &mut self.nodes.statements);
+        Block {
+            statements: self.moved(moved),
+            ..Block::EMPTY
+        }
     }
 
-    /// The tree and the errors.
-    pub fn finish(self) -> (Tree<'a, A>, Vec<Error, A>) {
-        let Builder {
-            tree,
-            errors,
-            outermost: _,
-            steps: _,
-            arguments: _,
-            statements: _,
-        } = self;
-        (tree, errors)
+    /// The range of moved items, or none if memory was refused.
+    fn moved(&mut self, moved: Result<Range, AllocError>) -> Range {
+        self.is_out_of_memory |= moved.is_err();
+        moved.unwrap_or(Range::NONE)
     }
 }
 
 /// Moves what comes from `begin` on to the end of a list of the tree.
-fn end_list<T: Copy + Drop, A: Allocator>(
-    read: &mut Vec<T, A>,
+fn move_end<T: Copy + Drop>(
+    read: &mut Vec<T>,
     begin: usize,
-    list: &mut Vec<T, A>,
+    list: &mut Vec<T>,
 ) -> Result<Range, AllocError> {
     let first = list.len();
-    for item in read.get(begin..).unwrap_or_default() {
-        list.push(*item)?;
-    }
+    list.extend_from_slice(read.get(begin..).unwrap_or_default())?;
     read.truncate(begin);
     Ok(Range {
         first,

@@ -1,7 +1,6 @@
 use crate::token::{Token, TokenKind};
 use crate::tree::{Container, Span};
 use crate::word::Word;
-use std::alloc::AllocError;
 use std::{fmt, str};
 
 /// How many levels an expression may have. The expression is the first. Parentheses, an index, an argument, a sign, what
@@ -72,38 +71,23 @@ pub enum OtherType {
     Float,
 }
 
-/// Why a part of a program wasn't read.
-#[derive(Clone, Copy)]
-pub enum ReadError {
-    Error(Error),
-    Memory,
-}
-
-impl ReadError {
+impl Error {
     /// An error at a token. If the token is wrong itself, that is the error.
-    pub fn at(token: Token, kind: ErrorKind) -> ReadError {
+    pub(crate) fn at(token: Token, kind: ErrorKind) -> Error {
         let kind = match token.kind {
             TokenKind::Wrong(kind) => kind,
             _ => kind,
         };
-        ReadError::Error(Error {
+        Error {
             span: token.span,
             kind,
-        })
+        }
     }
-}
 
-impl From<AllocError> for ReadError {
-    fn from(_: AllocError) -> ReadError {
-        ReadError::Memory
-    }
-}
-
-impl Error {
     /// The error in words, for the program with this text.
     pub fn message<'a>(&self, text: &'a [u8]) -> Message<'a> {
         Message {
-            word: text.get(self.span.start..self.span.end).unwrap_or_default(),
+            token: shown(self.span.of(text)),
             kind: self.kind,
         }
     }
@@ -148,120 +132,142 @@ impl Error {
     }
 }
 
+impl ErrorKind {
+    fn words(self) -> Words {
+        match self {
+            ErrorKind::BadEscape => Words::Token("", " is no escape"),
+            ErrorKind::TwoMinusSigns | ErrorKind::NoToken => {
+                Words::Token("", " means nothing here")
+            }
+            ErrorKind::OpenText => {
+                Words::Sentence("this text has no closing quotation mark in its line")
+            }
+            ErrorKind::ByteLength(length) => Words::Number(
+                "a byte in single quotation marks is one byte, and this has ",
+                length,
+                "",
+            ),
+            ErrorKind::LargeNumber => Words::Sentence("a number has 64 bits at most"),
+            ErrorKind::Reserved(wanted) => wanted.reserved_words(),
+            ErrorKind::NameWanted(wanted) => wanted.words(),
+            ErrorKind::WordWanted(wanted) => {
+                Words::Wanted("`", wanted.spelling(), "` is wanted here, and this is ")
+            }
+            ErrorKind::ItemTypeWanted(container) => Words::Wanted(
+                "`<` is wanted here behind `",
+                container.spelling(),
+                "`, and this is ",
+            ),
+            ErrorKind::TypeWanted => Words::Token("a type is wanted here, and this is ", ""),
+            ErrorKind::NoType(_) => Words::Token("", " is no type here"),
+            ErrorKind::FunctionType => Words::Sentence("a function gives a number or nothing"),
+            ErrorKind::SegmentNameWanted => {
+                Words::Sentence("the name in the segment is wanted here, as a text")
+            }
+            ErrorKind::OpenBlock => Words::Sentence("this `{` is never closed"),
+            ErrorKind::NoStatement => Words::Token("", " begins no statement"),
+            ErrorKind::StatementWanted => {
+                Words::Token("a statement is wanted here, and this is ", "")
+            }
+            ErrorKind::Increment => Words::Sentence("there is no `++`"),
+            ErrorKind::NothingDone => Words::Sentence("this says nothing to do"),
+            ErrorKind::ChainedComparisons => Words::Sentence("comparisons aren't chained"),
+            ErrorKind::ValueWanted | ErrorKind::MisplacedTake => {
+                Words::Token("a value is wanted here, and this is ", "")
+            }
+            ErrorKind::MemberWanted => {
+                Words::Sentence("the name of a field or a method is wanted here")
+            }
+            ErrorKind::Unreachable(line) => {
+                Words::Number("nothing comes here, since line ", line, " leaves")
+            }
+            ErrorKind::LetElseStays | ErrorKind::NewElseStays => {
+                Words::Sentence("the else part of this `let` has to leave")
+            }
+            ErrorKind::UseElseStays => {
+                Words::Sentence("the else part of this `use` has to leave")
+            }
+            ErrorKind::TooDeep => {
+                Words::Number(
+                    "expressions are nested at most ",
+                    MAX_DEPTH as usize,
+                    " deep",
+                )
+            }
+            ErrorKind::TooLarge => Words::Number(
+                "an expression has at most ",
+                MAX_SIZE,
+                " operands and operators",
+            ),
+        }
+    }
+}
+
+impl Wanted {
+    fn words(self) -> Words {
+        Words::Token(
+            match self {
+                Wanted::Name => "a name is wanted here, and this is ",
+                Wanted::Field => "the name of a field is wanted here, and this is ",
+                Wanted::Parameter => "the name of a parameter is wanted here, and this is ",
+            },
+            "",
+        )
+    }
+
+    /// The words at a reserved word.
+    fn reserved_words(self) -> Words {
+        Words::Token(
+            "",
+            match self {
+                Wanted::Name => " is a word of the language, and a name is wanted here",
+                Wanted::Field => {
+                    " is a word of the language, and the name of a field is wanted here"
+                }
+                Wanted::Parameter => {
+                    " is a word of the language, and the name of a parameter is wanted here"
+                }
+            },
+        )
+    }
+}
+
+/// The words for a kind of errors.
+#[derive(Clone, Copy)]
+enum Words {
+    Sentence(&'static str),
+    /// The words before a number, and behind it.
+    Number(&'static str, usize, &'static str),
+    /// The words before the wrong token, and behind it.
+    Token(&'static str, &'static str),
+    /// A wanted word, the words before it, and between it and the wrong token.
+    Wanted(&'static str, &'static str, &'static str),
+}
+
 /// An error in words.
 #[derive(Clone, Copy)]
 pub struct Message<'a> {
-    /// The token that is wrong, or nothing at the end of the program.
-    word: &'a [u8],
+    /// The token that is wrong.
+    token: &'a str,
     kind: ErrorKind,
 }
 
 impl fmt::Display for Message<'_> {
     fn fmt<W: fmt::Write>(&self, f: &mut fmt::Formatter<W>) -> fmt::Result {
-        let word = Shown(self.word);
-        match self.kind {
-            ErrorKind::BadEscape => self.write_word("is no escape", f),
-            ErrorKind::TwoMinusSigns | ErrorKind::NoToken => {
-                self.write_word("means nothing here", f)
-            }
-            ErrorKind::OpenText => {
-                f.write_str("this text has no closing quotation mark in its line")
-            }
-            ErrorKind::ByteLength(length) => write!(
-                f,
-                "a byte in single quotation marks is one byte, and this has {length}"
-            ),
-            ErrorKind::LargeNumber => f.write_str("a number has 64 bits at most"),
-            ErrorKind::Reserved(wanted) => {
-                write!(
-                    f,
-                    "`{word}` is a word of the language, and {wanted} is wanted here"
-                )
-            }
-            ErrorKind::NameWanted(wanted) => {
-                write!(f, "{wanted} is wanted here, and this is `{word}`")
-            }
-            ErrorKind::WordWanted(wanted) => {
-                let wanted = wanted.spelling();
-                write!(f, "`{wanted}` is wanted here, and this is `{word}`")
-            }
-            ErrorKind::ItemTypeWanted(container) => {
-                let container = container.spelling();
-                write!(
-                    f,
-                    "`<` is wanted here behind `{container}`, and this is `{word}`"
-                )
-            }
-            ErrorKind::TypeWanted => self.write_wanted("a type", f),
-            ErrorKind::NoType(_) => self.write_word("is no type here", f),
-            ErrorKind::FunctionType => f.write_str("a function gives a number or nothing"),
-            ErrorKind::SegmentNameWanted => {
-                f.write_str("the name in the segment is wanted here, as a text")
-            }
-            ErrorKind::OpenBlock => f.write_str("this `{` is never closed"),
-            ErrorKind::NoStatement => self.write_word("begins no statement", f),
-            ErrorKind::StatementWanted => self.write_wanted("a statement", f),
-            ErrorKind::Increment => f.write_str("there is no `++`"),
-            ErrorKind::NothingDone => f.write_str("this says nothing to do"),
-            ErrorKind::ChainedComparisons => f.write_str("comparisons aren't chained"),
-            ErrorKind::ValueWanted | ErrorKind::MisplacedTake => self.write_wanted("a value", f),
-            ErrorKind::MemberWanted => {
-                f.write_str("the name of a field or a method is wanted here")
-            }
-            ErrorKind::Unreachable(line) => {
-                write!(f, "nothing comes here, since line {line} leaves")
-            }
-            ErrorKind::LetElseStays | ErrorKind::NewElseStays => {
-                f.write_str("the else part of this `let` has to leave")
-            }
-            ErrorKind::UseElseStays => f.write_str("the else part of this `use` has to leave"),
-            ErrorKind::TooDeep => { write!(f, "expressions are nested at most {MAX_DEPTH} deep") }
-            ErrorKind::TooLarge => {
-                write!(
-                    f,
-                    "an expression has at most {MAX_SIZE} operands and operators"
-                )
-            }
+        let token = self.token;
+        match self.kind.words() {
+            Words::Sentence(sentence) => f.write_str(sentence),
+            Words::Number(before, number, behind) => write!(f, "{before}{number}{behind}"),
+            Words::Token(before, behind) => write!(f, "{before}`{token}`{behind}"),
+            Words::Wanted(before, word, behind) => write!(f, "{before}{word}{behind}`{token}`"),
         }
-    }
-}
-
-impl Message<'_> {
-    /// Writes the wrong token, and the predicate after it.
-    fn write_word<W: fmt::Write>(&self, predicate: &str, f: &mut fmt::Formatter<W>) -> fmt::Result {
-        let word = Shown(self.word);
-        write!(f, "`{word}` {predicate}")
-    }
-
-    /// Writes what is missing, and the token that is there instead.
-    fn write_wanted<W: fmt::Write>(&self, wanted: &str, f: &mut fmt::Formatter<W>) -> fmt::Result {
-        let word = Shown(self.word);
-        write!(f, "{wanted} is wanted here, and this is `{word}`")
-    }
-}
-
-impl fmt::Display for Wanted {
-    fn fmt<W: fmt::Write>(&self, f: &mut fmt::Formatter<W>) -> fmt::Result {
-        f.write_str(match *self {
-            Wanted::Name => "a name",
-            Wanted::Field => "the name of a field",
-            Wanted::Parameter => "the name of a parameter",
-        })
     }
 }
 
 /// A token in a message.
-#[derive(Drop)]
-struct Shown<'a>(&'a [u8]);
-
-impl fmt::Display for Shown<'_> {
-    fn fmt<W: fmt::Write>(&self, f: &mut fmt::Formatter<W>) -> fmt::Result {
-        if self.0.is_empty() {
-            return f.write_str("the end");
-        }
-        match str::from_utf8(self.0) {
-            Ok(word) => f.write_str(word),
-            Err(_) => f.write_str("?"),
-        }
+fn shown(token: &[u8]) -> &str {
+    if token.is_empty() {
+        return "the end";
     }
+    str::from_utf8(token).unwrap_or("?")
 }

@@ -3,11 +3,10 @@
 //! `use` without a block, goes into its body.
 
 use crate::error::{Error, ErrorKind};
+use crate::parser::Parser;
 use crate::tree::{
-    Block, DeclarationKind, ElsePart, ExpressionKind, Range, Statement, StatementKind, StepKind,
-    Tree, Value, ValueKind,
+    Block, DeclarationKind, ElsePart, Range, Statement, StatementKind, Value, ValueKind, part,
 };
-use std::alloc::{AllocError, Allocator};
 
 /// The statements after a statement, up to the end of its block.
 #[derive(Clone, Copy)]
@@ -16,61 +15,44 @@ struct Rest {
     leaves: bool,
 }
 
-impl<'a, A: Allocator> Tree<'a, A> {
+impl Parser {
     /// Moves statements as this module says. Adds an error for each statement that can't be reached, and for each else part
     /// that has to leave and doesn't.
-    pub(crate) fn nest(&mut self, errors: &mut Vec<Error, A>) -> Result<(), AllocError> {
+    pub fn nest(&mut self, text: &[u8]) {
         // the statements of a block come before the statement that the block belongs to
-        for at in 0..self.statements.len() {
-            if let Some(statement) = self.statements.get(at).copied() {
-                let nested = self.nest_parts(statement, errors)?;
-                self.replace(at, nested);
-            }
+        for at in 0..self.nodes.statements.len() {
+            self.nest_parts(at, text);
         }
-        for at in 0..self.declarations.len() {
-            self.nest_declaration(at, errors)?;
+        for at in 0..self.nodes.declarations.len() {
+            self.nest_declaration(at, text);
         }
-        self.body = self.nest_block(self.body, errors)?;
-        Ok(())
+        self.nodes.body = self.nest_block(self.nodes.body, text);
     }
 
     fn replace(&mut self, at: usize, statement: Statement) {
-        if let Some(found) = self.statements.get_mut(at) {
+        if let Some(found) = self.nodes.statements.get_mut(at) {
             *found = statement;
         }
     }
 
-    fn nest_parts(
-        &mut self,
-        statement: Statement,
-        errors: &mut Vec<Error, A>,
-    ) -> Result<Statement, AllocError> {
-        let body = match statement.body {
-            Some(block) => Some(self.nest_block(block, errors)?),
-            None => None,
+    /// Moves the statements of a statement's blocks.
+    fn nest_parts(&mut self, at: usize, text: &[u8]) {
+        let Some(mut statement) = self.nodes.statements.get(at).copied() else {
+            return;
         };
-        let otherwise = match statement.otherwise {
-            Some(part) => Some(ElsePart {
-                code: part.code,
-                block: self.nest_block(part.block, errors)?,
-            }),
-            None => None,
-        };
-        Ok(Statement {
-            span: statement.span,
-            kind: statement.kind,
-            body,
-            otherwise,
-        })
+        if let Some(block) = statement.body {
+            statement.body = Some(self.nest_block(block, text));
+        }
+        if let Some(part) = statement.otherwise {
+            let block = self.nest_block(part.block, text);
+            statement.otherwise = Some(ElsePart { block, ..part });
+        }
+        self.replace(at, statement);
     }
 
-    fn nest_declaration(
-        &mut self,
-        at: usize,
-        errors: &mut Vec<Error, A>,
-    ) -> Result<(), AllocError> {
-        let Some(declaration) = self.declarations.get(at).copied() else {
-            return Ok(());
+    fn nest_declaration(&mut self, at: usize, text: &[u8]) {
+        let Some(declaration) = self.nodes.declarations.get(at).copied() else {
+            return;
         };
         let kind = match declaration.kind {
             DeclarationKind::Function {
@@ -80,45 +62,35 @@ impl<'a, A: Allocator> Tree<'a, A> {
             } => DeclarationKind::Function {
                 parameters,
                 gives_number,
-                body: self.nest_block(body, errors)?,
+                body: self.nest_block(body, text),
             },
-            DeclarationKind::Fail(body) => DeclarationKind::Fail(self.nest_block(body, errors)?),
-            other => other,
+            DeclarationKind::Fail(body) => DeclarationKind::Fail(self.nest_block(body, text)),
+            _ => return,
         };
-        if let Some(found) = self.declarations.get_mut(at) {
+        if let Some(found) = self.nodes.declarations.get_mut(at) {
             found.kind = kind;
         }
-        Ok(())
     }
 
     /// Moves the statements of a block whose statements' own blocks are done.
-    fn nest_block(
-        &mut self,
-        block: Block,
-        errors: &mut Vec<Error, A>,
-    ) -> Result<Block, AllocError> {
+    fn nest_block(&mut self, block: Block, text: &[u8]) -> Block {
         let Range { first, end } = block.statements;
         let mut rest = Rest {
             statements: Range { first: end, end },
             leaves: false,
         };
         for at in (first..end).rev() {
-            rest = self.nest_rest(at, rest, errors)?;
+            rest = self.nest_rest(at, rest, text);
         }
-        Ok(Block {
+        Block {
             statements: rest.statements,
             following: Range::NONE,
             leaves: rest.leaves,
-        })
+        }
     }
 
     /// Moves the rest after a statement into the statement if it has to go there. Returns what begins with the statement.
-    fn nest_rest(
-        &mut self,
-        at: usize,
-        rest: Rest,
-        errors: &mut Vec<Error, A>,
-    ) -> Result<Rest, AllocError> {
+    fn nest_rest(&mut self, at: usize, rest: Rest, text: &[u8]) -> Rest {
         let whole = Range {
             first: at,
             end: rest.statements.end,
@@ -127,44 +99,43 @@ impl<'a, A: Allocator> Tree<'a, A> {
             first: at,
             end: rest.statements.first,
         };
-        let Some(statement) = self.statements.get(at).copied() else {
-            return Ok(Rest {
+        let Some(statement) = self.nodes.statements.get(at).copied() else {
+            return Rest {
                 statements: whole,
                 leaves: false,
-            });
+            };
         };
         if let Some(error) = self.error_of(statement, rest) {
-            errors.push(error)?;
+            self.error(error);
         }
-        if let Some(nested) = self.with_rest(statement, rest) {
+        if let Some(nested) = self.with_rest(statement, rest, text) {
             self.replace(at, nested);
-            return Ok(Rest {
+            return Rest {
                 statements: alone,
                 leaves: leaves(nested),
-            });
+            };
         }
         let is_last = rest.statements.is_empty();
-        Ok(Rest {
+        Rest {
             statements: whole,
             leaves: if is_last {
                 leaves(statement)
             } else {
                 rest.leaves
             },
-        })
+        }
     }
 
     /// What is wrong with a statement and the rest after it.
     fn error_of(&self, statement: Statement, rest: Rest) -> Option<Error> {
-        let next = self.statements(rest.statements).first()?;
+        let next = part(self.nodes.statements.as_slice(), rest.statements).first()?;
         if leaves(statement) {
             return Some(Error {
                 span: next.span,
                 kind: ErrorKind::Unreachable(statement.span.line),
             });
         }
-        let otherwise = statement.otherwise?;
-        if otherwise.block.leaves {
+        if statement.otherwise?.block.leaves {
             return None;
         }
         let kind = match statement.kind {
@@ -182,10 +153,10 @@ impl<'a, A: Allocator> Tree<'a, A> {
     }
 
     /// The statement with the rest after it, if the rest has to go into it.
-    fn with_rest(&self, statement: Statement, rest: Rest) -> Option<Statement> {
+    fn with_rest(&self, statement: Statement, rest: Rest, text: &[u8]) -> Option<Statement> {
         match statement.kind {
             StatementKind::Let { value, .. }
-                if statement.otherwise.is_some() || self.can_fail(value) => {
+                if statement.otherwise.is_some() || self.can_fail(value, text) => {
                 Some(in_body(statement, Block::EMPTY, rest))
             }
             StatementKind::Use(_) if statement.body.is_none() => {
@@ -197,21 +168,12 @@ impl<'a, A: Allocator> Tree<'a, A> {
     }
 
     /// Whether a value may be absent where no default is given: an owned object, or what a method gives.
-    fn can_fail(&self, value: Value) -> bool {
+    fn can_fail(&self, value: Value, text: &[u8]) -> bool {
         let ValueKind::Expression(at) = value.kind else {
             return true;
         };
-        let Some(expression) = self.expression(at) else {
-            return false;
-        };
-        let ExpressionKind::Place(steps) = expression.kind else {
-            return false;
-        };
-        match self.steps(steps).last() {
-            Some(step) => match step.kind {
-                StepKind::Method(_) => self.word(step.span) != b"after".as_slice(),
-                _ => false,
-            },
+        match self.last_method(at) {
+            Some(name) => name.of(text) != b"after".as_slice(),
             None => false,
         }
     }

@@ -1,41 +1,46 @@
-ghost use Rattle.std.specs.Prelude.{◌<◌, length, IfSome};
+ghost use Rattle.std.specs.Prelude.{◌<◌, IfSome};
 
 use crate::error::ErrorKind;
-use crate::token::{Token, TokenKind};
+use crate::token::{Token, TokenKind, TypeName};
 use crate::tree::{Range, Span};
 use crate::word::Word;
-use std::alloc::{AllocError, Allocator};
+use std::alloc::Global;
 
-/// The rest of a program's text.
+/// The tokens of a text, as far as they are read.
 #[derive(Drop)]
-struct Cursor<'a> {
-    text: &'a [u8],
-    rest: &'a [u8],
+pub(crate) struct Lexer {
+    pub tokens: Vec<Token>,
+    /// The bytes of the texts, without quotation marks and escapes.
+    pub bytes: Vec<u8>,
+    /// The position after the last token.
+    pub next: Position,
+    /// The line of the last token.
+    pub last_line: usize,
+    pub is_out_of_memory: bool,
+}
+
+/// A position in a text, with its line and column.
+#[derive(Clone, Copy)]
+pub(crate) struct Position {
+    start: usize,
     line: usize,
     column: usize,
 }
 
-impl<'a> Cursor<'a> {
-    /// Takes this number of bytes.
-    fn take(&mut self, len: usize) -> Span {
-        let start = self.text.len().saturating_sub(self.rest.len());
-        let span = Span {
-            start,
-            end: start.saturating_add(len),
+impl Position {
+    /// The span of this number of bytes.
+    pub fn span(self, len: usize) -> Span {
+        Span {
+            start: self.start,
+            end: self.start.saturating_add(len),
             line: self.line,
             column: self.column,
-        };
-        let taken = self.rest.get(..len).unwrap_or(self.rest);
-        let rest = self.rest.get(len..).unwrap_or_default();
-        for byte in taken {
-            self.pass(*byte);
         }
-        self.rest = rest;
-        span
     }
 
     /// Counts a byte. Only the first byte of a character has a column.
     fn pass(&mut self, byte: u8) {
+        self.start = self.start.saturating_add(1);
         if byte == b'\n' {
             self.line = self.line.saturating_add(1);
             self.column = 1;
@@ -82,7 +87,7 @@ impl Class {
 }
 
 /// The first token of a text.
-#[derive(Drop)]
+#[derive(Clone, Copy)]
 struct Lexeme {
     kind: TokenKind,
     /// How many bytes come before the part that `kind` is about, and after it.
@@ -102,47 +107,123 @@ impl Lexeme {
     }
 }
 
-/// The tokens of a program, and its end. Adds the bytes of its texts to `bytes`.
-pub fn tokens_of<A: Allocator>(
-    alloc: A,
-    text: &[u8],
-    bytes: &mut Vec<u8, A>,
-) -> Result<(Vec<Token, A>, Token), AllocError> {
-    let mut tokens = Vec::new(alloc);
-    let mut cursor = Cursor {
-        text,
-        rest: text,
-        line: 1,
-        column: 1,
-    };
-    let mut last_line = 0;
-    // each turn takes at least one byte
-    for _ in 0..text.len() {
-        let blank = blank_len(cursor.rest);
+impl Lexer {
+    /// Reads the tokens of a program.
+    pub fn read(alloc: Global, text: &[u8]) -> Lexer {
+        let mut lexer = Lexer {
+            tokens: Vec::new(alloc),
+            bytes: Vec::new(alloc),
+            next: Position {
+                start: 0,
+                line: 1,
+                column: 1,
+            },
+            last_line: 0,
+            is_out_of_memory: false,
+        };
+        // each turn takes at least one byte
+        for _ in 0..text.len() {
+            lexer.read_next(text);
+        }
+        lexer
+    }
+
+    /// The text after the tokens that were read.
+    fn rest<'a>(&self, text: &'a [u8]) -> &'a [u8] {
+        text.get(self.next.start..).unwrap_or_default()
+    }
+
+    /// Reads the blanks, the comment or the token that comes next.
+    fn read_next(&mut self, text: &[u8]) {
+        let rest = self.rest(text);
+        let blank = blank_len(rest);
         if blank > 0 {
-            cursor.take(blank);
-        } else if let [first, ..] = cursor.rest {
-            let lexeme = first_lexeme(*first, cursor.rest, bytes)?;
-            cursor.take(lexeme.before);
-            let span = cursor.take(lexeme.len);
-            cursor.take(lexeme.after);
-            let kind = lexeme.kind;
-            tokens.push(Token { span, kind })?;
-            // at the beginning of a line `--` is meant as a comment
-            if span.line != last_line && is_two_minus_signs(kind) {
-                let rest = cursor.rest;
-                cursor.take(Class::Line.len(rest));
-            }
-            last_line = span.line;
+            self.take(rest, blank);
+        } else if let [first, ..] = rest {
+            let lexeme = self.lexeme(*first, rest);
+            self.read_token(lexeme, text);
         }
     }
-    let span = cursor.take(0);
-    let kind = TokenKind::End;
-    Ok((tokens, Token { span, kind }))
-}
 
-fn is_two_minus_signs(kind: TokenKind) -> bool {
-    matches!(kind, TokenKind::Wrong(ErrorKind::TwoMinusSigns))
+    /// Takes this number of the first bytes of the rest.
+    fn take(&mut self, rest: &[u8], len: usize) -> Span {
+        let span = self.next.span(len);
+        for byte in rest.get(..len).unwrap_or(rest) {
+            self.next.pass(*byte);
+        }
+        span
+    }
+
+    /// Adds a token.
+    fn read_token(&mut self, lexeme: Lexeme, text: &[u8]) {
+        let kind = lexeme.kind;
+        self.take(self.rest(text), lexeme.before);
+        let span = self.take(self.rest(text), lexeme.len);
+        self.take(self.rest(text), lexeme.after);
+        // at the beginning of a line `--` is meant as a comment
+        let is_comment = matches!(kind, TokenKind::Wrong(ErrorKind::TwoMinusSigns));
+        if is_comment && self.last_line != span.line {
+            let rest = self.rest(text);
+            self.take(rest, Class::Line.len(rest));
+        }
+        self.last_line = span.line;
+        self.is_out_of_memory |= self.tokens.push(Token { span, kind }).is_err();
+    }
+
+    /// The first token of a text that begins with this byte.
+    fn lexeme(&mut self, first: u8, text: &[u8]) -> Lexeme {
+        if first == b'"' || first == b'\'' {
+            self.quoted(first, text)
+        } else if first.is_ascii_digit() {
+            number(text)
+        } else if Class::Name.has(first) {
+            name(text)
+        } else {
+            sign(text)
+        }
+    }
+
+    /// A text in quotation marks, or a byte in single ones.
+    fn quoted(&mut self, quote: u8, text: &[u8]) -> Lexeme {
+        let others = text.get(1..).unwrap_or_default();
+        let Some(spelling) = before_quote(others, quote) else {
+            let kind = TokenKind::Wrong(ErrorKind::OpenText);
+            return Lexeme::new(kind, Class::Line.len(text));
+        };
+        let first = self.bytes.len();
+        if let Some(left) = self.unescape(spelling) {
+            self.bytes.truncate(first);
+            return bad_escape(text, spelling.len(), left);
+        }
+        let len = spelling.len().saturating_add(2);
+        if quote == b'"' {
+            let end = self.bytes.len();
+            return Lexeme::new(TokenKind::Text(Range { first, end }), len);
+        }
+        let kind = match self.bytes.get(first..).unwrap_or_default() {
+            [byte] => TokenKind::Number(u64::from(*byte)),
+            other => TokenKind::Wrong(ErrorKind::ByteLength(other.len())),
+        };
+        self.bytes.truncate(first);
+        Lexeme::new(kind, len)
+    }
+
+    /// Adds the bytes of a text. If it has a bad escape, returns how many bytes of the spelling are left from there on.
+    fn unescape(&mut self, spelling: &[u8]) -> Option<usize> {
+        let mut rest = spelling;
+        // each turn takes at least one byte
+        for _ in 0..spelling.len() {
+            if rest.is_empty() {
+                break;
+            }
+            let Some((byte, following)) = first_byte(rest) else {
+                return Some(rest.len());
+            };
+            self.is_out_of_memory |= self.bytes.push(byte).is_err();
+            rest = following;
+        }
+        None
+    }
 }
 
 /// The length of the blanks, or of the comment, that a text begins with.
@@ -153,28 +234,12 @@ fn blank_len(text: &[u8]) -> usize {
     }
 }
 
-/// The first token of a text that begins with this byte.
-fn first_lexeme<A: Allocator>(
-    first: u8,
-    text: &[u8],
-    bytes: &mut Vec<u8, A>,
-) -> Result<Lexeme, AllocError> {
-    if first == b'"' || first == b'\'' {
-        quoted(first, text, bytes)
-    } else if first.is_ascii_digit() {
-        Ok(number(text))
-    } else if Class::Name.has(first) {
-        Ok(name(text))
-    } else {
-        Ok(sign(text))
-    }
-}
-
 fn name(text: &[u8]) -> Lexeme {
     let len = Class::Name.len(text);
-    let kind = match Word::reserved(text.get(..len).unwrap_or_default()) {
+    let name = text.get(..len).unwrap_or_default();
+    let kind = match Word::reserved(name) {
         Some(word) => TokenKind::Word(word),
-        None => TokenKind::Name,
+        None => TokenKind::Name(TypeName::of(name)),
     };
     Lexeme::new(kind, len)
 }
@@ -247,35 +312,6 @@ fn digit_value(digit: u8) -> Option<u8>
     }
 }
 
-/// A text in quotation marks, or a byte in single ones.
-fn quoted<A: Allocator>(
-    quote: u8,
-    text: &[u8],
-    bytes: &mut Vec<u8, A>,
-) -> Result<Lexeme, AllocError> {
-    let others = text.get(1..).unwrap_or_default();
-    let Some(spelling) = before_quote(others, quote) else {
-        let kind = TokenKind::Wrong(ErrorKind::OpenText);
-        return Ok(Lexeme::new(kind, Class::Line.len(text)));
-    };
-    let first = bytes.len();
-    if let Some(left) = unescape(spelling, bytes)? {
-        bytes.truncate(first);
-        return Ok(bad_escape(text, spelling.len(), left));
-    }
-    let len = spelling.len().saturating_add(2);
-    if quote == b'"' {
-        let end = bytes.len();
-        return Ok(Lexeme::new(TokenKind::Text(Range { first, end }), len));
-    }
-    let kind = match bytes.get(first..).unwrap_or_default() {
-        [byte] => TokenKind::Number(u64::from(*byte)),
-        other => TokenKind::Wrong(ErrorKind::ByteLength(other.len())),
-    };
-    bytes.truncate(first);
-    Ok(Lexeme::new(kind, len))
-}
-
 /// A text in quotation marks whose spelling has a bad escape. Its backslash is the first of the `left` last bytes of the
 /// spelling.
 fn bad_escape(text: &[u8], spelling: usize, left: usize) -> Lexeme {
@@ -306,26 +342,8 @@ fn before_quote(bytes: &[u8], quote: u8) -> Option<&[u8]> {
     None
 }
 
-/// Adds the bytes of a text. If it has a bad escape, returns how many bytes of the spelling are left from there on.
-fn unescape<A: Allocator>(
-    spelling: &[u8],
-    bytes: &mut Vec<u8, A>,
-) -> Result<Option<usize>, AllocError> {
-    let mut rest = spelling;
-    while !rest.is_empty() {
-        let Some((byte, following)) = first_byte(rest) else {
-            return Ok(Some(rest.len()));
-        };
-        bytes.push(byte)?;
-        rest = following;
-    }
-    Ok(None)
-}
-
 /// The first byte of a text with this spelling, and the rest of the spelling.
-fn first_byte(spelling: &[u8]) -> Option<(u8, &[u8])>
-    ensures { IfSome result (λ found. length found.1.now < length spelling.now) }
-{
+fn first_byte(spelling: &[u8]) -> Option<(u8, &[u8])> {
     match spelling {
         [b'\\', b'x', high, low, rest @ ..] => {
             Some((16 * digit_value(*high)? + digit_value(*low)?, rest))

@@ -1,29 +1,53 @@
-use crate::builder::Builder;
-use crate::declaration::{Header, begins_declaration, read_declaration};
-use crate::error::{Error, ErrorKind, ReadError};
-use crate::lexer::tokens_of;
-use crate::statement::read_statement;
+use crate::declaration::{Header, begins_declaration};
+use crate::error::{Error, ErrorKind};
+use crate::lexer::Lexer;
 use crate::token::{Token, TokenKind};
-use crate::tokens::Tokens;
 use crate::tree::{
-    Block, Declaration, DeclarationKind, ElsePart, Span, Statement, StatementKind, Tree,
+    Block, Declaration, DeclarationKind, ElsePart, ExpressionAt, Nodes, Span, Statement,
+    StatementKind, Step, Tree,
 };
 use crate::word::Word;
-use std::alloc::{AllocError, Allocator};
+use std::alloc::Global;
 
 /// Why a text has no tree.
 #[derive(Drop)]
-pub enum Failure<A: Allocator> {
+pub enum Failure {
     /// The text's errors, in the order of the text.
-    Errors(Vec<Error, A>),
+    Errors(Vec<Error>),
     /// The host is out of memory.
     Memory,
 }
 
-impl<A: Allocator> From<AllocError> for Failure<A> {
-    fn from(_: AllocError) -> Failure<A> {
-        Failure::Memory
+/// Reads a program. Statements are moved as `Block::following` says.
+pub fn parse(alloc: Global, text: &[u8]) -> Result<Tree<'_>, Failure> {
+    let mut parser = Parser::new(alloc, Lexer::read(alloc, text));
+    parser.read_program();
+    if parser.errors.is_empty() {
+        parser.nest(text);
     }
+    let nodes = parser.finish()?;
+    Ok(Tree { text, nodes })
+}
+
+/// Reads the tokens of a program, and makes its tree.
+#[derive(Drop)]
+pub(crate) struct Parser {
+    pub tokens: Vec<Token>,
+    /// The position of the next token.
+    pub next: usize,
+    /// The token after the last one.
+    pub end: Token,
+    pub nodes: Nodes,
+    pub errors: Vec<Error>,
+    /// Whether memory was refused. Something is then missing from the tree, which nobody sees.
+    pub is_out_of_memory: bool,
+    /// The first expression that belongs to the outermost one that is being read.
+    pub outermost: usize,
+    /// The steps, arguments and statements that were read, of the innermost list last.
+    pub steps: Vec<Step>,
+    pub arguments: Vec<ExpressionAt>,
+    pub statements: Vec<Statement>,
+    blocks: Vec<OpenBlock>,
 }
 
 /// A block whose `}` isn't read yet. After `else if`, the statement that ends the block.
@@ -37,7 +61,7 @@ struct OpenBlock {
 }
 
 #[derive(Clone, Copy)]
-enum Owner {
+pub(crate) enum Owner {
     Body(Statement),
     Else {
         statement: Statement,
@@ -47,237 +71,258 @@ enum Owner {
     Declaration(Header),
 }
 
-/// Reads a program. Statements are moved as `Block::following` says.
-pub fn parse<'a, A: Allocator + Copy>(alloc: A, text: &'a [u8]) -> Result<Tree<'a, A>, Failure<A>> {
-    let mut bytes = Vec::new(alloc);
-    let (tokens, end) = tokens_of(alloc, text, &mut bytes)?;
-    let mut builder = Builder::new(alloc, text, bytes);
-    let mut blocks = Vec::new(alloc);
-    read_program(
-        &mut Tokens::new(tokens.as_slice(), end),
-        &mut builder,
-        &mut blocks,
-    )?;
-    let (mut tree, mut errors) = builder.finish();
-    if errors.is_empty() {
-        tree.nest(&mut errors)?;
+impl Parser {
+    fn new(alloc: Global, lexer: Lexer) -> Parser {
+        let Lexer {
+            tokens,
+            bytes,
+            next,
+            last_line: _,
+            is_out_of_memory,
+        } = lexer;
+        Parser {
+            tokens,
+            next: 0,
+            end: Token {
+                span: next.span(0),
+                kind: TokenKind::End,
+            },
+            nodes: Nodes::new(alloc, bytes),
+            errors: Vec::new(alloc),
+            is_out_of_memory,
+            outermost: 0,
+            steps: Vec::new(alloc),
+            arguments: Vec::new(alloc),
+            statements: Vec::new(alloc),
+            blocks: Vec::new(alloc),
+        }
     }
-    if errors.is_empty() {
-        return Ok(tree);
-    }
-    errors.sort_unstable_by_key(|error| error.span.start);
-    Err(Failure::Errors(errors))
-}
 
-fn read_program<A: Allocator>(
-    tokens: &mut Tokens<'_>,
-    builder: &mut Builder<'_, A>,
-    blocks: &mut Vec<OpenBlock, A>,
-) -> Result<(), AllocError> {
-    // each turn takes a token
-    for _ in 0..tokens.left() {
-        let token = tokens.peek();
+    /// The nodes of the tree, or what is wrong.
+    fn finish(self) -> Result<Nodes, Failure> {
+        let mut errors = self.errors;
+        if self.is_out_of_memory {
+            return Err(Failure::Memory);
+        }
+        if errors.is_empty() {
+            return Ok(self.nodes);
+        }
+        errors.sort_unstable_by_key(|error| error.span.start);
+        Err(Failure::Errors(errors))
+    }
+
+    fn read_program(&mut self) {
+        // each turn takes a token
+        for _ in 0..self.left() {
+            let token = self.peek();
+            match token.kind {
+                TokenKind::End => break,
+                _ => self.read_or_recover(token),
+            }
+        }
+        self.add_open_blocks();
+        self.nodes.body = self.block_end(0);
+    }
+
+    /// Adds an error for each block that is open at the end of the program.
+    fn add_open_blocks(&mut self) {
+        for i in 0..self.blocks.len() {
+            match self.blocks.get(i).copied() {
+                Some(block) if self.is_unclosed(block) => self.error(Error {
+                    span: block.brace,
+                    kind: ErrorKind::OpenBlock,
+                }),
+                _ => {}
+            }
+        }
+    }
+
+    /// Whether a block that is open at the end of the program is an error. A `}` in a text without a closing quotation mark may
+    /// be its own.
+    fn is_unclosed(&self, block: OpenBlock) -> bool {
+        for error in self.errors.as_slice() {
+            if matches!(error.kind, ErrorKind::OpenText) && error.span.start > block.brace.start {
+                return false;
+            }
+        }
+        !matches!(block.owner, Owner::ElseIf(_))
+    }
+
+    /// Reads a declaration, a statement up to its block, or the end of a block. After an error, continues at the next block or
+    /// line.
+    fn read_or_recover(&mut self, token: Token) {
+        let before = self.next;
+        let Err(error) = self.read_next(token) else {
+            return;
+        };
+        self.error(error);
+        let has_brace = self.has_read(before, Word::BraceOpen);
+        self.skip_line(error.span);
+        if token.kind.is(Word::Struct) {
+            let is_next = error.span.line == token.span.line && self.is(Word::BraceOpen);
+            if has_brace || is_next {
+                self.skip_fields(error.span);
+            }
+        }
+        let wrong = Statement::new(token.span, StatementKind::Wrong);
+        if self.is(Word::BraceOpen) {
+            self.open_block(Owner::Body(wrong));
+        } else {
+            self.end_statement(wrong);
+        }
+    }
+
+    /// Skips the rest of a struct, whose error is at `added`.
+    fn skip_fields(&mut self, added: Span) {
+        for _ in 0..self.left() {
+            let token = self.skip_token(added);
+            if token.kind.is(Word::BraceClose) {
+                break;
+            }
+        }
+    }
+
+    /// Skips the tokens of the line of an error, up to a brace.
+    fn skip_line(&mut self, added: Span) {
+        for _ in 0..self.left() {
+            if self.peek().span.line != added.line
+                || self.is(Word::BraceOpen)
+                || self.is(Word::BraceClose)
+            {
+                break;
+            }
+            self.skip_token(added);
+        }
+    }
+
+    /// Skips a token. Adds its error, unless that is the error at `added`.
+    fn skip_token(&mut self, added: Span) -> Token {
+        let token = self.take();
+        let span = token.span;
         match token.kind {
-            TokenKind::End => break,
-            _ => read_or_recover(token, tokens, builder, blocks)?,
+            TokenKind::Wrong(kind) if span.start != added.start => self.error(Error { span, kind }),
+            _ => {}
         }
+        token
     }
-    for block in blocks.as_slice() {
-        if is_unclosed(block, builder.errors.as_slice()) {
-            builder.error(Error {
-                span: block.brace,
-                kind: ErrorKind::OpenBlock,
-            })?;
-        }
-    }
-    builder.tree.body = builder.block_end(0)?;
-    Ok(())
-}
 
-/// Whether a block that is open at the end of the program is an error. A `}` in a text without a closing quotation mark may
-/// be its own.
-fn is_unclosed(block: &OpenBlock, errors: &[Error]) -> bool {
-    for error in errors {
-        if matches!(error.kind, ErrorKind::OpenText) && error.span.start > block.brace.start {
-            return false;
-        }
-    }
-    !matches!(block.owner, Owner::ElseIf(_))
-}
-
-/// Reads a declaration, a statement up to its block, or the end of a block. After an error, continues at the next block or line.
-fn read_or_recover<A: Allocator>(
-    token: Token,
-    tokens: &mut Tokens<'_>,
-    builder: &mut Builder<'_, A>,
-    blocks: &mut Vec<OpenBlock, A>,
-) -> Result<(), AllocError> {
-    let before = *tokens;
-    let error = match read_next(token, tokens, builder, blocks) {
-        Ok(()) => return Ok(()),
-        Err(ReadError::Memory) => return Err(AllocError),
-        Err(ReadError::Error(error)) => error,
-    };
-    builder.error(error)?;
-    let has_brace = tokens.has_read(&before, Word::BraceOpen);
-    skip_line(error.span, tokens, builder)?;
-    if token.kind.is(Word::Struct) {
-        let is_next = error.span.line == token.span.line && tokens.is(Word::BraceOpen);
-        if has_brace || is_next {
-            skip_fields(error.span, tokens, builder)?;
-        }
-    }
-    let wrong = Statement {
-        span: token.span,
-        kind: StatementKind::Wrong,
-        body: None,
-        otherwise: None,
-    };
-    if tokens.is(Word::BraceOpen) {
-        open_block(Owner::Body(wrong), tokens, builder, blocks)
-    } else {
-        end_statement(wrong, builder, blocks)
-    }
-}
-
-/// Skips the rest of a struct, whose error is at `added`.
-fn skip_fields<A: Allocator>(
-    added: Span,
-    tokens: &mut Tokens<'_>,
-    builder: &mut Builder<'_, A>,
-) -> Result<(), AllocError> {
-    for _ in 0..tokens.left() {
-        let token = tokens.peek();
-        skip_token(added, tokens, builder)?;
-        if token.kind.is(Word::BraceClose) {
-            break;
-        }
-    }
-    Ok(())
-}
-
-/// Skips the tokens of the line of an error, up to a brace.
-fn skip_line<A: Allocator>(
-    added: Span,
-    tokens: &mut Tokens<'_>,
-    builder: &mut Builder<'_, A>,
-) -> Result<(), AllocError> {
-    for _ in 0..tokens.left() {
-        let token = tokens.peek();
-        if token.span.line != added.line
-            || token.kind.is(Word::BraceOpen)
-            || token.kind.is(Word::BraceClose)
-        {
-            break;
-        }
-        skip_token(added, tokens, builder)?;
-    }
-    Ok(())
-}
-
-/// Skips a token. Adds its error, unless that is the error at `added`.
-fn skip_token<A: Allocator>(
-    added: Span,
-    tokens: &mut Tokens<'_>,
-    builder: &mut Builder<'_, A>,
-) -> Result<(), AllocError> {
-    let token = tokens.take();
-    match token.kind {
-        TokenKind::Wrong(kind) if token.span.start != added.start => {
-            builder.error(Error {
-                span: token.span,
-                kind,
-            })
-        }
-        _ => Ok(()),
-    }
-}
-
-fn read_next<A: Allocator>(
-    token: Token,
-    tokens: &mut Tokens<'_>,
-    builder: &mut Builder<'_, A>,
-    blocks: &mut Vec<OpenBlock, A>,
-) -> Result<(), ReadError> {
-    match token.kind {
-        TokenKind::Word(Word::Semicolon) => {
-            tokens.take();
-            Ok(())
-        }
-        TokenKind::Word(Word::BraceClose) => {
-            tokens.take();
-            match blocks.pop() {
-                Some(block) => close_block(block, tokens, builder, blocks),
-                None => Err(ReadError::at(token, ErrorKind::StatementWanted)),
+    fn read_next(&mut self, token: Token) -> Result<(), Error> {
+        match token.kind {
+            TokenKind::Word(Word::Semicolon) => {
+                self.take();
+                Ok(())
             }
-        }
-        TokenKind::Word(word) if blocks.is_empty() && begins_declaration(word) => {
-            match read_declaration(word, tokens, builder)? {
-                Some(header) => {
-                    expect_block(Owner::Declaration(header), tokens, builder, blocks)
+            TokenKind::Word(Word::BraceClose) => {
+                self.take();
+                match self.blocks.pop() {
+                    Some(block) => self.close_block(block),
+                    None => Err(Error::at(token, ErrorKind::StatementWanted)),
                 }
-                None => Ok(()),
             }
+            TokenKind::Word(word) if self.blocks.is_empty() && begins_declaration(word) => {
+                self.read_declaration(word)
+            }
+            _ => self.read_beginning(token.span),
         }
-        _ => read_beginning(token, tokens, builder, blocks),
     }
-}
 
-/// Reads a statement up to its block, or whole if it has none.
-fn read_beginning<A: Allocator>(
-    token: Token,
-    tokens: &mut Tokens<'_>,
-    builder: &mut Builder<'_, A>,
-    blocks: &mut Vec<OpenBlock, A>,
-) -> Result<(), ReadError> {
-    let kind = read_statement(tokens, builder)?;
-    let statement = Statement {
-        span: token.span,
-        kind,
-        body: None,
-        otherwise: None,
-    };
-    match kind {
-        StatementKind::If(_)
-        | StatementKind::IfLet { .. }
-        | StatementKind::For { .. }
-        | StatementKind::While { .. } => {
-            expect_block(Owner::Body(statement), tokens, builder, blocks)
+    /// Reads a statement up to its block, or whole if it has none.
+    fn read_beginning(&mut self, span: Span) -> Result<(), Error> {
+        let kind = self.read_statement()?;
+        let statement = Statement::new(span, kind);
+        match kind {
+            StatementKind::If(_)
+            | StatementKind::IfLet { .. }
+            | StatementKind::For { .. }
+            | StatementKind::While { .. } => self.expect_block(Owner::Body(statement)),
+            StatementKind::Use(_) if self.is(Word::BraceOpen) => {
+                self.expect_block(Owner::Body(statement))
+            }
+            _ => self.read_else(statement),
         }
-        StatementKind::Use(_) if tokens.is(Word::BraceOpen) => {
-            expect_block(Owner::Body(statement), tokens, builder, blocks)
-        }
-        _ => read_else(statement, tokens, builder, blocks),
     }
-}
 
-/// Reads `else` if it is next and the statement can have one. Otherwise the statement is complete.
-fn read_else<A: Allocator>(
-    statement: Statement,
-    tokens: &mut Tokens<'_>,
-    builder: &mut Builder<'_, A>,
-    blocks: &mut Vec<OpenBlock, A>,
-) -> Result<(), ReadError> {
-    if !can_have_else(statement.kind) || !tokens.accept(Word::Else) {
-        return Ok(end_statement(statement, builder, blocks)?);
+    /// Reads `else` if it is next and the statement can have one. Otherwise the statement is complete.
+    fn read_else(&mut self, statement: Statement) -> Result<(), Error> {
+        if !can_have_else(statement.kind) || !self.accept(Word::Else) {
+            self.end_statement(statement);
+            return Ok(());
+        }
+        if is_if(statement.kind) && self.is(Word::If) {
+            let span = self.peek().span;
+            self.add_block(Owner::ElseIf(statement), span);
+            return Ok(());
+        }
+        let code = if can_have_code(statement.kind) {
+            self.accept_name()
+        } else {
+            None
+        };
+        self.expect_block(Owner::Else { statement, code })
     }
-    let token = tokens.peek();
-    if is_if(statement.kind) && token.kind.is(Word::If) {
-        blocks
-            .push(OpenBlock {
-                owner: Owner::ElseIf(statement),
-                begin: builder.block_begin(),
-                brace: token.span,
-            })
-            .map_err(AllocError::from)?;
-        return Ok(());
+
+    pub fn expect_block(&mut self, owner: Owner) -> Result<(), Error> {
+        if !self.is(Word::BraceOpen) {
+            return Err(Error::at(self.peek(), ErrorKind::WordWanted(Word::BraceOpen)));
+        }
+        self.open_block(owner);
+        Ok(())
     }
-    let code = if can_have_code(statement.kind) {
-        tokens.accept_name()
-    } else {
-        None
-    };
-    expect_block(Owner::Else { statement, code }, tokens, builder, blocks)
+
+    fn open_block(&mut self, owner: Owner) {
+        let brace = self.take().span;
+        self.add_block(owner, brace);
+    }
+
+    fn add_block(&mut self, owner: Owner, brace: Span) {
+        let begin = self.statements.len();
+        let block = OpenBlock {
+            owner,
+            begin,
+            brace,
+        };
+        self.is_out_of_memory |= self.blocks.push(block).is_err();
+    }
+
+    fn close_block(&mut self, open: OpenBlock) -> Result<(), Error> {
+        let block = self.block_end(open.begin);
+        match open.owner {
+            Owner::Body(statement) => {
+                return self.read_else(Statement {
+                    body: Some(block),
+                    ..statement
+                });
+            }
+            Owner::Else { statement, code } => self.end_statement(with_else(
+                statement, code, block,
+            )),
+            Owner::ElseIf(statement) => self.end_statement(with_else(statement, None, block)),
+            Owner::Declaration(header) => self.declaration(declaration_of(header, block)),
+        }
+        Ok(())
+    }
+
+    /// Adds a complete statement. It ends each `else if` that it belongs to.
+    fn end_statement(&mut self, statement: Statement) {
+        self.statement(statement);
+        for _ in 0..self.blocks.len() {
+            let Some((outer, begin)) = self.last_else_if() else {
+                break;
+            };
+            let _ = self.blocks.pop();
+            let block = self.block_end(begin);
+            self.statement(with_else(outer, None, block));
+        }
+    }
+
+    /// The statement whose `else if` was read last, if that isn't complete, and where its block begins.
+    fn last_else_if(&self) -> Option<(Statement, usize)> {
+        let last = self.blocks.last()?;
+        match last.owner {
+            Owner::ElseIf(statement) => Some((statement, last.begin)),
+            _ => None,
+        }
+    }
 }
 
 fn can_have_else(kind: StatementKind) -> bool {
@@ -308,92 +353,6 @@ fn is_if(kind: StatementKind) -> bool {
         kind,
         StatementKind::If(_) | StatementKind::IfLet { .. } | StatementKind::Wrong
     )
-}
-
-fn expect_block<A: Allocator>(
-    owner: Owner,
-    tokens: &mut Tokens<'_>,
-    builder: &Builder<'_, A>,
-    blocks: &mut Vec<OpenBlock, A>,
-) -> Result<(), ReadError> {
-    if !tokens.is(Word::BraceOpen) {
-        return Err(ReadError::at(tokens.peek(), ErrorKind::WordWanted(Word::BraceOpen)));
-    }
-    Ok(open_block(owner, tokens, builder, blocks)?)
-}
-
-fn open_block<A: Allocator>(
-    owner: Owner,
-    tokens: &mut Tokens<'_>,
-    builder: &Builder<'_, A>,
-    blocks: &mut Vec<OpenBlock, A>,
-) -> Result<(), AllocError> {
-    let brace = tokens.take().span;
-    let begin = builder.block_begin();
-    Ok(blocks.push(OpenBlock {
-        owner,
-        begin,
-        brace,
-    })?)
-}
-
-fn close_block<A: Allocator>(
-    open: OpenBlock,
-    tokens: &mut Tokens<'_>,
-    builder: &mut Builder<'_, A>,
-    blocks: &mut Vec<OpenBlock, A>,
-) -> Result<(), ReadError> {
-    let block = builder.block_end(open.begin)?;
-    match open.owner {
-        Owner::Body(statement) => {
-            read_else(with_body(statement, block), tokens, builder, blocks)
-        }
-        Owner::Else { statement, code } => Ok(end_statement(
-            with_else(statement, code, block),
-            builder,
-            blocks,
-        )?),
-        Owner::ElseIf(statement) => Ok(end_statement(
-            with_else(statement, None, block),
-            builder,
-            blocks,
-        )?),
-        Owner::Declaration(header) => Ok(builder.declaration(declaration_of(header, block))?),
-    }
-}
-
-/// Adds a complete statement. It ends each `else if` that it belongs to.
-fn end_statement<A: Allocator>(
-    statement: Statement,
-    builder: &mut Builder<'_, A>,
-    blocks: &mut Vec<OpenBlock, A>,
-) -> Result<(), AllocError> {
-    builder.statement(statement)?;
-    for _ in 0..blocks.len() {
-        let Some((outer, begin)) = last_else_if(blocks.as_slice()) else {
-            break;
-        };
-        let _ = blocks.pop();
-        let block = builder.block_end(begin)?;
-        builder.statement(with_else(outer, None, block))?;
-    }
-    Ok(())
-}
-
-/// The statement whose `else if` was read last, if that isn't complete, and where its block begins.
-fn last_else_if(blocks: &[OpenBlock]) -> Option<(Statement, usize)> {
-    let last = blocks.last()?;
-    match last.owner {
-        Owner::ElseIf(statement) => Some((statement, last.begin)),
-        _ => None,
-    }
-}
-
-fn with_body(statement: Statement, block: Block) -> Statement {
-    Statement {
-        body: Some(block),
-        ..statement
-    }
 }
 
 fn with_else(statement: Statement, code: Option<Span>, block: Block) -> Statement {

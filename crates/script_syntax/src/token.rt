@@ -1,5 +1,5 @@
-use crate::error::ErrorKind;
-use crate::tree::{Range, Span};
+use crate::error::{ErrorKind, OtherType};
+use crate::tree::{Container, Range, Span};
 use crate::word::Word;
 
 /// A word, number, text or sign of a program.
@@ -11,7 +11,7 @@ pub struct Token {
 
 #[derive(Clone, Copy)]
 pub enum TokenKind {
-    Name,
+    Name(TypeName),
     Number(u64),
     /// A text, by its bytes without quotation marks and escapes.
     Text(Range),
@@ -27,5 +27,45 @@ impl TokenKind {
             TokenKind::Word(found) => found == word,
             _ => false,
         }
+    }
+}
+
+/// What a name means where a type is wanted. It may be any other name too.
+#[derive(Clone, Copy)]
+pub enum TypeName {
+    Container(Container),
+    Int,
+    Text,
+    /// The word of another language.
+    Other(OtherType),
+    Struct,
+}
+
+static TYPE_NAMES: [(&str, TypeName); 14] = [
+    ("vec", TypeName::Container(Container::Vec)),
+    ("list", TypeName::Container(Container::List)),
+    ("map", TypeName::Container(Container::Map)),
+    ("flat_map", TypeName::Container(Container::FlatMap)),
+    ("own", TypeName::Container(Container::Own)),
+    ("shared", TypeName::Container(Container::Shared)),
+    ("int", TypeName::Int),
+    ("text", TypeName::Text),
+    ("i64", TypeName::Other(OtherType::Int)),
+    ("number", TypeName::Other(OtherType::Int)),
+    ("bool", TypeName::Other(OtherType::Int)),
+    ("str", TypeName::Other(OtherType::Text)),
+    ("string", TypeName::Other(OtherType::Text)),
+    ("float", TypeName::Other(OtherType::Float)),
+];
+
+impl TypeName {
+    /// The meaning of this name.
+    pub fn of(name: &[u8]) -> TypeName {
+        for (spelling, meaning) in &TYPE_NAMES {
+            if spelling.as_bytes() == name {
+                return *meaning;
+            }
+        }
+        TypeName::Struct
     }
 }

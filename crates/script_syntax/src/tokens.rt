@@ -1,30 +1,18 @@
-use crate::error::{ErrorKind, ReadError, Wanted};
+use crate::error::{Error, ErrorKind, Wanted};
+use crate::parser::Parser;
 use crate::token::{Token, TokenKind};
 use crate::tree::Span;
 use crate::word::Word;
 
-/// The tokens of a program that aren't read yet.
-#[derive(Clone, Copy)]
-pub struct Tokens<'t> {
-    rest: &'t [Token],
-    end: Token,
-}
-
-impl<'t> Tokens<'t> {
-    /// `end` is what `peek` and `take` return after the last token.
-    pub fn new(tokens: &'t [Token], end: Token) -> Tokens<'t> {
-        Tokens { rest: tokens, end }
-    }
-
+impl Parser {
     /// How many tokens are left: an upper bound of the turns of a loop that reads a token in each turn.
     pub fn left(&self) -> usize {
-        self.rest.len()
+        self.tokens.len().saturating_sub(self.next)
     }
 
-    /// Whether this word was read since `earlier`.
-    pub fn has_read(&self, earlier: &Tokens<'t>, word: Word) -> bool {
-        let len = earlier.left().saturating_sub(self.left());
-        for token in earlier.rest.get(..len).unwrap_or_default() {
+    /// Whether this word was read since the token at `earlier` was next.
+    pub fn has_read(&self, earlier: usize, word: Word) -> bool {
+        for token in self.tokens.get(earlier..self.next).unwrap_or_default() {
             if token.kind.is(word) {
                 return true;
             }
@@ -34,17 +22,13 @@ impl<'t> Tokens<'t> {
 
     /// The next token.
     pub fn peek(&self) -> Token {
-        self.rest.first().copied().unwrap_or(self.end)
+        self.tokens.get(self.next).copied().unwrap_or(self.end)
     }
 
     pub fn take(&mut self) -> Token {
-        match self.rest {
-            [first, rest @ ..] => {
-                self.rest = rest;
-                *first
-            }
-            [] => self.end,
-        }
+        let token = self.peek();
+        self.next = self.next.saturating_add(1).min(self.tokens.len());
+        token
     }
 
     /// Whether this word is next.
@@ -62,28 +46,27 @@ impl<'t> Tokens<'t> {
     }
 
     /// Takes this word.
-    pub fn expect(&mut self, word: Word) -> Result<Span, ReadError> {
+    pub fn expect(&mut self, word: Word) -> Result<Span, Error> {
         let token = self.peek();
         if !token.kind.is(word) {
-            return Err(ReadError::at(token, ErrorKind::WordWanted(word)));
+            return Err(Error::at(token, ErrorKind::WordWanted(word)));
         }
         self.take();
         Ok(token.span)
     }
 
     /// Takes a name.
-    pub fn name(&mut self, wanted: Wanted) -> Result<Span, ReadError> {
+    pub fn name(&mut self, wanted: Wanted) -> Result<Span, Error> {
         let token = self.peek();
         match token.kind {
-            TokenKind::Name => {
+            TokenKind::Name(_) => {
                 self.take();
                 Ok(token.span)
             }
-            TokenKind::Word(word) if word.is_reserved() => Err(ReadError::at(
-                token,
-                ErrorKind::Reserved(wanted),
-            )),
-            _ => Err(ReadError::at(token, ErrorKind::NameWanted(wanted))),
+            TokenKind::Word(word) if word.is_reserved() => {
+                Err(Error::at(token, ErrorKind::Reserved(wanted)))
+            }
+            _ => Err(Error::at(token, ErrorKind::NameWanted(wanted))),
         }
     }
 
@@ -91,7 +74,7 @@ impl<'t> Tokens<'t> {
     pub fn accept_name(&mut self) -> Option<Span> {
         let token = self.peek();
         match token.kind {
-            TokenKind::Name => {
+            TokenKind::Name(_) => {
                 self.take();
                 Some(token.span)
             }

@@ -1,4 +1,4 @@
-use std::alloc::Allocator;
+use std::alloc::Global;
 
 /// A part of a program's text.
 #[derive(Clone, Copy)]
@@ -294,19 +294,51 @@ pub struct Field {
 
 /// A program: its declarations and statements, in lists that refer to each other by position.
 #[derive(Drop)]
-pub struct Tree<'a, A: Allocator> {
+pub struct Tree<'a> {
     pub(crate) text: &'a [u8],
-    pub(crate) bytes: Vec<u8, A>,
-    pub(crate) expressions: Vec<Expression, A>,
-    pub(crate) arguments: Vec<ExpressionAt, A>,
-    pub(crate) steps: Vec<Step, A>,
-    pub(crate) containers: Vec<Container, A>,
-    pub(crate) items: Vec<Item, A>,
-    pub(crate) held: Vec<Held, A>,
-    pub(crate) fields: Vec<Field, A>,
-    pub(crate) statements: Vec<Statement, A>,
-    pub(crate) declarations: Vec<Declaration, A>,
-    pub(crate) body: Block,
+    pub(crate) nodes: Nodes,
+}
+
+/// The lists of a tree.
+#[derive(Drop)]
+pub(crate) struct Nodes {
+    pub bytes: Vec<u8>,
+    pub expressions: Vec<Expression>,
+    pub arguments: Vec<ExpressionAt>,
+    pub steps: Vec<Step>,
+    pub containers: Vec<Container>,
+    pub items: Vec<Item>,
+    pub held: Vec<Held>,
+    pub fields: Vec<Field>,
+    pub statements: Vec<Statement>,
+    pub declarations: Vec<Declaration>,
+    pub body: Block,
+}
+
+impl Nodes {
+    /// No nodes, with the bytes of the program's texts.
+    pub fn new(alloc: Global, bytes: Vec<u8>) -> Nodes {
+        Nodes {
+            bytes,
+            expressions: Vec::new(alloc),
+            arguments: Vec::new(alloc),
+            steps: Vec::new(alloc),
+            containers: Vec::new(alloc),
+            items: Vec::new(alloc),
+            held: Vec::new(alloc),
+            fields: Vec::new(alloc),
+            statements: Vec::new(alloc),
+            declarations: Vec::new(alloc),
+            body: Block::EMPTY,
+        }
+    }
+}
+
+impl Span {
+    /// The bytes of a text in this span.
+    pub(crate) fn of(self, text: &[u8]) -> &[u8] {
+        text.get(self.start..self.end).unwrap_or_default()
+    }
 }
 
 impl Range {
@@ -314,6 +346,18 @@ impl Range {
 
     pub fn is_empty(&self) -> bool {
         self.end <= self.first
+    }
+}
+
+impl Statement {
+    /// A statement without blocks.
+    pub(crate) fn new(span: Span, kind: StatementKind) -> Statement {
+        Statement {
+            span,
+            kind,
+            body: None,
+            otherwise: None,
+        }
     }
 }
 
@@ -325,7 +369,7 @@ impl Block {
     };
 }
 
-impl<'a, A: Allocator> Tree<'a, A> {
+impl<'a> Tree<'a> {
     /// The program's text.
     pub fn text(&self) -> &'a [u8] {
         self.text
@@ -333,75 +377,62 @@ impl<'a, A: Allocator> Tree<'a, A> {
 
     /// The bytes of the text in a span, for example a name.
     pub fn word(&self, span: Span) -> &'a [u8] {
-        self.text.get(span.start..span.end).unwrap_or_default()
+        span.of(self.text)
     }
 
     pub fn declarations(&self) -> &[Declaration] {
-        self.declarations.as_slice()
+        self.nodes.declarations.as_slice()
     }
 
     /// The statements outside functions.
     pub fn body(&self) -> Block {
-        self.body
+        self.nodes.body
     }
 
     pub fn expression(&self, at: ExpressionAt) -> Option<Expression> {
-        self.expressions.get(at.0).copied()
+        self.nodes.expressions.get(at.0).copied()
     }
 
     pub fn statements(&self, range: Range) -> &[Statement] {
-        part(self.statements.as_slice(), range)
+        part(self.nodes.statements.as_slice(), range)
     }
 
     /// The bytes of a text, without its quotation marks and escapes.
     pub fn bytes(&self, range: Range) -> &[u8] {
-        part(self.bytes.as_slice(), range)
+        part(self.nodes.bytes.as_slice(), range)
     }
 
     /// The arguments of a function or a method.
     pub fn arguments(&self, range: Range) -> &[ExpressionAt] {
-        part(self.arguments.as_slice(), range)
+        part(self.nodes.arguments.as_slice(), range)
     }
 
     /// The steps of a place.
     pub fn steps(&self, range: Range) -> &[Step] {
-        part(self.steps.as_slice(), range)
+        part(self.nodes.steps.as_slice(), range)
     }
 
     /// The containers of a type, from the outermost.
     pub fn containers(&self, range: Range) -> &[Container] {
-        part(self.containers.as_slice(), range)
+        part(self.nodes.containers.as_slice(), range)
     }
 
     pub fn items(&self, range: Range) -> &[Item] {
-        part(self.items.as_slice(), range)
+        part(self.nodes.items.as_slice(), range)
     }
 
     /// The places of a `use`.
     pub fn held(&self, range: Range) -> &[Held] {
-        part(self.held.as_slice(), range)
+        part(self.nodes.held.as_slice(), range)
     }
 
     /// The fields of a struct, or the parameters of a function.
     pub fn fields(&self, range: Range) -> &[Field] {
-        part(self.fields.as_slice(), range)
+        part(self.nodes.fields.as_slice(), range)
     }
 }
 
 impl Container {
-    /// The container with this word.
-    pub(crate) fn named(word: &[u8]) -> Option<Container> {
-        match word {
-            b"vec" => Some(Container::Vec),
-            b"list" => Some(Container::List),
-            b"map" => Some(Container::Map),
-            b"flat_map" => Some(Container::FlatMap),
-            b"own" => Some(Container::Own),
-            b"shared" => Some(Container::Shared),
-            _ => None,
-        }
-    }
-
     pub fn spelling(self) -> &'static str {
         match self {
             Container::Vec => "vec",
@@ -415,6 +446,6 @@ impl Container {
 }
 
 /// The items of a list in a range, or none if the list ends before it does.
-fn part<T>(list: &[T], range: Range) -> &[T] {
+pub(crate) fn part<T>(list: &[T], range: Range) -> &[T] {
     list.get(range.first..range.end).unwrap_or_default()
 }

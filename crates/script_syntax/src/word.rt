@@ -68,7 +68,7 @@ pub enum Word {
     Semicolon,
 }
 
-const RESERVED: [(&str, Word); 32] = [
+static RESERVED: [(&str, Word); 32] = [
     ("const", Word::Const),
     ("struct", Word::Struct),
     ("object", Word::Object),
@@ -104,7 +104,7 @@ const RESERVED: [(&str, Word); 32] = [
 ];
 
 /// A sign comes before the signs that it begins with.
-const SIGNS: [(&str, Word); 33] = [
+static SIGNS: [(&str, Word); 33] = [
     ("..", Word::DotDot),
     ("??", Word::OrElse),
     ("==", Word::EqualEqual),

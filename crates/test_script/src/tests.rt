@@ -184,11 +184,6 @@ static WRONG: [(&str, &str); 36] = [
     ("x = é", "1:5: `é` means nothing here / -\n"),
 ];
 
-#[test]
-fn errors_are_reported(rt: HostRuntime) -> Result<(), Fail> {
-    Ok(check_errors(&rt, &WRONG)?)
-}
-
 /// Programs with wrong words, numbers and texts.
 static WRONG_WORDS: [(&str, &str); 20] = [
     ("x = 0x", "1:5: `0x` means nothing here / -\n"),
@@ -240,13 +235,8 @@ static WRONG_WORDS: [(&str, &str); 20] = [
     ("# é\nx = @", "2:5: `@` means nothing here / -\n"),
 ];
 
-#[test]
-fn wrong_words_are_reported(rt: HostRuntime) -> Result<(), Fail> {
-    Ok(check_errors(&rt, &WRONG_WORDS)?)
-}
-
 /// Programs that the grammar doesn't have.
-static WRONG_GRAMMAR: [(&str, &str); 21] = [
+static WRONG_GRAMMAR: [(&str, &str); 22] = [
     (
         "use",
         "1:4: a name is wanted here, and this is `the end` / -\n",
@@ -325,12 +315,8 @@ static WRONG_GRAMMAR: [(&str, &str); 21] = [
         "let x = @\nlet y = $",
         "1:9: `@` means nothing here / -\n2:9: `$` means nothing here / -\n",
     ),
+    (SEVERAL, EACH),
 ];
-
-#[test]
-fn wrong_grammar_is_reported(rt: HostRuntime) -> Result<(), Fail> {
-    Ok(check_errors(&rt, &WRONG_GRAMMAR)?)
-}
 
 const SEVERAL: &str = "let x = \nif x == { print @ }\nstruct S {\n    a: itn b\n}\nprint $, %\n";
 
@@ -341,9 +327,10 @@ const EACH: &str = "2:1: a value is wanted here, and this is `if` / -
 ";
 
 #[test]
-fn all_errors_are_reported(rt: HostRuntime) -> Result<(), Fail> {
-    assert!(rt; errors_of(rt.alloc(), SEVERAL)?.as_str() == EACH);
-    Ok(())
+fn errors_are_reported(rt: HostRuntime) -> Result<(), Fail> {
+    check_errors(&rt, &WRONG)?;
+    check_errors(&rt, &WRONG_WORDS)?;
+    Ok(check_errors(&rt, &WRONG_GRAMMAR)?)
 }
 
 /// Whether the first error of a program is about this word.
@@ -404,38 +391,35 @@ fn errors_around(
 const TOO_DEEP: &str =
     "1:73: expressions are nested at most 64 deep / name a part of it with `let`\n";
 
-/// The expression is the first of its levels, so 63 parentheses or signs are allowed.
-#[test]
-fn depth_has_a_limit(rt: HostRuntime) -> Result<(), Fail> {
-    let alloc = rt.alloc();
-    assert!(rt; errors_around(alloc, "(", "1", ")", 63)?.as_str() == "none");
-    assert!(rt; errors_around(alloc, "(", "1", ")", 64)?.as_str() == TOO_DEEP);
-    assert!(rt; errors_around(alloc, "!", "1", "", 63)?.as_str() == "none");
-    assert!(rt; errors_around(alloc, "!", "1", "", 64)?.as_str() == TOO_DEEP);
-    Ok(())
-}
+const TOO_LARGE: &str =
+    "1:1007: an expression has at most 500 operands and operators / name a part of it with `let`\n";
 
-/// The error of an expression whose last operator, in this column, is the 501st of its operands and operators.
-fn too_large(alloc: Global, column: u32) -> Result<String, AllocError> {
-    let mut line = String::new(alloc);
-    writeln!(
-        line,
-        "1:{column}: an expression has at most 500 operands and operators / name a part of it with `let`"
-    )?;
-    Ok(line)
-}
+const TOO_LARGE_BY_A_SIGN: &str =
+    "1:1006: an expression has at most 500 operands and operators / name a part of it with `let`\n";
 
-/// Signs, calls and arguments count too: 250 operands with 249 `+` between them, and one sign or one argument, are 500.
+const TOO_LARGE_BY_AN_ARGUMENT: &str =
+    "1:1009: an expression has at most 500 operands and operators / name a part of it with `let`\n";
+
+/// Arguments of `errors_around`, and what it returns. The expression is the first of its levels, so 63 parentheses or signs are
+/// allowed. Signs, calls and arguments count too: 250 operands with 249 `+` between them, and one sign or one argument, are
+/// 500. The error of a larger one is at the 501st of its operands and operators, which is the last operator.
+static LIMITS: [(&str, &str, &str, usize, &str); 9] = [
+    ("(", "1", ")", 63, "none"),
+    ("(", "1", ")", 64, TOO_DEEP),
+    ("!", "1", "", 63, "none"),
+    ("!", "1", "", 64, TOO_DEEP),
+    ("", "-1", " + 1", 249, "none"),
+    ("", "f(1)", " + 1", 249, "none"),
+    ("", "1", " + 1", 250, TOO_LARGE),
+    ("", "- -1", " + 1", 249, TOO_LARGE_BY_A_SIGN),
+    ("", "f(1, 2)", " + 1", 249, TOO_LARGE_BY_AN_ARGUMENT),
+];
+
 #[test]
-fn size_has_a_limit(rt: HostRuntime) -> Result<(), Fail> {
-    let alloc = rt.alloc();
-    assert!(rt; errors_around(alloc, "", "-1", " + 1", 249)?.as_str() == "none");
-    assert!(rt; errors_around(alloc, "", "f(1)", " + 1", 249)?.as_str() == "none");
-    let found = errors_around(alloc, "", "1", " + 1", 250)?;
-    assert!(rt; found.as_str() == too_large(alloc, 1007)?.as_str());
-    let found = errors_around(alloc, "", "- -1", " + 1", 249)?;
-    assert!(rt; found.as_str() == too_large(alloc, 1006)?.as_str());
-    let found = errors_around(alloc, "", "f(1, 2)", " + 1", 249)?;
-    assert!(rt; found.as_str() == too_large(alloc, 1009)?.as_str());
+fn expressions_have_limits(rt: HostRuntime) -> Result<(), Fail> {
+    for (before, expression, behind, times, reported) in &LIMITS {
+        let found = errors_around(rt.alloc(), before, expression, behind, *times)?;
+        assert!(rt; found.as_str() == *reported);
+    }
     Ok(())
 }

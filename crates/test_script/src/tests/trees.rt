@@ -48,11 +48,6 @@ static OPERATORS: [(&str, &str); 20] = [
     ("x = a // b\n- c", "{(x = (a - c))}"),
 ];
 
-#[test]
-fn operators_are_grouped(rt: HostRuntime) -> Result<(), Fail> {
-    Ok(check_trees(&rt, &OPERATORS)?)
-}
-
 /// Assignments of numbers, texts, places and calls.
 static OPERANDS: [(&str, &str); 20] = [
     ("x = 1_000", "{(x = 1000)}"),
@@ -82,11 +77,6 @@ static OPERANDS: [(&str, &str); 20] = [
     ("x = f(1, g(2), a[3])", "{(x = f(1, g(2), a[3]))}"),
     ("x = 'a' t = \"b\"", "{(x = 97) (t = <98>)}"),
 ];
-
-#[test]
-fn operands_are_read(rt: HostRuntime) -> Result<(), Fail> {
-    Ok(check_trees(&rt, &OPERANDS)?)
-}
 
 /// Statements of each kind.
 static STATEMENTS: [(&str, &str); 30] = [
@@ -161,11 +151,6 @@ static STATEMENTS: [(&str, &str); 30] = [
     ("print -1\n-2", "{(print ((-1) - 2))}"),
 ];
 
-#[test]
-fn statements_are_read(rt: HostRuntime) -> Result<(), Fail> {
-    Ok(check_trees(&rt, &STATEMENTS)?)
-}
-
 /// Programs with statements that move into the statement before them.
 static MOVED: [(&str, &str); 15] = [
     (
@@ -221,11 +206,6 @@ static MOVED: [(&str, &str); 15] = [
     ),
 ];
 
-#[test]
-fn statements_move(rt: HostRuntime) -> Result<(), Fail> {
-    Ok(check_trees(&rt, &MOVED)?)
-}
-
 /// Declarations of each kind.
 static DECLARATIONS: [(&str, &str); 11] = [
     ("const A = 1 + 2", "(const A = (1 + 2)) {}"),
@@ -260,6 +240,10 @@ static DECLARATIONS: [(&str, &str); 11] = [
 ];
 
 #[test]
-fn declarations_are_read(rt: HostRuntime) -> Result<(), Fail> {
+fn trees_are_read(rt: HostRuntime) -> Result<(), Fail> {
+    check_trees(&rt, &OPERATORS)?;
+    check_trees(&rt, &OPERANDS)?;
+    check_trees(&rt, &STATEMENTS)?;
+    check_trees(&rt, &MOVED)?;
     Ok(check_trees(&rt, &DECLARATIONS)?)
 }

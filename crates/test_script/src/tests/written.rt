@@ -1,487 +1,439 @@
 use script_syntax::{
-    BaseType, BinaryOperator, Block, Declaration, DeclarationKind, ElsePart, Expression,
-    ExpressionAt, ExpressionKind, Range, SetOperator, Source, Span, Statement, StatementKind, Step,
+    BaseType, BinaryOperator, Block, Declaration, DeclarationKind, ElsePart, ExpressionAt,
+    ExpressionKind, Held, Item, Range, SetOperator, Source, Span, Statement, StatementKind, Step,
     StepKind, Tree, Type, UnaryOperator, Value, ValueKind,
 };
 use std::alloc::{AllocError, Global};
 use std::fmt::Write;
 use std::str;
 
-/// More parts than the tree of any test has.
-const MOST_PARTS: usize = 100_000;
-
-/// A part of a program that isn't written yet. A text before an optional part is written only with the part.
-#[derive(Clone, Copy)]
-enum Part {
-    Text(&'static str),
-    Name(Span),
-    OptionalName(&'static str, Option<Span>),
-    Bytes(Range),
-    OptionalBytes(&'static str, Option<Range>),
-    Type(Type),
-    Expression(ExpressionAt),
-    Optional(&'static str, Option<ExpressionAt>),
-    Arguments(Range),
-    Steps(Range),
-    Value(Value),
-    Items(Range),
-    Held(Range),
-    Fields(Range),
-    Source(Source),
-    Statement(Statement),
-    Statements(Range),
-    Following(Range),
-    Block(Block),
-    Body(Option<Block>),
-    Else(Option<ElsePart>),
-}
-
-/// Writes a tree. The parts of a part wait in `parts` until all parts before them are written.
-#[derive(Drop)]
-struct Writer<'a> {
-    tree: &'a Tree<'a, Global>,
-    text: &'a mut String,
-    parts: &'a mut Vec<Part>,
-}
+/// More levels than the tree of any test has.
+const MOST_LEVELS: u32 = 100;
 
 /// A tree as a program with parentheses around each statement, declaration and operation. Texts are numbers in `< >`. `|` is
 /// before statements that were moved into a block, and `!` after a block that leaves.
-pub fn written(alloc: Global, tree: &Tree<'_, Global>) -> Result<String, AllocError> {
-    let mut text = String::new(alloc);
-    let mut parts = Vec::new(alloc);
-    let mut waiting = Vec::new(alloc);
-    write_tree(
-        &mut Writer {
-            tree,
-            text: &mut text,
-            parts: &mut parts,
-        },
-        &mut waiting,
-    )?;
-    Ok(text)
-}
-
-fn write_tree(writer: &mut Writer<'_>, waiting: &mut Vec<Part>) -> Result<(), AllocError> {
-    let tree = writer.tree;
+pub fn written(alloc: Global, tree: &Tree<'_>) -> Result<String, AllocError> {
+    let mut writer = Writer {
+        text: String::new(alloc),
+        is_out_of_memory: false,
+    };
     for declaration in tree.declarations() {
-        writer.declaration(*declaration)?;
-        writer.add(&[Part::Text(" ")])?;
+        writer.declaration(tree, *declaration);
+        writer.add(" ");
     }
-    writer.block(tree.body())?;
-    for _ in 0..MOST_PARTS {
-        for part in writer.parts.as_slice().iter().rev() {
-            waiting.push(*part)?;
-        }
-        writer.parts.truncate(0);
-        let Some(part) = waiting.pop() else {
-            break;
-        };
-        writer.part(part)?;
+    writer.block(tree, tree.body(), MOST_LEVELS);
+    if writer.is_out_of_memory {
+        return Err(AllocError);
     }
-    Ok(())
+    Ok(writer.text)
 }
 
-impl Writer<'_> {
-    fn add(&mut self, parts: &[Part]) -> Result<(), AllocError> {
-        for part in parts {
-            self.parts.push(*part)?;
-        }
-        Ok(())
+/// Writes a tree. The last argument of a method is how many levels the part may have.
+#[derive(Drop)]
+struct Writer {
+    text: String,
+    is_out_of_memory: bool,
+}
+
+impl Writer {
+    fn add(&mut self, text: &str) {
+        self.is_out_of_memory |= self.text.push_str(text).is_err();
     }
 
-    /// Writes a part, or adds its parts.
-    fn part(&mut self, part: Part) -> Result<(), AllocError> {
-        match part {
-            Part::Text(text) => self.text.push_str(text),
-            Part::Name(span) => self.name(span),
-            Part::OptionalName(before, Some(span)) => {
-                self.add(&[Part::Text(before), Part::Name(span)])
-            }
-            Part::Bytes(range) => self.bytes(range),
-            Part::OptionalBytes(before, Some(range)) => {
-                self.add(&[Part::Text(before), Part::Bytes(range)])
-            }
-            Part::Optional(before, Some(at)) => {
-                self.add(&[Part::Text(before), Part::Expression(at)])
-            }
-            Part::Type(found) => self.type_of(found),
-            Part::Expression(at) => match self.tree.expression(at) {
-                Some(expression) => self.expression(expression),
-                None => self.text.push_str("no expression"),
-            },
-            Part::Value(value) => self.value(value),
-            Part::Source(source) => self.source(source),
-            _ => self.list(part),
+    fn number(&mut self, number: u64) {
+        self.is_out_of_memory |= write!(self.text, "{number}").is_err();
+    }
+
+    fn name(&mut self, tree: &Tree<'_>, span: Span) {
+        match str::from_utf8(tree.word(span)) {
+            Ok(name) => self.add(name),
+            Err(_) => self.add("no name"),
         }
     }
 
-    fn list(&mut self, part: Part) -> Result<(), AllocError> {
-        match part {
-            Part::Arguments(range) => self.arguments(range),
-            Part::Steps(range) => self.steps(range),
-            Part::Items(range) => self.items(range),
-            Part::Held(range) => self.held(range),
-            Part::Fields(range) => self.fields(range),
-            Part::Statement(statement) => self.statement(statement),
-            Part::Statements(range) => self.statements(range),
-            Part::Following(range) if !range.is_empty() => {
-                self.add(&[Part::Text(" | "), Part::Statements(range)])
-            }
-            Part::Block(block) => self.block(block),
-            Part::Body(Some(block)) => self.add(&[Part::Text(" "), Part::Block(block)]),
-            Part::Else(Some(found)) => self.add(&[
-                Part::OptionalName(" else ", found.code),
-                Part::Text(if found.code.is_some() { " " } else { " else " }),
-                Part::Block(found.block),
-            ]),
-            _ => Ok(()),
+    /// Writes an optional name, after a text.
+    fn name_after(&mut self, before: &str, tree: &Tree<'_>, name: Option<Span>) {
+        if let Some(span) = name {
+            self.add(before);
+            self.name(tree, span);
         }
     }
 
-    fn name(&mut self, span: Span) -> Result<(), AllocError> {
-        match str::from_utf8(self.tree.word(span)) {
-            Ok(name) => self.text.push_str(name),
-            Err(_) => self.text.push_str("no name"),
-        }
-    }
-
-    fn bytes(&mut self, range: Range) -> Result<(), AllocError> {
-        let mut separator = "<";
-        if range.is_empty() {
-            self.text.push_str(separator)?;
-        }
-        for byte in self.tree.bytes(range) {
-            write!(self.text, "{separator}{byte}")?;
+    fn bytes(&mut self, tree: &Tree<'_>, range: Range) {
+        self.add("<");
+        let mut separator = "";
+        for byte in tree.bytes(range) {
+            self.add(separator);
+            self.number(u64::from(*byte));
             separator = " ";
         }
-        self.text.push_str(">")
+        self.add(">");
     }
 
-    fn type_of(&mut self, found: Type) -> Result<(), AllocError> {
-        let containers = self.tree.containers(found.containers);
+    fn type_of(&mut self, tree: &Tree<'_>, found: Type) {
+        let containers = tree.containers(found.containers);
         for container in containers {
-            self.add(&[Part::Text(container.spelling()), Part::Text("<")])?;
+            self.add(container.spelling());
+            self.add("<");
         }
-        self.add(&[match found.base {
-            BaseType::Int => Part::Text("int"),
-            BaseType::Text => Part::Text("text"),
-            BaseType::Struct(name) => Part::Name(name),
-        }])?;
+        match found.base {
+            BaseType::Int => self.add("int"),
+            BaseType::Text => self.add("text"),
+            BaseType::Struct(name) => self.name(tree, name),
+        }
         for _ in containers {
-            self.add(&[Part::Text(">")])?;
+            self.add(">");
         }
-        Ok(())
     }
 
-    fn expression(&mut self, expression: Expression) -> Result<(), AllocError> {
-        let name = Part::Name(expression.span);
+    fn expression(&mut self, tree: &Tree<'_>, at: ExpressionAt) {
+        self.inner(tree, at, MOST_LEVELS);
+    }
+
+    /// Writes an expression that has at most this number of levels.
+    #[cycle(expression)]
+    fn inner(&mut self, tree: &Tree<'_>, at: ExpressionAt, levels: u32) {
+        let Some(expression) = tree.expression(at) else {
+            return self.add("no expression");
+        };
+        let levels = match levels {
+            0 => return self.add("too deep"),
+            _ => levels - 1,
+        };
         match expression.kind {
-            ExpressionKind::Number(value) => write!(self.text, "{value}"),
-            ExpressionKind::Text(range) => self.bytes(range),
-            ExpressionKind::Unary(operator, operand) => self.add(&[
-                Part::Text(match operator {
-                    UnaryOperator::Negative => "(-",
-                    UnaryOperator::Not => "(!",
-                }),
-                Part::Expression(operand),
-                Part::Text(")"),
-            ]),
-            ExpressionKind::Binary(operator, left, right) => self.add(&[
-                Part::Text("("),
-                Part::Expression(left),
-                Part::Text(spelling(operator)),
-                Part::Expression(right),
-                Part::Text(")"),
-            ]),
-            ExpressionKind::Place(steps) => self.add(&[name, Part::Steps(steps)]),
-            ExpressionKind::OrElse(place, default) => self.add(&[
-                Part::Text("("),
-                Part::Expression(place),
-                Part::Text(" ?? "),
-                Part::Expression(default),
-                Part::Text(")"),
-            ]),
-            ExpressionKind::Call(arguments) => self.add(&[name, Part::Arguments(arguments)]),
+            ExpressionKind::Number(value) => self.number(value),
+            ExpressionKind::Text(range) => self.bytes(tree, range),
+            ExpressionKind::Unary(operator, operand) => {
+                self.add(sign(operator));
+                self.inner(tree, operand, levels);
+                self.add(")");
+            }
+            ExpressionKind::Binary(operator, left, right) => {
+                self.operation(tree, left, spelling(operator), right, levels);
+            }
+            ExpressionKind::Place(steps) => {
+                self.name(tree, expression.span);
+                self.steps(tree, steps, levels);
+            }
+            ExpressionKind::OrElse(place, default) => {
+                self.operation(tree, place, " ?? ", default, levels);
+            }
+            ExpressionKind::Call(arguments) => {
+                self.name(tree, expression.span);
+                self.arguments(tree, arguments, levels);
+            }
         }
     }
 
-    fn arguments(&mut self, range: Range) -> Result<(), AllocError> {
-        let mut separator = "";
-        self.add(&[Part::Text("(")])?;
-        for argument in self.tree.arguments(range) {
-            self.add(&[Part::Text(separator), Part::Expression(*argument)])?;
-            separator = ", ";
-        }
-        self.add(&[Part::Text(")")])
+    #[cycle(expression)]
+    fn operation(
+        &mut self,
+        tree: &Tree<'_>,
+        left: ExpressionAt,
+        operator: &str,
+        right: ExpressionAt,
+        levels: u32,
+    ) {
+        self.add("(");
+        self.inner(tree, left, levels);
+        self.add(operator);
+        self.inner(tree, right, levels);
+        self.add(")");
     }
 
-    fn steps(&mut self, range: Range) -> Result<(), AllocError> {
-        for step in self.tree.steps(range) {
-            self.step(*step)?;
+    #[cycle(expression)]
+    fn arguments(&mut self, tree: &Tree<'_>, range: Range, levels: u32) {
+        let mut is_first = true;
+        self.add("(");
+        for argument in tree.arguments(range) {
+            self.add(if is_first { "" } else { ", " });
+            self.inner(tree, *argument, levels);
+            is_first = false;
         }
-        Ok(())
+        self.add(")");
     }
 
-    fn step(&mut self, step: Step) -> Result<(), AllocError> {
+    #[cycle(expression)]
+    fn steps(&mut self, tree: &Tree<'_>, range: Range, levels: u32) {
+        for step in tree.steps(range) {
+            self.step(tree, *step, levels);
+        }
+    }
+
+    #[cycle(expression)]
+    fn step(&mut self, tree: &Tree<'_>, step: Step, levels: u32) {
         match step.kind {
-            StepKind::Field => self.add(&[Part::Text("."), Part::Name(step.span)]),
+            StepKind::Field => self.name_after(".", tree, Some(step.span)),
             StepKind::Index(at) => {
-                self.add(&[Part::Text("["), Part::Expression(at), Part::Text("]")])
+                self.add("[");
+                self.inner(tree, at, levels);
+                self.add("]");
             }
-            StepKind::Method(arguments) => self.add(&[
-                Part::Text("."),
-                Part::Name(step.span),
-                Part::Arguments(arguments),
-            ]),
+            StepKind::Method(arguments) => {
+                self.name_after(".", tree, Some(step.span));
+                self.arguments(tree, arguments, levels);
+            }
         }
     }
 
-    fn value(&mut self, value: Value) -> Result<(), AllocError> {
+    /// Writes an expression after a text.
+    fn after(&mut self, before: &str, tree: &Tree<'_>, at: ExpressionAt) {
+        self.add(before);
+        self.expression(tree, at);
+    }
+
+    /// Writes an optional expression after a text.
+    fn optional(&mut self, before: &str, tree: &Tree<'_>, at: Option<ExpressionAt>) {
+        if let Some(at) = at {
+            self.after(before, tree, at);
+        }
+    }
+
+    fn value(&mut self, tree: &Tree<'_>, value: Value) {
         match value.kind {
-            ValueKind::Expression(at) => self.add(&[Part::Expression(at)]),
-            ValueKind::New(found) => self.add(&[Part::Text("new "), Part::Type(found)]),
-            ValueKind::Take(place) => self.add(&[Part::Text("take "), Part::Expression(place)]),
-        }
-    }
-
-    fn source(&mut self, source: Source) -> Result<(), AllocError> {
-        match source {
-            Source::Input(word) => self.add(&[Part::Name(word)]),
-            Source::Numbers(first, end) => self.add(&[
-                Part::Expression(first),
-                Part::Text(".."),
-                Part::Expression(end),
-            ]),
-            Source::Place(place) => self.add(&[Part::Expression(place)]),
-        }
-    }
-
-    fn items(&mut self, range: Range) -> Result<(), AllocError> {
-        let mut separator = " ";
-        for item in self.tree.items(range) {
-            self.add(&[
-                Part::Text(separator),
-                Part::Value(item.value),
-                Part::Optional(":", item.width),
-            ])?;
-            separator = ", ";
-        }
-        Ok(())
-    }
-
-    fn held(&mut self, range: Range) -> Result<(), AllocError> {
-        let mut separator = " ";
-        for held in self.tree.held(range) {
-            self.add(&[
-                Part::Text(separator),
-                Part::Expression(held.place),
-                Part::OptionalName(" as ", held.name),
-            ])?;
-            separator = ", ";
-        }
-        Ok(())
-    }
-
-    fn fields(&mut self, range: Range) -> Result<(), AllocError> {
-        let mut separator = "";
-        for field in self.tree.fields(range) {
-            self.add(&[
-                Part::Text(separator),
-                Part::Name(field.name),
-                Part::Text(": "),
-                Part::Type(field.value_type),
-            ])?;
-            separator = ", ";
-        }
-        Ok(())
-    }
-
-    fn block(&mut self, block: Block) -> Result<(), AllocError> {
-        self.add(&[
-            Part::Text("{"),
-            Part::Statements(block.statements),
-            Part::Following(block.following),
-            Part::Text(if block.leaves { "}!" } else { "}" }),
-        ])
-    }
-
-    fn statements(&mut self, range: Range) -> Result<(), AllocError> {
-        let mut separator = "";
-        for statement in self.tree.statements(range) {
-            self.add(&[Part::Text(separator), Part::Statement(*statement)])?;
-            separator = " ";
-        }
-        Ok(())
-    }
-
-    fn statement(&mut self, statement: Statement) -> Result<(), AllocError> {
-        self.add(&[Part::Text("(")])?;
-        self.beginning(statement)?;
-        self.add(&[
-            Part::Body(statement.body),
-            Part::Else(statement.otherwise),
-            Part::Text(")"),
-        ])
-    }
-
-    /// Adds a statement up to its block.
-    fn beginning(&mut self, statement: Statement) -> Result<(), AllocError> {
-        match statement.kind {
-            StatementKind::Let { name, value } => self.add(&[
-                Part::Text("let "),
-                Part::Name(name),
-                Part::Text(" = "),
-                Part::Value(value),
-            ]),
-            StatementKind::If(condition) => {
-                self.add(&[Part::Text("if "), Part::Expression(condition)])
+            ValueKind::Expression(at) => self.expression(tree, at),
+            ValueKind::New(found) => {
+                self.add("new ");
+                self.type_of(tree, found);
             }
-            StatementKind::IfLet { name, value } => self.add(&[
-                Part::Text("if let "),
-                Part::Name(name),
-                Part::Text(" = "),
-                Part::Value(value),
-            ]),
+            ValueKind::Take(place) => self.after("take ", tree, place),
+        }
+    }
+
+    fn source(&mut self, tree: &Tree<'_>, source: Source) {
+        match source {
+            Source::Input(word) => self.name(tree, word),
+            Source::Numbers(first, end) => {
+                self.expression(tree, first);
+                self.after("..", tree, end);
+            }
+            Source::Place(place) => self.expression(tree, place),
+        }
+    }
+
+    fn items(&mut self, tree: &Tree<'_>, range: Range) {
+        let mut separator = " ";
+        for Item { value, width } in tree.items(range) {
+            self.add(separator);
+            self.value(tree, *value);
+            self.optional(":", tree, *width);
+            separator = ", ";
+        }
+    }
+
+    fn held(&mut self, tree: &Tree<'_>, range: Range) {
+        let mut separator = " ";
+        for Held { place, name } in tree.held(range) {
+            self.after(separator, tree, *place);
+            self.name_after(" as ", tree, *name);
+            separator = ", ";
+        }
+    }
+
+    fn fields(&mut self, tree: &Tree<'_>, range: Range) {
+        let mut separator = "";
+        for field in tree.fields(range) {
+            self.name_after(separator, tree, Some(field.name));
+            self.add(": ");
+            self.type_of(tree, field.value_type);
+            separator = ", ";
+        }
+    }
+
+    #[cycle(statement)]
+    fn block(&mut self, tree: &Tree<'_>, block: Block, levels: u32) {
+        let levels = match levels {
+            0 => return self.add("too deep"),
+            _ => levels - 1,
+        };
+        self.add("{");
+        self.statements(tree, block.statements, levels);
+        if !block.following.is_empty() {
+            self.add(" | ");
+            self.statements(tree, block.following, levels);
+        }
+        self.add(if block.leaves { "}!" } else { "}" });
+    }
+
+    #[cycle(statement)]
+    fn statements(&mut self, tree: &Tree<'_>, range: Range, levels: u32) {
+        let mut is_first = true;
+        for statement in tree.statements(range) {
+            self.add(if is_first { "(" } else { " (" });
+            self.statement(tree, *statement, levels);
+            is_first = false;
+        }
+    }
+
+    /// Writes a statement after its `(`.
+    #[cycle(statement)]
+    fn statement(&mut self, tree: &Tree<'_>, statement: Statement, levels: u32) {
+        self.beginning(tree, statement.kind);
+        if let Some(body) = statement.body {
+            self.add(" ");
+            self.block(tree, body, levels);
+        }
+        if let Some(ElsePart { code, block }) = statement.otherwise {
+            self.add(" else ");
+            self.name_after("", tree, code);
+            self.add(if code.is_some() { " " } else { "" });
+            self.block(tree, block, levels);
+        }
+        self.add(")");
+    }
+
+    /// Writes a statement up to its block.
+    fn beginning(&mut self, tree: &Tree<'_>, kind: StatementKind) {
+        match kind {
+            StatementKind::Let { name, value } => self.named_value("let ", tree, name, value),
+            StatementKind::If(condition) => self.after("if ", tree, condition),
+            StatementKind::IfLet { name, value } => self.named_value("if let ", tree, name, value),
             StatementKind::For {
                 key,
                 name,
                 source,
                 max,
-            } => self.add(&[
-                Part::Text("for"),
-                Part::OptionalName(" ", key),
-                Part::Text(if key.is_some() { ", " } else { " " }),
-                Part::Name(name),
-                Part::Text(" in "),
-                Part::Source(source),
-                Part::Optional(" max ", max),
-            ]),
-            StatementKind::While { condition, max } => self.add(&[
-                Part::Text("while "),
-                Part::Expression(condition),
-                Part::Optional(" max ", max),
-            ]),
-            StatementKind::Break => self.add(&[Part::Text("break")]),
-            StatementKind::Continue => self.add(&[Part::Text("continue")]),
-            StatementKind::Stop => self.add(&[Part::Text("stop")]),
+            } => {
+                self.loop_names(tree, key, name);
+                self.source(tree, source);
+                self.optional(" max ", tree, max);
+            }
+            StatementKind::While { condition, max } => {
+                self.after("while ", tree, condition);
+                self.optional(" max ", tree, max);
+            }
+            StatementKind::Break => self.add("break"),
+            StatementKind::Continue => self.add("continue"),
+            StatementKind::Stop => self.add("stop"),
             StatementKind::Return(value) => {
-                self.add(&[Part::Text("return"), Part::Optional(" ", value)])
+                self.add("return");
+                self.optional(" ", tree, value);
             }
             StatementKind::Print {
                 items,
                 max,
                 ends_line,
-            } => self.add(&[
-                Part::Text(if ends_line { "print" } else { "write" }),
-                Part::Items(items),
-                Part::Optional(" max ", max),
-            ]),
-            _ => self.on_places(statement.kind),
-        }
-    }
-
-    /// Adds a statement about places, up to its block.
-    fn on_places(&mut self, kind: StatementKind) -> Result<(), AllocError> {
-        match kind {
+            } => {
+                self.add(if ends_line { "print" } else { "write" });
+                self.items(tree, items);
+                self.optional(" max ", tree, max);
+            }
             StatementKind::Set {
                 place,
                 operator,
                 operator_span: _,
                 items,
                 max,
-            } => self.add(&[
-                Part::Expression(place),
-                Part::Text(set_spelling(operator)),
-                Part::Items(items),
-                Part::Optional(" max ", max),
-            ]),
-            StatementKind::Call(call) => self.add(&[Part::Expression(call)]),
-            StatementKind::Delete(place) => {
-                self.add(&[Part::Text("delete "), Part::Expression(place)])
+            } => {
+                self.expression(tree, place);
+                self.add(set_spelling(operator));
+                self.items(tree, items);
+                self.optional(" max ", tree, max);
             }
-            StatementKind::Clear(place) => {
-                self.add(&[Part::Text("clear "), Part::Expression(place)])
+            StatementKind::Call(call) => self.expression(tree, call),
+            StatementKind::Delete(place) => self.after("delete ", tree, place),
+            StatementKind::Clear(place) => self.after("clear ", tree, place),
+            StatementKind::Shrink(place) => self.after("shrink ", tree, place),
+            StatementKind::Freeze { place, name } => {
+                self.after("freeze ", tree, place);
+                self.name_after(" = ", tree, Some(name));
             }
-            StatementKind::Shrink(place) => {
-                self.add(&[Part::Text("shrink "), Part::Expression(place)])
+            StatementKind::Share { place, source } => {
+                self.after("share ", tree, place);
+                self.after(" = ", tree, source);
             }
-            StatementKind::Freeze { place, name } => self.add(&[
-                Part::Text("freeze "),
-                Part::Expression(place),
-                Part::Text(" = "),
-                Part::Name(name),
-            ]),
-            StatementKind::Share { place, source } => self.add(&[
-                Part::Text("share "),
-                Part::Expression(place),
-                Part::Text(" = "),
-                Part::Expression(source),
-            ]),
-            StatementKind::Use(places) => self.add(&[Part::Text("use"), Part::Held(places)]),
-            _ => self.add(&[Part::Text("wrong")]),
+            StatementKind::Use(places) => {
+                self.add("use");
+                self.held(tree, places);
+            }
+            StatementKind::Wrong => self.add("wrong"),
         }
     }
 
-    fn declaration(&mut self, declaration: Declaration) -> Result<(), AllocError> {
-        let name = Part::Name(declaration.span);
+    /// Writes a name and what it is set to.
+    fn named_value(&mut self, before: &str, tree: &Tree<'_>, name: Span, value: Value) {
+        self.name_after(before, tree, Some(name));
+        self.add(" = ");
+        self.value(tree, value);
+    }
+
+    /// Writes a `for` up to what it goes through.
+    fn loop_names(&mut self, tree: &Tree<'_>, key: Option<Span>, name: Span) {
+        self.add("for ");
+        self.name_after("", tree, key);
+        self.add(if key.is_some() { ", " } else { "" });
+        self.name(tree, name);
+        self.add(" in ");
+    }
+
+    fn declaration(&mut self, tree: &Tree<'_>, declaration: Declaration) {
+        let name = Some(declaration.span);
         match declaration.kind {
-            DeclarationKind::Constant(value) => self.add(&[
-                Part::Text("(const "),
-                name,
-                Part::Text(" = "),
-                Part::Expression(value),
-            ])?,
-            DeclarationKind::Struct(fields) => self.add(&[
-                Part::Text("(struct "),
-                name,
-                Part::Text(" "),
-                Part::Fields(fields),
-            ])?,
+            DeclarationKind::Constant(value) => {
+                self.name_after("(const ", tree, name);
+                self.after(" = ", tree, value);
+            }
+            DeclarationKind::Struct(fields) => {
+                self.name_after("(struct ", tree, name);
+                self.add(" ");
+                self.fields(tree, fields);
+            }
             DeclarationKind::Object {
                 value_type,
                 count,
                 segment_name,
-            } => self.add(&[
-                Part::Text("(object "),
-                name,
-                Part::Optional("[", count),
-                Part::Text(if count.is_some() { "]: " } else { ": " }),
-                Part::Type(value_type),
-                Part::OptionalBytes(" as ", segment_name),
-            ])?,
+            } => {
+                self.name_after("(object ", tree, name);
+                self.optional("[", tree, count);
+                self.add(if count.is_some() { "]" } else { "" });
+                self.object_type(tree, value_type, segment_name);
+            }
             DeclarationKind::Family {
                 value_type,
                 segment_name,
-            } => self.add(&[
-                Part::Text("(family "),
-                name,
-                Part::Text(": "),
-                Part::Type(value_type),
-                Part::OptionalBytes(" as ", segment_name),
-            ])?,
-            DeclarationKind::Unique(value_type) => self.add(&[
-                Part::Text("(unique "),
-                name,
-                Part::Text(": "),
-                Part::Type(value_type),
-            ])?,
+            } => {
+                self.name_after("(family ", tree, name);
+                self.object_type(tree, value_type, segment_name);
+            }
+            DeclarationKind::Unique(value_type) => {
+                self.name_after("(unique ", tree, name);
+                self.object_type(tree, value_type, None);
+            }
             DeclarationKind::Function {
                 parameters,
                 gives_number,
                 body,
-            } => self.add(&[
-                Part::Text("(fn "),
-                name,
-                Part::Text("("),
-                Part::Fields(parameters),
-                Part::Text(if gives_number { ") -> int " } else { ") " }),
-                Part::Block(body),
-            ])?,
+            } => {
+                self.name_after("(fn ", tree, name);
+                self.add("(");
+                self.fields(tree, parameters);
+                self.add(if gives_number { ") -> int " } else { ") " });
+                self.block(tree, body, MOST_LEVELS);
+            }
             DeclarationKind::Fail(body) => {
-                self.add(&[Part::Text("("), name, Part::Text(" "), Part::Block(body)])?
+                self.name_after("(", tree, name);
+                self.add(" ");
+                self.block(tree, body, MOST_LEVELS);
             }
         }
-        self.add(&[Part::Text(")")])
+        self.add(")");
+    }
+
+    /// Writes the type of an object, and its name in the segment.
+    fn object_type(&mut self, tree: &Tree<'_>, value_type: Type, segment_name: Option<Range>) {
+        self.add(": ");
+        self.type_of(tree, value_type);
+        if let Some(name) = segment_name {
+            self.add(" as ");
+            self.bytes(tree, name);
+        }
+    }
+}
+
+fn sign(operator: UnaryOperator) -> &'static str {
+    match operator {
+        UnaryOperator::Negative => "(-",
+        UnaryOperator::Not => "(!",
     }
 }
 
